@@ -1,0 +1,554 @@
+//! Copies of the shared types.
+
+use crate::answer::{Answer, Reply};
+use crate::entry::{Commit, LogRecord, Op, Owner, Stored, View};
+use crate::event::{Call, Effects, Event, Input, Line, Shown};
+use crate::ids::{CallNo, RecId, SiteId, TxnId, ViewId};
+use crate::memory::NoMemory;
+use crate::message::{Message, Obstacle, Sent};
+use crate::seq::CopyOf;
+use crate::site::{Ending, Finished, Live, Lock, Part, Pending, Refreshing};
+use crate::text::Name;
+
+impl CopyOf for SiteId {
+    fn copy_of(&self) -> Result<SiteId, NoMemory> {
+        Ok(*self)
+    }
+}
+
+impl CopyOf for CallNo {
+    fn copy_of(&self) -> Result<CallNo, NoMemory> {
+        Ok(*self)
+    }
+}
+
+impl CopyOf for RecId {
+    fn copy_of(&self) -> Result<RecId, NoMemory> {
+        Ok(*self)
+    }
+}
+
+impl CopyOf for ViewId {
+    fn copy_of(&self) -> Result<ViewId, NoMemory> {
+        Ok(*self)
+    }
+}
+
+impl CopyOf for TxnId {
+    fn copy_of(&self) -> Result<TxnId, NoMemory> {
+        Ok(*self)
+    }
+}
+
+impl CopyOf for Owner {
+    fn copy_of(&self) -> Result<Owner, NoMemory> {
+        Ok(*self)
+    }
+}
+
+impl CopyOf for Part {
+    fn copy_of(&self) -> Result<Part, NoMemory> {
+        Ok(*self)
+    }
+}
+
+impl CopyOf for u16 {
+    fn copy_of(&self) -> Result<u16, NoMemory> {
+        Ok(*self)
+    }
+}
+
+impl<A: CopyOf, B: CopyOf> CopyOf for (A, B) {
+    fn copy_of(&self) -> Result<(A, B), NoMemory> {
+        Ok((self.0.copy_of()?, self.1.copy_of()?))
+    }
+}
+
+impl<A: CopyOf, B: CopyOf, C: CopyOf> CopyOf for (A, B, C) {
+    fn copy_of(&self) -> Result<(A, B, C), NoMemory> {
+        Ok((self.0.copy_of()?, self.1.copy_of()?, self.2.copy_of()?))
+    }
+}
+
+impl CopyOf for View {
+    fn copy_of(&self) -> Result<View, NoMemory> {
+        Ok(View {
+            id: self.id,
+            members: self.members.copy_of()?,
+        })
+    }
+}
+
+impl CopyOf for Stored {
+    fn copy_of(&self) -> Result<Stored, NoMemory> {
+        Ok(Stored {
+            value: self.value.copy_of()?,
+            date: self.date,
+        })
+    }
+}
+
+impl CopyOf for Commit {
+    fn copy_of(&self) -> Result<Commit, NoMemory> {
+        Ok(Commit {
+            txn: self.txn,
+            view: self.view,
+            ops: self.ops.copy_of()?,
+        })
+    }
+}
+
+impl CopyOf for Sent {
+    fn copy_of(&self) -> Result<Sent, NoMemory> {
+        Ok(Sent {
+            from: self.from,
+            to: self.to,
+            message: self.message.copy_of()?,
+        })
+    }
+}
+
+impl CopyOf for Reply {
+    fn copy_of(&self) -> Result<Reply, NoMemory> {
+        Ok(Reply {
+            to: self.to,
+            answer: self.answer.copy_of()?,
+        })
+    }
+}
+
+impl CopyOf for Effects {
+    fn copy_of(&self) -> Result<Effects, NoMemory> {
+        Ok(Effects {
+            records: self.records.copy_of()?,
+            commits: self.commits.copy_of()?,
+            messages: self.messages.copy_of()?,
+            replies: self.replies.copy_of()?,
+        })
+    }
+}
+
+impl CopyOf for Line {
+    fn copy_of(&self) -> Result<Line, NoMemory> {
+        Ok(Line {
+            event: self.event.copy_of()?,
+            shown: self.shown.copy_of()?,
+        })
+    }
+}
+
+impl CopyOf for Lock {
+    fn copy_of(&self) -> Result<Lock, NoMemory> {
+        Ok(Lock {
+            rec: self.rec,
+            exclusive: self.exclusive,
+            owner: self.owner,
+        })
+    }
+}
+
+impl CopyOf for Refreshing {
+    fn copy_of(&self) -> Result<Refreshing, NoMemory> {
+        Ok(Refreshing {
+            rec: self.rec,
+            answers: self.answers.copy_of()?,
+        })
+    }
+}
+
+impl CopyOf for Pending {
+    fn copy_of(&self) -> Result<Pending, NoMemory> {
+        Ok(Pending {
+            number: self.number,
+            port: self.port,
+            call: self.call.copy_of()?,
+            missing: self.missing.copy_of()?,
+            marked: self.marked,
+        })
+    }
+}
+
+impl CopyOf for Finished {
+    fn copy_of(&self) -> Result<Finished, NoMemory> {
+        Ok(Finished {
+            txn: self.txn,
+            answers: self.answers.copy_of()?,
+            ending: self.ending.copy_of()?,
+        })
+    }
+}
+
+impl CopyOf for Op {
+    fn copy_of(&self) -> Result<Op, NoMemory> {
+        Ok(match self {
+            Op::Read { rec, value } => Op::Read {
+                rec: *rec,
+                value: value.copy_of()?,
+            },
+            Op::Write { rec, value } => Op::Write {
+                rec: *rec,
+                value: value.copy_of()?,
+            },
+        })
+    }
+}
+
+impl CopyOf for LogRecord {
+    fn copy_of(&self) -> Result<LogRecord, NoMemory> {
+        Ok(match self {
+            LogRecord::Start { life } => LogRecord::Start { life: *life },
+            LogRecord::Promise { view } => LogRecord::Promise { view: *view },
+            LogRecord::Yes { txn, view, writes } => LogRecord::Yes {
+                txn: *txn,
+                view: *view,
+                writes: writes.copy_of()?,
+            },
+            LogRecord::Outcome { txn, commit } => LogRecord::Outcome {
+                txn: *txn,
+                commit: *commit,
+            },
+            LogRecord::Commit {
+                txn,
+                view,
+                writes,
+                waiting,
+            } => LogRecord::Commit {
+                txn: *txn,
+                view: *view,
+                writes: writes.copy_of()?,
+                waiting: waiting.copy_of()?,
+            },
+            LogRecord::Copy { rec, stored } => LogRecord::Copy {
+                rec: *rec,
+                stored: stored.copy_of()?,
+            },
+            LogRecord::Acked { txn, site } => LogRecord::Acked {
+                txn: *txn,
+                site: *site,
+            },
+            LogRecord::Checkpoint {
+                generation,
+                life,
+                promise,
+                copies,
+                doubts,
+                decisions,
+            } => LogRecord::Checkpoint {
+                generation: *generation,
+                life: *life,
+                promise: *promise,
+                copies: copies.copy_of()?,
+                doubts: doubts.copy_of()?,
+                decisions: decisions.copy_of()?,
+            },
+        })
+    }
+}
+
+impl CopyOf for Obstacle {
+    fn copy_of(&self) -> Result<Obstacle, NoMemory> {
+        Ok(match self {
+            Obstacle::Held { owner } => Obstacle::Held { owner: *owner },
+            Obstacle::OtherView { now } => Obstacle::OtherView { now: *now },
+        })
+    }
+}
+
+impl CopyOf for Message {
+    fn copy_of(&self) -> Result<Message, NoMemory> {
+        Ok(match self {
+            Message::Invite { id } => Message::Invite { id: *id },
+            Message::Accept { id } => Message::Accept { id: *id },
+            Message::Stale { id, promise } => Message::Stale {
+                id: *id,
+                promise: *promise,
+            },
+            Message::ViewCommit { id, members } => Message::ViewCommit {
+                id: *id,
+                members: members.copy_of()?,
+            },
+            Message::ReadRequest {
+                txn,
+                view,
+                number,
+                rec,
+            } => Message::ReadRequest {
+                txn: *txn,
+                view: *view,
+                number: *number,
+                rec: *rec,
+            },
+            Message::ReadAnswer { txn, number, value } => Message::ReadAnswer {
+                txn: *txn,
+                number: *number,
+                value: value.copy_of()?,
+            },
+            Message::WriteRequest {
+                txn,
+                view,
+                number,
+                rec,
+            } => Message::WriteRequest {
+                txn: *txn,
+                view: *view,
+                number: *number,
+                rec: *rec,
+            },
+            Message::WriteAnswer { txn, number } => Message::WriteAnswer {
+                txn: *txn,
+                number: *number,
+            },
+            Message::Refuse { txn, number, why } => Message::Refuse {
+                txn: *txn,
+                number: *number,
+                why: why.copy_of()?,
+            },
+            Message::Prepare {
+                txn,
+                view,
+                number,
+                reads,
+                writes,
+            } => Message::Prepare {
+                txn: *txn,
+                view: *view,
+                number: *number,
+                reads: reads.copy_of()?,
+                writes: writes.copy_of()?,
+            },
+            Message::Vote { txn } => Message::Vote { txn: *txn },
+            Message::Outcome { txn, commit } => Message::Outcome {
+                txn: *txn,
+                commit: *commit,
+            },
+            Message::Ack { txn } => Message::Ack { txn: *txn },
+            Message::Inquire { txn } => Message::Inquire { txn: *txn },
+            Message::RefreshRequest { view, rec } => Message::RefreshRequest {
+                view: *view,
+                rec: *rec,
+            },
+            Message::RefreshAnswer {
+                view,
+                rec,
+                value,
+                date,
+            } => Message::RefreshAnswer {
+                view: *view,
+                rec: *rec,
+                value: value.copy_of()?,
+                date: *date,
+            },
+            Message::Probe { view } => Message::Probe { view: *view },
+        })
+    }
+}
+
+impl CopyOf for Answer {
+    fn copy_of(&self) -> Result<Answer, NoMemory> {
+        Ok(match self {
+            Answer::Begun { txn, view } => Answer::Begun {
+                txn: *txn,
+                view: *view,
+            },
+            Answer::Value { txn, number, value } => Answer::Value {
+                txn: *txn,
+                number: *number,
+                value: value.copy_of()?,
+            },
+            Answer::Written { txn, number } => Answer::Written {
+                txn: *txn,
+                number: *number,
+            },
+            Answer::Committed { txn, number } => Answer::Committed {
+                txn: *txn,
+                number: *number,
+            },
+            Answer::Aborted { txn, number } => Answer::Aborted {
+                txn: *txn,
+                number: *number,
+            },
+            Answer::Inviting { view } => Answer::Inviting { view: *view },
+            Answer::NoView { promise } => Answer::NoView { promise: *promise },
+            Answer::Unknown { txn } => Answer::Unknown { txn: *txn },
+            Answer::Skipped { txn, expected } => Answer::Skipped {
+                txn: *txn,
+                expected: *expected,
+            },
+            Answer::Busy { txn, number } => Answer::Busy {
+                txn: *txn,
+                number: *number,
+            },
+            Answer::NoRecord { txn, number } => Answer::NoRecord {
+                txn: *txn,
+                number: *number,
+            },
+            Answer::TooManyOps { txn, number } => Answer::TooManyOps {
+                txn: *txn,
+                number: *number,
+            },
+            Answer::Inaccessible {
+                txn,
+                number,
+                name,
+                inside,
+                total,
+            } => Answer::Inaccessible {
+                txn: *txn,
+                number: *number,
+                name: name.copy_of()?,
+                inside: *inside,
+                total: *total,
+            },
+            Answer::LockHeld {
+                txn,
+                number,
+                name,
+                at,
+                owner,
+            } => Answer::LockHeld {
+                txn: *txn,
+                number: *number,
+                name: name.copy_of()?,
+                at: *at,
+                owner: *owner,
+            },
+            Answer::ViewChanged {
+                txn,
+                number,
+                at,
+                held,
+                now,
+            } => Answer::ViewChanged {
+                txn: *txn,
+                number: *number,
+                at: *at,
+                held: *held,
+                now: *now,
+            },
+            Answer::TimedOut { txn, number, at } => Answer::TimedOut {
+                txn: *txn,
+                number: *number,
+                at: *at,
+            },
+            Answer::Spent { number } => Answer::Spent { number: *number },
+            Answer::TooManyLive => Answer::TooManyLive,
+        })
+    }
+}
+
+impl CopyOf for Call {
+    fn copy_of(&self) -> Result<Call, NoMemory> {
+        Ok(match self {
+            Call::Begin => Call::Begin,
+            Call::Regroup => Call::Regroup,
+            Call::Read { txn, number, name } => Call::Read {
+                txn: *txn,
+                number: *number,
+                name: name.copy_of()?,
+            },
+            Call::Write {
+                txn,
+                number,
+                name,
+                value,
+            } => Call::Write {
+                txn: *txn,
+                number: *number,
+                name: name.copy_of()?,
+                value: value.copy_of()?,
+            },
+            Call::Commit { txn, number } => Call::Commit {
+                txn: *txn,
+                number: *number,
+            },
+            Call::Abort { txn, number } => Call::Abort {
+                txn: *txn,
+                number: *number,
+            },
+        })
+    }
+}
+
+impl CopyOf for Input {
+    fn copy_of(&self) -> Result<Input, NoMemory> {
+        Ok(match self {
+            Input::Call { from, call } => Input::Call {
+                from: *from,
+                call: call.copy_of()?,
+            },
+            Input::Message { from, message } => Input::Message {
+                from: *from,
+                message: message.copy_of()?,
+            },
+            Input::Tick => Input::Tick,
+            Input::Probe => Input::Probe,
+        })
+    }
+}
+
+impl CopyOf for Event {
+    fn copy_of(&self) -> Result<Event, NoMemory> {
+        Ok(match self {
+            Event::Call { site, call } => Event::Call {
+                site: *site,
+                call: call.copy_of()?,
+            },
+            Event::Deliver { k } => Event::Deliver { k: *k },
+            Event::Flow { count } => Event::Flow { count: *count },
+            Event::Tick { site } => Event::Tick { site: *site },
+            Event::Probe { site } => Event::Probe { site: *site },
+            Event::Cut { a, b } => Event::Cut { a: *a, b: *b },
+            Event::Heal { a, b } => Event::Heal { a: *a, b: *b },
+            Event::Crash { site } => Event::Crash { site: *site },
+            Event::Restart { site } => Event::Restart { site: *site },
+        })
+    }
+}
+
+impl CopyOf for Shown {
+    fn copy_of(&self) -> Result<Shown, NoMemory> {
+        Ok(match self {
+            Shown::Step {
+                commits,
+                first,
+                messages,
+                replies,
+            } => Shown::Step {
+                commits: commits.copy_of()?,
+                first: *first,
+                messages: messages.copy_of()?,
+                replies: replies.copy_of()?,
+            },
+            Shown::Nothing => Shown::Nothing,
+            Shown::NoMessage => Shown::NoMessage,
+            Shown::Down { site } => Shown::Down { site: *site },
+            Shown::Parted { from, to } => Shown::Parted {
+                from: *from,
+                to: *to,
+            },
+            Shown::Up { site } => Shown::Up { site: *site },
+            Shown::Life { life } => Shown::Life { life: *life },
+            Shown::LivesSpent { life } => Shown::LivesSpent { life: *life },
+        })
+    }
+}
+
+impl CopyOf for Ending {
+    fn copy_of(&self) -> Result<Ending, NoMemory> {
+        Ok(match self {
+            Ending::Committed => Ending::Committed,
+            Ending::Aborted => Ending::Aborted,
+            Ending::LockHeld { name, at, owner } => Ending::LockHeld {
+                name: name.copy_of()?,
+                at: *at,
+                owner: *owner,
+            },
+            Ending::ViewChanged { at, held, now } => Ending::ViewChanged {
+                at: *at,
+                held: *held,
+                now: *now,
+            },
+            Ending::TimedOut { at } => Ending::TimedOut { at: *at },
+        })
+    }
+}

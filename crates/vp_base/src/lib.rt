@@ -1,0 +1,30 @@
+//! The types that sites, logs, clients and schedules share.
+//!
+//! A contract sees an identifier as a number, a name as its bytes, and a list type as a list.
+#![tactic(auto)]
+
+mod answer;
+mod copies;
+mod entry;
+mod event;
+mod ids;
+mod lists;
+mod memory;
+mod message;
+mod seq;
+mod site;
+mod text;
+
+pub use answer::{Answer, Reply};
+pub use entry::{Commit, LogRecord, Op, Owner, Stored, View};
+pub use event::{Call, Effects, Event, Input, Line, Shown};
+pub use ids::{CallNo, RecId, SiteId, TxnId, ViewId};
+pub use lists::{
+    Batch, Commits, Copies, Decisions, Events, InDoubt, Messages, Names, Ops, Recs, Replies, Sites,
+    Txns, Writes,
+};
+pub use memory::NoMemory;
+pub use message::{Message, Obstacle, Sent};
+pub use seq::{CopyOf, Seq};
+pub use site::{Ending, Finished, Live, Lock, Part, Pending, Refreshing};
+pub use text::{Name, Value};

@@ -1,0 +1,38 @@
+//! The lists that sites, logs and schedules share.
+
+use crate::answer::Reply;
+use crate::entry::{Commit, LogRecord, Op, Stored};
+use crate::event::Event;
+use crate::ids::{RecId, SiteId, TxnId, ViewId};
+use crate::message::Sent;
+use crate::seq::Seq;
+use crate::text::{Name, Value};
+
+/// Sites, ascending.
+pub type Sites = Seq<SiteId>;
+/// The operations of a transaction, in order.
+pub type Ops = Seq<Op>;
+/// Committed transactions, in order.
+pub type Commits = Seq<Commit>;
+/// Messages, in the order in which they are sent.
+pub type Messages = Seq<Sent>;
+/// Replies, in the order in which they are given.
+pub type Replies = Seq<Reply>;
+/// Log records, in order.
+pub type Batch = Seq<LogRecord>;
+/// The events of a schedule, in order.
+pub type Events = Seq<Event>;
+/// Names of records, in catalogue order.
+pub type Names = Seq<Name>;
+/// Transactions, ascending.
+pub type Txns = Seq<TxnId>;
+/// Records, ascending; 64 at most.
+pub type Recs = Seq<RecId>;
+/// The last value of each written record, ascending by record; 64 at most.
+pub type Writes = Seq<(RecId, Value)>;
+/// Copies, ascending by record.
+pub type Copies = Seq<(RecId, Stored)>;
+/// Transactions that voted yes, with their view and writes, ascending.
+pub type InDoubt = Seq<(TxnId, ViewId, Writes)>;
+/// Decided transactions with the sites that have not acknowledged, ascending.
+pub type Decisions = Seq<(TxnId, Sites)>;

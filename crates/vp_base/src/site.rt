@@ -1,0 +1,82 @@
+//! What the lists of a site's plain state hold.
+
+use crate::answer::Answer;
+use crate::entry::{Owner, Stored};
+use crate::event::Call;
+use crate::ids::{CallNo, RecId, SiteId, TxnId, ViewId};
+use crate::lists::{Ops, Sites};
+use crate::seq::Seq;
+use crate::text::Name;
+
+/// A lock on a record. One that is not exclusive is shared.
+#[derive(Drop)]
+pub struct Lock {
+    pub rec: RecId,
+    pub exclusive: bool,
+    pub owner: Owner,
+}
+
+/// The part here of another site's transaction that has not voted yet, or has voted and writes nothing here.
+#[derive(Clone, Copy, Drop)]
+pub struct Part {
+    pub txn: TxnId,
+    pub view: ViewId,
+    pub voted: bool,
+}
+
+/// A copy under refresh, with the copies of other sites that have come, ascending by site.
+#[derive(Drop)]
+pub struct Refreshing {
+    pub rec: RecId,
+    pub answers: Seq<(SiteId, Stored)>,
+}
+
+/// A call that is not answered yet: the sites that it waits for, and whether a tick has seen it.
+#[derive(Drop)]
+pub struct Pending {
+    pub number: CallNo,
+    pub port: u16,
+    pub call: Call,
+    pub missing: Sites,
+    pub marked: bool,
+}
+
+/// A transaction of this site. The answer to call N is the Nth. The remote reads are pairs of a site and a record.
+#[derive(Drop)]
+pub struct Live {
+    pub txn: TxnId,
+    pub view: ViewId,
+    pub ops: Ops,
+    pub remote: Seq<(SiteId, RecId)>,
+    pub parts: Sites,
+    pub answers: Seq<Answer>,
+    pub pending: Option<Pending>,
+}
+
+/// What committed or aborted a transaction.
+#[derive(Drop)]
+pub enum Ending {
+    Committed,
+    Aborted,
+    LockHeld {
+        name: Name,
+        at: SiteId,
+        owner: Owner,
+    },
+    ViewChanged {
+        at: SiteId,
+        held: ViewId,
+        now: Option<ViewId>,
+    },
+    TimedOut {
+        at: SiteId,
+    },
+}
+
+/// A transaction of this site that has ended, with the answers that it gave.
+#[derive(Drop)]
+pub struct Finished {
+    pub txn: TxnId,
+    pub answers: Seq<Answer>,
+    pub ending: Ending,
+}
