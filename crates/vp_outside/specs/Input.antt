@@ -1,5 +1,5 @@
 -- What is taken of a source, and what the faults of an input say.
-use Rattle.std.specs.Prelude.{ℕ, ◌+◌, ◌≤◌, ◌<◌, ◌≡◌, ◌↔◌, IsTrue, Bool, List, length, Result, OnOk, IfOk, MatchResult, IsErrOf}
+use Rattle.std.specs.Prelude.{ℕ, ◌≤◌, ◌<◌, ◌≡◌, ◌↔◌, IsTrue, Bool, List, length, Result, OnOk, IfOk, MatchResult, IsErrOf}
 use Rattle.std.specs.declared.option.Option.{Option}
 use Rattle.std.specs.Io.KnownBytes.{Consumes}
 use Rattle.vp_outside.specs.Causes.{count_after, Rose}

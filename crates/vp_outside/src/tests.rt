@@ -99,30 +99,26 @@ struct Broken {
 }
 
 impl Broken {
-    fn count(&mut self) -> io::Result<usize> {
+    fn count(&mut self) -> io::Result<()> {
         if self.calls == 1 {
             return Err(io::Error::from(io::ErrorKind::BrokenPipe));
         }
         self.calls = 1;
-        Ok(1)
+        Ok(())
     }
 }
 
 impl Read for Broken {
     fn read(&mut self, buf: &mut [u8]) -> io::Result<usize> {
-        if buf.is_empty() {
-            return Ok(0);
-        }
-        self.count()
+        self.count()?;
+        Ok(buf.len().min(1))
     }
 }
 
 impl Write for Broken {
     fn write(&mut self, buf: &[u8]) -> io::Result<usize> {
-        if buf.is_empty() {
-            return Ok(0);
-        }
-        self.count()
+        self.count()?;
+        Ok(buf.len().min(1))
     }
 
     fn flush(&mut self) -> io::Result<()> {

@@ -1,5 +1,4 @@
 use Rattle.std.proofs.Common.{◌∙◌, ap, take}
-use Rattle.std.proofs.lemmas.Grind.{common_steps}
 use Rattle.vp_outside.specs.Causes.{count_after}
 use Rattle.vp_outside.proofs.Pieces.{Takes-more, OnErr-took}
 use Rattle.vp_outside.proofs.source.read_to_end.Goals as goal

@@ -1,5 +1,4 @@
-use Rattle.std.proofs.Common.{arith, subst, sym, lit<}
-use Rattle.std.proofs.lemmas.Grind.{common_steps}
+use Rattle.std.proofs.Common.{lit<}
 use Rattle.vp_outside.proofs.Pieces.{given-next}
 use Rattle.vp_outside.proofs.sources.SureSourceSource.take.Goals as goal
 

@@ -1,5 +1,3 @@
-use Rattle.std.proofs.Common.{arith, subst, sym, lit<}
-use Rattle.std.proofs.lemmas.Grind.{common_steps}
 use Rattle.vp_outside.proofs.Pieces.{given-next}
 use Rattle.vp_outside.proofs.sources.TextSourceSource.take.Goals as goal
 
