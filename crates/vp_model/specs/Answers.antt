@@ -1,0 +1,105 @@
+-- What a message does to the transactions that this site began: answers, refusals, votes, acknowledgements and inquiries.
+use Rattle.std.specs.Prelude.{ℕ, Bool, not, ◌==◌, ◌&&◌, if◌then◌else◌, List, filter}
+use Rattle.std.specs.List.{list_any}
+use Rattle.vp_model.specs.Types.{TxnId, Call, Message, Obstacle, Pending, Live}
+use Rattle.vp_base.specs.declared.site.Ending.TheVariants.{LockHeld, ViewChanged}
+use Rattle.vp_model.specs.Types.call
+use Rattle.vp_model.specs.Types.entry
+use Rattle.vp_model.specs.Types.message
+use Rattle.vp_model.specs.Types.obstacle
+use Rattle.vp_model.specs.Words.{◌|>◌, for_some, same_txn, has, is_empty}
+use Rattle.vp_model.specs.Catalogue.{Catalogue, find_record}
+use Rattle.vp_model.specs.Durable.{Decision, acknowledged}
+use Rattle.vp_model.specs.Site.{CoordinatorState, Lent, lent_force, lent_send, lent_coordinator}
+use Rattle.vp_model.specs.Transactions.{live_of, close, decide, wait_for}
+use Rattle.vp_model.specs.Calls.{answer_read, answer_write}
+
+-- where the transaction is live and its pending call waits for the site
+unfoldable pub with_missing : TxnId → ℕ → (Live → Pending → Lent → Lent) → Lent → Lent
+with_missing txn from f l = l |> for_some (live_of txn l.live) (λ t. for_some t.pending (if_missing t))
+  where
+    if_missing : Live → Pending → Lent → Lent
+    if_missing t p l = if has p.missing from then f t p l else l
+
+-- the site no longer misses; where none does, the call is done
+abbrev pub count_in : ℕ → Live → Pending → (Lent → Lent) → Lent → Lent
+count_in from t p done l =
+    let missing = filter (λ q. not (q == from)) p.missing in
+    if is_empty missing then done l else wait_for t p missing l
+
+abbrev pub read_answered : Catalogue → ℕ → ℕ → List ℕ → Live → Pending → Call → Lent → Lent
+read_answered catalogue from number value t p (call.Read txn n name) l =
+    if p.number == number
+    then l |> for_some (find_record catalogue name) (λ rec. count_in from t p (answer_read t p rec value))
+    else l
+read_answered catalogue from number value t p _ l = l
+
+unfoldable pub on_read_answer : Catalogue → ℕ → TxnId → ℕ → List ℕ → Lent → Lent
+on_read_answer catalogue from txn number value l =
+    with_missing txn from (λ t p. read_answered catalogue from number value t p p.call) l
+
+abbrev pub write_answered : Catalogue → ℕ → ℕ → Live → Pending → Call → Lent → Lent
+write_answered catalogue from number t p (call.Write txn n name value) l =
+    if p.number == number
+    then l |> for_some (find_record catalogue name) (λ rec. count_in from t p (answer_write t p rec value))
+    else l
+write_answered catalogue from number t p _ l = l
+
+unfoldable pub on_write_answer : Catalogue → ℕ → TxnId → ℕ → Lent → Lent
+on_write_answer catalogue from txn number l =
+    with_missing txn from (λ t p. write_answered catalogue from number t p p.call) l
+
+-- a lock that another has closes a read or a write, and another view closes any call
+abbrev pub refused_by : ℕ → Obstacle → Call → ℕ → Live → Lent → Lent
+refused_by id (obstacle.Held holder) (call.Read txn number name) from t l = close id t (LockHeld name from holder) l
+refused_by id (obstacle.Held holder) (call.Write txn number name value) from t l = close id t (LockHeld name from holder) l
+refused_by id (obstacle.Held holder) _ from t l = l
+refused_by id (obstacle.OtherView now) words from t l = close id t (ViewChanged from t.view now) l
+
+unfoldable pub on_refuse : ℕ → ℕ → TxnId → ℕ → Obstacle → Lent → Lent
+on_refuse id from txn number why l =
+    with_missing txn from (λ t p l. if p.number == number then refused_by id why p.call from t l else l) l
+
+abbrev pub voted : Catalogue → ℕ → ℕ → Live → Pending → Call → Lent → Lent
+voted catalogue id from t p (call.Commit txn number) l = count_in from t p (decide catalogue id t) l
+voted catalogue id from t p _ l = l
+
+unfoldable pub on_vote : Catalogue → ℕ → ℕ → TxnId → Lent → Lent
+on_vote catalogue id from txn l = with_missing txn from (λ t p. voted catalogue id from t p p.call) l
+
+abbrev pub waits_for : TxnId → ℕ → List Decision → Bool
+waits_for txn site decisions = list_any (λ (d : Decision). same_txn d.0 txn && has d.1 site) decisions
+
+abbrev pub with_acknowledged : TxnId → ℕ → CoordinatorState → CoordinatorState
+with_acknowledged txn from c = record c { decisions = acknowledged txn from c.decisions }
+
+unfoldable pub on_ack : ℕ → TxnId → Lent → Lent
+on_ack from txn l =
+    if waits_for txn from l.decisions
+    then l
+    |> lent_force (entry.Acked txn from)
+    |> lent_coordinator (with_acknowledged txn from)
+    else l
+
+abbrev pub is_live : TxnId → List Live → Bool
+is_live txn live = list_any (λ t. same_txn t.txn txn) live
+
+abbrev pub is_decided : TxnId → List Decision → Bool
+is_decided txn decisions = list_any (λ (d : Decision). same_txn d.0 txn) decisions
+
+-- a coordinator without a decision answers abort
+unfoldable pub on_inquire : ℕ → ℕ → TxnId → Lent → Lent
+on_inquire id from txn l =
+    if (txn.site == id) && not (is_live txn l.live)
+    then lent_send id (message.Outcome txn (is_decided txn l.decisions)) from l
+    else l
+
+-- the messages that the coordinator takes
+unfoldable pub on_answer : Catalogue → ℕ → ℕ → Message → Lent → Lent
+on_answer catalogue id from (message.ReadAnswer txn number value) l = on_read_answer catalogue from txn number value l
+on_answer catalogue id from (message.WriteAnswer txn number) l = on_write_answer catalogue from txn number l
+on_answer catalogue id from (message.Refuse txn number why) l = on_refuse id from txn number why l
+on_answer catalogue id from (message.Vote txn) l = on_vote catalogue id from txn l
+on_answer catalogue id from (message.Ack txn) l = on_ack from txn l
+on_answer catalogue id from (message.Inquire txn) l = on_inquire id from txn l
+on_answer catalogue id from _ l = l
