@@ -14,6 +14,7 @@ use vp_base::NoMemory;
 /// Why a call that hands something out did not do it.
 #[derive(Clone, Copy, Debug, PartialEq, Eq)]
 pub enum OutFault {
+    /// The outside failed.
     Failed,
     NoMemory,
 }

@@ -1,16 +1,16 @@
 //! Where input comes from.
 
-ghost use Rattle.std.specs.Prelude.{ℕ, ◌≡◌, ◌+◌, ◌<◌, ◌≤◌, List, Bool, true, length, vec_len, IfOk, OnOk, OnErr, IfSome, IsErrOf};
+ghost use Rattle.std.specs.Prelude.{ℕ, ◌≡◌, ◌<◌, ◌≤◌, List, Bool, true, length, vec_len, IfOk, OnOk, OnErr, IsErrOf};
 ghost use Rattle.std.specs.declared.option.Option.{Option};
 ghost use Rattle.std.specs.Io.{ReadsAtMost};
 ghost use Rattle.std.specs.Io.KnownBytes.{ReadConsumes, IsAtEnd};
-ghost use Rattle.vp_outside.specs.Causes.{count_after, HasCause};
+ghost use Rattle.vp_outside.specs.Causes.{HasCause};
 ghost use Rattle.vp_outside.specs.Input.{CountsTaken, TellsEnd, Takes, HasInputCause};
 ghost use Rattle.vp_outside.specs.declared.source.InputFault.TheVariants.{NoMemory as OutOfMemory, Failed as InputFailed};
 
 use std::alloc::{AllocError, Global};
 
-/// The answer of a call of the outside that failed.
+/// What a call answers where the outside failed.
 #[derive(Clone, Copy, Debug, PartialEq, Eq)]
 pub struct Failed;
 
@@ -45,7 +45,9 @@ pub trait Source {
 /// Why an input isn't there as a whole.
 #[derive(Clone, Copy, Debug, PartialEq, Eq)]
 pub enum InputFault {
+    /// The source failed.
     Failed,
+    /// More bytes were taken than the limit allows.
     TooLong,
     NoMemory,
 }
