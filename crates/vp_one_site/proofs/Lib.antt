@@ -2,5 +2,9 @@ pub mod Members
 pub mod Lists
 pub mod Play
 pub mod LockTables
+pub mod ToldLines
 pub mod Outcome
 pub mod Rows
+pub mod Invariant
+pub mod Changes
+pub mod KeptNames

@@ -3,6 +3,7 @@ use Rattle.std.proofs.Common.{◌≡◌, ◌⊎◌, ℕ, ◌+◌, ◌≤◌, ◌
 use Rattle.std.specs.Prelude.{Option, Some, None, ◌==◌, ◌&&◌}
 use Rattle.vp_model.specs.Types.{TxnId, View, Stored, Op, Owner, Answer, Call, Lock, Pending, Live, Ending, Finished}
 use Rattle.vp_base.specs.declared.site.Ending.TheVariants.{Aborted, LockHeld}
+use Rattle.vp_model.specs.Types.answer
 use Rattle.vp_model.specs.Types.call
 use Rattle.vp_model.specs.Types.op
 use Rattle.vp_model.specs.Types.owner
@@ -49,6 +50,24 @@ pub data IsRepeat (l : Lent) (a : Answer) : Type 0 where
   kept : (f : Finished) → Has l.finished f → Has f.answers a → IsRepeat l a
   ended : (f : Finished) (n : ℕ) → Has l.finished f → length f.answers < n → a ≡ answer_of f.txn n f.ending → IsRepeat l a
 
+-- an answer that reports no operation, ends nothing and names neither weights, a lock nor a view
+abbrev pub is_plain : Answer → Bool
+is_plain (answer.Value txn number value) = false
+is_plain (answer.Written txn number) = false
+is_plain (answer.Committed txn number) = false
+is_plain (answer.Aborted txn number) = false
+is_plain (answer.Inaccessible txn number name inside total) = false
+is_plain (answer.LockHeld txn number name at owner) = false
+is_plain (answer.ViewChanged txn number at held now) = false
+is_plain (answer.TimedOut txn number at) = false
+is_plain _ = true
+
+-- the answer reports an operation
+abbrev pub is_report : Answer → Bool
+is_report (answer.Value txn number value) = true
+is_report (answer.Written txn number) = true
+is_report _ = false
+
 abbrev pub is_write : Op → Bool
 is_write (op.Read rec value) = false
 is_write (op.Write rec value) = true
@@ -68,6 +87,7 @@ pub data IsFrom (catalogue : Catalogue) (t : Live) (copies : List (ℕ × Stored
 pub record IsDone (catalogue : Catalogue) (words : Call) (number : ℕ) (t : Live) (here : Here) (operation : Op) (a : Answer) (after : List Lock) : Type 0 where
   -- what the answer reports
   pub report : Option (List ℕ)
+  pub is_one : is_report a ≡ true
   pub reports : (u : TxnId) → reported u a ≡ cond (same_txn t.txn u) (Some (number, report)) None
   pub tells : told_by catalogue report words ≡ Some operation
   pub took : Took t (op_record operation) (is_write operation) here.locks after
@@ -78,7 +98,7 @@ set_locks locks l = lent_locks (λ old. locks) l
 
 -- what a call of a transaction comes to
 pub data Outcome (catalogue : Catalogue) (id : ℕ) (words : Call) (txn : TxnId) (number : ℕ) (l0 l : Lent) : Type 0 where
-  refused : (a : Answer) → is_early_refusal a ≡ true → l ≡ lent_reply a 0 l0 → Outcome catalogue id words txn number l0 l
+  refused : (a : Answer) → is_early_refusal a ≡ true → is_plain a ≡ true → l ≡ lent_reply a 0 l0 → Outcome catalogue id words txn number l0 l
   silent : IsOld l0 txn number → l ≡ l0 → Outcome catalogue id words txn number l0 l
   repeated : (a : Answer) → IsOld l0 txn number → IsRepeat l0 a → l ≡ lent_reply a 0 l0 → Outcome catalogue id words txn number l0 l
   done : (t : Live) (operation : Op) (a : Answer) (after : List Lock) → IsNext l0 txn number t → IsDone catalogue words number t l0.here operation a after → l ≡ complete t (handled 0 number words) operation a (set_locks after l0) → Outcome catalogue id words txn number l0 l

@@ -113,13 +113,13 @@ set_all-put n v (y ∷ ws) m h = go (n == y.0) (nat_lt n y.0) refl refl (set_all
     go false false e f i = i
 
 -- what stands in the map after all writes
-pub value_put : (n k : ℕ) (v : List ℕ) (ws : List Write) → value_at n (put_at k v ws) ≡ cond (k == n) (Some v) (value_at n ws)
-value_put n k v [] = go (k == n)
+pub value_put : {V : Type 0} (n k : ℕ) (v : V) (ws : List (ℕ × V)) → value_at n (put_at k v ws) ≡ cond (k == n) (Some v) (value_at n ws)
+value_put {V} n k v [] = go (k == n)
   where
-    go : (a : Bool) → option_map (λ (p : Write). p.1) (cond a (Some (k, v)) None) ≡ cond a (Some v) None
+    go : (a : Bool) → option_map (λ (p : ℕ × V). p.1) (cond a (Some (k, v)) None) ≡ cond a (Some v) None
     go true = refl
     go false = refl
-value_put n k v (y ∷ ws) = go (k == y.0) (nat_lt k y.0) (k == n) (y.0 == n) refl refl refl (value_put n k v ws)
+value_put {V} n k v (y ∷ ws) = go (k == y.0) (nat_lt k y.0) (k == n) (y.0 == n) refl refl refl (value_put n k v ws)
   where
     go : (a b c d : Bool) → (k == y.0) ≡ a → (k == n) ≡ c → (y.0 == n) ≡ d → value_at n (put_at k v ws) ≡ cond c (Some v) (value_at n ws) → value_at n (cond a ((k, v) ∷ ws) (cond b ((k, v) ∷ y ∷ ws) (y ∷ put_at k v ws))) ≡ cond c (Some v) (value_at n (y ∷ ws))
     go true b true d e f g i = rw f refl

@@ -61,6 +61,7 @@ module _ (catalogue : Catalogue) (id : ℕ) (held : Option View) (words : Call) 
         by_option P _ (value_at rec (last_writes t.ops)) _
         (λ value v. Outcome.done t (op.Read rec value) (answer.Value t.txn number value) l0.locks n (record {
           report = Some value;
+          is_one = refl;
           reports = λ u. refl;
           tells = rw (w, e) refl;
           took = Took.had value v refl;
@@ -70,6 +71,7 @@ module _ (catalogue : Catalogue) (id : ℕ) (held : Option View) (words : Call) 
         (λ stored v. lock_here-outcome name rec false (answer_read t p rec stored.value) e (rw (w, e) refl)
         (λ c. Outcome.done t (op.Read rec stored.value) (answer.Value t.txn number stored.value) (with_lock rec false (owner.Txn t.txn) l0.locks) n (record {
           report = Some stored.value;
+          is_one = refl;
           reports = λ u. refl;
           tells = rw (w, e) refl;
           took = Took.took c refl;
@@ -87,6 +89,7 @@ module _ (catalogue : Catalogue) (id : ℕ) (held : Option View) (words : Call) 
         by_option P _ (value_at rec (last_writes t.ops)) _
         (λ before v. Outcome.done t (op.Write rec value) (answer.Written t.txn number) l0.locks n (record {
           report = None;
+          is_one = refl;
           reports = λ u. refl;
           tells = rw (w, e) refl;
           took = Took.had before v refl;
@@ -96,6 +99,7 @@ module _ (catalogue : Catalogue) (id : ℕ) (held : Option View) (words : Call) 
         (λ stored v. lock_here-outcome name rec true (write_elsewhere catalogue id held t p rec value) e (rw (w, e) refl)
         (λ c. elsewhere-outcome rec value _ (Outcome.done t (op.Write rec value) (answer.Written t.txn number) (with_lock rec true (owner.Txn t.txn) l0.locks) n (record {
           report = None;
+          is_one = refl;
           reports = λ u. refl;
           tells = rw (w, e) refl;
           took = Took.took c refl;
@@ -108,9 +112,9 @@ module _ (catalogue : Catalogue) (id : ℕ) (held : Option View) (words : Call) 
     with_record-outcome name use_record h =
         by_option P _ (find_record catalogue name) _
         (λ rec e. by_test P (nat_le 64 (length t.ops)) _ _
-        (λ full. Outcome.refused (answer.TooManyOps t.txn number) refl refl)
+        (λ full. Outcome.refused (answer.TooManyOps t.txn number) refl refl refl)
         (λ room. by_test P (is_usable_in catalogue held rec) _ _ (λ u. h rec e) (λ u. let there = s.usable name rec e in cc)))
-        (λ none. Outcome.refused (answer.NoRecord t.txn number) refl refl)
+        (λ none. Outcome.refused (answer.NoRecord t.txn number) refl refl refl)
 
     commit-outcome : P (commit catalogue id t p l0)
     unfolding commit
@@ -129,9 +133,9 @@ module _ (catalogue : Catalogue) (id : ℕ) (held : Option View) (words : Call) 
       (λ a k. Outcome.repeated a (IsOld.answered t e (leb-true number (length t.answers) old)) (IsRepeat.live t here (kept_has number t.answers a k)) refl)
       (Outcome.silent (IsOld.answered t e (leb-true number (length t.answers) old)) refl))
       (λ new. by_test P (nat_lt (length t.answers + 1) number) _ _
-      (λ far. Outcome.refused (answer.Skipped t.txn (length t.answers + 1)) refl refl)
+      (λ far. Outcome.refused (answer.Skipped t.txn (length t.answers + 1)) refl refl refl)
       (λ near. by_test P (is_some t.pending) _ _
-      (λ busy. Outcome.refused (answer.Busy t.txn number) refl refl)
+      (λ busy. Outcome.refused (answer.Busy t.txn number) refl refl refl)
       (λ free. h (record { live = e; here = here; named = named; follows = grind (arith, nat_tests) }))))
 
   finished_call-outcome : (f : Finished) → live_of txn l0.live ≡ None → finished_of txn l0.finished ≡ Some f → P (finished_call 0 number f l0)
@@ -149,7 +153,7 @@ module _ (catalogue : Catalogue) (id : ℕ) (held : Option View) (words : Call) 
   txn_call-outcome h =
       by_option P _ (live_of txn l0.live) _
       (λ t e. live_call-outcome t e (h t))
-      (λ none. by_option P _ (finished_of txn l0.finished) _ (λ f e. finished_call-outcome f none e) (λ q. Outcome.refused (answer.Unknown txn) refl refl))
+      (λ none. by_option P _ (finished_of txn l0.finished) _ (λ f e. finished_call-outcome f none e) (λ q. Outcome.refused (answer.Unknown txn) refl refl refl))
 
 module _ (catalogue : Catalogue) (at : Surroundings) (txn : TxnId) (number : ℕ) (l0 : Lent) (s : IsAlone catalogue at.id at.held l0) where
   pub read_call : (name : List ℕ) → Outcome catalogue at.id (call.Read txn number name) txn number l0 (own_call catalogue 0 (call.Read txn number name) at l0)
