@@ -97,9 +97,9 @@ decide_copies catalogue id t p c here = go (last_writes t.ops) refl
     go [] e = rw e refl
     go (w ∷ ws) e = rw e refl
 
-pub close_here : (id : ℕ) (t : Live) (why : Ending) (c : CoordinatorState) (here : Here) → ((close id t why (lone c here)).copies ≡ here.copies) × ((close id t why (lone c here)).effects.commits ≡ [])
+pub close_here : (id : ℕ) (t : Live) (p : Pending) (why : Ending) (c : CoordinatorState) (here : Here) → ((close id (handling t p) why (lone c here)).copies ≡ here.copies) × ((close id (handling t p) why (lone c here)).effects.commits ≡ [])
 unfolding close finish
-close_here id t why c here = (refl, refl)
+close_here id t p why c here = (refl, refl)
 
 -- an operation that is done
 abbrev pub advanced : Live → Op → Answer → Live

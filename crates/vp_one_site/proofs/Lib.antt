@@ -8,3 +8,6 @@ pub mod Rows
 pub mod Invariant
 pub mod Changes
 pub mod KeptNames
+pub mod KeptLocks
+pub mod Copies
+pub mod KeptValues
