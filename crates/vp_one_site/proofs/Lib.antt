@@ -11,3 +11,7 @@ pub mod KeptNames
 pub mod KeptLocks
 pub mod Copies
 pub mod KeptValues
+pub mod KeptTold
+pub mod KeptAnswers
+pub mod OneView
+pub mod Moments

@@ -180,7 +180,7 @@ all_weaker : (n : ℕ) (rs : List Report) → AllByRecursion (λ (p : Report). p
 all_weaker n [] h = tt
 all_weaker n (r ∷ rs) h = let l = h.0 in (omega arith, all_weaker n rs h.1)
 
-collected_one : (u : TxnId) (a : Answer) (before : List Report) (r : Report) → reported u a ≡ Some r → collected u (a ∷ []) before ≡ put_first r before
+pub collected_one : (u : TxnId) (a : Answer) (before : List Report) (r : Report) → reported u a ≡ Some r → collected u (a ∷ []) before ≡ put_first r before
 collected_one u a before r e = rw e refl
 
 one_told : (f : Report → Option Op) (r : Report) (operation : Op) → f r ≡ Some operation → filter_map f (r ∷ []) ≡ operation ∷ []
