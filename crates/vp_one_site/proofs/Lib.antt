@@ -15,3 +15,5 @@ pub mod KeptTold
 pub mod KeptAnswers
 pub mod OneView
 pub mod Moments
+pub mod Called
+pub mod Theorem

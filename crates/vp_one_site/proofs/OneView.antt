@@ -30,7 +30,7 @@ one_view (e ∷ es) h = rw h.0 (one_view es h.1)
 
 all_in : (es : List Commit) → Opens es → in_view es opening ≡ es
 all_in [] h = refl
-all_in (e ∷ es) h = rw h.0 (ap (λ z. e ∷ z) (all_in es h.1))
+all_in (e ∷ es) h = let z : same_view e.view opening ≡ true = rw h.0 refl in rw z (ap (λ z. e ∷ z) (all_in es h.1))
 
 pub own_order : (journal : List Commit) → Opens journal → order journal ≡ journal
 own_order [] h = refl
@@ -40,7 +40,7 @@ own_order (e ∷ es) h =
 
 all_upto : (es : List Commit) → Opens es → filter (λ (e : Commit). not (view_before opening e.view)) es ≡ es
 all_upto [] h = refl
-all_upto (e ∷ es) h = rw h.0 (ap (λ z. e ∷ z) (all_upto es h.1))
+all_upto (e ∷ es) h = let z : not (view_before opening e.view) ≡ true = rw h.0 refl in rw z (ap (λ z. e ∷ z) (all_upto es h.1))
 
 pub own_content : (m : Values) (journal : List Commit) → Opens journal → content m journal opening ≡ serial m journal
 own_content m journal h = ap (λ z. serial m (filter (λ (e : Commit). not (view_before opening e.view)) z)) (own_order journal h) ∙ ap (serial m) (all_upto journal h)
