@@ -84,7 +84,9 @@ impl Locks {
         self.items
             .iter()
             .filter(|lock| {
-                lock.rec == rec && (exclusive || lock.exclusive) && !is_same_owner(&lock.owner, owner)
+                lock.rec == rec
+                    && (exclusive || lock.exclusive)
+                    && !is_same_owner(&lock.owner, owner)
             })
             .fold(None, |best, lock| Some(lesser_of(best, &lock.owner)))
     }
@@ -182,7 +184,8 @@ impl Locks {
         ensures { self.new ≡ without_owner (owner.Txn txn) self.old }
     {
         let owner = Owner::Txn(txn);
-        self.items.retain(|lock| !is_same_owner(&lock.owner, &owner));
+        self.items
+            .retain(|lock| !is_same_owner(&lock.owner, &owner));
     }
 
     /// The shared locks of the transaction go, and its exclusive ones stay.
@@ -190,8 +193,7 @@ impl Locks {
         ensures { self.new ≡ without_shared (owner.Txn txn) self.old }
     {
         let owner = Owner::Txn(txn);
-        self.items
-            .retain(|lock| lock.exclusive || !is_same_owner(&lock.owner, &owner));
+        self.items.retain(|lock| lock.exclusive || !is_same_owner(&lock.owner, &owner));
     }
 }
 
