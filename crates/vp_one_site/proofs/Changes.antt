@@ -1,20 +1,17 @@
 -- What an operation that is done, an end, and a begin change.
-use Rattle.std.proofs.Common.{◌≡◌, ◌⊎◌, ◌<◌, ◌≤◌, ℕ, ◌+◌, Bool, true, false, cond, List, [], ◌∷◌, ◌++◌, length, map, refl, arith, ap, sym, ◌∙◌, inl, inr, ⊎_elim}
-use Rattle.std.specs.Prelude.{Option, Some, None, ◌==◌, ◌||◌, filter}
-use Rattle.std.specs.List.{list_any}
-use Rattle.std.proofs.lemmas.Bool.Decides.{nat_tests}
-use Rattle.vp_model.specs.Types.{TxnId, Op, Commit, Answer, Reply, Lock, Pending, Live, Ending, Finished}
-use Rattle.vp_base.specs.declared.site.Ending.TheVariants.{Committed, Aborted, LockHeld, ViewChanged, TimedOut}
+use Rattle.std.proofs.Common.{◌≡◌, ℕ, Bool, true, false, cond, List, [], ◌∷◌, ◌++◌, map, refl, sym, ◌∙◌}
+use Rattle.std.specs.Prelude.{None, ◌||◌}
+use Rattle.vp_model.specs.Types.{TxnId, Op, Commit, Answer, Lock, Pending, Live, Ending, Finished}
+use Rattle.vp_base.specs.declared.site.Ending.TheVariants.{Committed}
 use Rattle.vp_model.specs.Types.owner
-use Rattle.vp_model.specs.Words.{same_txn, opening, change_first, without_first, at_most, is_empty}
+use Rattle.vp_model.specs.Words.{same_txn, change_first, without_first, at_most, is_empty}
 use Rattle.vp_model.specs.Catalogue.{Catalogue}
 use Rattle.vp_model.specs.Durable.{with_writes}
 use Rattle.vp_model.specs.Locks.{without_owner}
 use Rattle.vp_model.specs.Site.{CoordinatorState, Here, Lent}
 use Rattle.vp_model.specs.Transactions.{answer_of, last_writes, writes_held, close, decide, decided, keep_writes, finish, complete}
-use Rattle.vp_model.specs.Calls.{handling, handled, begun, start_txn}
+use Rattle.vp_model.specs.Calls.{handling}
 use Rattle.vp_model.specs.Headline.{has_entry}
-use Rattle.vp_one_site.proofs.Members.{Has}
 use Rattle.vp_one_site.proofs.Lists.{any_append}
 use Rattle.vp_one_site.proofs.LockTables.{same_txn-self}
 use Rattle.vp_one_site.proofs.Outcome.{set_locks}
@@ -61,6 +58,7 @@ decide_ends catalogue id t p c here f parts = go (is_empty (last_writes t.ops))
   where
     kept : Lent
     kept = keep_writes catalogue id (handling t p) (lone c here)
+
     go : (b : Bool) → Ended t p.number Committed c here (decided id (handling t p) (cond b (lone c here) (keep_writes catalogue id (handling t p) (lone c here))))
     go true = record {
       seq = refl;

@@ -1,20 +1,18 @@
 -- What holds of a site that is alone, at each moment: records by subject, over its coordinator's state, its locks and
 -- copies, the journal, and the moments so far.
-use Rattle.std.proofs.Common.{◌≡◌, ◌⊎◌, ◌<◌, ◌≤◌, ℕ, ◌+◌, Bool, true, false, List, [], ◌∷◌, ◌++◌, length, map}
-use Rattle.std.specs.Prelude.{Option, Some, None, ◌==◌}
+use Rattle.std.proofs.Common.{◌≡◌, ◌<◌, ◌≤◌, ℕ, ◌+◌, Bool, true, false, List, [], ◌∷◌, length, map}
+use Rattle.std.specs.Prelude.{Option, Some, None}
 use Rattle.std.specs.List.{AllByRecursion, list_any}
-use Rattle.vp_model.specs.Types.{TxnId, View, Stored, Op, Commit, Owner, Answer, Call, Line, Lock, Live, Ending, Finished}
-use Rattle.vp_base.specs.declared.site.Ending.TheVariants.{Committed, Aborted, LockHeld, ViewChanged, TimedOut}
+use Rattle.vp_model.specs.Types.{TxnId, View, Stored, Op, Commit, Answer, Line, Live, Ending, Finished}
+use Rattle.vp_base.specs.declared.site.Ending.TheVariants.{Committed}
 use Rattle.vp_model.specs.Types.answer
-use Rattle.vp_model.specs.Types.event
 use Rattle.vp_model.specs.Types.owner
-use Rattle.vp_model.specs.Types.shown
 use Rattle.vp_model.specs.Words.{same_txn, opening}
 use Rattle.vp_model.specs.Catalogue.{Catalogue, start_values}
 use Rattle.vp_model.specs.Durable.{DurableState}
-use Rattle.vp_model.specs.Site.{CoordinatorState, Here, Lent, SiteState}
+use Rattle.vp_model.specs.Site.{CoordinatorState, Here, SiteState}
 use Rattle.vp_model.specs.Transactions.{answer_of}
-use Rattle.vp_model.specs.World.{Place, WorldState, Moment}
+use Rattle.vp_model.specs.World.{WorldState, Moment}
 use Rattle.vp_model.specs.OneCopy.{Values, play, serial}
 use Rattle.vp_model.specs.Told.{answers_in}
 use Rattle.vp_model.specs.Justified.{was_blocked, all_justified}

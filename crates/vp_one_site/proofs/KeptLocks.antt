@@ -1,12 +1,12 @@
 -- The lock table, after each kind of change.
-use Rattle.std.proofs.Common.{◌≡◌, ◌⊎◌, ◌<◌, ◌≤◌, ℕ, ◌+◌, Bool, true, false, cond, List, [], ◌∷◌, ◌++◌, length, map, refl, arith, ap, sym, ◌∙◌, inl, inr, ⊎_elim}
-use Rattle.std.specs.Prelude.{Option, Some, None, ◌==◌, fold}
+use Rattle.std.proofs.Common.{◌≡◌, ℕ, Bool, true, false, cond, List, [], ◌∷◌, ◌++◌, refl, sym, ◌∙◌, ⊎_elim}
+use Rattle.std.specs.Prelude.{Some, ◌==◌, fold}
 use Rattle.std.specs.List.{AllByRecursion}
 use Rattle.std.proofs.lemmas.Bool.{eqb-true}
-use Rattle.vp_model.specs.Types.{TxnId, Op, Owner, Commit, Answer, Lock, Live, Ending}
+use Rattle.vp_model.specs.Types.{Op, Owner, Commit, Answer, Lock, Live, Ending}
 use Rattle.vp_model.specs.Types.op
 use Rattle.vp_model.specs.Types.owner
-use Rattle.vp_model.specs.Words.{same_txn, put_at, value_at}
+use Rattle.vp_model.specs.Words.{put_at, value_at}
 use Rattle.vp_model.specs.Site.{CoordinatorState, Here, Lent}
 use Rattle.vp_model.specs.Transactions.{with_op, last_writes}
 use Rattle.vp_one_site.proofs.Members.{Has}

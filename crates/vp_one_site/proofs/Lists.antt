@@ -1,9 +1,9 @@
 -- More laws of membership, and of the words on lists.
-use Rattle.std.proofs.Common.{◌≡◌, ℕ, ◌+◌, ◌≤◌, ◌<◌, suc, zero, Bool, true, false, cond, refl, arith, inl, inr, ◌⊎◌, List, [], ◌∷◌, ◌++◌, ⊎_elim, map, length, ap, sym, ◌∙◌}
-use Rattle.std.specs.Prelude.{◌==◌, ◌&&◌, ◌||◌, not, Option, Some, None, is_some, find, filter, nat_lt, drop}
-use Rattle.std.specs.List.{list_any, list_all, AllByRecursion}
+use Rattle.std.proofs.Common.{◌≡◌, ℕ, Bool, true, false, cond, refl, inl, inr, ◌⊎◌, List, [], ◌∷◌, ◌++◌, ⊎_elim, map, length, sym, ◌∙◌}
+use Rattle.std.specs.Prelude.{◌||◌, filter, nat_lt, drop}
+use Rattle.std.specs.List.{list_any, list_all}
 use Rattle.vp_model.specs.Words.{change_first, without_first, at_most}
-use Rattle.vp_one_site.proofs.Members.{Has, has_none, has_first, has_more, has_cons, has_left, has_right, has_cases, has_one_is}
+use Rattle.vp_one_site.proofs.Members.{Has, has_none, has_first, has_more, has_cons, has_cases, has_one_is}
 
 pub by_bool : {A : Type 0} (P : A → Type 0) (t : Bool) (x y : A) → (t ≡ true → P x) → (t ≡ false → P y) → P (cond t x y)
 by_bool P true x y p q = p refl
@@ -114,6 +114,7 @@ without_apart {X} test same (x ∷ xs) u = go (test x) (without_apart test same 
         by_less : (b : Bool) → Has (cond b zs (z ∷ without_first test zs)) y → (Has (without_first test zs) y → Has zs y) → Has (z ∷ zs) y
         by_less true q rest = has_more z zs y q
         by_less false q rest = ⊎_elim (λ (e : z ≡ y). rw e (has_first y zs)) (λ more. has_more z zs y (rest more)) (has_cons z (without_first test zs) y q)
+
     go : (b : Bool) → Apart same (without_first test xs) → Apart same (cond b xs (x ∷ without_first test xs))
     go true rest = u.1
     go false rest = ((λ y q. u.0 y (less xs y q)), rest)

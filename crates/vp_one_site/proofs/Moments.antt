@@ -1,27 +1,24 @@
 -- One more moment.
-use Rattle.std.proofs.Common.{◌≡◌, ◌⊎◌, ◌<◌, ◌≤◌, ℕ, ◌+◌, Bool, true, false, cond, List, [], ◌∷◌, ◌++◌, length, map, refl, arith, ap, sym, subst, ◌∙◌, inl, inr, ⊎_elim}
-use Rattle.std.specs.Prelude.{Option, Some, None, ◌==◌, ◌&&◌, ◌||◌, nat_le}
-use Rattle.std.specs.Option.{option_map_or}
-use Rattle.std.specs.List.{list_any, list_all}
+use Rattle.std.proofs.Common.{◌≡◌, ℕ, Bool, true, List, [], ◌∷◌, ◌++◌, refl, arith, sym, subst, ◌∙◌, ⊎_elim}
+use Rattle.std.specs.Prelude.{Some, None, ◌==◌, ◌&&◌, nat_le}
+use Rattle.std.specs.List.{list_any}
 use Rattle.std.proofs.lemmas.Bool.{eq-eqb, le-leb}
 use Rattle.std.proofs.lemmas.Slice.Eq.{bytes_eq-Decides}
-use Rattle.vp_model.specs.Types.{TxnId, Owner, Commit, Call, Answer, Reply, Event, Line, Shown}
+use Rattle.vp_model.specs.Types.{TxnId, Owner, Commit, Call, Answer}
 use Rattle.vp_model.specs.Types.answer
 use Rattle.vp_model.specs.Types.event
-use Rattle.vp_model.specs.Types.owner
 use Rattle.vp_model.specs.Types.shown
-use Rattle.vp_model.specs.Words.{same_owner}
 use Rattle.vp_model.specs.Catalogue.{Catalogue, find_record}
 use Rattle.vp_model.specs.Locks.{conflict}
-use Rattle.vp_model.specs.Site.{CoordinatorState, Here, Lent, SiteState}
-use Rattle.vp_model.specs.World.{WorldState, Moment, site_of}
-use Rattle.vp_model.specs.Told.{answers_in, is_step, call_in}
-use Rattle.vp_model.specs.Justified.{Request, call_request, request_of, is_request, is_step_of, is_named, tested_before, blocks, gave_held, says_held, was_blocked, justified, all_justified}
+use Rattle.vp_model.specs.Site.{CoordinatorState, Here, Lent}
+use Rattle.vp_model.specs.World.{Moment, site_of}
+use Rattle.vp_model.specs.Told.{answers_in}
+use Rattle.vp_model.specs.Justified.{call_request, request_of, is_request, is_step_of, is_named, tested_before, blocks, gave_held, says_held, was_blocked, justified}
 use Rattle.vp_model.specs.Headline.{has_entry, is_committed, commits_in, copies_true}
-use Rattle.vp_one_site.proofs.Members.{Has, has_cases, has_one_is, has_one, has_right}
-use Rattle.vp_one_site.proofs.Lists.{all_from, any_from}
+use Rattle.vp_one_site.proofs.Members.{Has, has_cases, has_one_is}
+use Rattle.vp_one_site.proofs.Lists.{all_from}
 use Rattle.vp_one_site.proofs.LockTables.{same_txn-self, same_owner-self, least_any}
-use Rattle.vp_one_site.proofs.Invariant.{IsWorld, lone_site, IsOver, IsTrueEnd, IsTrueCommit, MomentsHold, end_of, words_justified}
+use Rattle.vp_one_site.proofs.Invariant.{IsWorld, lone_site, IsOver, IsTrueEnd, IsTrueCommit, MomentsHold, words_justified}
 use Rattle.vp_one_site.proofs.KeptAnswers.{justified_words, all_justified-last, true_commit}
 
 -- the moment is a call at a site that is alone, and gives what l gave

@@ -1,21 +1,20 @@
 -- What one call does at a site that is alone, by kinds.
-use Rattle.std.proofs.Common.{◌≡◌, ◌⊎◌, ℕ, ◌+◌, ◌≤◌, ◌<◌, Bool, true, false, cond, List, [], length}
-use Rattle.std.specs.Prelude.{Option, Some, None, ◌==◌, ◌&&◌}
-use Rattle.vp_model.specs.Types.{TxnId, View, Stored, Op, Owner, Answer, Call, Lock, Pending, Live, Ending, Finished}
+use Rattle.std.proofs.Common.{◌≡◌, ℕ, ◌+◌, ◌≤◌, ◌<◌, Bool, true, false, cond, List, [], length}
+use Rattle.std.specs.Prelude.{Option, Some, None}
+use Rattle.vp_model.specs.Types.{TxnId, View, Stored, Op, Owner, Answer, Call, Lock, Live, Finished}
 use Rattle.vp_base.specs.declared.site.Ending.TheVariants.{Aborted, LockHeld}
 use Rattle.vp_model.specs.Types.answer
-use Rattle.vp_model.specs.Types.call
 use Rattle.vp_model.specs.Types.op
 use Rattle.vp_model.specs.Types.owner
 use Rattle.vp_model.specs.Words.{same_txn, value_at}
 use Rattle.vp_model.specs.Catalogue.{Catalogue, find_record}
 use Rattle.vp_model.specs.Locks.{conflict, with_lock}
-use Rattle.vp_model.specs.Site.{CoordinatorState, Here, Lent, lent_reply, lent_locks}
+use Rattle.vp_model.specs.Site.{Here, Lent, lent_reply, lent_locks}
 use Rattle.vp_model.specs.Transactions.{live_of, finished_of, last_writes, answer_of, close, decide, complete}
 use Rattle.vp_model.specs.Refresh.{is_usable_in, other_holders_in}
 use Rattle.vp_model.specs.Calls.{handling, handled}
 use Rattle.vp_model.specs.Told.{reported, is_early_refusal, told_by}
-use Rattle.vp_model.specs.Justified.{Request, call_request}
+use Rattle.vp_model.specs.Justified.{call_request}
 use Rattle.vp_one_site.proofs.Members.{Has}
 use Rattle.vp_one_site.proofs.Play.{op_record}
 

@@ -1,9 +1,8 @@
 -- What one more line makes of what the lines tell of a transaction.
-use Rattle.std.proofs.Common.{◌≡◌, ◌≤◌, ◌<◌, ℕ, ◌+◌, zero, suc, ◌∙◌, ap, sym, Bool, true, false, cond, List, [], ◌∷◌, ◌++◌, length, refl, arith, inl, inr, ◌⊎◌, ⊎_elim, append_assoc}
-use Rattle.std.specs.Prelude.{Option, Some, None, is_some, ◌==◌, ◌&&◌, not, nat_lt, filter_map, flat_map, option_map, option_and_then, find, fold}
-use Rattle.std.specs.List.{AllByRecursion, list_any}
-use Rattle.std.proofs.lemmas.Bool.Decides.{nat_tests}
-use Rattle.std.proofs.lemmas.Bool.{eqb-true, eqb-false, ne_eqb, le-ltb}
+use Rattle.std.proofs.Common.{◌≡◌, ◌≤◌, ◌<◌, ℕ, ◌+◌, ◌∙◌, ap, sym, Bool, true, false, cond, List, [], ◌∷◌, ◌++◌, refl, arith, append_assoc}
+use Rattle.std.specs.Prelude.{Option, Some, None, is_some, ◌==◌, nat_lt, filter_map, flat_map, option_and_then, find}
+use Rattle.std.specs.List.{AllByRecursion}
+use Rattle.std.proofs.lemmas.Bool.{ne_eqb, le-ltb}
 use Rattle.std.proofs.lemmas.List.Elements.{filter_map-append}
 use Rattle.std.proofs.lemmas.List.Sums.{fold-append}
 use Rattle.std.proofs.lemmas.List.{append-nil}
@@ -60,6 +59,7 @@ put_keeps k r before h = go (is_some (value_at r.0 before))
     at_key : (b : Bool) → is_some (cond b (Some r.1) (value_at k before)) ≡ true
     at_key true = refl
     at_key false = h
+
     go : (b : Bool) → is_some (value_at k (cond b before (put_at r.0 r.1 before))) ≡ true
     go true = h
     go false = rw (value_put k r.0 r.1 before) (at_key (r.0 == k))
@@ -201,9 +201,9 @@ pub tells_more : (catalogue : Catalogue) (lines : List Line) (l : Line) (u : Txn
 unfolding tell
 tells_more catalogue lines l u last ops a operation h d =
     let now : reports (lines ++ l ∷ []) u ≡ reports lines u ++ (last + 1, d.report) ∷ [] =
-        reports-last lines l u ∙ ap (λ z. collected u z (reports lines u)) d.answers ∙ collected_one u a (reports lines u) (last + 1, d.report) d.reports ∙ put_last last d.report (reports lines u) h.below in
+    reports-last lines l u ∙ ap (λ z. collected u z (reports lines u)) d.answers ∙ collected_one u a (reports lines u) (last + 1, d.report) d.reports ∙ put_last last d.report (reports lines u) h.below in
     let found : taken_call (lines ++ l ∷ []) u (last + 1) ≡ Some d.words =
-        ap (option_and_then (λ (line : Line). call_in line.event)) (find_new (takes u (last + 1)) lines l (h.untaken (last + 1) (omega arith)) d.taken) ∙ d.call in
+    ap (option_and_then (λ (line : Line). call_in line.event)) (find_new (takes u (last + 1)) lines l (h.untaken (last + 1) (omega arith)) d.taken) ∙ d.call in
     record {
       so_far = record {
         taken = rw now (all_append (λ (p : Report). is_some (taken_call (lines ++ l ∷ []) u p.0) ≡ true) (reports lines u) (last + 1, d.report) (all_taken catalogue lines l u (reports lines u) h.so_far.taken) (rw found refl));

@@ -1,5 +1,5 @@
 -- Schedules of one site: it has the only copy of each record, and clients call it.
-use Rattle.std.specs.Prelude.{◌≡◌, ℕ, ◌≤◌, Bool, true, false, ◌==◌, All, List, [], ◌∷◌}
+use Rattle.std.specs.Prelude.{◌≡◌, ℕ, ◌≤◌, Bool, true, false, ◌==◌, All, [], ◌∷◌}
 use Rattle.vp_model.specs.Types.{Event}
 use Rattle.vp_model.specs.Types.call
 use Rattle.vp_model.specs.Types.event
