@@ -45,7 +45,10 @@ pub record IsWorld (id : ℕ) (w : WorldState) (c : CoordinatorState) (here : He
   -- what its log keeps
   pub durable : DurableState
   pub places : w.places ≡ (record { id = id; durable = durable; up = Some (lone_site id c here) }) ∷ []
+  pub agreed : w.agreed ≡ lone_view id ∷ []
   pub sent : w.sent ≡ []
+  pub delivered : w.delivered ≡ []
+  pub cuts : w.cuts ≡ []
   pub journal : w.journal ≡ entries
 
 -- the name was given

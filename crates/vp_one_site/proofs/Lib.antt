@@ -17,3 +17,4 @@ pub mod OneView
 pub mod Moments
 pub mod Called
 pub mod Theorem
+pub mod Worlds

@@ -51,7 +51,7 @@ pub record IsGood (catalogue : Catalogue) (id : ℕ) (run : Run) : Type 0 where
   pub each : (m : Moment) → Has run.moments m → IsLone id m.before × IsLone id m.after
 
 -- the site's call in the world
-site_here : (id : ℕ) (w : WorldState) (c : CoordinatorState) (here : Here) (journal : List Commit) → IsWorld id w c here journal → site_of w id ≡ Some (lone_site id c here)
+pub site_here : (id : ℕ) (w : WorldState) (c : CoordinatorState) (here : Here) (journal : List Commit) → IsWorld id w c here journal → site_of w id ≡ Some (lone_site id c here)
 site_here id w c here journal h = let s : (id == id) ≡ true = eq-eqb id id refl in rw (h.places, s) refl
 
 abbrev Result : Catalogue → ℕ → Call → CoordinatorState → Here → Lent
@@ -83,7 +83,10 @@ module _ (catalogue : Catalogue) (id : ℕ) (words : Call) (own : IsOwn words) w
       rw (step_is c here) (record {
         durable = apply_all (Result catalogue id words c here).effects.records h.durable;
         places = rw (h.places, s) refl;
+        agreed = rw h.agreed refl;
         sent = rw (h.sent, none) refl;
+        delivered = h.delivered;
+        cuts = h.cuts;
         journal = rw h.journal refl;
       })
 
@@ -242,7 +245,10 @@ module _ (catalogue : Catalogue) (id : ℕ) (all : All (IsOnlyAt id) catalogue.r
   start_good port e = record {
     durable = apply (start_record (empty_durable (start_copies catalogue id))) (empty_durable (start_copies catalogue id));
     places = rw e refl;
+    agreed = rw e refl;
     sent = refl;
+    delivered = refl;
+    cuts = refl;
     journal = refl;
   }
 
