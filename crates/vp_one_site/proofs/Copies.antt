@@ -18,6 +18,7 @@ use Rattle.vp_one_site.specs.OneSite.{IsOnlyAt}
 use Rattle.vp_one_site.proofs.Play.{set_all, set_outside}
 use Rattle.vp_one_site.proofs.Invariant.{copies_of, lone_view}
 
+-- a copy of the opening view
 abbrev pub stored_of : List ℕ → Stored
 stored_of v = record { value = v; date = opening }
 

@@ -106,9 +106,11 @@ module _ (id : ℕ) (c : CoordinatorState) (here : Here) (journal : List Commit)
 abbrev pub new_name : ℕ → CoordinatorState → TxnId
 new_name id c = record { site = id; life = 1; seq = c.seq + 1 }
 
+-- a transaction that was just begun
 abbrev pub new_live : ℕ → CoordinatorState → Live
 new_live id c = begun (new_name id c) opening
 
+-- the coordinator with it
 abbrev pub with_new : ℕ → CoordinatorState → CoordinatorState
 with_new id c = with_begun (new_live id c) c
 

@@ -25,8 +25,11 @@ use Rattle.vp_one_site.proofs.KeptNames.{left_live, now_live, live_or_new, new_l
 
 -- the line is a call with these answers
 pub record IsCallLine (words : Call) (answers : List Answer) (line : Line) : Type 0 where
+  -- the call
   pub call : call_in line.event ≡ Some words
+  -- it reached the site
   pub step : is_step line.shown ≡ true
+  -- what it was answered
   pub answered : answers_in line ≡ answers
 
 taken_test : TxnId → ℕ → Option Call → Bool → List Answer → Bool

@@ -37,6 +37,7 @@ unwritten locks ops r x t u n d h k = go (value_at r (last_writes ops)) refl
     go None e = refl
     go (Some v) e = absurd (never_both locks r x t u n d (wrote_lock (owner.Txn t) locks ops r v h e) k)
 
+-- the transaction has some lock on the record
 abbrev Uses : TxnId → List Lock → ℕ → Type 0
 Uses u locks r = (x : Bool) × HasLock r x (owner.Txn u) locks
 

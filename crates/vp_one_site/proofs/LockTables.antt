@@ -40,10 +40,15 @@ IsFree rec exclusive o locks = (a : Lock) → Has locks a → a.rec ≡ rec → 
 
 -- the owner has a lock on the record, an exclusive one where that is asked
 pub record HasLock (rec : ℕ) (exclusive : Bool) (o : Owner) (locks : List Lock) : Type 0 where
+  -- the lock
   pub lock : Lock
+  -- it is in the table
   pub has : Has locks lock
+  -- its record
   pub on : lock.rec ≡ rec
+  -- its owner
   pub by : lock.owner ≡ o
+  -- it is exclusive where that is asked
   pub strong : exclusive ≡ true → lock.exclusive ≡ true
 
 -- who conflicts
@@ -114,6 +119,13 @@ source : (rec : ℕ) (exclusive : Bool) (o : Owner) (locks : List Lock) (a : Loc
 source rec exclusive o locks a h = by_bool (λ (ls : List Lock). Has ls a → Source rec exclusive o locks a) (holds rec false o locks) (map (raised rec exclusive o) locks) (locks ++ (record { rec = rec; exclusive = exclusive; owner = o }) ∷ [])
     (λ e q. let r = map_has (raised rec exclusive o) locks a q in rw (← r.2) (raised_source rec exclusive o locks r.0 r.1))
     (λ e q. ⊎_elim (λ was. Source.old was) (λ new. rw (← has_one_is (record { rec = rec; exclusive = exclusive; owner = o }) a new) (Source.mine refl refl (λ z. inl z))) (has_cases locks _ a q)) h
+
+pub lock_source : (rec : ℕ) (exclusive : Bool) (o : Owner) (locks : List Lock) (a : Lock) → Has (with_lock rec exclusive o locks) a → Has locks a ⊎ (a.owner ≡ o)
+lock_source rec exclusive o locks a h = go (source rec exclusive o locks a h)
+  where
+    go : Source rec exclusive o locks a → Has locks a ⊎ (a.owner ≡ o)
+    go (Source.old p) = inl p
+    go (Source.mine at by strong) = inr by
 
 pub locked : (rec : ℕ) (exclusive : Bool) (o : Owner) (locks : List Lock) → IsFree rec exclusive o locks → NoConflict locks → NoConflict (with_lock rec exclusive o locks)
 locked rec exclusive o locks free n a b h k r x = go (source rec exclusive o locks a h) (source rec exclusive o locks b k)

@@ -25,8 +25,11 @@ use Rattle.vp_one_site.proofs.KeptAnswers.{justified_words, all_justified-last, 
 pub record IsMoment (id : ℕ) (words : Call) (c : CoordinatorState) (here : Here) (journal : List Commit) (l : Lent) (m : Moment) : Type 0 where
   -- the number of the first message, had there been one
   pub first : ℕ
+  -- the call, and what it gave
   pub line : m.line ≡ record { event = event.Call id words; shown = shown.Step l.effects.commits first l.effects.messages l.effects.replies }
+  -- the site before it
   pub before : site_of m.before id ≡ Some (lone_site id c here)
+  -- the world after it
   pub after : IsWorld id m.after l.coordinator l.here (journal ++ l.effects.commits)
 
 -- a refusal for a lock is justified by its own moment
@@ -72,10 +75,15 @@ end_stays id c d journal after a s h u b e = let k = h u b e in let now = s u k.
 
 -- what one more moment has to bring
 pub record Brings (catalogue : Catalogue) (id : ℕ) (d : CoordinatorState) (after : List Commit) (moments : List Moment) (m : Moment) : Type 0 where
+  -- the ends that it answers are true
   pub ends : (a : Answer) → Has (answers_in m.line) a → IsTrueEnd id d after a
+  -- its refusals are justified
   pub fair : (a : Answer) → Has (answers_in m.line) a → words_justified catalogue (moments ++ m ∷ []) a ≡ true
+  -- its commits are answered
   pub commits : (e : Commit) → Has (commits_in m.line.shown) e → list_any (is_committed e.txn) (answers_in m.line) ≡ true
+  -- the journal after it
   pub journal : m.after.journal ≡ after
+  -- the copies after it are true
   pub copies : copies_true catalogue m.after ≡ true
 
 pub moments_on : (catalogue : Catalogue) (id : ℕ) (c d : CoordinatorState) (journal after : List Commit) (moments : List Moment) (m : Moment) → Stays id c journal d after → MomentsHold catalogue id c journal moments → Brings catalogue id d after moments m → MomentsHold catalogue id d after (moments ++ m ∷ [])

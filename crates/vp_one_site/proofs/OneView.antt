@@ -19,6 +19,7 @@ pub all_from_has : {X : Type 0} (P : X → Type 0) (xs : List X) → ((x : X) �
 all_from_has P [] h = tt
 all_from_has P (x ∷ xs) h = (h x (has_first x xs), all_from_has P xs (λ y q. h y (has_more x xs y q)))
 
+-- all entries are of the opening view
 abbrev pub Opens : List Commit → Type 0
 Opens journal = AllByRecursion (λ (e : Commit). e.view ≡ opening) journal
 

@@ -33,9 +33,13 @@ pub record IsAlone (catalogue : Catalogue) (id : ℕ) (held : Option View) (l : 
 
 -- the call is the next one of a live transaction
 pub record IsNext (l : Lent) (txn : TxnId) (number : ℕ) (t : Live) : Type 0 where
+  -- the transaction is found
   pub live : live_of txn l.live ≡ Some t
+  -- it is live
   pub here : Has l.live t
+  -- under this name
   pub named : t.txn ≡ txn
+  -- the number follows the last that was answered
   pub follows : number ≡ length t.answers + 1
 
 -- the call has a number that was answered, or its transaction has ended
@@ -67,6 +71,7 @@ is_report (answer.Value txn number value) = true
 is_report (answer.Written txn number) = true
 is_report _ = false
 
+-- the operation writes
 abbrev pub is_write : Op → Bool
 is_write (op.Read rec value) = false
 is_write (op.Write rec value) = true
@@ -86,12 +91,18 @@ pub data IsFrom (catalogue : Catalogue) (t : Live) (copies : List (ℕ × Stored
 pub record IsDone (catalogue : Catalogue) (words : Call) (number : ℕ) (t : Live) (here : Here) (operation : Op) (a : Answer) (after : List Lock) : Type 0 where
   -- what the answer reports
   pub report : Option (List ℕ)
+  -- the answer reports
   pub is_one : is_report a ≡ true
+  -- it reports of this transaction, under this number
   pub reports : (u : TxnId) → reported u a ≡ cond (same_txn t.txn u) (Some (number, report)) None
+  -- with the call it tells the operation
   pub tells : told_by catalogue report words ≡ Some operation
+  -- the lock was there or is taken
   pub took : Took t (op_record operation) (is_write operation) here.locks after
+  -- where the value is from
   pub value : IsFrom catalogue t here.copies operation
 
+-- the lock table is replaced
 abbrev pub set_locks : List Lock → Lent → Lent
 set_locks locks l = lent_locks (λ old. locks) l
 

@@ -40,9 +40,11 @@ pub kept_has : (number : ℕ) (answers : List Answer) (a : Answer) → kept_answ
 kept_has number answers a e = has_of answers a (number - 1, slice_get_within answers (number - 1) a e, get_or_from_slice_get answers (number - 1) a a e)
 
 module _ (catalogue : Catalogue) (id : ℕ) (held : Option View) (words : Call) (txn : TxnId) (number : ℕ) (l0 : Lent) (s : IsAlone catalogue id held l0) where
+  -- the state is what the call comes to
   abbrev P : Lent → Type 0
   P l = Outcome catalogue id words txn number l0 l
 
+  -- the call, as it is handled
   abbrev p : Pending
   p = handled 0 number words
 

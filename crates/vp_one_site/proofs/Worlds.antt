@@ -19,24 +19,36 @@ use Rattle.vp_one_site.proofs.OneView.{own_order, all_from_has}
 use Rattle.vp_one_site.proofs.Theorem.{IsLone, IsGood, site_here, run_good}
 
 -- the site is up, in its first life and in the opening view, and knows of no other site and of no message
-pub lone_is_up : (id : ℕ) (w : WorldState) (h : IsLone id w) → site_of w id ≡ Some (lone_site id h.coordinator h.here)
-lone_is_up id w h = site_here id w h.coordinator h.here h.journal h.world
+pub lone_is_up : (catalogue : Catalogue) (id : ℕ) (w : WorldState) (h : IsLone catalogue id w) → site_of w id ≡ Some (lone_site id h.coordinator h.here)
+lone_is_up catalogue id w h = site_here id w h.coordinator h.here h.journal h.world
 
 -- what a site that is alone has: a site that is looked up is this one
 pub record IsQuiet (id : ℕ) (x : SiteState) : Type 0 where
+  -- it is this site
   pub own : x.id ≡ id
+  -- in its first life
   pub first_life : x.life ≡ 1
+  -- it has promised nothing else
   pub promised : x.promise ≡ opening
+  -- it holds the opening view, as the only member
   pub holds : x.held ≡ Some (lone_view id)
+  -- no view is awaited
   pub not_waiting : x.waiting ≡ None
+  -- nor invited to
   pub not_inviting : x.inviting ≡ None
+  -- no other site has a transaction here
   pub no_parts : x.parts ≡ []
+  -- none is in doubt
   pub no_doubts : x.doubts ≡ []
+  -- none has ended here
   pub none_ended : x.ended ≡ []
+  -- no copy is refreshed
   pub no_refresh : x.refresh ≡ []
+  -- no decision waits for a site
   pub no_decisions : x.decisions ≡ []
   -- no live transaction has a part or a call that waits
   pub live_parts : (t : Live) → Contains x.live t → t.parts ≡ []
+  -- nor a call that waits
   pub live_pending : (t : Live) → Contains x.live t → t.pending ≡ None
 
 lone_quiet : (id : ℕ) (c : CoordinatorState) (here : Here) (journal : List Commit) → NamesHold id c journal → IsQuiet id (lone_site id c here)
@@ -56,27 +68,27 @@ lone_quiet id c here journal n = record {
   live_pending = λ t k. (n.live t (has_of c.live t k)).pending;
 }
 
-pub site_is_quiet : (id : ℕ) (w : WorldState) (x : SiteState) → IsLone id w → site_of w id ≡ Some x → IsQuiet id x
-site_is_quiet id w x h e =
-    let same : lone_site id h.coordinator h.here ≡ x = same_some _ x (sym (lone_is_up id w h) ∙ e) in
+pub site_is_quiet : (catalogue : Catalogue) (id : ℕ) (w : WorldState) (x : SiteState) → IsLone catalogue id w → site_of w id ≡ Some x → IsQuiet id x
+site_is_quiet catalogue id w x h e =
+    let same : lone_site id h.coordinator h.here ≡ x = same_some _ x (sym (lone_is_up catalogue id w h) ∙ e) in
     rw (← same) (lone_quiet id h.coordinator h.here h.journal h.names)
   where
     same_some : (a b : SiteState) → Some a ≡ Some b → a ≡ b
     same_some a b q = cc
 
 -- all entries are of the opening view, so the order of the journal is its own
-pub entries_open : (id : ℕ) (w : WorldState) → IsLone id w → (e : Commit) → Contains w.journal e → e.view ≡ opening
-entries_open id w h e c = (h.names.entries e (rw h.world.journal at (has_of w.journal e c))).view
+pub entries_open : (catalogue : Catalogue) (id : ℕ) (w : WorldState) → IsLone catalogue id w → (e : Commit) → Contains w.journal e → e.view ≡ opening
+entries_open catalogue id w h e c = (h.names.entries e (rw h.world.journal at (has_of w.journal e c))).view
 
-pub journal_in_order : (id : ℕ) (w : WorldState) → IsLone id w → order w.journal ≡ w.journal
-journal_in_order id w h = rw h.world.journal (own_order h.journal (all_from_has (λ (e : Commit). e.view ≡ opening) h.journal (λ e m. (h.names.entries e m).view)))
+pub journal_in_order : (catalogue : Catalogue) (id : ℕ) (w : WorldState) → IsLone catalogue id w → order w.journal ≡ w.journal
+journal_in_order catalogue id w h = rw h.world.journal (own_order h.journal (all_from_has (λ (e : Commit). e.view ≡ opening) h.journal (λ e m. (h.names.entries e m).view)))
 
 -- before and after each moment, and in the end
-pub each_moment : (s : Schedule) (h : IsOneSite s) (m : Moment) → Contains (moments_of s) m → IsLone h.site m.before × IsLone h.site m.after
+pub each_moment : (s : Schedule) (h : IsOneSite s) (m : Moment) → Contains (moments_of s) m → IsLone s.catalogue h.site m.before × IsLone s.catalogue h.site m.after
 each_moment s h m c = (run_good s h).each m (has_of (moments_of s) m c)
 
-pub last_world : (s : Schedule) (h : IsOneSite s) → IsLone h.site (run_of s).world
-last_world s h = let g = run_good s h in record { coordinator = g.coordinator; here = g.here; journal = g.journal; world = g.world; names = g.holds.names }
+pub last_world : (s : Schedule) (h : IsOneSite s) → IsLone s.catalogue h.site (run_of s).world
+last_world s h = let g = run_good s h in record { coordinator = g.coordinator; here = g.here; journal = g.journal; world = g.world; names = g.holds.names; locks = g.holds.locks; values = g.holds.values }
 
 -- each event gives just one moment
 abbrev events_in : List Moment → List Event
