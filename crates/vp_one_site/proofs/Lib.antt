@@ -18,3 +18,4 @@ pub mod Moments
 pub mod Called
 pub mod Theorem
 pub mod Worlds
+pub mod Worked

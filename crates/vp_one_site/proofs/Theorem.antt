@@ -133,8 +133,8 @@ module _ (catalogue : Catalogue) (id : ℕ) (words : Call) (own : IsOwn words) w
         journal = g.journal ++ (Result catalogue id words g.coordinator g.here).effects.commits;
         world = now_world run.world g.coordinator g.here g.journal g.world none;
         names = now_holds.names;
-          locks = now_holds.locks;
-          values = now_holds.values;
+        locks = now_holds.locks;
+        values = now_holds.values;
       },
     )) (has_cases run.moments (m0 ∷ []) m h);
   })

@@ -1,22 +1,21 @@
 -- What the world is at each moment of a schedule of one site.
-use Rattle.std.proofs.Common.{◌≡◌, ℕ, ◌+◌, Bool, true, false, List, [], ◌∷◌, ◌++◌, length, map, refl, ap, sym, ◌∙◌, append_assoc}
-use Rattle.std.specs.Prelude.{Option, Some, None, All}
+use Rattle.std.proofs.Common.{◌≡◌, ℕ, ◌+◌, true, List, [], ◌∷◌, ◌++◌, map, refl, ap, sym, ◌∙◌, append_assoc}
+use Rattle.std.specs.Prelude.{Some, None}
 use Rattle.std.specs.List.{Contains, AllByRecursion}
 use Rattle.std.proofs.lemmas.List.{append-nil}
 use Rattle.std.proofs.lemmas.List.Elements.{recursion_from_All}
-use Rattle.vp_model.specs.Types.{View, Commit, Event, Live}
-use Rattle.vp_model.specs.Types.call
+use Rattle.vp_model.specs.Types.{Commit, Event, Live}
 use Rattle.vp_model.specs.Types.event
 use Rattle.vp_model.specs.Words.{opening}
 use Rattle.vp_model.specs.Catalogue.{Catalogue}
 use Rattle.vp_model.specs.Site.{CoordinatorState, Here, SiteState}
-use Rattle.vp_model.specs.World.{WorldState, Moment, Run, Schedule, site_of, one_step, one_event, run_from, run_of, moments_of, journal_of}
+use Rattle.vp_model.specs.World.{WorldState, Moment, Run, Schedule, site_of, one_step, one_event, run_from, run_of, moments_of}
 use Rattle.vp_model.specs.OneCopy.{order}
 use Rattle.vp_one_site.specs.OneSite.{is_call_at, IsOneSite}
-use Rattle.vp_one_site.proofs.Members.{Has, has_of}
-use Rattle.vp_one_site.proofs.Invariant.{IsWorld, lone_site, lone_view, NamesHold}
+use Rattle.vp_one_site.proofs.Members.{has_of}
+use Rattle.vp_one_site.proofs.Invariant.{lone_site, lone_view, NamesHold}
 use Rattle.vp_one_site.proofs.OneView.{own_order, all_from_has}
-use Rattle.vp_one_site.proofs.Theorem.{IsLone, IsGood, site_here, run_good}
+use Rattle.vp_one_site.proofs.Theorem.{IsLone, site_here, run_good}
 
 -- the site is up, in its first life and in the opening view, and knows of no other site and of no message
 pub lone_is_up : (catalogue : Catalogue) (id : ℕ) (w : WorldState) (h : IsLone catalogue id w) → site_of w id ≡ Some (lone_site id h.coordinator h.here)
