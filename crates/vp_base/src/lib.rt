@@ -1,23 +1,31 @@
 //! The types that sites, logs, clients and schedules share.
 //!
-//! A contract sees an identifier as a number, a name as its bytes, and a list type as a list.
+//! A contract sees an identifier as a number, a name as its bytes, and a list type as a list. Names, values, views and
+//! transactions are read from text with the exact place of a fault; `proofs/` has the laws of their texts.
 #![tactic(auto)]
 
 mod answer;
 mod copies;
 mod entry;
 mod event;
+mod fault;
 mod ids;
 mod lists;
 mod memory;
 mod message;
+mod places;
 mod seq;
 mod site;
+#[cfg(test)]
+mod tests;
 mod text;
+mod txn_text;
+mod view_text;
 
 pub use answer::{Answer, Reply};
 pub use entry::{Commit, LogRecord, Op, Owner, Stored, View};
 pub use event::{Call, Effects, Event, Input, Line, Shown};
+pub use fault::{BadName, LineFault, NameFault};
 pub use ids::{CallNo, RecId, SiteId, TxnId, ViewId};
 pub use lists::{
     Batch, Commits, Copies, Decisions, Events, InDoubt, Messages, Names, Ops, Recs, Replies, Sites,
@@ -25,6 +33,7 @@ pub use lists::{
 };
 pub use memory::NoMemory;
 pub use message::{Message, Obstacle, Sent};
+pub use places::{place, take_place};
 pub use seq::{CopyOf, Seq};
 pub use site::{Ending, Finished, Live, Lock, Part, Pending, Refreshing};
 pub use text::{Name, Value};

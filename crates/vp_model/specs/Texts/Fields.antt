@@ -1,0 +1,26 @@
+-- Single fields. A number is decimal.
+use Rattle.std.specs.Prelude.{ℕ, List, [], ◌∷◌, ◌++◌, flat_map, codes, Option, Some, None}
+use Rattle.std.specs.Fmt.{decimal}
+use Rattle.vp_model.specs.Types.{ViewId, TxnId, Owner}
+pub use Rattle.vp_base.specs.Identifiers.{view_text, txn_text}
+use Rattle.vp_model.specs.Types.owner
+
+abbrev pub held_text : Option ViewId → List ℕ
+held_text None = codes "none"
+held_text (Some view) = view_text view
+
+abbrev pub owner_text : Owner → List ℕ
+owner_text (owner.Txn txn) = txn_text txn
+owner_text owner.Refresh = codes "refresh"
+
+-- a transaction and a number behind a blank
+abbrev pub call_name_text : TxnId → ℕ → List ℕ
+call_name_text txn number = txn_text txn ++ 32 ∷ decimal number
+
+-- the sites with commas between them
+abbrev pub later_site_text : ℕ → List ℕ
+later_site_text site = 44 ∷ decimal site
+
+abbrev pub sites_text : List ℕ → List ℕ
+sites_text [] = []
+sites_text (site ∷ sites) = decimal site ++ flat_map later_site_text sites
