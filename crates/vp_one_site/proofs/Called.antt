@@ -1,14 +1,11 @@
 -- One call keeps all of the invariant.
-use Rattle.std.proofs.Common.{◌≡◌, ◌⊎◌, ◌<◌, ◌≤◌, ℕ, ◌+◌, zero, suc, Bool, true, false, cond, List, [], ◌∷◌, ◌++◌, length, map, refl, arith, ap, sym, subst, ◌∙◌, inl, inr, ⊎_elim}
-use Rattle.std.specs.Prelude.{Option, Some, None, is_some, ◌==◌, ◌&&◌, ◌||◌, not, slice_get, option_map, All}
-use Rattle.std.specs.List.{AllByRecursion, list_any}
+use Rattle.std.proofs.Common.{◌≡◌, ◌<◌, ℕ, ◌+◌, Bool, true, false, List, [], ◌∷◌, ◌++◌, length, map, refl, arith, ap, ◌∙◌}
+use Rattle.std.specs.Prelude.{Option, Some, None, is_some, ◌==◌, ◌&&◌, slice_get, option_map, All}
 use Rattle.std.proofs.lemmas.List.{append-nil}
-use Rattle.vp_model.specs.Types.{TxnId, View, Stored, Op, Owner, Commit, Call, Answer, Event, Line, Lock, Live, Ending, Finished, Reply}
-use Rattle.vp_base.specs.declared.site.Ending.TheVariants.{Committed, Aborted, LockHeld, ViewChanged, TimedOut}
+use Rattle.vp_model.specs.Types.{TxnId, Stored, Op, Owner, Commit, Call, Answer, Lock, Live, Ending, Reply}
+use Rattle.vp_base.specs.declared.site.Ending.TheVariants.{Committed, Aborted, LockHeld}
 use Rattle.vp_model.specs.Types.answer
 use Rattle.vp_model.specs.Types.call
-use Rattle.vp_model.specs.Types.event
-use Rattle.vp_model.specs.Types.owner
 use Rattle.vp_model.specs.Words.{same_txn, value_at, opening}
 use Rattle.vp_model.specs.Catalogue.{Catalogue, find_record}
 use Rattle.vp_model.specs.Durable.{with_writes}
@@ -17,27 +14,26 @@ use Rattle.vp_model.specs.Site.{CoordinatorState, Here, Lent, lent_reply}
 use Rattle.vp_model.specs.Transactions.{answer_of, last_writes, writes_held}
 use Rattle.vp_model.specs.Calls.{handled, start_txn}
 use Rattle.vp_model.specs.World.{Moment}
-use Rattle.vp_model.specs.OneCopy.{Values}
 use Rattle.vp_model.specs.Told.{answers_in, reported, reports, is_call, is_early_refusal, takes}
 use Rattle.vp_model.specs.Justified.{call_request, was_blocked}
-use Rattle.vp_model.specs.Headline.{has_entry, is_committed, commits_in}
+use Rattle.vp_model.specs.Headline.{commits_in}
 use Rattle.vp_one_site.specs.OneSite.{IsOnlyAt}
 use Rattle.vp_one_site.proofs.Members.{Has, has_none, has_one, has_one_is, has_right}
 use Rattle.vp_one_site.proofs.Lists.{any_from}
 use Rattle.vp_one_site.proofs.Play.{get_within}
 use Rattle.vp_one_site.proofs.LockTables.{same_txn-self}
 use Rattle.vp_one_site.proofs.ToldLines.{IsReported, reports-silent, reports-known}
-use Rattle.vp_one_site.proofs.Outcome.{IsAlone, IsNext, IsOld, IsRepeat, IsDone, Outcome, is_plain, is_report, is_write}
-use Rattle.vp_one_site.proofs.Invariant.{IsWorld, lone_site, lone_view, IsOver, NamesHold, LocksHold, ValuesHold, ToldHolds, AnswersHold, MomentsHold, Holds, IsTrueEnd, copies_of, words_justified, end_of, is_commit, lines_in}
+use Rattle.vp_one_site.proofs.Outcome.{IsAlone, IsOld, IsRepeat, IsDone, Outcome, is_plain}
+use Rattle.vp_one_site.proofs.Invariant.{IsWorld, lone_view, ValuesHold, Holds, IsTrueEnd, words_justified, lines_in}
 use Rattle.vp_one_site.proofs.Copies.{stored_of, copies_at, found_within, usable_alone, none_other}
-use Rattle.vp_one_site.proofs.Changes.{lone, Ended, Advanced, Adds, advanced, entry_of, entry_own, close_ends, decide_ends, decide_commits, decide_copies, close_here, complete_advances}
+use Rattle.vp_one_site.proofs.Changes.{lone, Ended, Advanced, Adds, entry_of, entry_own, close_ends, decide_ends, decide_commits, decide_copies, close_here, complete_advances}
 use Rattle.vp_one_site.proofs.KeptNames.{names-ended, names-advanced, names-begun, now_over, ended_over, entry_of_over, advanced_over, begun_over, with_new, new_name}
 use Rattle.vp_one_site.proofs.KeptLocks.{locks-ended, locks-advanced, locks-begun}
 use Rattle.vp_one_site.proofs.KeptValues.{values-closed, values-committed, values-advanced, values-begun}
 use Rattle.vp_one_site.proofs.KeptTold.{IsCallLine, end_unreported, other_call, early_call, reports_none, old_live, old_fresh, told-quiet, told-ended, told-advanced, told-begun}
 use Rattle.vp_one_site.proofs.KeptAnswers.{report_ends_none, report_justified, report_late, plain_ends_none, plain_justified, justified_lasts, answers-quiet, answers-ended, answers-advanced, answers-begun, repeat_justified, repeat_true, true_none, true_end}
 use Rattle.vp_one_site.proofs.OneView.{world_copies}
-use Rattle.vp_one_site.proofs.Moments.{IsMoment, blocked_now, Stays, Brings, moments_on}
+use Rattle.vp_one_site.proofs.Moments.{IsMoment, blocked_now, Brings, moments_on}
 
 pub lines_last : (moments : List Moment) (m : Moment) → lines_in (moments ++ m ∷ []) ≡ lines_in moments ++ m.line ∷ []
 lines_last [] m = refl

@@ -1,20 +1,17 @@
 -- What an operation that is done, an end, and a begin change.
-use Rattle.std.proofs.Common.{◌≡◌, ◌⊎◌, ◌<◌, ◌≤◌, ℕ, ◌+◌, Bool, true, false, cond, List, [], ◌∷◌, ◌++◌, length, map, refl, arith, ap, sym, ◌∙◌, inl, inr, ⊎_elim}
-use Rattle.std.specs.Prelude.{Option, Some, None, ◌==◌, ◌||◌, filter}
-use Rattle.std.specs.List.{list_any}
-use Rattle.std.proofs.lemmas.Bool.Decides.{nat_tests}
-use Rattle.vp_model.specs.Types.{TxnId, Op, Commit, Answer, Reply, Lock, Pending, Live, Ending, Finished}
-use Rattle.vp_base.specs.declared.site.Ending.TheVariants.{Committed, Aborted, LockHeld, ViewChanged, TimedOut}
+use Rattle.std.proofs.Common.{◌≡◌, ℕ, Bool, true, false, cond, List, [], ◌∷◌, ◌++◌, map, refl, sym, ◌∙◌}
+use Rattle.std.specs.Prelude.{None, ◌||◌}
+use Rattle.vp_model.specs.Types.{TxnId, Op, Commit, Answer, Lock, Pending, Live, Ending, Finished}
+use Rattle.vp_base.specs.declared.site.Ending.TheVariants.{Committed}
 use Rattle.vp_model.specs.Types.owner
-use Rattle.vp_model.specs.Words.{same_txn, opening, change_first, without_first, at_most, is_empty}
+use Rattle.vp_model.specs.Words.{same_txn, change_first, without_first, at_most, is_empty}
 use Rattle.vp_model.specs.Catalogue.{Catalogue}
 use Rattle.vp_model.specs.Durable.{with_writes}
 use Rattle.vp_model.specs.Locks.{without_owner}
 use Rattle.vp_model.specs.Site.{CoordinatorState, Here, Lent}
 use Rattle.vp_model.specs.Transactions.{answer_of, last_writes, writes_held, close, decide, decided, keep_writes, finish, complete}
-use Rattle.vp_model.specs.Calls.{handling, handled, begun, start_txn}
+use Rattle.vp_model.specs.Calls.{handling}
 use Rattle.vp_model.specs.Headline.{has_entry}
-use Rattle.vp_one_site.proofs.Members.{Has}
 use Rattle.vp_one_site.proofs.Lists.{any_append}
 use Rattle.vp_one_site.proofs.LockTables.{same_txn-self}
 use Rattle.vp_one_site.proofs.Outcome.{set_locks}
@@ -24,20 +21,29 @@ use Rattle.vp_one_site.proofs.Invariant.{is_commit}
 abbrev pub lone : CoordinatorState → Here → Lent
 lone c here = record { coordinator = c; here = here; effects = record { records = []; commits = []; messages = []; replies = [] } }
 
+-- the transaction as it is kept after its end
 abbrev pub finished_now : Live → ℕ → Ending → Finished
 finished_now t number why = record { txn = t.txn; answers = t.answers ++ answer_of t.txn number why ∷ []; ending = why }
 
+-- its entry of the journal
 abbrev pub entry_of : Live → Commit
 entry_of t = record { txn = t.txn; view = t.view; ops = t.ops }
 
 -- the transaction has ended
 pub record Ended (t : Live) (number : ℕ) (why : Ending) (c : CoordinatorState) (here : Here) (l : Lent) : Type 0 where
+  -- no name is given
   pub seq : l.seq ≡ c.seq
+  -- it is live no more
   pub live : l.live ≡ without_first (λ (u : Live). same_txn u.txn t.txn) c.live
+  -- it is the last of the finished ones
   pub finished : l.finished ≡ at_most 1024 (c.finished ++ finished_now t number why ∷ [])
+  -- no site is waited for
   pub decisions : l.decisions ≡ c.decisions
+  -- its locks go
   pub locks : l.locks ≡ without_owner (owner.Txn t.txn) here.locks
+  -- its call is answered with its end
   pub replies : l.effects.replies ≡ (record { to = 0; answer = answer_of t.txn number why }) ∷ []
+  -- nobody is told
   pub messages : l.effects.messages ≡ []
 
 letters_none : {X : Type 0} (f : ℕ → X) (parts : List ℕ) → parts ≡ [] → [] ++ map f parts ≡ []
@@ -61,6 +67,7 @@ decide_ends catalogue id t p c here f parts = go (is_empty (last_writes t.ops))
   where
     kept : Lent
     kept = keep_writes catalogue id (handling t p) (lone c here)
+
     go : (b : Bool) → Ended t p.number Committed c here (decided id (handling t p) (cond b (lone c here) (keep_writes catalogue id (handling t p) (lone c here))))
     go true = record {
       seq = refl;
@@ -105,15 +112,25 @@ close_here id t p why c here = (refl, refl)
 abbrev pub advanced : Live → Op → Answer → Live
 advanced t operation a = record t { ops = t.ops ++ operation ∷ []; answers = t.answers ++ a ∷ []; pending = None }
 
+-- the operation is done, and nothing else
 pub record Advanced (t : Live) (operation : Op) (a : Answer) (after : List Lock) (c : CoordinatorState) (here : Here) (l : Lent) : Type 0 where
+  -- no name is given
   pub seq : l.seq ≡ c.seq
+  -- it stands in its place, with the operation and the answer
   pub live : l.live ≡ change_first (λ (u : Live). same_txn u.txn t.txn) (λ u. advanced t operation a) c.live
+  -- none is finished
   pub finished : l.finished ≡ c.finished
+  -- no site is waited for
   pub decisions : l.decisions ≡ c.decisions
+  -- the locks are as they were, with its own
   pub locks : l.locks ≡ after
+  -- no copy changes
   pub copies : l.copies ≡ here.copies
+  -- none commits
   pub commits : l.effects.commits ≡ []
+  -- the call is answered
   pub replies : l.effects.replies ≡ (record { to = 0; answer = a }) ∷ []
+  -- nobody is told
   pub messages : l.effects.messages ≡ []
 
 pub complete_advances : (t : Live) (p : Pending) (operation : Op) (a : Answer) (after : List Lock) (c : CoordinatorState) (here : Here) → p.port ≡ 0 → Advanced t operation a after c here (complete t p operation a (set_locks after (lone c here)))

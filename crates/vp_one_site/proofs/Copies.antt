@@ -1,15 +1,15 @@
 -- The copies of a site that has them all, and the catalogue of such a site.
-use Rattle.std.proofs.Common.{◌≡◌, ◌⊎◌, ◌<◌, ◌≤◌, ℕ, ◌+◌, ◌*◌, zero, suc, Bool, true, false, cond, List, [], ◌∷◌, ◌++◌, length, map, refl, arith, ap, sym, ◌∙◌, inl, inr, ⊎_elim}
-use Rattle.std.specs.Prelude.{Option, Some, None, is_some, ◌==◌, ◌&&◌, ◌||◌, not, nat_lt, slice_get, slice_set, option_map, find, filter, sum_by, All}
-use Rattle.std.specs.List.{AllByRecursion, position_from, enumerate_from, list_any}
+use Rattle.std.proofs.Common.{◌≡◌, ◌⊎◌, ◌<◌, ◌≤◌, ℕ, ◌+◌, ◌*◌, zero, suc, Bool, true, false, cond, List, [], ◌∷◌, length, map, refl, arith, ap, sym, ◌∙◌, inl, inr, ⊎_elim}
+use Rattle.std.specs.Prelude.{Some, None, ◌==◌, nat_lt, slice_get, slice_set, option_map, filter, All}
+use Rattle.std.specs.List.{AllByRecursion, position_from, enumerate_from}
 use Rattle.std.specs.Str.{bytes_eq}
 use Rattle.std.proofs.Math.ListN.{length-set}
-use Rattle.std.proofs.lemmas.Bool.{eqb-true, eqb-false, eq-eqb, ne_eqb}
+use Rattle.std.proofs.lemmas.Bool.{eq-eqb, ne_eqb}
 use Rattle.std.proofs.lemmas.Bool.Decides.{nat_tests}
 use Rattle.std.proofs.lemmas.List.Elements.{recursion_from_All}
 use Rattle.vp_model.specs.Types.{Stored}
 use Rattle.vp_model.specs.Words.{has, keys, opening, value_at, replace_at}
-use Rattle.vp_model.specs.Catalogue.{RecordEntry, Catalogue, find_record, weights_in, weights_of, holders, inside, total, accessible, start_values, start_copies}
+use Rattle.vp_model.specs.Catalogue.{RecordEntry, Catalogue, find_record, weights_in, weights_of, holders, start_values, start_copies}
 use Rattle.vp_model.specs.Durable.{with_writes}
 use Rattle.vp_model.specs.Transactions.{writes_held}
 use Rattle.vp_model.specs.OneCopy.{Values}
@@ -18,6 +18,7 @@ use Rattle.vp_one_site.specs.OneSite.{IsOnlyAt}
 use Rattle.vp_one_site.proofs.Play.{set_all, set_outside}
 use Rattle.vp_one_site.proofs.Invariant.{copies_of, lone_view}
 
+-- a copy of the opening view
 abbrev pub stored_of : List ℕ → Stored
 stored_of v = record { value = v; date = opening }
 

@@ -1,27 +1,26 @@
 -- Answers that may be repeated, and the moments, after each kind of change.
-use Rattle.std.proofs.Common.{◌≡◌, ◌⊎◌, ◌<◌, ◌≤◌, ℕ, ◌+◌, Bool, true, false, cond, List, [], ◌∷◌, ◌++◌, length, map, refl, arith, ap, sym, subst, ◌∙◌, inl, inr, ⊎_elim, append_assoc}
-use Rattle.std.specs.Prelude.{Option, Some, None, is_some, ◌==◌, ◌&&◌, ◌||◌, not, nat_le}
+use Rattle.std.proofs.Common.{◌≡◌, ◌⊎◌, ◌<◌, ◌≤◌, ℕ, ◌+◌, Bool, true, false, List, [], ◌∷◌, ◌++◌, length, refl, arith, ap, sym, subst, ◌∙◌, inl, inr, ⊎_elim, append_assoc}
+use Rattle.std.specs.Prelude.{Option, Some, None, ◌&&◌, ◌||◌, nat_le}
 use Rattle.std.specs.Option.{option_map_or}
 use Rattle.std.specs.List.{list_any, list_all}
-use Rattle.std.proofs.lemmas.Bool.{eq-eqb, and_parts, le-leb, leb-true}
-use Rattle.std.proofs.lemmas.Bool.Decides.{nat_tests}
+use Rattle.std.proofs.lemmas.Bool.{and_parts, le-leb, leb-true}
 use Rattle.std.proofs.Math.ListN.{length-append}
-use Rattle.vp_model.specs.Types.{TxnId, Op, Owner, Commit, Call, Answer, Event, Line, Lock, Live, Ending, Finished}
+use Rattle.vp_model.specs.Types.{TxnId, Op, Owner, Commit, Answer, Lock, Live, Ending, Finished}
 use Rattle.vp_base.specs.declared.site.Ending.TheVariants.{Committed, Aborted, LockHeld, ViewChanged, TimedOut}
 use Rattle.vp_model.specs.Types.answer
 use Rattle.vp_model.specs.Words.{same_txn}
 use Rattle.vp_model.specs.Catalogue.{Catalogue}
 use Rattle.vp_model.specs.Site.{CoordinatorState, Here, Lent}
 use Rattle.vp_model.specs.Transactions.{answer_of}
-use Rattle.vp_model.specs.World.{WorldState, Moment}
+use Rattle.vp_model.specs.World.{Moment}
 use Rattle.vp_model.specs.Told.{answers_in, is_early_refusal}
-use Rattle.vp_model.specs.Justified.{Request, is_request, request_of, gave_held, is_named, is_step_of, tested_before, blocks, handles, was_blocked, justified, all_justified}
+use Rattle.vp_model.specs.Justified.{Request, is_request, request_of, gave_held, is_named, is_step_of, tested_before, blocks, was_blocked, justified, all_justified}
 use Rattle.vp_model.specs.Headline.{has_entry}
-use Rattle.vp_one_site.proofs.Members.{Has, has_none, has_cases, has_one_is, has_one, has_right}
+use Rattle.vp_one_site.proofs.Members.{Has, has_none, has_cases, has_one_is}
 use Rattle.vp_one_site.proofs.Lists.{any_append, any_has, any_from, drop_has}
 use Rattle.vp_one_site.proofs.Outcome.{IsRepeat, is_report, is_plain}
-use Rattle.vp_one_site.proofs.Invariant.{IsOver, IsFinished, NamesHold, IsKept, AnswersHold, MomentsHold, IsTrueEnd, IsTrueCommit, end_of, words_justified, is_commit}
-use Rattle.vp_one_site.proofs.Changes.{Ended, Advanced, Adds, advanced, finished_now, entry_of}
+use Rattle.vp_one_site.proofs.Invariant.{IsOver, IsFinished, NamesHold, IsKept, AnswersHold, IsTrueEnd, IsTrueCommit, end_of, words_justified, is_commit}
+use Rattle.vp_one_site.proofs.Changes.{Ended, Advanced, Adds, advanced, finished_now}
 use Rattle.vp_one_site.proofs.KeptNames.{left_live, now_live, live_or_new, new_live, with_new}
 
 -- what an answer says, by its kind
@@ -208,6 +207,7 @@ repeat_true catalogue id c journal moments l a same n k (IsRepeat.kept f h q) = 
   where
     is : IsFinished id c journal f
     is = n.finished f (rw (← same) h)
+
     go : IsKept catalogue moments f a → IsTrueEnd id c journal a
     go (IsKept.report e) = true_none id c journal a (report_ends_none a e)
     go (IsKept.last j e y) = rw e (true_end id c journal f.txn j f.ending is.over is.entry)

@@ -1,22 +1,24 @@
 -- The lock table, after each kind of change.
-use Rattle.std.proofs.Common.{◌≡◌, ◌⊎◌, ◌<◌, ◌≤◌, ℕ, ◌+◌, Bool, true, false, cond, List, [], ◌∷◌, ◌++◌, length, map, refl, arith, ap, sym, ◌∙◌, inl, inr, ⊎_elim}
-use Rattle.std.specs.Prelude.{Option, Some, None, ◌==◌, fold}
+use Rattle.std.proofs.Common.{◌≡◌, ℕ, Bool, true, false, cond, List, [], ◌∷◌, ◌++◌, refl, sym, ◌∙◌, ⊎_elim, not, ap}
+use Rattle.std.specs.Prelude.{Some, ◌==◌, fold}
 use Rattle.std.specs.List.{AllByRecursion}
 use Rattle.std.proofs.lemmas.Bool.{eqb-true}
-use Rattle.vp_model.specs.Types.{TxnId, Op, Owner, Commit, Answer, Lock, Live, Ending}
+use Rattle.vp_model.specs.Types.{Op, Owner, Commit, Answer, Lock, Live, Ending}
 use Rattle.vp_model.specs.Types.op
 use Rattle.vp_model.specs.Types.owner
-use Rattle.vp_model.specs.Words.{same_txn, put_at, value_at}
+use Rattle.vp_model.specs.Words.{put_at, value_at, same_txn, same_owner}
 use Rattle.vp_model.specs.Site.{CoordinatorState, Here, Lent}
 use Rattle.vp_model.specs.Transactions.{with_op, last_writes}
-use Rattle.vp_one_site.proofs.Members.{Has}
+use Rattle.vp_one_site.proofs.Members.{Has, has_left, filter_has}
+use Rattle.vp_one_site.proofs.Lists.{without_keeps, changed_keeps, changed_in}
 use Rattle.vp_one_site.proofs.Play.{op_record, value_put}
-use Rattle.vp_one_site.proofs.LockTables.{NoConflict, HasLock, free_from_none, locked, lock_kept, lock_taken, unlocked, lock_stays}
+use Rattle.vp_one_site.proofs.LockTables.{NoConflict, HasLock, free_from_none, locked, lock_kept, lock_taken, unlocked, lock_stays, lock_source, same_txn_is, same_txn-self}
 use Rattle.vp_one_site.proofs.Outcome.{is_write, Took}
-use Rattle.vp_one_site.proofs.Invariant.{NamesHold, LocksHold}
+use Rattle.vp_one_site.proofs.Invariant.{NamesHold, LocksHold, IsOwned}
 use Rattle.vp_one_site.proofs.Changes.{Ended, Advanced, Adds, advanced}
 use Rattle.vp_one_site.proofs.KeptNames.{left_live, now_live, live_or_new, new_live, with_new}
 
+-- each of the operations has its lock
 abbrev pub HasLocks : Owner → List Lock → List Op → Type 0
 HasLocks o locks ops = AllByRecursion (λ (operation : Op). HasLock (op_record operation) (is_write operation) o locks) ops
 
@@ -45,12 +47,24 @@ pub any_lock : (r : ℕ) (x : Bool) (o : Owner) (locks : List Lock) → HasLock 
 any_lock r x o locks h = record { lock = h.lock; has = h.has; on = h.on; by = h.by; strong = λ q. h.strong refl }
 
 module _ (id : ℕ) (c : CoordinatorState) (here : Here) (journal after : List Commit) (t : Live) (number : ℕ) (why : Ending) (l : Lent) (n : NamesHold id c journal) (h : Has c.live t) (e : Ended t number why c here l) (adds : Adds t why journal after) where
+  other_owner : (x : Bool) → not x ≡ true → x ≡ false
+  other_owner true q = cc
+  other_owner false q = refl
+
+  owned-ended : LocksHold c here → (a : Lock) → Has here.locks a × (not (same_owner a.owner (owner.Txn t.txn)) ≡ true) → IsOwned l.live a.owner
+  owned-ended k a m =
+      let was = k.owners a m.0 in
+      let other : same_owner a.owner (owner.Txn t.txn) ≡ false = other_owner _ m.1 in
+      let off : same_txn was.by.txn t.txn ≡ false = (rw was.is at other) in
+      record { by = was.by; has = rw e.live (without_keeps (λ (v : Live). same_txn v.txn t.txn) c.live was.by was.has off); is = was.is }
+
   pub locks-ended : LocksHold c here → LocksHold l.coordinator l.here
   locks-ended k = record {
     held = λ u m.
         let was = left_live id c here journal after t number why l n h e adds u m in
         rw e.locks (all_locks (owner.Txn u.txn) here.locks _ (λ r x g. lock_stays r x (owner.Txn u.txn) (owner.Txn t.txn) here.locks was.1 g) u.ops (k.held u was.0));
     apart = rw e.locks (unlocked (owner.Txn t.txn) here.locks k.apart);
+    owners = λ a m. owned-ended k a (filter_has (λ (lock : Lock). not (same_owner lock.owner (owner.Txn t.txn))) here.locks a (rw e.locks at m));
   }
 
 module _ (id : ℕ) (c : CoordinatorState) (here : Here) (journal : List Commit) (t : Live) (operation : Op) (a : Answer) (after : List Lock) (l : Lent) (n : NamesHold id c journal) (h : Has c.live t) (e : Advanced t operation a after c here l) (k : LocksHold c here) where
@@ -66,6 +80,20 @@ module _ (id : ℕ) (c : CoordinatorState) (here : Here) (journal : List Commit)
   taken_after (Took.had value v q) = rw q (any_lock (op_record operation) (is_write operation) (owner.Txn t.txn) here.locks (wrote_lock (owner.Txn t.txn) here.locks t.ops (op_record operation) value (k.held t h) v))
   taken_after (Took.took c q) = rw q (lock_taken (op_record operation) (is_write operation) (owner.Txn t.txn) here.locks)
 
+  own_lock : (o : Owner) → o ≡ owner.Txn t.txn → IsOwned l.live o
+  own_lock o q = record { by = advanced t operation a; has = rw e.live (changed_in (λ (v : Live). same_txn v.txn t.txn) (advanced t operation a) c.live t h (same_txn-self t.txn)); is = q }
+
+  owned_still : (o : Owner) → IsOwned c.live o → IsOwned l.live o
+  owned_still o was = go (same_txn was.by.txn t.txn) refl
+    where
+      go : (b : Bool) → same_txn was.by.txn t.txn ≡ b → IsOwned l.live o
+      go true q = own_lock o (was.is ∙ ap owner.Txn (same_txn_is was.by.txn t.txn q))
+      go false q = record { by = was.by; has = rw e.live (changed_keeps (λ (v : Live). same_txn v.txn t.txn) (advanced t operation a) c.live was.by was.has q); is = was.is }
+
+  owned_after : Took t (op_record operation) (is_write operation) here.locks after → (x : Lock) → Has after x → IsOwned l.live x.owner
+  owned_after (Took.had value v q) x m = owned_still x.owner (k.owners x (rw q at m))
+  owned_after (Took.took c q) x m = ⊎_elim (λ old. owned_still x.owner (k.owners x old)) (λ new. own_lock x.owner new) (lock_source (op_record operation) (is_write operation) (owner.Txn t.txn) here.locks x (rw q at m))
+
   pub locks-advanced : Took t (op_record operation) (is_write operation) here.locks after → LocksHold l.coordinator l.here
   locks-advanced way = record {
     held = λ u m. rw e.locks (⊎_elim
@@ -73,10 +101,12 @@ module _ (id : ℕ) (c : CoordinatorState) (here : Here) (journal : List Commit)
         (λ old. all_locks (owner.Txn u.txn) here.locks after (λ r x g. kept_after way r x (owner.Txn u.txn) g) u.ops (k.held u old.0))
         (now_live id c here journal t operation a after l n h e u m));
     apart = rw e.locks (apart_after way);
+    owners = λ a m. owned_after way a (rw e.locks at m);
   }
 
 pub locks-begun : (id : ℕ) (c : CoordinatorState) (here : Here) (journal : List Commit) → NamesHold id c journal → LocksHold c here → LocksHold (with_new id c) here
 locks-begun id c here journal n k = record {
   held = λ u m. ⊎_elim (λ old. k.held u old) (λ (new : new_live id c ≡ u). rw (← new) tt) (live_or_new id c journal n u m);
   apart = k.apart;
+  owners = λ a m. let was = k.owners a m in record { by = was.by; has = has_left c.live (new_live id c ∷ []) was.by was.has; is = was.is };
 }

@@ -1,6 +1,5 @@
 -- Names and ends, after each kind of change.
-use Rattle.std.proofs.Common.{◌≡◌, ◌⊎◌, ◌<◌, ◌≤◌, ℕ, ◌+◌, Bool, true, false, cond, List, [], ◌∷◌, ◌++◌, length, map, refl, arith, ap, sym, ◌∙◌, inl, inr, ⊎_elim}
-use Rattle.std.specs.Prelude.{Option, Some, None, ◌==◌, ◌||◌}
+use Rattle.std.proofs.Common.{◌≡◌, ◌⊎◌, ◌≤◌, ℕ, ◌+◌, true, false, List, [], ◌∷◌, ◌++◌, refl, arith, ◌∙◌, inl, inr, ⊎_elim}
 use Rattle.std.proofs.lemmas.Bool.Decides.{nat_tests}
 use Rattle.vp_model.specs.Types.{TxnId, Op, Commit, Answer, Lock, Live, Ending, Finished}
 use Rattle.vp_model.specs.Words.{same_txn, opening}
@@ -9,8 +8,8 @@ use Rattle.vp_model.specs.Calls.{begun, with_begun}
 use Rattle.vp_model.specs.Headline.{has_entry}
 use Rattle.vp_one_site.proofs.Members.{Has, has_cases, has_one_is}
 use Rattle.vp_one_site.proofs.Lists.{Apart, changed_has, changed_apart, without_has, without_apart, drop_has, apart_append, none_true, any_false}
-use Rattle.vp_one_site.proofs.LockTables.{same_txn_is, same_txn-self, same_txn-sym}
-use Rattle.vp_one_site.proofs.Invariant.{IsNamed, IsOver, IsLive, IsFinished, IsEntry, NamesHold, same_live, same_entry, is_commit}
+use Rattle.vp_one_site.proofs.LockTables.{same_txn_is, same_txn-sym}
+use Rattle.vp_one_site.proofs.Invariant.{IsNamed, IsOver, IsLive, IsFinished, IsEntry, NamesHold, same_live, same_entry}
 use Rattle.vp_one_site.proofs.Changes.{Ended, Advanced, Adds, advanced, finished_now, entry_of, entry_other, entry_own}
 
 pub both_named : (x y z : TxnId) → same_txn x z ≡ true → same_txn y z ≡ true → same_txn x y ≡ true
@@ -107,9 +106,11 @@ module _ (id : ℕ) (c : CoordinatorState) (here : Here) (journal : List Commit)
 abbrev pub new_name : ℕ → CoordinatorState → TxnId
 new_name id c = record { site = id; life = 1; seq = c.seq + 1 }
 
+-- a transaction that was just begun
 abbrev pub new_live : ℕ → CoordinatorState → Live
 new_live id c = begun (new_name id c) opening
 
+-- the coordinator with it
 abbrev pub with_new : ℕ → CoordinatorState → CoordinatorState
 with_new id c = with_begun (new_live id c) c
 

@@ -1,33 +1,35 @@
 -- What the lines tell, after each kind of change.
-use Rattle.std.proofs.Common.{◌≡◌, ◌⊎◌, ◌<◌, ◌≤◌, ℕ, ◌+◌, zero, suc, Bool, true, false, cond, List, [], ◌∷◌, ◌++◌, length, map, refl, arith, ap, sym, ◌∙◌, inl, inr, ⊎_elim}
-use Rattle.std.specs.Prelude.{Option, Some, None, is_some, ◌==◌, ◌&&◌, ◌||◌, not, find}
+use Rattle.std.proofs.Common.{◌≡◌, ◌<◌, ℕ, ◌+◌, Bool, true, false, cond, List, [], ◌∷◌, ◌++◌, length, refl, arith, ap, sym, ◌∙◌, ⊎_elim}
+use Rattle.std.specs.Prelude.{Option, Some, None, is_some, ◌==◌, ◌&&◌, not, find}
 use Rattle.std.specs.Option.{option_map_or}
-use Rattle.std.specs.List.{AllByRecursion, list_any}
+use Rattle.std.specs.List.{list_any}
 use Rattle.std.proofs.lemmas.Bool.{eq-eqb, ne_eqb}
 use Rattle.std.proofs.lemmas.Bool.Decides.{nat_tests}
 use Rattle.std.proofs.Math.ListN.{length-append}
-use Rattle.vp_model.specs.Types.{TxnId, Op, Owner, Commit, Call, Answer, Line, Lock, Live, Ending, Finished}
+use Rattle.vp_model.specs.Types.{TxnId, Op, Commit, Call, Answer, Line, Lock, Live, Ending, Finished}
 use Rattle.vp_base.specs.declared.site.Ending.TheVariants.{Committed, Aborted, LockHeld, ViewChanged, TimedOut}
-use Rattle.vp_model.specs.Types.call
 use Rattle.vp_model.specs.Words.{same_txn, value_at, put_at}
 use Rattle.vp_model.specs.Catalogue.{Catalogue}
 use Rattle.vp_model.specs.Site.{CoordinatorState, Here, Lent}
 use Rattle.vp_model.specs.Transactions.{answer_of, live_of, finished_of}
 use Rattle.vp_model.specs.Told.{answers_in, is_step, call_in, reported, put_first, reports, is_early_refusal, is_call, takes, told_by}
-use Rattle.vp_one_site.proofs.Members.{Has, has_none, has_first, has_more, has_cons, has_cases, has_one_is, find_has, find_true}
+use Rattle.vp_one_site.proofs.Members.{Has, has_none, has_cons, has_cases, has_one_is, find_has, find_true}
 use Rattle.vp_one_site.proofs.Lists.{Apart, drop_has}
 use Rattle.vp_one_site.proofs.Play.{value_put}
 use Rattle.vp_one_site.proofs.LockTables.{same_txn_is, same_txn-self, same_txn-sym}
-use Rattle.vp_one_site.proofs.ToldLines.{Report, reports-last, collected_one, IsReported, reports-silent, reports-known, reported_lasts, Tells, TellsLive, IsUnheard, begins, tells_on, tells_on_live, unheard_on, IsDoneBy, tells_more}
-use Rattle.vp_one_site.proofs.Outcome.{IsOld, is_report, is_plain}
-use Rattle.vp_one_site.proofs.Invariant.{IsNamed, IsOver, NamesHold, ToldHolds, same_live}
+use Rattle.vp_one_site.proofs.ToldLines.{Report, reports-last, collected_one, IsReported, reports-known, reported_lasts, Tells, TellsLive, begins, tells_on, tells_on_live, unheard_on, IsDoneBy, tells_more}
+use Rattle.vp_one_site.proofs.Outcome.{IsOld}
+use Rattle.vp_one_site.proofs.Invariant.{IsNamed, NamesHold, ToldHolds, same_live}
 use Rattle.vp_one_site.proofs.Changes.{Ended, Advanced, Adds, advanced, finished_now, entry_of}
 use Rattle.vp_one_site.proofs.KeptNames.{left_live, now_live, live_or_new, new_live, new_name, with_new}
 
 -- the line is a call with these answers
 pub record IsCallLine (words : Call) (answers : List Answer) (line : Line) : Type 0 where
+  -- the call
   pub call : call_in line.event ≡ Some words
+  -- it reached the site
   pub step : is_step line.shown ≡ true
+  -- what it was answered
   pub answered : answers_in line ≡ answers
 
 taken_test : TxnId → ℕ → Option Call → Bool → List Answer → Bool

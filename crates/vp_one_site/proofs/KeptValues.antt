@@ -1,12 +1,12 @@
 -- Copies, and what plays on them, after each kind of change.
-use Rattle.std.proofs.Common.{◌≡◌, ◌⊎◌, ◌<◌, ◌≤◌, ℕ, ◌+◌, Bool, true, false, cond, List, [], ◌∷◌, ◌++◌, length, map, refl, arith, ap, sym, ◌∙◌, inl, inr, ⊎_elim}
-use Rattle.std.specs.Prelude.{Option, Some, None, is_some, ◌==◌, slice_get, slice_set, option_map, option_and_then, All}
+use Rattle.std.proofs.Common.{◌≡◌, ℕ, Bool, true, false, List, [], ◌∷◌, ◌++◌, refl, arith, ap, sym, ◌∙◌, ⊎_elim}
+use Rattle.std.specs.Prelude.{Option, Some, None, slice_get, slice_set, option_map, All}
 use Rattle.std.specs.List.{AllByRecursion}
-use Rattle.vp_model.specs.Types.{TxnId, Op, Owner, Commit, Stored, Answer, Lock, Live, Ending}
+use Rattle.vp_model.specs.Types.{TxnId, Op, Commit, Stored, Answer, Lock, Live, Ending}
 use Rattle.vp_model.specs.Types.op
 use Rattle.vp_model.specs.Types.owner
 use Rattle.vp_model.specs.Words.{same_txn, value_at, opening}
-use Rattle.vp_model.specs.Catalogue.{Catalogue, find_record, start_values}
+use Rattle.vp_model.specs.Catalogue.{Catalogue, start_values}
 use Rattle.vp_model.specs.Durable.{with_writes}
 use Rattle.vp_model.specs.Site.{CoordinatorState, Here, Lent}
 use Rattle.vp_model.specs.Transactions.{last_writes, writes_held}
@@ -37,6 +37,7 @@ unwritten locks ops r x t u n d h k = go (value_at r (last_writes ops)) refl
     go None e = refl
     go (Some v) e = absurd (never_both locks r x t u n d (wrote_lock (owner.Txn t) locks ops r v h e) k)
 
+-- the transaction has some lock on the record
 abbrev Uses : TxnId → List Lock → ℕ → Type 0
 Uses u locks r = (x : Bool) × HasLock r x (owner.Txn u) locks
 
@@ -55,9 +56,6 @@ copy_is m copies rec stored e h = go (slice_get m rec) refl (sym (copies_at m 0 
         let same : stored_of v ≡ stored = cc in
         let value : v ≡ stored.value = ap (λ (s : Stored). s.value) same in
         q ∙ ap (λ w. Some w) value
-
-
-
 
 play_next : (m n k : Values) (ops : List Op) (operation : Op) → play m ops ≡ Some n → play n (operation ∷ []) ≡ Some k → play m (ops ++ operation ∷ []) ≡ Some k
 play_next m n k ops operation e q = play-append m ops (operation ∷ []) ∙ rw e q

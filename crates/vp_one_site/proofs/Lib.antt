@@ -17,3 +17,5 @@ pub mod OneView
 pub mod Moments
 pub mod Called
 pub mod Theorem
+pub mod Worlds
+pub mod Worked

@@ -1,9 +1,9 @@
 -- More laws of membership, and of the words on lists.
-use Rattle.std.proofs.Common.{◌≡◌, ℕ, ◌+◌, ◌≤◌, ◌<◌, suc, zero, Bool, true, false, cond, refl, arith, inl, inr, ◌⊎◌, List, [], ◌∷◌, ◌++◌, ⊎_elim, map, length, ap, sym, ◌∙◌}
-use Rattle.std.specs.Prelude.{◌==◌, ◌&&◌, ◌||◌, not, Option, Some, None, is_some, find, filter, nat_lt, drop}
-use Rattle.std.specs.List.{list_any, list_all, AllByRecursion}
+use Rattle.std.proofs.Common.{◌≡◌, ℕ, Bool, true, false, cond, refl, inl, inr, ◌⊎◌, List, [], ◌∷◌, ◌++◌, ⊎_elim, map, length, sym, ◌∙◌}
+use Rattle.std.specs.Prelude.{◌||◌, filter, nat_lt, drop}
+use Rattle.std.specs.List.{list_any, list_all}
 use Rattle.vp_model.specs.Words.{change_first, without_first, at_most}
-use Rattle.vp_one_site.proofs.Members.{Has, has_none, has_first, has_more, has_cons, has_left, has_right, has_cases, has_one_is}
+use Rattle.vp_one_site.proofs.Members.{Has, has_none, has_first, has_more, has_cons, has_cases, has_one_is}
 
 pub by_bool : {A : Type 0} (P : A → Type 0) (t : Bool) (x y : A) → (t ≡ true → P x) → (t ≡ false → P y) → P (cond t x y)
 by_bool P true x y p q = p refl
@@ -114,6 +114,7 @@ without_apart {X} test same (x ∷ xs) u = go (test x) (without_apart test same 
         by_less : (b : Bool) → Has (cond b zs (z ∷ without_first test zs)) y → (Has (without_first test zs) y → Has zs y) → Has (z ∷ zs) y
         by_less true q rest = has_more z zs y q
         by_less false q rest = ⊎_elim (λ (e : z ≡ y). rw e (has_first y zs)) (λ more. has_more z zs y (rest more)) (has_cons z (without_first test zs) y q)
+
     go : (b : Bool) → Apart same (without_first test xs) → Apart same (cond b xs (x ∷ without_first test xs))
     go true rest = u.1
     go false rest = ((λ y q. u.0 y (less xs y q)), rest)
@@ -132,3 +133,33 @@ changed_apart {X} test same v (x ∷ xs) t k m u = go (test x) refl (changed_apa
     go : (b : Bool) → test x ≡ b → Apart same (change_first test (λ old. v) xs) → Apart same (cond b (v ∷ xs) (x ∷ change_first test (λ old. v) xs))
     go true e rest = ((λ y q. sym (k x y e) ∙ u.0 y q), u.1)
     go false e rest = ((λ y q. ⊎_elim (λ (now : v ≡ y). rw (← now) (m x e)) (λ old. u.0 y old.0) (changed_has test same v xs y t u.1 q)), rest)
+
+-- what does not pass stays, and what passes gives its place to the new item
+pub without_keeps : {X : Type 0} (test : X → Bool) (xs : List X) (x : X) → Has xs x → test x ≡ false → Has (without_first test xs) x
+without_keeps test [] x h e = absurd (has_none x h)
+without_keeps {X} test (y ∷ ys) x h e = go (test y) refl (has_cons y ys x h) (λ q. without_keeps test ys x q e)
+  where
+    go : (b : Bool) → test y ≡ b → (y ≡ x) ⊎ Has ys x → (Has ys x → Has (without_first test ys) x) → Has (cond b ys (y ∷ without_first test ys)) x
+    go true t (inl same) rest = let z : test x ≡ true = (rw (← same) t) in cc
+    go true t (inr more) rest = more
+    go false t (inl same) rest = rw same (has_first x (without_first test ys))
+    go false t (inr more) rest = has_more y (without_first test ys) x (rest more)
+
+pub changed_keeps : {X : Type 0} (test : X → Bool) (v : X) (xs : List X) (x : X) → Has xs x → test x ≡ false → Has (change_first test (λ old. v) xs) x
+changed_keeps test v [] x h e = absurd (has_none x h)
+changed_keeps {X} test v (y ∷ ys) x h e = go (test y) refl (has_cons y ys x h) (λ q. changed_keeps test v ys x q e)
+  where
+    go : (b : Bool) → test y ≡ b → (y ≡ x) ⊎ Has ys x → (Has ys x → Has (change_first test (λ old. v) ys) x) → Has (cond b (v ∷ ys) (y ∷ change_first test (λ old. v) ys)) x
+    go true t (inl same) rest = let z : test x ≡ true = (rw (← same) t) in cc
+    go true t (inr more) rest = has_more v ys x more
+    go false t (inl same) rest = rw same (has_first x (change_first test (λ old. v) ys))
+    go false t (inr more) rest = has_more y (change_first test (λ old. v) ys) x (rest more)
+
+pub changed_in : {X : Type 0} (test : X → Bool) (v : X) (xs : List X) (x : X) → Has xs x → test x ≡ true → Has (change_first test (λ old. v) xs) v
+changed_in test v [] x h e = absurd (has_none x h)
+changed_in {X} test v (y ∷ ys) x h e = go (test y) refl (has_cons y ys x h) (λ q. changed_in test v ys x q e)
+  where
+    go : (b : Bool) → test y ≡ b → (y ≡ x) ⊎ Has ys x → (Has ys x → Has (change_first test (λ old. v) ys) v) → Has (cond b (v ∷ ys) (y ∷ change_first test (λ old. v) ys)) v
+    go true t w rest = has_first v ys
+    go false t (inl same) rest = let z : test x ≡ false = (rw (← same) t) in cc
+    go false t (inr more) rest = has_more y (change_first test (λ old. v) ys) v (rest more)

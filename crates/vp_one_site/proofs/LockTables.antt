@@ -1,6 +1,6 @@
 -- Lock tables in which no two owners conflict.
 use Rattle.std.proofs.Common.{◌≡◌, ℕ, Bool, true, false, cond, refl, arith, inl, inr, ◌⊎◌, List, [], ◌∷◌, ◌++◌, ⊎_elim, map, sym, ap, ◌∙◌}
-use Rattle.std.specs.Prelude.{◌==◌, ◌&&◌, ◌||◌, not, Option, Some, None, filter, fold}
+use Rattle.std.specs.Prelude.{◌==◌, ◌&&◌, ◌||◌, not, Some, None, fold}
 use Rattle.std.specs.List.{list_any}
 use Rattle.std.proofs.lemmas.Bool.Decides.{nat_tests}
 use Rattle.std.proofs.lemmas.Bool.{eqb-true, eq-eqb, and_parts}
@@ -9,7 +9,7 @@ use Rattle.vp_model.specs.Types.owner
 use Rattle.vp_model.specs.Words.{same_txn, same_owner, owner_before}
 use Rattle.vp_model.specs.Locks.{conflicting, lesser, least_owner, conflict, holds, raised, with_lock, without_owner}
 use Rattle.vp_one_site.proofs.Members.{Has, has_left, has_right, has_cases, has_one, has_one_is, filter_has, map_has}
-use Rattle.vp_one_site.proofs.Lists.{has_map, has_filter, filter_none, any_has, any_from, by_bool}
+use Rattle.vp_one_site.proofs.Lists.{has_map, has_filter, filter_none, any_has, by_bool}
 
 pub same_txn_is : (t u : TxnId) → same_txn t u ≡ true → t ≡ u
 same_txn_is t u e = grind (arith, nat_tests)
@@ -40,10 +40,15 @@ IsFree rec exclusive o locks = (a : Lock) → Has locks a → a.rec ≡ rec → 
 
 -- the owner has a lock on the record, an exclusive one where that is asked
 pub record HasLock (rec : ℕ) (exclusive : Bool) (o : Owner) (locks : List Lock) : Type 0 where
+  -- the lock
   pub lock : Lock
+  -- it is in the table
   pub has : Has locks lock
+  -- its record
   pub on : lock.rec ≡ rec
+  -- its owner
   pub by : lock.owner ≡ o
+  -- it is exclusive where that is asked
   pub strong : exclusive ≡ true → lock.exclusive ≡ true
 
 -- who conflicts
@@ -65,8 +70,10 @@ best_any b h (l ∷ ls) e = go (owner_before l.owner b) (λ c. best_any c h ls) 
         by_or : (a : Bool) → (a || list_any (λ (m : Lock). same_owner m.owner h) ls) ≡ true
         by_or true = refl
         by_or false = q
+
     now : l.owner ≡ h → list_any (λ (m : Lock). same_owner m.owner h) (l ∷ ls) ≡ true
     now q = let z : same_owner l.owner h ≡ true = rw q (same_owner-self h) in rw z refl
+
     go : (a : Bool) → ((c : Owner) → fold (λ best lock. Some (lesser best lock.owner)) (Some c) ls ≡ Some h → (c ≡ h) ⊎ (list_any (λ (m : Lock). same_owner m.owner h) ls ≡ true)) → fold (λ best lock. Some (lesser best lock.owner)) (Some (cond a l.owner b)) ls ≡ Some h → (b ≡ h) ⊎ (list_any (λ (m : Lock). same_owner m.owner h) (l ∷ ls) ≡ true)
     go true i q = ⊎_elim (λ same. inr (now same)) (λ more. inr (later more)) (i l.owner q)
     go false i q = ⊎_elim (λ same. inl same) (λ more. inr (later more)) (i b q)
@@ -113,15 +120,24 @@ source rec exclusive o locks a h = by_bool (λ (ls : List Lock). Has ls a → So
     (λ e q. let r = map_has (raised rec exclusive o) locks a q in rw (← r.2) (raised_source rec exclusive o locks r.0 r.1))
     (λ e q. ⊎_elim (λ was. Source.old was) (λ new. rw (← has_one_is (record { rec = rec; exclusive = exclusive; owner = o }) a new) (Source.mine refl refl (λ z. inl z))) (has_cases locks _ a q)) h
 
+pub lock_source : (rec : ℕ) (exclusive : Bool) (o : Owner) (locks : List Lock) (a : Lock) → Has (with_lock rec exclusive o locks) a → Has locks a ⊎ (a.owner ≡ o)
+lock_source rec exclusive o locks a h = go (source rec exclusive o locks a h)
+  where
+    go : Source rec exclusive o locks a → Has locks a ⊎ (a.owner ≡ o)
+    go (Source.old p) = inl p
+    go (Source.mine at by strong) = inr by
+
 pub locked : (rec : ℕ) (exclusive : Bool) (o : Owner) (locks : List Lock) → IsFree rec exclusive o locks → NoConflict locks → NoConflict (with_lock rec exclusive o locks)
 locked rec exclusive o locks free n a b h k r x = go (source rec exclusive o locks a h) (source rec exclusive o locks b k)
   where
     or_right : (y z : Bool) → z ≡ true → (y || z) ≡ true
     or_right true z q = refl
     or_right false z q = q
+
     or_left : (y z : Bool) → y ≡ true → (y || z) ≡ true
     or_left true z q = refl
     or_left false z q = cc
+
     go : Source rec exclusive o locks a → Source rec exclusive o locks b → a.owner ≡ b.owner
     go (Source.old p) (Source.old q) = n a b p q r x
     go (Source.old p) (Source.mine at by strong) = free a p (r ∙ at) (or_right exclusive a.exclusive x) ∙ sym by
@@ -147,9 +163,11 @@ lock_taken rec exclusive o locks = by_bool (HasLock rec exclusive o) (holds rec 
     three : (a b : Bool) → (a && true && b) ≡ true → (a && b) ≡ true
     three true b q = q
     three false b q = q
+
     or_right : (y z : Bool) → z ≡ true → (y || z) ≡ true
     or_right true z q = refl
     or_right false z q = q
+
     mine : (l : Lock) → Has locks l → ((l.rec == rec) && same_owner l.owner o) ≡ true → HasLock rec exclusive o (map (raised rec exclusive o) locks)
     mine l h e =
         let p = and_parts (l.rec == rec) (same_owner l.owner o) e in

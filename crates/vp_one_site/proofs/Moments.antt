@@ -1,35 +1,35 @@
 -- One more moment.
-use Rattle.std.proofs.Common.{◌≡◌, ◌⊎◌, ◌<◌, ◌≤◌, ℕ, ◌+◌, Bool, true, false, cond, List, [], ◌∷◌, ◌++◌, length, map, refl, arith, ap, sym, subst, ◌∙◌, inl, inr, ⊎_elim}
-use Rattle.std.specs.Prelude.{Option, Some, None, ◌==◌, ◌&&◌, ◌||◌, nat_le}
-use Rattle.std.specs.Option.{option_map_or}
-use Rattle.std.specs.List.{list_any, list_all}
+use Rattle.std.proofs.Common.{◌≡◌, ℕ, Bool, true, List, [], ◌∷◌, ◌++◌, refl, arith, sym, subst, ◌∙◌, ⊎_elim}
+use Rattle.std.specs.Prelude.{Some, None, ◌==◌, ◌&&◌, nat_le}
+use Rattle.std.specs.List.{list_any}
 use Rattle.std.proofs.lemmas.Bool.{eq-eqb, le-leb}
 use Rattle.std.proofs.lemmas.Slice.Eq.{bytes_eq-Decides}
-use Rattle.vp_model.specs.Types.{TxnId, Owner, Commit, Call, Answer, Reply, Event, Line, Shown}
+use Rattle.vp_model.specs.Types.{TxnId, Owner, Commit, Call, Answer}
 use Rattle.vp_model.specs.Types.answer
 use Rattle.vp_model.specs.Types.event
-use Rattle.vp_model.specs.Types.owner
 use Rattle.vp_model.specs.Types.shown
-use Rattle.vp_model.specs.Words.{same_owner}
 use Rattle.vp_model.specs.Catalogue.{Catalogue, find_record}
 use Rattle.vp_model.specs.Locks.{conflict}
-use Rattle.vp_model.specs.Site.{CoordinatorState, Here, Lent, SiteState}
-use Rattle.vp_model.specs.World.{WorldState, Moment, site_of}
-use Rattle.vp_model.specs.Told.{answers_in, is_step, call_in}
-use Rattle.vp_model.specs.Justified.{Request, call_request, request_of, is_request, is_step_of, is_named, tested_before, blocks, gave_held, says_held, was_blocked, justified, all_justified}
+use Rattle.vp_model.specs.Site.{CoordinatorState, Here, Lent}
+use Rattle.vp_model.specs.World.{Moment, site_of}
+use Rattle.vp_model.specs.Told.{answers_in}
+use Rattle.vp_model.specs.Justified.{call_request, request_of, is_request, is_step_of, is_named, tested_before, blocks, gave_held, says_held, was_blocked, justified}
 use Rattle.vp_model.specs.Headline.{has_entry, is_committed, commits_in, copies_true}
-use Rattle.vp_one_site.proofs.Members.{Has, has_cases, has_one_is, has_one, has_right}
-use Rattle.vp_one_site.proofs.Lists.{all_from, any_from}
+use Rattle.vp_one_site.proofs.Members.{Has, has_cases, has_one_is}
+use Rattle.vp_one_site.proofs.Lists.{all_from}
 use Rattle.vp_one_site.proofs.LockTables.{same_txn-self, same_owner-self, least_any}
-use Rattle.vp_one_site.proofs.Invariant.{IsWorld, lone_site, IsOver, IsTrueEnd, IsTrueCommit, MomentsHold, end_of, words_justified}
+use Rattle.vp_one_site.proofs.Invariant.{IsWorld, lone_site, IsOver, IsTrueEnd, IsTrueCommit, MomentsHold, words_justified}
 use Rattle.vp_one_site.proofs.KeptAnswers.{justified_words, all_justified-last, true_commit}
 
 -- the moment is a call at a site that is alone, and gives what l gave
 pub record IsMoment (id : ℕ) (words : Call) (c : CoordinatorState) (here : Here) (journal : List Commit) (l : Lent) (m : Moment) : Type 0 where
   -- the number of the first message, had there been one
   pub first : ℕ
+  -- the call, and what it gave
   pub line : m.line ≡ record { event = event.Call id words; shown = shown.Step l.effects.commits first l.effects.messages l.effects.replies }
+  -- the site before it
   pub before : site_of m.before id ≡ Some (lone_site id c here)
+  -- the world after it
   pub after : IsWorld id m.after l.coordinator l.here (journal ++ l.effects.commits)
 
 -- a refusal for a lock is justified by its own moment
@@ -75,10 +75,15 @@ end_stays id c d journal after a s h u b e = let k = h u b e in let now = s u k.
 
 -- what one more moment has to bring
 pub record Brings (catalogue : Catalogue) (id : ℕ) (d : CoordinatorState) (after : List Commit) (moments : List Moment) (m : Moment) : Type 0 where
+  -- the ends that it answers are true
   pub ends : (a : Answer) → Has (answers_in m.line) a → IsTrueEnd id d after a
+  -- its refusals are justified
   pub fair : (a : Answer) → Has (answers_in m.line) a → words_justified catalogue (moments ++ m ∷ []) a ≡ true
+  -- its commits are answered
   pub commits : (e : Commit) → Has (commits_in m.line.shown) e → list_any (is_committed e.txn) (answers_in m.line) ≡ true
+  -- the journal after it
   pub journal : m.after.journal ≡ after
+  -- the copies after it are true
   pub copies : copies_true catalogue m.after ≡ true
 
 pub moments_on : (catalogue : Catalogue) (id : ℕ) (c d : CoordinatorState) (journal after : List Commit) (moments : List Moment) (m : Moment) → Stays id c journal d after → MomentsHold catalogue id c journal moments → Brings catalogue id d after moments m → MomentsHold catalogue id d after (moments ++ m ∷ [])

@@ -1,26 +1,25 @@
 -- Where all entries are of the opening view, the order of the journal is its own, and the copies have its content.
-use Rattle.std.proofs.Common.{◌≡◌, ◌⊎◌, ◌<◌, ◌≤◌, ℕ, ◌+◌, zero, suc, Bool, true, false, cond, List, [], ◌∷◌, ◌++◌, length, map, refl, arith, ap, sym, ◌∙◌, inl, inr, ⊎_elim}
-use Rattle.std.specs.Prelude.{Option, Some, None, is_some, ◌==◌, ◌&&◌, not, slice_get, filter, flat_map, option_and_then}
-use Rattle.std.specs.Option.{option_map_or}
-use Rattle.std.specs.List.{AllByRecursion, list_any, list_all}
-use Rattle.std.specs.Str.{bytes_eq}
+use Rattle.std.proofs.Common.{◌≡◌, ℕ, ◌+◌, zero, suc, Bool, true, false, cond, List, [], ◌∷◌, refl, arith, ap, ◌∙◌, ⊎_elim}
+use Rattle.std.specs.Prelude.{Some, not, slice_get, filter, flat_map}
+use Rattle.std.specs.List.{AllByRecursion}
 use Rattle.std.proofs.lemmas.List.{append-nil}
 use Rattle.std.proofs.lemmas.Slice.Eq.{bytes_eq-Decides}
-use Rattle.vp_model.specs.Types.{ViewId, View, Stored, Commit}
+use Rattle.vp_model.specs.Types.{Stored, Commit}
 use Rattle.vp_model.specs.Words.{for_each, opening, same_view, view_before, put_view}
 use Rattle.vp_model.specs.Catalogue.{Catalogue, start_values}
-use Rattle.vp_model.specs.Site.{CoordinatorState, Here, SiteState}
-use Rattle.vp_model.specs.World.{Place, WorldState}
+use Rattle.vp_model.specs.Site.{CoordinatorState, Here}
+use Rattle.vp_model.specs.World.{WorldState}
 use Rattle.vp_model.specs.OneCopy.{Values, serial, views_of, in_view, order, content}
-use Rattle.vp_model.specs.Headline.{is_readable, has_value, copies_true_in, copies_true_at, copies_true}
+use Rattle.vp_model.specs.Headline.{is_readable, has_value, copies_true_at, copies_true}
 use Rattle.vp_one_site.proofs.Members.{Has, has_none, has_first, has_more, has_cons}
-use Rattle.vp_one_site.proofs.Lists.{all_from, by_bool}
-use Rattle.vp_one_site.proofs.Invariant.{IsWorld, lone_site, lone_view, copies_of, NamesHold, ValuesHold}
+use Rattle.vp_one_site.proofs.Lists.{all_from}
+use Rattle.vp_one_site.proofs.Invariant.{IsWorld, lone_site, copies_of, NamesHold, ValuesHold}
 
 pub all_from_has : {X : Type 0} (P : X → Type 0) (xs : List X) → ((x : X) → Has xs x → P x) → AllByRecursion P xs
 all_from_has P [] h = tt
 all_from_has P (x ∷ xs) h = (h x (has_first x xs), all_from_has P xs (λ y q. h y (has_more x xs y q)))
 
+-- all entries are of the opening view
 abbrev pub Opens : List Commit → Type 0
 Opens journal = AllByRecursion (λ (e : Commit). e.view ≡ opening) journal
 

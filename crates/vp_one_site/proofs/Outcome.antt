@@ -1,21 +1,20 @@
 -- What one call does at a site that is alone, by kinds.
-use Rattle.std.proofs.Common.{◌≡◌, ◌⊎◌, ℕ, ◌+◌, ◌≤◌, ◌<◌, Bool, true, false, cond, List, [], length}
-use Rattle.std.specs.Prelude.{Option, Some, None, ◌==◌, ◌&&◌}
-use Rattle.vp_model.specs.Types.{TxnId, View, Stored, Op, Owner, Answer, Call, Lock, Pending, Live, Ending, Finished}
+use Rattle.std.proofs.Common.{◌≡◌, ℕ, ◌+◌, ◌≤◌, ◌<◌, Bool, true, false, cond, List, [], length}
+use Rattle.std.specs.Prelude.{Option, Some, None}
+use Rattle.vp_model.specs.Types.{TxnId, View, Stored, Op, Owner, Answer, Call, Lock, Live, Finished}
 use Rattle.vp_base.specs.declared.site.Ending.TheVariants.{Aborted, LockHeld}
 use Rattle.vp_model.specs.Types.answer
-use Rattle.vp_model.specs.Types.call
 use Rattle.vp_model.specs.Types.op
 use Rattle.vp_model.specs.Types.owner
 use Rattle.vp_model.specs.Words.{same_txn, value_at}
 use Rattle.vp_model.specs.Catalogue.{Catalogue, find_record}
 use Rattle.vp_model.specs.Locks.{conflict, with_lock}
-use Rattle.vp_model.specs.Site.{CoordinatorState, Here, Lent, lent_reply, lent_locks}
+use Rattle.vp_model.specs.Site.{Here, Lent, lent_reply, lent_locks}
 use Rattle.vp_model.specs.Transactions.{live_of, finished_of, last_writes, answer_of, close, decide, complete}
 use Rattle.vp_model.specs.Refresh.{is_usable_in, other_holders_in}
 use Rattle.vp_model.specs.Calls.{handling, handled}
 use Rattle.vp_model.specs.Told.{reported, is_early_refusal, told_by}
-use Rattle.vp_model.specs.Justified.{Request, call_request}
+use Rattle.vp_model.specs.Justified.{call_request}
 use Rattle.vp_one_site.proofs.Members.{Has}
 use Rattle.vp_one_site.proofs.Play.{op_record}
 
@@ -34,9 +33,13 @@ pub record IsAlone (catalogue : Catalogue) (id : ℕ) (held : Option View) (l : 
 
 -- the call is the next one of a live transaction
 pub record IsNext (l : Lent) (txn : TxnId) (number : ℕ) (t : Live) : Type 0 where
+  -- the transaction is found
   pub live : live_of txn l.live ≡ Some t
+  -- it is live
   pub here : Has l.live t
+  -- under this name
   pub named : t.txn ≡ txn
+  -- the number follows the last that was answered
   pub follows : number ≡ length t.answers + 1
 
 -- the call has a number that was answered, or its transaction has ended
@@ -68,6 +71,7 @@ is_report (answer.Value txn number value) = true
 is_report (answer.Written txn number) = true
 is_report _ = false
 
+-- the operation writes
 abbrev pub is_write : Op → Bool
 is_write (op.Read rec value) = false
 is_write (op.Write rec value) = true
@@ -87,12 +91,18 @@ pub data IsFrom (catalogue : Catalogue) (t : Live) (copies : List (ℕ × Stored
 pub record IsDone (catalogue : Catalogue) (words : Call) (number : ℕ) (t : Live) (here : Here) (operation : Op) (a : Answer) (after : List Lock) : Type 0 where
   -- what the answer reports
   pub report : Option (List ℕ)
+  -- the answer reports
   pub is_one : is_report a ≡ true
+  -- it reports of this transaction, under this number
   pub reports : (u : TxnId) → reported u a ≡ cond (same_txn t.txn u) (Some (number, report)) None
+  -- with the call it tells the operation
   pub tells : told_by catalogue report words ≡ Some operation
+  -- the lock was there or is taken
   pub took : Took t (op_record operation) (is_write operation) here.locks after
+  -- where the value is from
   pub value : IsFrom catalogue t here.copies operation
 
+-- the lock table is replaced
 abbrev pub set_locks : List Lock → Lent → Lent
 set_locks locks l = lent_locks (λ old. locks) l
 

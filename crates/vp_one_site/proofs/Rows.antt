@@ -1,28 +1,25 @@
 -- Each call of a transaction comes to one of these kinds.
-use Rattle.std.proofs.Common.{◌≡◌, ◌⊎◌, inl, inr, ℕ, ◌+◌, ◌≤◌, ◌<◌, Bool, true, false, cond, List, [], ◌∷◌, length, refl, arith, ap, sym, ◌∙◌}
-use Rattle.std.specs.Prelude.{Option, Some, None, is_some, ◌==◌, nat_le, nat_lt, slice_get, ◌-◌}
+use Rattle.std.proofs.Common.{◌≡◌, ℕ, ◌+◌, Bool, true, false, cond, List, length, refl, arith}
+use Rattle.std.specs.Prelude.{Option, Some, None, is_some, nat_le, nat_lt, ◌-◌}
 use Rattle.std.specs.Option.{option_map_or}
 use Rattle.std.proofs.lemmas.Bool.Decides.{nat_tests}
-use Rattle.std.proofs.lemmas.Bool.{leb-true, leb-false, ltb-false}
+use Rattle.std.proofs.lemmas.Bool.{leb-true, leb-false}
 use Rattle.std.proofs.lemmas.Option.{slice_get_within, get_or_from_slice_get}
-use Rattle.vp_model.specs.Types.{TxnId, View, Stored, Op, Owner, Answer, Call, Lock, Pending, Live, Ending, Finished}
-use Rattle.vp_base.specs.declared.site.Ending.TheVariants.{Aborted, LockHeld}
+use Rattle.vp_model.specs.Types.{TxnId, View, Answer, Call, Pending, Live, Finished}
 use Rattle.vp_model.specs.Types.answer
 use Rattle.vp_model.specs.Types.call
 use Rattle.vp_model.specs.Types.op
 use Rattle.vp_model.specs.Types.owner
 use Rattle.vp_model.specs.Words.{same_txn, value_at, is_empty, for_some}
-use Rattle.vp_model.specs.Catalogue.{Catalogue, find_record, inside, total}
+use Rattle.vp_model.specs.Catalogue.{Catalogue, find_record}
 use Rattle.vp_model.specs.Locks.{conflict, with_lock}
-use Rattle.vp_model.specs.Site.{CoordinatorState, Here, Surroundings, Lent, lent_reply, lent_locks}
-use Rattle.vp_model.specs.Transactions.{live_of, finished_of, last_writes, answer_of, close, decide, complete}
-use Rattle.vp_model.specs.Refresh.{is_usable_in, other_holders_in, members_in}
-use Rattle.vp_model.specs.Calls.{handling, handled, take_lock, lock_here, answer_read, read_at, read, answer_write, write_at, write_elsewhere, write, prepare_parts, commit, with_record, new_call, kept_answer, live_call, finished_call, on_txn_call, own_call}
-use Rattle.vp_model.specs.Told.{reported, is_early_refusal, told_by}
-use Rattle.vp_model.specs.Justified.{Request, call_request}
+use Rattle.vp_model.specs.Site.{Surroundings, Lent, lent_reply}
+use Rattle.vp_model.specs.Transactions.{live_of, finished_of, last_writes, answer_of}
+use Rattle.vp_model.specs.Refresh.{is_usable_in}
+use Rattle.vp_model.specs.Calls.{handled, take_lock, lock_here, answer_read, read, answer_write, write_elsewhere, write, commit, with_record, new_call, kept_answer, live_call, finished_call, on_txn_call, own_call}
+use Rattle.vp_model.specs.Justified.{call_request}
 use Rattle.vp_one_site.proofs.Members.{Has, has_of, find_has, find_true}
-use Rattle.vp_one_site.proofs.Play.{op_record}
-use Rattle.vp_one_site.proofs.Outcome.{IsAlone, IsNext, IsOld, IsRepeat, is_write, Took, IsFrom, IsDone, set_locks, Outcome}
+use Rattle.vp_one_site.proofs.Outcome.{IsAlone, IsNext, IsOld, IsRepeat, Took, IsFrom, Outcome}
 
 pub by_option : {A B : Type 0} (P : B → Type 0) (f : A → B) (o : Option A) (b : B) → ((a : A) → o ≡ Some a → P (f a)) → (o ≡ None → P b) → P (option_map_or f o b)
 by_option P f None b some none = none refl
@@ -43,9 +40,11 @@ pub kept_has : (number : ℕ) (answers : List Answer) (a : Answer) → kept_answ
 kept_has number answers a e = has_of answers a (number - 1, slice_get_within answers (number - 1) a e, get_or_from_slice_get answers (number - 1) a a e)
 
 module _ (catalogue : Catalogue) (id : ℕ) (held : Option View) (words : Call) (txn : TxnId) (number : ℕ) (l0 : Lent) (s : IsAlone catalogue id held l0) where
+  -- the state is what the call comes to
   abbrev P : Lent → Type 0
   P l = Outcome catalogue id words txn number l0 l
 
+  -- the call, as it is handled
   abbrev p : Pending
   p = handled 0 number words
 

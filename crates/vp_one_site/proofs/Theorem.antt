@@ -1,62 +1,74 @@
 -- Schedules of one site: the world at each of its moments, and the theorem.
-use Rattle.std.proofs.Common.{rules, ◌≡◌, ◌⊎◌, ◌<◌, ◌≤◌, ℕ, ◌+◌, ◌^◌, ◌-◌, zero, suc, Bool, true, false, cond, List, [], ◌∷◌, ◌++◌, length, map, refl, arith, ap, sym, subst, ◌∙◌, inl, inr, ⊎_elim}
-use Rattle.std.specs.Prelude.{Option, Some, None, is_some, ◌==◌, ◌&&◌, not, nat_le, All, AllPairs, IsTrue, IsSome, option_and_then}
-use Rattle.std.specs.Option.{option_map_or}
+use Rattle.std.proofs.Common.{rules, ◌≡◌, ℕ, ◌+◌, ◌^◌, ◌-◌, zero, suc, Bool, true, false, List, [], ◌∷◌, ◌++◌, length, map, refl, arith, ap, sym, ⊎_elim}
+use Rattle.std.specs.Prelude.{Option, Some, None, ◌==◌, ◌&&◌, nat_le, All, AllPairs, IsTrue, IsSome}
 use Rattle.std.specs.List.{AllByRecursion, list_any, list_all}
 use Rattle.std.proofs.lemmas.Bool.{eq-eqb, eqb-true}
-use Rattle.std.proofs.lemmas.List.{append-nil}
 use Rattle.std.proofs.lemmas.List.Elements.{recursion_from_All, All-from_recursion, Contains-get_or}
-use Rattle.vp_model.specs.Types.{TxnId, View, Stored, Commit, Call, Answer, Event, Line, Live, Finished, Input}
+use Rattle.vp_model.specs.Types.{TxnId, Commit, Call, Answer, Event}
 use Rattle.vp_model.specs.Types.answer
 use Rattle.vp_model.specs.Types.call
 use Rattle.vp_model.specs.Types.event
 use Rattle.vp_model.specs.Types.input
-use Rattle.vp_model.specs.Types.shown
 use Rattle.vp_model.specs.Words.{same_txn, opening}
-use Rattle.vp_model.specs.Catalogue.{Catalogue, start_values, start_copies, sites_of}
-use Rattle.vp_model.specs.Durable.{DurableState, apply, apply_all, empty_durable}
-use Rattle.vp_model.specs.Site.{CoordinatorState, Here, Lent, SiteState, Surroundings, Stepped, lent_reply, surroundings, by_coordinator, begin_step, put_back}
+use Rattle.vp_model.specs.Catalogue.{Catalogue, start_values, start_copies}
+use Rattle.vp_model.specs.Durable.{apply, apply_all, empty_durable}
+use Rattle.vp_model.specs.Site.{CoordinatorState, Here, Lent, Stepped, lent_reply, surroundings, by_coordinator, begin_step, put_back}
 use Rattle.vp_model.specs.Calls.{own_call, on_call, on_begin, begin_in, start_txn}
 use Rattle.vp_model.specs.Step.{step, on_input, start, start_record}
-use Rattle.vp_model.specs.World.{Place, WorldState, Moved, Moment, Run, Schedule, site_of, start_place, start_world, site_step, at_site, happens, next, shows, moment, one_step, one_event, run_from, run_of, moments_of, lines_of, journal_of}
+use Rattle.vp_model.specs.World.{WorldState, Moved, Moment, Run, Schedule, site_of, start_world, site_step, at_site, happens, next, moment, one_step, one_event, run_from, run_of, moments_of, lines_of, journal_of}
 use Rattle.vp_model.specs.OneCopy.{serial, order}
 use Rattle.vp_model.specs.Told.{answers_in, is_call, told}
-use Rattle.vp_model.specs.Headline.{has_entry, agrees_with, ends_true_at, is_committed, commits_in, copies_true, IsSerial, IsTold, CopiesAreTrue, EndsAreTrue, RefusalsAreJustified, IsOneCopy}
+use Rattle.vp_model.specs.Headline.{has_entry, agrees_with, ends_true_at, is_committed, commits_in, copies_true, IsOneCopy}
 use Rattle.vp_one_site.specs.OneSite.{IsOnlyAt, is_call_at, IsOneSite}
-use Rattle.vp_one_site.proofs.Members.{Has, has_none, has_cases, has_one_is, has_of, contains}
+use Rattle.vp_one_site.proofs.Members.{Has, has_none, has_cases, has_one_is, has_of}
 use Rattle.vp_one_site.proofs.Lists.{Apart, all_from}
 use Rattle.vp_one_site.proofs.Outcome.{IsAlone, Outcome, is_plain}
 use Rattle.vp_one_site.proofs.Rows.{by_test, read_call, write_call, commit_call, abort_call}
-use Rattle.vp_one_site.proofs.Invariant.{IsWorld, lone_site, lone_view, copies_of, NamesHold, LocksHold, ValuesHold, ToldHolds, AnswersHold, MomentsHold, Holds, same_entry, IsTrueEnd, end_of, lines_in}
+use Rattle.vp_one_site.proofs.Invariant.{IsWorld, lone_site, lone_view, NamesHold, Holds, same_entry, end_of, LocksHold, ValuesHold}
 use Rattle.vp_one_site.proofs.Copies.{start_alone}
-use Rattle.vp_one_site.proofs.Changes.{lone, close_ends, decide_ends, complete_advances}
+use Rattle.vp_one_site.proofs.Changes.{lone}
 use Rattle.vp_one_site.proofs.KeptNames.{new_name}
 use Rattle.vp_one_site.proofs.Moments.{IsMoment}
 use Rattle.vp_one_site.proofs.OneView.{own_order, all_from_has}
 use Rattle.vp_one_site.proofs.Called.{alone_here, outcome_holds, outcome_silent, plain_holds, begun_holds}
 
 -- a world of this site alone, with its names
-pub record IsLone (id : ℕ) (w : WorldState) : Type 0 where
+pub record IsLone (catalogue : Catalogue) (id : ℕ) (w : WorldState) : Type 0 where
+  -- the transactions of the site
   pub coordinator : CoordinatorState
+  -- its locks and copies
   pub here : Here
+  -- the entries so far
   pub journal : List Commit
+  -- the world is this site
   pub world : IsWorld id w coordinator here journal
+  -- names and ends
   pub names : NamesHold id coordinator journal
+  -- locks
+  pub locks : LocksHold coordinator here
+  -- copies and what plays on them
+  pub values : ValuesHold catalogue coordinator here journal
 
 -- the run so far: a world of this site alone, of which all of the invariant holds
 pub record IsGood (catalogue : Catalogue) (id : ℕ) (run : Run) : Type 0 where
+  -- the transactions of the site
   pub coordinator : CoordinatorState
+  -- its locks and copies
   pub here : Here
+  -- the entries so far
   pub journal : List Commit
+  -- the world that the run has come to
   pub world : IsWorld id run.world coordinator here journal
+  -- all of the invariant
   pub holds : Holds catalogue id coordinator here journal run.moments
   -- the world before and after each moment
-  pub each : (m : Moment) → Has run.moments m → IsLone id m.before × IsLone id m.after
+  pub each : (m : Moment) → Has run.moments m → IsLone catalogue id m.before × IsLone catalogue id m.after
 
 -- the site's call in the world
-site_here : (id : ℕ) (w : WorldState) (c : CoordinatorState) (here : Here) (journal : List Commit) → IsWorld id w c here journal → site_of w id ≡ Some (lone_site id c here)
+pub site_here : (id : ℕ) (w : WorldState) (c : CoordinatorState) (here : Here) (journal : List Commit) → IsWorld id w c here journal → site_of w id ≡ Some (lone_site id c here)
 site_here id w c here journal h = let s : (id == id) ≡ true = eq-eqb id id refl in rw (h.places, s) refl
 
+-- what the coordinator makes of a call
 abbrev Result : Catalogue → ℕ → Call → CoordinatorState → Here → Lent
 Result catalogue id words c here = own_call catalogue 0 words (surroundings (lone_site id c here)) (lone c here)
 
@@ -69,6 +81,7 @@ module _ (catalogue : Catalogue) (id : ℕ) (words : Call) (own : IsOwn words) w
   unfolding step on_input
   step_is c here = own catalogue (begin_step (lone_site id c here))
 
+  -- the world after the call, and its line
   abbrev happened : WorldState → Moved
   happened w = next catalogue (event.Call id words) w
 
@@ -86,7 +99,10 @@ module _ (catalogue : Catalogue) (id : ℕ) (words : Call) (own : IsOwn words) w
       rw (step_is c here) (record {
         durable = apply_all (Result catalogue id words c here).effects.records h.durable;
         places = rw (h.places, s) refl;
+        agreed = rw h.agreed refl;
         sent = rw (h.sent, none) refl;
+        delivered = h.delivered;
+        cuts = h.cuts;
         journal = rw h.journal refl;
       })
 
@@ -110,14 +126,17 @@ module _ (catalogue : Catalogue) (id : ℕ) (words : Call) (own : IsOwn words) w
     world = now_world run.world g.coordinator g.here g.journal g.world none;
     holds = now_holds;
     each = λ m h. ⊎_elim (λ old. g.each m old) (λ (new : Has (m0 ∷ []) m). rw (← has_one_is m0 m new) (
-        record { coordinator = g.coordinator; here = g.here; journal = g.journal; world = g.world; names = g.holds.names },
-        record {
-          coordinator = (Result catalogue id words g.coordinator g.here).coordinator;
-          here = (Result catalogue id words g.coordinator g.here).here;
-          journal = g.journal ++ (Result catalogue id words g.coordinator g.here).effects.commits;
-          world = now_world run.world g.coordinator g.here g.journal g.world none;
-          names = now_holds.names;
-        })) (has_cases run.moments (m0 ∷ []) m h);
+      record { coordinator = g.coordinator; here = g.here; journal = g.journal; world = g.world; names = g.holds.names; locks = g.holds.locks; values = g.holds.values },
+      record {
+        coordinator = (Result catalogue id words g.coordinator g.here).coordinator;
+        here = (Result catalogue id words g.coordinator g.here).here;
+        journal = g.journal ++ (Result catalogue id words g.coordinator g.here).effects.commits;
+        world = now_world run.world g.coordinator g.here g.journal g.world none;
+        names = now_holds.names;
+        locks = now_holds.locks;
+        values = now_holds.values;
+      },
+    )) (has_cases run.moments (m0 ∷ []) m h);
   })
     where
       m0 : Moment
@@ -194,6 +213,7 @@ module _ (catalogue : Catalogue) (id : ℕ) (all : All (IsOnlyAt id) catalogue.r
   abbrev start_coordinator : CoordinatorState
   start_coordinator = record { seq = 0; live = []; finished = []; decisions = [] }
 
+  -- the locks and copies at the start
   abbrev start_here : Here
   start_here = record { locks = []; copies = start_copies catalogue id }
 
@@ -211,7 +231,7 @@ module _ (catalogue : Catalogue) (id : ℕ) (all : All (IsOnlyAt id) catalogue.r
       once = tt;
       undecided = refl;
     };
-    locks = record { held = λ t h. absurd (has_none t h); apart = λ a b h k. absurd (has_none a h) };
+    locks = record { held = λ t h. absurd (has_none t h); apart = λ a b h k. absurd (has_none a h); owners = λ a h. absurd (has_none a h) };
     values = record {
       values = start_values catalogue;
       size = length_map _ catalogue.records;
@@ -244,7 +264,10 @@ module _ (catalogue : Catalogue) (id : ℕ) (all : All (IsOnlyAt id) catalogue.r
   start_good port e = record {
     durable = apply (start_record (empty_durable (start_copies catalogue id))) (empty_durable (start_copies catalogue id));
     places = rw e refl;
+    agreed = rw e refl;
     sent = refl;
+    delivered = refl;
+    cuts = refl;
     journal = refl;
   }
 

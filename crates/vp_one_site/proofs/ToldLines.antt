@@ -1,9 +1,8 @@
 -- What one more line makes of what the lines tell of a transaction.
-use Rattle.std.proofs.Common.{◌≡◌, ◌≤◌, ◌<◌, ℕ, ◌+◌, zero, suc, ◌∙◌, ap, sym, Bool, true, false, cond, List, [], ◌∷◌, ◌++◌, length, refl, arith, inl, inr, ◌⊎◌, ⊎_elim, append_assoc}
-use Rattle.std.specs.Prelude.{Option, Some, None, is_some, ◌==◌, ◌&&◌, not, nat_lt, filter_map, flat_map, option_map, option_and_then, find, fold}
-use Rattle.std.specs.List.{AllByRecursion, list_any}
-use Rattle.std.proofs.lemmas.Bool.Decides.{nat_tests}
-use Rattle.std.proofs.lemmas.Bool.{eqb-true, eqb-false, ne_eqb, le-ltb}
+use Rattle.std.proofs.Common.{◌≡◌, ◌≤◌, ◌<◌, ℕ, ◌+◌, ◌∙◌, ap, sym, Bool, true, false, cond, List, [], ◌∷◌, ◌++◌, refl, arith, append_assoc}
+use Rattle.std.specs.Prelude.{Option, Some, None, is_some, ◌==◌, nat_lt, filter_map, flat_map, option_and_then, find}
+use Rattle.std.specs.List.{AllByRecursion}
+use Rattle.std.proofs.lemmas.Bool.{ne_eqb, le-ltb}
 use Rattle.std.proofs.lemmas.List.Elements.{filter_map-append}
 use Rattle.std.proofs.lemmas.List.Sums.{fold-append}
 use Rattle.std.proofs.lemmas.List.{append-nil}
@@ -13,9 +12,11 @@ use Rattle.vp_model.specs.Catalogue.{Catalogue}
 use Rattle.vp_model.specs.Told.{answers_in, reported, put_first, reports, takes, taken_call, call_in, told_by, told}
 use Rattle.vp_one_site.proofs.Play.{value_put}
 
+-- a number, with the value that was read or none for a write
 abbrev pub Report : Type 0
 Report = ℕ × Option (List ℕ)
 
+-- the reports with those of these answers
 abbrev pub collected : TxnId → List Answer → List Report → List Report
 collected u answers before = for_each (filter_map (reported u) answers) put_first before
 
@@ -33,6 +34,7 @@ reports-last lines l u =
 abbrev pub IsReported : List Line → Answer → Type 0
 IsReported lines a = (u : TxnId) (r : Report) → reported u a ≡ Some r → is_some (value_at r.0 (reports lines u)) ≡ true
 
+-- the same for one transaction
 abbrev pub IsKnown : List Line → TxnId → Answer → Type 0
 IsKnown lines u a = (r : Report) → reported u a ≡ Some r → is_some (value_at r.0 (reports lines u)) ≡ true
 
@@ -60,6 +62,7 @@ put_keeps k r before h = go (is_some (value_at r.0 before))
     at_key : (b : Bool) → is_some (cond b (Some r.1) (value_at k before)) ≡ true
     at_key true = refl
     at_key false = h
+
     go : (b : Bool) → is_some (value_at k (cond b before (put_at r.0 r.1 before))) ≡ true
     go true = h
     go false = rw (value_put k r.0 r.1 before) (at_key (r.0 == k))
@@ -102,18 +105,23 @@ taken_kept lines l u k h = go (find (takes u k) lines) refl h
 pub record Tells (catalogue : Catalogue) (lines : List Line) (u : TxnId) (ops : List Op) : Type 0 where
   -- each number that was reported was taken by a call
   pub taken : AllByRecursion (λ (p : Report). is_some (taken_call lines u p.0) ≡ true) (reports lines u)
+  -- they are told
   pub tells : told catalogue lines u ≡ ops
 
 -- and no call has taken a number beyond the last that was answered
 pub record TellsLive (catalogue : Catalogue) (lines : List Line) (u : TxnId) (last : ℕ) (ops : List Op) : Type 0 where
+  -- the lines tell these operations
   pub so_far : Tells catalogue lines u ops
   -- each reported number is at most the last
   pub below : AllByRecursion (λ (p : Report). p.0 ≤ last) (reports lines u)
+  -- no later number is taken
   pub untaken : (k : ℕ) → last < k → find (takes u k) lines ≡ None
 
 -- the lines are silent of the transaction
 pub record IsUnheard (lines : List Line) (u : TxnId) : Type 0 where
+  -- nothing is reported of it
   pub unreported : reports lines u ≡ []
+  -- no call of it was taken
   pub untaken : (k : ℕ) → find (takes u k) lines ≡ None
 
 pub begins : (catalogue : Catalogue) (lines : List Line) (u : TxnId) → IsUnheard lines u → TellsLive catalogue lines u 0 []
@@ -188,22 +196,30 @@ one_told f r operation e = rw e refl
 
 -- an operation that is done: the line is its call, and reports it under the next number
 pub record IsDoneBy (catalogue : Catalogue) (l : Line) (u : TxnId) (number : ℕ) (a : Answer) (operation : Op) : Type 0 where
+  -- the call
   pub words : Call
+  -- what is reported
   pub report : Option (List ℕ)
+  -- the answer
   pub answers : answers_in l ≡ a ∷ []
+  -- it reports under this number
   pub reports : reported u a ≡ Some (number, report)
+  -- the line is the call
   pub call : call_in l.event ≡ Some words
+  -- the call takes the number
   pub taken : takes u number l ≡ true
+  -- and no later one
   pub others : (k : ℕ) → number < k → takes u k l ≡ false
+  -- together they tell the operation
   pub tells : told_by catalogue report words ≡ Some operation
 
 pub tells_more : (catalogue : Catalogue) (lines : List Line) (l : Line) (u : TxnId) (last : ℕ) (ops : List Op) (a : Answer) (operation : Op) → TellsLive catalogue lines u last ops → IsDoneBy catalogue l u (last + 1) a operation → TellsLive catalogue (lines ++ l ∷ []) u (last + 1) (ops ++ operation ∷ [])
 unfolding tell
 tells_more catalogue lines l u last ops a operation h d =
     let now : reports (lines ++ l ∷ []) u ≡ reports lines u ++ (last + 1, d.report) ∷ [] =
-        reports-last lines l u ∙ ap (λ z. collected u z (reports lines u)) d.answers ∙ collected_one u a (reports lines u) (last + 1, d.report) d.reports ∙ put_last last d.report (reports lines u) h.below in
+    reports-last lines l u ∙ ap (λ z. collected u z (reports lines u)) d.answers ∙ collected_one u a (reports lines u) (last + 1, d.report) d.reports ∙ put_last last d.report (reports lines u) h.below in
     let found : taken_call (lines ++ l ∷ []) u (last + 1) ≡ Some d.words =
-        ap (option_and_then (λ (line : Line). call_in line.event)) (find_new (takes u (last + 1)) lines l (h.untaken (last + 1) (omega arith)) d.taken) ∙ d.call in
+    ap (option_and_then (λ (line : Line). call_in line.event)) (find_new (takes u (last + 1)) lines l (h.untaken (last + 1) (omega arith)) d.taken) ∙ d.call in
     record {
       so_far = record {
         taken = rw now (all_append (λ (p : Report). is_some (taken_call (lines ++ l ∷ []) u p.0) ≡ true) (reports lines u) (last + 1, d.report) (all_taken catalogue lines l u (reports lines u) h.so_far.taken) (rw found refl));

@@ -1,5 +1,5 @@
 -- Schedules of one site: it has the only copy of each record, and clients call it.
-use Rattle.std.specs.Prelude.{◌≡◌, ℕ, ◌≤◌, Bool, true, false, ◌==◌, All, List, [], ◌∷◌}
+use Rattle.std.specs.Prelude.{◌≡◌, ℕ, ◌≤◌, Bool, true, false, ◌==◌, All, [], ◌∷◌}
 use Rattle.vp_model.specs.Types.{Event}
 use Rattle.vp_model.specs.Types.call
 use Rattle.vp_model.specs.Types.event
@@ -10,7 +10,9 @@ use Rattle.vp_model.specs.World.{Schedule}
 pub record IsOnlyAt (site : ℕ) (entry : RecordEntry) : Type 0 where
   -- the weight of the copy
   pub weight : ℕ
+  -- it weighs something
   pub weighs : 1 ≤ weight
+  -- there is no other copy
   pub only : entry.weights ≡ (site, weight) ∷ []
 
 -- the event is a call at the site, and not a regroup
@@ -23,7 +25,11 @@ is_call_at site _ = false
 pub record IsOneSite (s : Schedule) : Type 0 where
   -- the site, and where it listens
   pub site : ℕ
+  -- the port
   pub port : ℕ
+  -- the catalogue has no other site
   pub sites : s.catalogue.sites ≡ (site, port) ∷ []
+  -- the site has all copies
   pub records : All (IsOnlyAt site) s.catalogue.records
+  -- each event is a call at the site
   pub events : All (λ (e : Event). is_call_at site e ≡ true) s.events
