@@ -1,0 +1,3 @@
+mod Ordered
+mod Plays
+mod Starts
