@@ -14,7 +14,7 @@ use Rattle.vp_onecopy.specs.Playing.{Misreads, Plays, PlaysOne}
 use Rattle.vp_onecopy.specs.declared.playing.PlayFault.{PlayFault}
 use Rattle.vp_onecopy.specs.declared.playing.PlayFault.TheVariants as faults
 
-then_append : {A : Type 0} (o : Option A) (f g : A → Option Values) (k : Values → Option Values) → ((a : A) → f a ≡ option_and_then k (g a)) → option_and_then f o ≡ option_and_then k (option_and_then g o)
+pub then_append : {A : Type 0} (o : Option A) (f g : A → Option Values) (k : Values → Option Values) → ((a : A) → f a ≡ option_and_then k (g a)) → option_and_then f o ≡ option_and_then k (option_and_then g o)
 then_append None f g k h = refl
 then_append (Some a) f g k h = h a
 
@@ -50,15 +50,17 @@ plays_more before ops i operation mid after l is so_far one =
 -- the operation that stops
 pub plays_stop : (before : Values) (ops : List Op) (i : ℕ) (operation : Op) (mid after : Values) (fault : PlayFault) → i < length ops → operation ≡ get_or ops i operation
     → play before (take i ops) ≡ Some mid → after ≡ mid → PlaysOne mid (i + 1) operation after (Err fault) → Plays before ops after (Err fault)
-plays_stop before ops i operation mid after (faults.Differs place kept read) l is so_far same one = record {
-  front = take i ops;
-  operation = operation;
-  back = drop (i + 1) ops;
-  reached = record { parts = split_at ops i operation l is; played = so_far ∙ ap Some (sym same) };
-  place_is = one.0 ∙ ap (λ n. n + 1) (sym (length-take-le i ops (omega arith)));
-  rec = one.1;
-  misread = one.2;
-}
+plays_stop before ops i operation mid after (faults.Differs place kept read) l is so_far same one = (
+  one.1,
+  record {
+    front = take i ops;
+    operation = operation;
+    back = drop (i + 1) ops;
+    reached = record { parts = split_at ops i operation l is; played = so_far ∙ ap Some (sym same) };
+    place_is = one.0 ∙ ap (λ n. n + 1) (sym (length-take-le i ops (omega arith)));
+    misread = one.2;
+  },
+)
 plays_stop before ops i operation mid after faults.NoMemory l is so_far same one = record {
   front = take i ops;
   back = drop i ops;

@@ -23,13 +23,12 @@ pub record PlaysUpTo (before : Values) (ops front back : List Op) (after : Value
   pub played : play before front ≡ Some after
 
 -- The operation at the place, counted from 1, read another value than the operations before it leave.
-pub record IsFirstMisread (before : Values) (ops : List Op) (after : Values) (place : ℕ) (kept read : List ℕ) : Type 0 where
+pub record IsFirstMisread (before : Values) (ops : List Op) (after : Values) (place rec : ℕ) (kept read : List ℕ) : Type 0 where
   pub front : List Op
   pub operation : Op
   pub back : List Op
   pub reached : PlaysUpTo before ops front (operation ∷ back) after
   pub place_is : place ≡ length front + 1
-  pub rec : ℕ
   pub misread : Misreads after operation rec kept read
 
 -- Some of the operations play, from the first on, and leave this copy.
@@ -41,7 +40,7 @@ pub record IsStopped (before : Values) (ops : List Op) (after : Values) : Type 0
 -- what is answered, and the copy that is left
 abbrev pub Plays : Values → List Op → Values → Result ⊤ PlayFault → Type 0
 Plays before ops after (Ok done) = play before ops ≡ Some after
-Plays before ops after (Err (faults.Differs place kept read)) = IsFirstMisread before ops after place kept read
+Plays before ops after (Err (faults.Differs place kept read)) = (rec : ℕ) × IsFirstMisread before ops after place rec kept read
 Plays before ops after (Err faults.NoMemory) = IsStopped before ops after
 
 -- the same of one operation, which stands at this place

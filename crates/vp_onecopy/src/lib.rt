@@ -4,6 +4,7 @@
 //! gives. The committed transactions of a run are put in order and printed as a history.
 #![tactic(auto)]
 
+mod checking;
 mod map;
 mod ordering;
 mod playing;
@@ -11,6 +12,7 @@ mod printing;
 #[cfg(test)]
 mod tests;
 
+pub use checking::{Verdict, check};
 pub use map::{History, Map};
 pub use ordering::order;
 pub use playing::{PlayFault, play};

@@ -28,7 +28,8 @@ impl From<NoMemory> for PlayFault {
 /// Plays the operations in order. After a fault the copy stands behind the operations that were played.
 pub fn play(map: &mut Map, ops: &Ops) -> Result<(), PlayFault>
     requires { All (λ operation. op_record operation < length map.old) ops.now }
-    ensures { Plays map.old ops.now map.new result }
+    ensures plays { Plays map.old ops.now map.new result }
+    ensures len { length map.new ≡ length map.old }
 {
     for (index, operation) in ops.as_slice().iter().enumerate() {
         play_one(map, index + 1, operation)?;
