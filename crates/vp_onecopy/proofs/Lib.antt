@@ -1,0 +1,4 @@
+mod Ordered
+mod Plays
+mod Serial
+mod Starts

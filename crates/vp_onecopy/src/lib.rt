@@ -1,0 +1,19 @@
+//! One copy of the records, and the serial run of committed transactions on it.
+//!
+//! A contract sees the copy as the list of its values, in catalogue order, and says of a run what `play` of `vp_model`
+//! gives. The committed transactions of a run are put in order and printed as a history.
+#![tactic(auto)]
+
+mod checking;
+mod map;
+mod ordering;
+mod playing;
+mod printing;
+#[cfg(test)]
+mod tests;
+
+pub use checking::{Verdict, check};
+pub use map::{History, Map};
+pub use ordering::order;
+pub use playing::{PlayFault, play};
+pub use printing::print_history;

@@ -1,0 +1,64 @@
+//! Operations on the one copy.
+
+ghost use Rattle.std.specs.Prelude.{◌≡◌, ◌<◌, length, OnErr};
+ghost use Rattle.std.specs.List.{All};
+ghost use Rattle.vp_onecopy.specs.Playing.{op_record, PlaysOne, Plays};
+
+use crate::map::Map;
+use vp_base::{CopyOf, NoMemory, Op, Ops, Value};
+
+/// Why the operations do not play, or not all of them.
+#[derive(Drop)]
+pub enum PlayFault {
+    /// The operation at this place, counted from 1, read another value than the copy has.
+    Differs { op: usize, kept: Value, read: Value },
+    NoMemory,
+}
+
+impl From<NoMemory> for PlayFault {
+    ghost use Rattle.vp_onecopy.specs.declared.playing.PlayFault.TheVariants as faults;
+
+    ghost from_gives = { λ _ e. e ≡ faults.NoMemory };
+
+    fn from(_e: NoMemory) -> PlayFault {
+        PlayFault::NoMemory
+    }
+}
+
+/// Plays the operations in order. After a fault the copy stands behind the operations that were played.
+pub fn play(map: &mut Map, ops: &Ops) -> Result<(), PlayFault>
+    requires { All (λ operation. op_record operation < length map.old) ops.now }
+    ensures plays { Plays map.old ops.now map.new result }
+    ensures len { length map.new ≡ length map.old }
+{
+    for (index, operation) in ops.as_slice().iter().enumerate() {
+        play_one(map, index + 1, operation)?;
+    }
+    Ok(())
+}
+
+/// Plays the operation at this place.
+fn play_one(map: &mut Map, place: usize, operation: &Op) -> Result<(), PlayFault>
+    requires { op_record operation.now < length map.old }
+    ensures plays { PlaysOne map.old place operation.now map.new result }
+    ensures err { OnErr result (map.new ≡ map.old) }
+    ensures len { length map.new ≡ length map.old }
+{
+    match operation {
+        Op::Read { rec, value } => {
+            let kept = &map.as_slice()[usize::from(rec.get())];
+            if value.is(kept.as_bytes()) {
+                return Ok(());
+            }
+            Err(PlayFault::Differs {
+                op: place,
+                kept: kept.copy_of()?,
+                read: value.copy_of()?,
+            })
+        }
+        Op::Write { rec, value } => {
+            map.set(*rec, value.copy_of()?);
+            Ok(())
+        }
+    }
+}

@@ -1,0 +1,107 @@
+//! The text of a history.
+
+ghost use Rattle.std.specs.Prelude.{◌≡◌, ◌++◌, ◌∷◌, OnOk, flat_map, slice_index_or, []};
+ghost use Rattle.vp_model.specs.Texts.History.{op_text, commit_text, start_text, starts_text, history_lines};
+
+use crate::map::History;
+use vp_base::{Commit, Name, NoMemory, Op, RecId, Value};
+use vp_text::print_number;
+
+fn print_start(name: &Name, value: &Value, out: &mut Vec<u8>) -> Result<(), NoMemory>
+    ensures { OnOk result (out.new.items ≡ out.old.items ++ start_text name.now value.now) }
+{
+    out.extend_from_slice(b"start ")?;
+    name.print(out)?;
+    out.push(b' ')?;
+    value.print(out)?;
+    out.push(b'\n')?;
+    Ok(())
+}
+
+fn print_starts(names: &[Name], values: &[Value], out: &mut Vec<u8>) -> Result<(), NoMemory>
+    ensures { OnOk result (out.new.items ≡ out.old.items ++ starts_text names.now values.now) }
+{
+    for (name, value) in names.iter().zip(values.iter()) {
+        print_start(name, value, out)?;
+    }
+    Ok(())
+}
+
+/// Appends the name of a record, and nothing where there is no name at its place.
+fn print_name(names: &[Name], rec: RecId, out: &mut Vec<u8>) -> Result<(), NoMemory>
+    ensures { OnOk result (out.new.items ≡ out.old.items ++ slice_index_or names.now rec []) }
+{
+    match names.get(usize::from(rec.get())) {
+        Some(name) => name.print(out),
+        None => Ok(()),
+    }
+}
+
+fn print_access(
+    key: &[u8],
+    names: &[Name],
+    rec: RecId,
+    value: &Value,
+    out: &mut Vec<u8>,
+) -> Result<(), NoMemory>
+    ensures { OnOk result (out.new.items ≡ out.old.items ++ (key.now ++ (slice_index_or names.now rec [] ++ 32 ∷ value.now))) }
+{
+    out.extend_from_slice(key)?;
+    print_name(names, rec, out)?;
+    out.push(b' ')?;
+    value.print(out)
+}
+
+fn print_op(names: &[Name], op: &Op, out: &mut Vec<u8>) -> Result<(), NoMemory>
+    ensures { OnOk result (out.new.items ≡ out.old.items ++ op_text names.now op.now) }
+{
+    match op {
+        Op::Read { rec, value } => print_access(b" r ", names, *rec, value, out),
+        Op::Write { rec, value } => print_access(b" w ", names, *rec, value, out),
+    }
+}
+
+fn print_ops(names: &[Name], ops: &[Op], out: &mut Vec<u8>) -> Result<(), NoMemory>
+    ensures { OnOk result (out.new.items ≡ out.old.items ++ flat_map (op_text names.now) ops.now) }
+{
+    for op in ops {
+        print_op(names, op, out)?;
+    }
+    Ok(())
+}
+
+fn print_commit(names: &[Name], commit: &Commit, out: &mut Vec<u8>) -> Result<(), NoMemory>
+    ensures { OnOk result (out.new.items ≡ out.old.items ++ commit_text names.now commit.now) }
+{
+    out.extend_from_slice(b"commit ")?;
+    commit.txn.print(out)?;
+    out.push(b' ')?;
+    commit.view.print(out)?;
+    print_ops(names, commit.ops.as_slice(), out)?;
+    out.push(b'\n')?;
+    Ok(())
+}
+
+fn print_commits(names: &[Name], commits: &[Commit], out: &mut Vec<u8>) -> Result<(), NoMemory>
+    ensures { OnOk result (out.new.items ≡ out.old.items ++ flat_map (commit_text names.now) commits.now) }
+{
+    for commit in commits {
+        print_commit(names, commit, out)?;
+    }
+    Ok(())
+}
+
+/// Appends the line `history` and the lines of the history. Without memory a beginning of them may have been appended.
+pub fn print_history(history: &History, out: &mut Vec<u8>) -> Result<(), NoMemory>
+    ensures { OnOk result (out.new.items ≡ out.old.items ++ history_lines history.now.names history.now.start history.now.commits) }
+{
+    let names = history.names.as_slice();
+    let commits = history.commits.as_slice();
+    out.extend_from_slice(b"history\n")?;
+    print_starts(names, history.start.as_slice(), out)?;
+    print_commits(names, commits, out)?;
+    out.extend_from_slice(b"end ")?;
+    print_number(out, commits.len() as u64)?;
+    out.push(b'\n')?;
+    Ok(())
+}

@@ -1,0 +1,95 @@
+use crate::{History, Map, PlayFault, order, play, print_history};
+use vp_base::{
+    Commit, CopyOf, Name, NameFault, Names, NoMemory, Op, Ops, RecId, Seq, SiteId, TxnId, Value,
+    ViewId,
+};
+
+fn value(rt: &HostRuntime, text: &[u8]) -> Result<Value, NameFault> {
+    Value::read(rt.alloc(), text)
+}
+
+fn read(rt: &HostRuntime, rec: u8, text: &[u8]) -> Result<Op, NameFault> {
+    Ok(Op::Read {
+        rec: RecId::new(rec),
+        value: value(rt, text)?,
+    })
+}
+
+fn write(rt: &HostRuntime, rec: u8, text: &[u8]) -> Result<Op, NameFault> {
+    Ok(Op::Write {
+        rec: RecId::new(rec),
+        value: value(rt, text)?,
+    })
+}
+
+fn commit(seq: u32, view: ViewId, ops: Vec<Op>) -> Commit {
+    Commit {
+        txn: TxnId {
+            site: SiteId::of(1),
+            life: 1,
+            seq,
+        },
+        view,
+        ops: Ops::from_vec(ops),
+    }
+}
+
+#[test]
+fn a_read_has_the_value_that_was_written(rt: HostRuntime) -> Result<(), NameFault> {
+    let mut copy = Map::from_vec(vec![in rt.alloc(); value(&rt, b"10")?, value(&rt, b"20")?]?);
+    let mut ops = Ops::new(rt.alloc());
+    ops.push(Op::Write {
+        rec: RecId::new(1),
+        value: value(&rt, b"21")?,
+    })?;
+    ops.push(Op::Read {
+        rec: RecId::new(1),
+        value: value(&rt, b"20")?,
+    })?;
+    match play(&mut copy, &ops) {
+        Err(PlayFault::Differs { op, kept, read }) => {
+            assert_eq!(rt; op, 2);
+            assert!(rt; kept.is(b"21") && read.is(b"20"));
+        }
+        Ok(()) | Err(PlayFault::NoMemory) => return Err(NameFault::NoMemory),
+    }
+    let left = copy.copy_of()?;
+    assert!(rt; left.as_slice()[0].is(b"10"));
+    Ok(())
+}
+
+/// The second transaction commits in the opening view after a commit in the next view.
+fn journal(rt: &HostRuntime) -> Result<Vec<Commit>, NameFault> {
+    let opening = ViewId { number: 0, site: 0 };
+    let next = ViewId { number: 1, site: 1 };
+    let mut journal = Vec::new(rt.alloc());
+    let ops = vec![in rt.alloc(); read(rt, 0, b"10")?, write(rt, 0, b"11")?]?;
+    journal.push(commit(1, opening, ops))?;
+    let ops = vec![in rt.alloc(); read(rt, 0, b"11")?]?;
+    journal.push(commit(3, next, ops))?;
+    let ops = vec![in rt.alloc(); write(rt, 1, b"21")?]?;
+    journal.push(commit(2, opening, ops))?;
+    Ok(journal)
+}
+
+fn names(rt: &HostRuntime) -> Result<Names, NameFault> {
+    let mut names = Names::new(rt.alloc());
+    names.push(Name::read(rt.alloc(), b"x")?)?;
+    names.push(Name::read(rt.alloc(), b"y")?)?;
+    Ok(names)
+}
+
+#[test]
+fn a_late_commit_stands_in_its_view(rt: HostRuntime) -> Result<(), NameFault> {
+    let history = History {
+        names: names(&rt)?,
+        start: Map::from_vec(vec![in rt.alloc(); value(&rt, b"10")?, value(&rt, b"20")?]?),
+        commits: order(rt.alloc(), &journal(&rt)?)?,
+    };
+    let mut out = Vec::new(rt.alloc());
+    print_history(&history, &mut out)?;
+    let lines =
+        b"history\nstart x 10\nstart y 20\ncommit 1.1.1 0@0 r x 10 w x 11\ncommit 1.1.2 0@0 w y 21\ncommit 1.1.3 1@1 r x 11\nend 3\n";
+    assert_eq!(rt; out.as_slice(), lines.as_slice());
+    Ok(())
+}
