@@ -1,0 +1,2 @@
+//! What holds of every step and of every schedule.
+#![tactic(auto)]
