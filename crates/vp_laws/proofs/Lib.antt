@@ -6,3 +6,11 @@ pub mod Table
 pub mod Frames
 pub mod Coordinator
 pub mod Rows
+pub mod LocalViews
+pub mod TableViews
+pub mod TableDurable
+pub mod Scenes
+pub mod InvViews
+pub mod Events
+pub mod Agreement
+pub mod Majorities
