@@ -14,3 +14,6 @@ pub mod InvViews
 pub mod Events
 pub mod Agreement
 pub mod Majorities
+pub mod Apart
+pub mod TableLed
+pub mod InvLed
