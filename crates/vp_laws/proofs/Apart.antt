@@ -65,16 +65,22 @@ apart_change t (u ∷ live) p = go (same_txn u.txn t.txn) refl (apart_change t l
   where
     go : (b : Bool) → same_txn u.txn t.txn ≡ b → Apart (change_first (named t.txn) (λ u. t) live) → Apart (cond b (t ∷ live) (u ∷ change_first (named t.txn) (λ u. t) live))
     go true e rest = ((λ a h g. p.0 a h (g ∙ sym (same_txn-is u.txn t.txn e))), p.1)
-    go false e rest = ((λ a h g. ⊎_elim
-        (λ (one : a ≡ t). same_txn-not u.txn t.txn e (sym g ∙ ap (λ (u : Live). u.txn) one))
-        (λ old. p.0 a old g) (change_first_has (named t.txn) t live a h)), rest)
+    go false e rest = (
+      (λ a h g. ⊎_elim
+          (λ (one : a ≡ t). same_txn-not u.txn t.txn e (sym g ∙ ap (λ (u : Live). u.txn) one))
+          (λ old. p.0 a old g) (change_first_has (named t.txn) t live a h)),
+      rest,
+    )
 
 pub apart_more : (t : Live) (live : List Live) → Apart live → ((u : Live) → Has live u → u.txn ≢ t.txn) → Apart (live ++ t ∷ [])
 apart_more t [] p n = ((λ u h. absurd (has_none u h)), tt)
-apart_more t (u ∷ live) p n = ((λ a h g. ⊎_elim
-    (λ old. p.0 a old g)
-    (λ new. n u (has_first u live) (sym g ∙ ap (λ (u : Live). u.txn) (sym (has_one_is t a new))))
-    (has_cases live (t ∷ []) a h)), apart_more t live p.1 (λ v h. n v (has_more u live v h)))
+apart_more t (u ∷ live) p n = (
+  (λ a h g. ⊎_elim
+      (λ old. p.0 a old g)
+      (λ new. n u (has_first u live) (sym g ∙ ap (λ (u : Live). u.txn) (sym (has_one_is t a new))))
+      (has_cases live (t ∷ []) a h)),
+  apart_more t live p.1 (λ v h. n v (has_more u live v h)),
+)
 
 pub apart_mark : (live : List Live) → Apart live → Apart (map mark live)
 apart_mark [] p = tt

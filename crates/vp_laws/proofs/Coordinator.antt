@@ -1,28 +1,27 @@
 -- The rows of the coordinator are made of its small moves, so a property of its part that survives these is kept by them.
-use Rattle.std.proofs.Common.{◌≡◌, ◌≤◌, ◌<◌, inl, inr, ◌∙◌, ap, sym, ℕ, ◌+◌, Bool, true, false, cond, List, [], ◌∷◌, refl, arith, length}
+use Rattle.std.proofs.Common.{◌≡◌, ℕ, ◌+◌, Bool, true, false, cond, List, [], ◌∷◌, refl, arith, length}
 use Rattle.std.specs.Prelude.{Option, Some, None, is_some, filter, ◌==◌, nat_le, nat_lt}
 use Rattle.std.specs.List.{AllByRecursion}
 use Rattle.std.specs.Option.{option_map_or}
 use Rattle.std.proofs.lemmas.Bool.Decides.{nat_tests}
 use Rattle.std.proofs.lemmas.Bool.{eqb-true}
-use Rattle.vp_model.specs.Types.{ViewId, TxnId, View, Stored, Owner, Call, Message, Obstacle, Input, Op, Answer, Pending, Live, Ending, Finished}
+use Rattle.vp_model.specs.Types.{TxnId, Stored, Call, Message, Obstacle, Input, Pending, Live, Ending, Finished}
 use Rattle.vp_base.specs.declared.site.Ending.TheVariants.{LockHeld, ViewChanged, TimedOut, Aborted}
 use Rattle.vp_model.specs.Types.answer
 use Rattle.vp_model.specs.Types.call
 use Rattle.vp_model.specs.Types.input
 use Rattle.vp_model.specs.Types.message
 use Rattle.vp_model.specs.Types.obstacle
-use Rattle.vp_model.specs.Types.op
 use Rattle.vp_model.specs.Words.{same_txn, has, first, value_at, is_empty, for_some}
 use Rattle.vp_model.specs.Catalogue.{Catalogue, find_record}
 use Rattle.vp_model.specs.Locks.{conflict}
 use Rattle.vp_model.specs.Site.{SiteState, Lent, surroundings, lent_reply}
-use Rattle.vp_model.specs.Transactions.{live_of, finished_of, last_writes, close, close_all, decide, complete, wait_for}
+use Rattle.vp_model.specs.Transactions.{live_of, finished_of, last_writes, close, close_all, decide}
 use Rattle.vp_model.specs.Refresh.{is_usable, other_holders}
 use Rattle.vp_model.specs.Views.{abandon}
-use Rattle.vp_model.specs.Calls.{handling, begin_in, on_begin, with_record, take_lock, lock_here, answer_read, answer_write, read, read_at, write_elsewhere, write_at, write, commit, prepare_parts, new_call, live_call, finished_call, handled, on_txn_call, own_call}
+use Rattle.vp_model.specs.Calls.{handling, begin_in, on_begin, with_record, take_lock, lock_here, answer_read, answer_write, read, read_at, write_elsewhere, write, commit, new_call, live_call, finished_call, handled, on_txn_call, own_call}
 use Rattle.vp_model.specs.Answers.{with_missing, count_in, read_answered, on_read_answer, write_answered, on_write_answer, refused_by, on_refuse, voted, on_vote, on_ack, on_inquire, on_answer}
-use Rattle.vp_model.specs.Step.{is_marked_call, least_missing, mark_calls, time_out_calls}
+use Rattle.vp_model.specs.Step.{is_marked_call, least_missing, time_out_calls}
 use Rattle.vp_laws.proofs.Members.{Has, find_has, find_true, filter_has, has_first, has_more}
 use Rattle.vp_laws.specs.Votes.{is_commit}
 use Rattle.vp_laws.proofs.Table.{Comes, Handled, IsNext, Reads, Writes, Counts, remaining, IsLast, Locked, Completes, Decides, is_abort, lent_at, OfCoordinator}

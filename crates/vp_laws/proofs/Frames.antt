@@ -2,16 +2,15 @@
 use Rattle.std.proofs.Common.{◌≡◌, ◌∙◌, ℕ, Bool, true, false, cond, List, [], ◌∷◌, ◌++◌, refl, arith}
 use Rattle.std.specs.Prelude.{Option, Some, None}
 use Rattle.std.proofs.lemmas.Bool.Decides.{nat_tests}
-use Rattle.vp_model.specs.Types.{TxnId, Commit, LogRecord, Sent, Effects, Pending, Live, Ending}
+use Rattle.vp_model.specs.Types.{TxnId, Effects, Pending, Live, Ending}
 use Rattle.vp_base.specs.declared.site.Ending.TheVariants.{Committed}
 use Rattle.vp_model.specs.Types.owner
 use Rattle.vp_model.specs.Types.message
 use Rattle.vp_model.specs.Catalogue.{Catalogue}
-use Rattle.vp_model.specs.Words.{same_txn, is_empty, without_first}
+use Rattle.vp_model.specs.Words.{same_txn, is_empty}
 use Rattle.vp_model.specs.Locks.{without_owner}
 use Rattle.vp_model.specs.Site.{Lent, letters}
 use Rattle.vp_model.specs.Transactions.{last_writes, with_pending_reply, finish, close, close_all, with_finished, keep_writes, decided, decide}
-use Rattle.vp_laws.proofs.Members.{Has, has_more, has_first, has_cons}
 
 -- a transaction has ended: its parts are told whether it commits, and its locks go
 pub record Ends (id : ℕ) (t : Live) (why : Ending) (commit : Bool) (l now : Lent) : Type 0 where

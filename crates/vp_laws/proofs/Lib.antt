@@ -17,3 +17,10 @@ pub mod Majorities
 pub mod Apart
 pub mod TableLed
 pub mod InvLed
+pub mod TableBelow
+pub mod InvBelow
+pub mod TableNames
+pub mod InvNames
+pub mod TableVotes
+pub mod InvVotes
+pub mod Words

@@ -1,16 +1,14 @@
 -- Every row of the table is made of the small moves, so a property that survives these is kept by a step.
-use Rattle.std.proofs.Common.{◌≡◌, inl, inr, ◌∙◌, ℕ, Bool, true, false, cond, List, [], ◌∷◌, refl, arith}
-use Rattle.std.specs.Prelude.{Option, Some, None, is_some, filter}
-use Rattle.std.specs.List.{AllByRecursion}
+use Rattle.std.proofs.Common.{◌≡◌, ℕ, Bool, true, false, List, [], ◌∷◌, refl, arith}
+use Rattle.std.specs.Prelude.{Option, Some, None}
 use Rattle.std.specs.Option.{option_map_or}
-use Rattle.std.proofs.lemmas.Bool.Decides.{nat_tests}
 use Rattle.vp_model.specs.Types.{ViewId, TxnId, View, Stored, Owner, Call, Message, Input, Refreshing}
 use Rattle.vp_base.specs.declared.site.Ending.TheVariants.{ViewChanged}
 use Rattle.vp_model.specs.Types.answer
 use Rattle.vp_model.specs.Types.call
 use Rattle.vp_model.specs.Types.input
 use Rattle.vp_model.specs.Types.message
-use Rattle.vp_model.specs.Words.{value_at, keys}
+use Rattle.vp_model.specs.Words.{keys}
 use Rattle.vp_model.specs.Catalogue.{Catalogue}
 use Rattle.vp_model.specs.Durable.{Decision, doubt_of}
 use Rattle.vp_model.specs.Site.{SiteState, Lent, Stepped, begin_step, lent, put_back, change_views}

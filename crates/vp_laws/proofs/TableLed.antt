@@ -7,11 +7,9 @@ use Rattle.vp_model.specs.Types.{ViewId, TxnId, View, Stored, Op, Answer, Messag
 use Rattle.vp_base.specs.declared.site.Ending.TheVariants.{Committed}
 use Rattle.vp_model.specs.Types.owner
 use Rattle.vp_model.specs.Locks.{without_owner}
-use Rattle.vp_model.specs.Types.answer
 use Rattle.vp_model.specs.Types.entry
 use Rattle.vp_model.specs.Types.message
 use Rattle.vp_model.specs.Types.obstacle
-use Rattle.std.specs.List.{list_any}
 use Rattle.vp_model.specs.Words.{same_txn, is_view, view_before, has, for_each, put_number, replace_at}
 use Rattle.vp_model.specs.Catalogue.{Catalogue, holders}
 use Rattle.vp_model.specs.Durable.{Doubt, Decision, doubt_of}
