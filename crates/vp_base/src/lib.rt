@@ -7,17 +7,22 @@ mod answer;
 mod copies;
 mod entry;
 mod event;
+mod fault;
 mod ids;
 mod lists;
 mod memory;
 mod message;
+mod places;
 mod seq;
 mod site;
 mod text;
+mod txn_text;
+mod view_text;
 
 pub use answer::{Answer, Reply};
 pub use entry::{Commit, LogRecord, Op, Owner, Stored, View};
 pub use event::{Call, Effects, Event, Input, Line, Shown};
+pub use fault::{BadName, LineFault, NameFault};
 pub use ids::{CallNo, RecId, SiteId, TxnId, ViewId};
 pub use lists::{
     Batch, Commits, Copies, Decisions, Events, InDoubt, Messages, Names, Ops, Recs, Replies, Sites,
@@ -25,6 +30,7 @@ pub use lists::{
 };
 pub use memory::NoMemory;
 pub use message::{Message, Obstacle, Sent};
+pub use places::{place, take_place};
 pub use seq::{CopyOf, Seq};
 pub use site::{Ending, Finished, Live, Lock, Part, Pending, Refreshing};
 pub use text::{Name, Value};

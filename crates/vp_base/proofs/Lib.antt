@@ -1,0 +1,4 @@
+pub mod Words
+pub mod Views
+pub mod Txns
+pub mod Among

@@ -1,0 +1,72 @@
+//! The text of a transaction, SITE.LIFE.SEQ.
+
+ghost use Rattle.std.specs.Prelude.{◌≡◌, ◌++◌, OnOk};
+ghost use Rattle.vp_text.specs.Meaning.{Answers};
+ghost use Rattle.vp_text.specs.Reading.{Reads, whole, number_at};
+ghost use Rattle.vp_base.specs.Identifiers.{IsTxnText, txn_text};
+ghost use Rattle.vp_base.specs.Reading.{txn_at};
+ghost use Rattle.vp_base.specs.Faults.{bad_place};
+
+use crate::fault::BadName;
+use crate::ids::{SiteId, TxnId};
+use crate::memory::NoMemory;
+use vp_text::{Cursor, Unexpected, print_number};
+
+impl SiteId {
+    /// Takes a site, a number from 1 to 16, from the front of what is left.
+    pub fn take(cursor: &mut Cursor) -> Result<SiteId, Unexpected>
+        ensures { Reads (λ s. s) (λ e. e.left) result cursor.new (number_at 1 16 cursor.old) }
+    {
+        let number = cursor.number_u8(1, 16)?;
+        Ok(SiteId::of(number))
+    }
+}
+
+impl TxnId {
+    /// The transaction that the whole text is: a site from 1 to 16, a life and a place in it of 1 or more. `BadName` says
+    /// how many bytes of the text begin one.
+    pub fn read(text: &[u8]) -> Result<TxnId, BadName>
+        ensures { Answers IsTxnText (λ t. t) bad_place text.now result }
+    {
+        let mut cursor = Cursor::new(text);
+        match TxnId::take_whole(&mut cursor) {
+            Ok(txn) => Ok(txn),
+            Err(e) => Err(BadName {
+                at: text.len() - e.left,
+            }),
+        }
+    }
+
+    fn take_whole(cursor: &mut Cursor) -> Result<TxnId, Unexpected>
+        ensures { Reads (λ t. t) (λ e. e.left) result cursor.new (whole txn_at cursor.old) }
+    {
+        let txn = TxnId::take(cursor)?;
+        cursor.end()?;
+        Ok(txn)
+    }
+
+    /// Takes a transaction from the front of what is left.
+    #[tactic(auto, unfolding(crate::specs::Reading::txn_at))]
+    pub fn take(cursor: &mut Cursor) -> Result<TxnId, Unexpected>
+        ensures { Reads (λ t. t) (λ e. e.left) result cursor.new (txn_at cursor.old) }
+    {
+        let site = SiteId::take(cursor)?;
+        cursor.literal(b".")?;
+        let life = cursor.number_u32(1, u32::MAX)?;
+        cursor.literal(b".")?;
+        let seq = cursor.number_u32(1, u32::MAX)?;
+        Ok(TxnId { site, life, seq })
+    }
+
+    /// Appends the text of the transaction. Without memory a beginning of it may stand there.
+    pub fn print(&self, out: &mut Vec<u8>) -> Result<(), NoMemory>
+        ensures { OnOk result (out.new.items ≡ out.old.items ++ txn_text self.now) }
+    {
+        print_number(out, u64::from(self.site.get()))?;
+        out.push(b'.')?;
+        print_number(out, u64::from(self.life))?;
+        out.push(b'.')?;
+        print_number(out, u64::from(self.seq))?;
+        Ok(())
+    }
+}

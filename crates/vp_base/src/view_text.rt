@@ -1,0 +1,95 @@
+//! The text of a view, NUMBER@SITE.
+
+ghost use Rattle.std.specs.Prelude.{◌≡◌, ◌++◌, OnOk};
+ghost use Rattle.vp_text.specs.Meaning.{Answers};
+ghost use Rattle.vp_text.specs.Reading.{Reads, whole, number_at};
+ghost use Rattle.vp_base.specs.Identifiers.{IsViewText, view_text};
+ghost use Rattle.vp_base.specs.Reading.{view_at, view_from_at, least_site, most_site, least_site_from};
+ghost use Rattle.vp_base.specs.Faults.{bad_place};
+
+use crate::fault::BadName;
+use crate::ids::ViewId;
+use crate::memory::NoMemory;
+use vp_text::{Cursor, Unexpected, print_number};
+
+impl ViewId {
+    /// The view that the whole text is: a number of 1 or more with a site from 1 to 16, or 0@0. `BadName` says how many
+    /// bytes of the text begin one.
+    pub fn read(text: &[u8]) -> Result<ViewId, BadName>
+        ensures { Answers IsViewText (λ v. v) bad_place text.now result }
+    {
+        let mut cursor = Cursor::new(text);
+        match ViewId::take_whole(&mut cursor) {
+            Ok(view) => Ok(view),
+            Err(e) => Err(BadName {
+                at: text.len() - e.left,
+            }),
+        }
+    }
+
+    fn take_whole(cursor: &mut Cursor) -> Result<ViewId, Unexpected>
+        ensures { Reads (λ v. v) (λ e. e.left) result cursor.new (whole view_at cursor.old) }
+    {
+        let view = ViewId::take(cursor)?;
+        cursor.end()?;
+        Ok(view)
+    }
+
+    /// Takes a view from the front of what is left.
+    #[tactic(auto, unfolding(crate::specs::Reading::view_at))]
+    pub fn take(cursor: &mut Cursor) -> Result<ViewId, Unexpected>
+        ensures { Reads (λ v. v) (λ e. e.left) result cursor.new (view_at cursor.old) }
+    {
+        let number = cursor.number(0, u64::MAX)?;
+        cursor.literal(b"@")?;
+        let site = take_site(cursor, number)?;
+        Ok(ViewId { number, site })
+    }
+
+    /// Takes a view that isn't below the last one from the front of what is left.
+    #[tactic(auto, unfolding(crate::specs::Reading::view_from_at))]
+    pub fn take_from(cursor: &mut Cursor, last: ViewId) -> Result<ViewId, Unexpected>
+        ensures { Reads (λ v. v) (λ e. e.left) result cursor.new (view_from_at last cursor.old) }
+    {
+        let number = cursor.number(last.number, u64::MAX)?;
+        cursor.literal(b"@")?;
+        let site = take_site_from(cursor, last, number)?;
+        Ok(ViewId { number, site })
+    }
+
+    /// Appends the text of the view. Without memory a beginning of it may stand there.
+    pub fn print(&self, out: &mut Vec<u8>) -> Result<(), NoMemory>
+        ensures { OnOk result (out.new.items ≡ out.old.items ++ view_text self.now) }
+    {
+        print_number(out, self.number)?;
+        out.push(b'@')?;
+        print_number(out, u64::from(self.site))?;
+        Ok(())
+    }
+}
+
+/// Takes the site of a view with this number.
+fn take_site(cursor: &mut Cursor, number: u64) -> Result<u8, Unexpected>
+    ensures { Reads (λ x. x) (λ e. e.left) result cursor.new (number_at (least_site number) (most_site number) cursor.old) }
+{
+    if number == 0 {
+        cursor.number_u8(0, 0)
+    } else {
+        cursor.number_u8(1, 16)
+    }
+}
+
+/// Takes the site of a view with this number that isn't below the last one.
+fn take_site_from(cursor: &mut Cursor, last: ViewId, number: u64) -> Result<u8, Unexpected>
+    ensures { Reads (λ x. x) (λ e. e.left) result cursor.new
+        (number_at (least_site_from last number) (most_site number) cursor.old) }
+{
+    let most = if number == 0 { 0 } else { 16 };
+    if number == last.number {
+        cursor.number_u8(last.site, most)
+    } else if number == 0 {
+        cursor.number_u8(0, most)
+    } else {
+        cursor.number_u8(1, most)
+    }
+}

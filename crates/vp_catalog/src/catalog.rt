@@ -1,0 +1,212 @@
+//! The catalogue and its look-ups.
+
+ghost use Rattle.std.specs.Prelude.{◌≡◌, ◌≤◌, ◌<◌, ◌++◌, ◌∷◌, [], length, map, slice_get, option_map, option_copied, if◌then◌else◌, is_ok, nat_lt, Some, None, OnOk, IfOk, IfSome};
+ghost use Rattle.std.specs.List.{position_from};
+ghost use Rattle.std.specs.Str.{bytes_eq};
+ghost use Rattle.vp_model.specs.Words.{keys, value_at};
+ghost use Rattle.vp_model.specs.Catalogue.{sites_of, find_record, weights_of, holders, inside, total, accessible, weight, start_copies, copies_from};
+
+use crate::placed::Placed;
+use std::alloc::Global;
+use std::marker::Model;
+use vp_base::{Copies, CopyOf, Name, NoMemory, RecId, SiteId, Sites, Stored, Value, ViewId};
+
+/// Sites with their ports, ascending by site, and at most 256 records, which are known by their places.
+#[derive(Drop)]
+pub struct Catalog {
+    sites: Sites,
+    ports: Vec<(SiteId, u16)>,
+    records: Vec<Placed>,
+}
+
+impl Model for Catalog {
+    ghost use Rattle.std.specs.Prelude.{◌≡◌, ◌≤◌, length};
+    ghost use Rattle.vp_model.specs.Catalogue.{Catalogue};
+    ghost use Rattle.vp_model.specs.Words.{keys};
+
+    ghost Value = { Catalogue };
+
+    ghost view = { λ c. record { sites = c.ports.items; records = c.records.items } };
+
+    ghost invariant = { λ c. (c.sites ≡ keys c.ports.items) × (length c.records.items ≤ 256) };
+}
+
+impl Catalog {
+    /// A catalogue without sites and records, which takes no memory.
+    pub fn new(alloc: Global) -> Catalog
+        ensures { result ≡ record { sites = []; records = [] } }
+    {
+        Catalog {
+            sites: Sites::new(alloc),
+            ports: Vec::new(alloc),
+            records: Vec::new(alloc),
+        }
+    }
+
+    /// Puts a site behind the last one. Without memory the catalogue is as it was.
+    pub fn add_site(&mut self, site: SiteId, port: u16) -> Result<(), NoMemory>
+        ensures { self.new ≡ (if is_ok result then record self.old { sites = self.old.sites ++ (site, port) ∷ [] } else self.old) }
+    {
+        self.ports.reserve(1)?;
+        self.sites.push(site)?;
+        self.ports.push((site, port))?;
+        Ok(())
+    }
+
+    /// Puts a record behind the last one. Without memory the catalogue is as it was.
+    pub fn add_record(&mut self, placed: Placed) -> Result<(), NoMemory>
+        requires { length self.old.records < 256 }
+        ensures { self.new ≡ (if is_ok result then record self.old { records = self.old.records ++ placed ∷ [] } else self.old) }
+    {
+        self.records.push(placed)?;
+        Ok(())
+    }
+
+    /// The sites, ascending.
+    pub fn sites(&self) -> &Sites
+        ensures { result.now ≡ sites_of self.now }
+    {
+        &self.sites
+    }
+
+    /// The port of a site; none where the catalogue lacks the site.
+    pub fn port(&self, site: SiteId) -> Option<u16>
+        ensures { result ≡ value_at site self.now.sites }
+    {
+        self.ports
+            .iter()
+            .find(|entry| entry.0 == site)
+            .map(|entry| entry.1)
+    }
+
+    /// How many records there are, 256 at most.
+    pub fn count(&self) -> usize
+        ensures count { result ≡ length self.now.records }
+        ensures most { result ≤ 256 }
+    {
+        self.records.len()
+    }
+
+    /// The place of a name; none where the catalogue lacks it.
+    pub fn find(&self, name: &Name) -> Option<RecId>
+        ensures { result ≡ find_record self.now name.now }
+    {
+        match place_of(&self.records, name.as_bytes()) {
+            Some(place) => Some(RecId::new(place as u8)),
+            None => None,
+        }
+    }
+
+    fn placed(&self, rec: RecId) -> Option<&Placed>
+        ensures { option_copied result ≡ slice_get self.now.records rec }
+    {
+        self.records.get(usize::from(rec.get()))
+    }
+
+    /// The name of a record; none where its place is not below the count.
+    pub fn name(&self, rec: RecId) -> Option<&Name>
+        ensures { option_copied result ≡ option_map (λ entry. entry.name) (slice_get self.now.records rec) }
+    {
+        match self.placed(rec) {
+            Some(placed) => Some(placed.name()),
+            None => None,
+        }
+    }
+
+    /// The value that each copy starts with; none where the place is not below the count.
+    pub fn start(&self, rec: RecId) -> Option<&Value>
+        ensures { option_copied result ≡ option_map (λ entry. entry.start) (slice_get self.now.records rec) }
+    {
+        match self.placed(rec) {
+            Some(placed) => Some(placed.start()),
+            None => None,
+        }
+    }
+
+    /// The sites with a copy, ascending; none where the place is not below the count.
+    pub fn holders(&self, rec: RecId) -> Option<&Sites>
+        ensures { option_copied result ≡ option_map (λ entry. keys entry.weights) (slice_get self.now.records rec) }
+    {
+        match self.placed(rec) {
+            Some(placed) => Some(placed.holders()),
+            None => None,
+        }
+    }
+
+    /// The weight of the copy at a site, 0 where it has none.
+    pub fn weight(&self, rec: RecId, site: SiteId) -> u32
+        ensures { result ≡ weight self.now rec site }
+    {
+        match self.placed(rec) {
+            Some(placed) => placed.weight(site),
+            None => 0,
+        }
+    }
+
+    /// The weight of the copies at the members.
+    pub fn inside(&self, rec: RecId, members: &Sites) -> u32
+        ensures { result ≡ inside self.now rec members.now }
+    {
+        match self.placed(rec) {
+            Some(placed) => placed.inside(members),
+            None => 0,
+        }
+    }
+
+    /// The weight of all copies.
+    pub fn total(&self, rec: RecId) -> u32
+        ensures { result ≡ total self.now rec }
+    {
+        match self.placed(rec) {
+            Some(placed) => placed.total(),
+            None => 0,
+        }
+    }
+
+    /// Whether more than half of the weight of the copies is at the members.
+    pub fn accessible(&self, rec: RecId, members: &Sites) -> bool
+        ensures { result ≡ accessible self.now rec members.now }
+    {
+        u64::from(self.total(rec)) < 2 * u64::from(self.inside(rec, members))
+    }
+
+    /// The copies of a site as they start: the catalogue's values, dated with the opening view.
+    pub fn copies(&self, alloc: Global, site: SiteId) -> Result<Copies, NoMemory>
+        ensures { IfOk result (λ copies. copies ≡ start_copies self.now site) }
+    {
+        let copies = copies_at(alloc, &self.records, site)?;
+        Ok(Copies::from_vec(copies))
+    }
+}
+
+/// The copies that a site has of the records, which has to be at most 256.
+fn copies_at(
+    alloc: Global,
+    records: &[Placed],
+    site: SiteId,
+) -> Result<Vec<(RecId, Stored)>, NoMemory>
+    requires { length records.now ≤ 256 }
+    ensures { IfOk result (λ copies. copies.items ≡ copies_from 0 records.now site) }
+{
+    let mut copies = Vec::new(alloc);
+    for (place, placed) in records.iter().enumerate() {
+        if placed.is_held_by(site) {
+            let stored = Stored {
+                value: placed.start().copy_of()?,
+                date: ViewId { number: 0, site: 0 },
+            };
+            copies.push((RecId::new(place as u8), stored))?;
+        }
+    }
+    Ok(copies)
+}
+
+/// The place of the first record of that name.
+fn place_of(records: &[Placed], name: &[u8]) -> Option<usize>
+    ensures place { result ≡ position_from (λ entry. bytes_eq entry.name name.now) 0 records.now }
+    ensures within { IfSome result (λ place. place < length records.now) }
+{
+    records
+        .iter()
+        .position(|placed| placed.name().as_bytes() == name)
+}

@@ -1,0 +1,131 @@
+//! A record of the catalogue with the weights of its copies.
+
+ghost use Rattle.std.specs.Prelude.{◌≡◌, ◌≤◌, ◌<◌, ◌^◌, length, filter, sum_by, IfOk};
+ghost use Rattle.std.specs.Option.{option_map_or};
+ghost use Rattle.vp_model.specs.Words.{has, keys, value_at};
+ghost use Rattle.vp_model.specs.Catalogue.{weight_inside};
+
+use std::alloc::Global;
+use std::marker::Model;
+use vp_base::{Name, NoMemory, SiteId, Sites, Value};
+
+/// A record: its name, the value that each copy starts with, and the weights of the copies, ascending by holder.
+#[derive(Drop)]
+pub struct Placed {
+    pub name: Name,
+    pub start: Value,
+    holders: Sites,
+    weights: Vec<(SiteId, u16)>,
+}
+
+impl Model for Placed {
+    ghost use Rattle.std.specs.Prelude.{◌≡◌, ◌≤◌, length};
+    ghost use Rattle.vp_model.specs.Catalogue.{RecordEntry};
+    ghost use Rattle.vp_model.specs.Words.{keys};
+
+    ghost Value = { RecordEntry };
+
+    ghost view = { λ p. record { name = p.name; start = p.start; weights = p.weights.items } };
+
+    ghost invariant = { λ p. (p.holders ≡ keys p.weights.items) × (length p.weights.items ≤ 16) };
+}
+
+impl Placed {
+    /// Makes the list of holders, which takes memory.
+    pub fn new(
+        alloc: Global,
+        name: Name,
+        start: Value,
+        weights: Vec<(SiteId, u16)>,
+    ) -> Result<Placed, NoMemory>
+        requires { length weights.items ≤ 16 }
+        ensures { IfOk result (λ placed. placed ≡ record { name = name; start = start; weights = weights.items }) }
+    {
+        let holders = Sites::from_vec(holders_of(alloc, &weights)?);
+        Ok(Placed {
+            name,
+            start,
+            holders,
+            weights,
+        })
+    }
+
+    pub fn holders(&self) -> &Sites
+        ensures { result.now ≡ keys self.now.weights }
+    {
+        &self.holders
+    }
+
+    pub fn name(&self) -> &Name
+        ensures { result.now ≡ self.now.name }
+    {
+        &self.name
+    }
+
+    pub fn start(&self) -> &Value
+        ensures { result.now ≡ self.now.start }
+    {
+        &self.start
+    }
+
+    /// The weight of the copy at a site, 0 where it has none.
+    pub fn weight(&self, site: SiteId) -> u32
+        ensures { result ≡ option_map_or (λ w. w) (value_at site self.now.weights) 0 }
+    {
+        match self.weights.iter().find(|w| w.0 == site) {
+            Some(found) => u32::from(found.1),
+            None => 0,
+        }
+    }
+
+    /// Whether the site has a copy.
+    pub fn is_held_by(&self, site: SiteId) -> bool
+        ensures { result ≡ has (keys self.now.weights) site }
+    {
+        has_site(self.holders.as_slice(), site)
+    }
+
+    /// The sum of the weights at the members.
+    pub fn inside(&self, members: &Sites) -> u32
+        ensures { result ≡ weight_inside members.now self.now.weights }
+    {
+        weight_at(&self.weights, members.as_slice())
+    }
+
+    pub fn total(&self) -> u32
+        ensures { result ≡ sum_by (λ w. w.1) self.now.weights }
+    {
+        weight_of(&self.weights)
+    }
+}
+
+fn holders_of(alloc: Global, weights: &[(SiteId, u16)]) -> Result<Vec<SiteId>, NoMemory>
+    ensures { IfOk result (λ holders. holders.items ≡ keys weights.now) }
+{
+    let holders = weights.iter().map(|w| w.0).collect(alloc)?;
+    Ok(holders)
+}
+
+fn has_site(sites: &[SiteId], site: SiteId) -> bool
+    ensures { result ≡ has sites.now site }
+{
+    sites.iter().any(|other| *other == site)
+}
+
+fn weight_at(weights: &[(SiteId, u16)], members: &[SiteId]) -> u32
+    requires { length weights.now ≤ 16 }
+    ensures { result ≡ weight_inside members.now weights.now }
+{
+    weights
+        .iter()
+        .filter(|w| has_site(members, w.0))
+        .map(|w| u32::from(w.1))
+        .sum()
+}
+
+fn weight_of(weights: &[(SiteId, u16)]) -> u32
+    requires { length weights.now ≤ 16 }
+    ensures { result ≡ sum_by (λ w. w.1) weights.now }
+{
+    weights.iter().map(|w| u32::from(w.1)).sum()
+}

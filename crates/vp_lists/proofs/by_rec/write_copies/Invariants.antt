@@ -1,0 +1,6 @@
+use Rattle.std.proofs.Common.{◌≡◌, take}
+use Rattle.vp_model.specs.Durable.{with_writes}
+use Rattle.vp_lists.proofs.by_rec.write_copies.Given as goal
+
+abbrev pub invariant-loop-write : goal.invariant-loop-write
+invariant-loop-write l = l.items.items ≡ with_writes l.date (take l.write-index l.writes) l.initial.items.items

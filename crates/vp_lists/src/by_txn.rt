@@ -1,0 +1,95 @@
+//! Lists whose items are known by a transaction.
+
+ghost use Rattle.std.specs.Prelude.{◌≡◌, ◌<◌, IfSome, find, is_some, if◌then◌else◌, length, option_copied};
+ghost use Rattle.std.specs.List.{position};
+ghost use Rattle.vp_model.specs.Words.{same_txn, change_first, without_first};
+
+use crate::order::is_same_txn;
+use vp_base::{Finished, Live, Part, Sites, TxnId, ViewId, Writes};
+
+/// An item that is known by its transaction.
+pub trait OfTxn {
+    ghost use Rattle.vp_base.specs.declared.ids.TxnId.{TxnId};
+
+    ghost txn: { Self → TxnId };
+
+    fn is_of(&self, name: &TxnId) -> bool
+        ensures { result ≡ same_txn (txn self.now) name.now };
+}
+
+fn place_of<T: OfTxn>(items: &[T], name: &TxnId) -> Option<usize>
+    ensures place { result ≡ position (λ t. same_txn (T.txn t) name.now) items.now }
+    ensures within { IfSome result (λ place. place < length items.now) }
+{
+    items.iter().position(|t| t.is_of(name))
+}
+
+/// The first item of the transaction.
+pub fn find_txn<'a, T: OfTxn>(items: &'a [T], name: &TxnId) -> Option<&'a T>
+    ensures { option_copied result ≡ find (λ t. same_txn (T.txn t) name.now) items.now }
+{
+    items.iter().find(|t| t.is_of(name))
+}
+
+/// Takes the first item of the transaction out.
+#[tactic(auto, using(crate::proofs::Named::taking))]
+pub fn take_txn<T: OfTxn + Drop>(items: &mut Vec<T>, name: &TxnId) -> Option<T>
+    ensures taken { result ≡ find (λ t. same_txn (T.txn t) name.now) items.old.items }
+    ensures named { IfSome result (λ t. T.txn t ≡ name.now) }
+    ensures rest { items.new.items ≡
+        (if is_some result then without_first (λ t. same_txn (T.txn t) name.now) items.old.items else items.old.items) }
+{
+    match place_of(items, name) {
+        None => None,
+        Some(place) => Some(items.remove(place)),
+    }
+}
+
+/// The item goes where the first one of the transaction is, which goes; nowhere, where there is none.
+pub fn replace_txn<T: OfTxn + Drop>(items: &mut Vec<T>, name: &TxnId, item: T)
+    ensures { items.new.items ≡ change_first (λ t. same_txn (T.txn t) name.now) (λ t. item) items.old.items }
+{
+    if let Some(place) = place_of(items, name) {
+        items[place] = item;
+    }
+}
+
+impl OfTxn for Live {
+    ghost txn = { λ t. t.txn };
+
+    fn is_of(&self, name: &TxnId) -> bool {
+        is_same_txn(&self.txn, name)
+    }
+}
+
+impl OfTxn for Finished {
+    ghost txn = { λ t. t.txn };
+
+    fn is_of(&self, name: &TxnId) -> bool {
+        is_same_txn(&self.txn, name)
+    }
+}
+
+impl OfTxn for Part {
+    ghost txn = { λ t. t.txn };
+
+    fn is_of(&self, name: &TxnId) -> bool {
+        is_same_txn(&self.txn, name)
+    }
+}
+
+impl OfTxn for (TxnId, Sites) {
+    ghost txn = { λ t. t.0 };
+
+    fn is_of(&self, name: &TxnId) -> bool {
+        is_same_txn(&self.0, name)
+    }
+}
+
+impl OfTxn for (TxnId, ViewId, Writes) {
+    ghost txn = { λ t. t.0 };
+
+    fn is_of(&self, name: &TxnId) -> bool {
+        is_same_txn(&self.0, name)
+    }
+}

@@ -1,0 +1,21 @@
+//! Lists that are kept in order, lists of pairs of a record and its value, and lists whose items are known by a
+//! transaction.
+//!
+//! What is done to such a list is done to its first item of the same name, as the definitions do it: no contract
+//! here needs a list that is in order, or whose names are distinct.
+#![tactic(auto)]
+
+mod by_rec;
+mod by_txn;
+mod copies;
+mod keyed;
+mod order;
+
+pub use by_rec::{replace_at, value_at, write_copies};
+pub use by_txn::{OfTxn, find_txn, replace_txn, take_txn};
+pub use copies::copy_all;
+pub use keyed::{Keyed, put, put_in};
+pub use order::{
+    is_same_owner, is_same_txn, is_same_view, owner_comes_before, txn_comes_before,
+    view_comes_before,
+};

@@ -1,0 +1,48 @@
+//! The order of views, of transactions and of the owners of locks.
+
+ghost use Rattle.std.specs.Prelude.{◌≡◌};
+ghost use Rattle.vp_base.specs.Order.{same_view, view_before, same_txn, txn_before, same_owner, owner_before};
+
+use vp_base::{Owner, TxnId, ViewId};
+
+pub fn is_same_view(a: &ViewId, b: &ViewId) -> bool
+    ensures { result ≡ same_view a.now b.now }
+{
+    *a == *b
+}
+
+pub fn view_comes_before(a: &ViewId, b: &ViewId) -> bool
+    ensures { result ≡ view_before a.now b.now }
+{
+    a.number < b.number || (a.number == b.number && a.site < b.site)
+}
+
+pub fn is_same_txn(a: &TxnId, b: &TxnId) -> bool
+    ensures { result ≡ same_txn a.now b.now }
+{
+    *a == *b
+}
+
+pub fn txn_comes_before(a: &TxnId, b: &TxnId) -> bool
+    ensures { result ≡ txn_before a.now b.now }
+{
+    a.site.get() < b.site.get()
+        || (a.site == b.site && (a.life < b.life || (a.life == b.life && a.seq < b.seq)))
+}
+
+pub fn is_same_owner(a: &Owner, b: &Owner) -> bool
+    ensures { result ≡ same_owner a.now b.now }
+{
+    *a == *b
+}
+
+/// Refresh comes after every transaction.
+pub fn owner_comes_before(a: &Owner, b: &Owner) -> bool
+    ensures { result ≡ owner_before a.now b.now }
+{
+    match (a, b) {
+        (Owner::Txn(t), Owner::Txn(u)) => txn_comes_before(t, u),
+        (Owner::Txn(_), Owner::Refresh) => true,
+        (Owner::Refresh, _) => false,
+    }
+}

@@ -1,0 +1,213 @@
+//! The lock table of a site. A contract sees the list of its locks, in the order in which they were taken.
+#![tactic(auto)]
+
+ghost use Rattle.std.specs.Prelude.{◌≡◌, [], is_ok, if◌then◌else◌, map, true, false};
+ghost use Rattle.vp_base.specs.declared.entry.Owner.TheVariants as owner;
+ghost use Rattle.vp_locks.specs.Faults.{holder_in};
+ghost use Rattle.vp_model.specs.Locks.{conflict, conflicting, least_owner, holds, with_lock, with_guard, without_owner, without_guard, without_shared, lesser, raised};
+ghost use Rattle.vp_model.specs.Words.{same_owner, owner_before};
+
+use std::alloc::Global;
+use std::marker::Model;
+use vp_base::{CopyOf, Lock, NoMemory, Owner, RecId, TxnId};
+use vp_lists::{copy_all, is_same_owner, owner_comes_before};
+
+/// Why a lock is not taken: another owner has one that forbids it, or there is no memory.
+#[derive(Clone, Copy, Drop)]
+pub enum LockFault {
+    Held { owner: Owner },
+    NoMemory,
+}
+
+impl From<NoMemory> for LockFault {
+    ghost use Rattle.vp_locks.specs.declared.LockFault.TheVariants as fault;
+
+    ghost from_gives = { λ _ e. e ≡ fault.NoMemory };
+
+    fn from(_e: NoMemory) -> LockFault {
+        LockFault::NoMemory
+    }
+}
+
+/// The lesser of the best owner so far and another.
+fn lesser_of(best: Option<Owner>, owner: &Owner) -> Owner
+    ensures { result ≡ lesser best owner.now }
+{
+    match best {
+        None => *owner,
+        Some(best) => {
+            if owner_comes_before(owner, &best) {
+                *owner
+            } else {
+                best
+            }
+        }
+    }
+}
+
+/// The locks at a site.
+#[derive(Drop)]
+pub struct Locks {
+    items: Vec<Lock>,
+}
+
+impl Model for Locks {
+    ghost use Rattle.std.specs.Prelude.{List};
+    ghost use Rattle.vp_base.specs.declared.site.Lock.{Lock};
+
+    ghost Value = { List Lock };
+
+    ghost view = { λ a. a.items.items };
+}
+
+impl CopyOf for Locks {
+    fn copy_of(&self) -> Result<Locks, NoMemory> {
+        let items = copy_all(*self.items.allocator(), &self.items)?;
+        Ok(Locks { items })
+    }
+}
+
+impl Locks {
+    /// A table without locks, which takes no memory.
+    pub fn new(alloc: Global) -> Locks
+        ensures { result ≡ [] }
+    {
+        Locks {
+            items: Vec::new(alloc),
+        }
+    }
+
+    /// The least other owner whose lock forbids this owner the lock.
+    fn blocker(&self, rec: RecId, exclusive: bool, owner: &Owner) -> Option<Owner>
+        ensures { result ≡ least_owner (conflicting rec exclusive owner.now self.now) }
+    {
+        self.items
+            .iter()
+            .filter(|lock| {
+                lock.rec == rec && (exclusive || lock.exclusive) && !is_same_owner(&lock.owner, owner)
+            })
+            .fold(None, |best, lock| Some(lesser_of(best, &lock.owner)))
+    }
+
+    fn has(&self, rec: RecId, exclusive: bool, owner: &Owner) -> bool
+        ensures { result ≡ holds rec exclusive owner.now self.now }
+    {
+        self.items.iter().any(|lock| {
+            lock.rec == rec && (!exclusive || lock.exclusive) && is_same_owner(&lock.owner, owner)
+        })
+    }
+
+    fn put(&mut self, rec: RecId, exclusive: bool, owner: &Owner) -> Result<(), NoMemory>
+        ensures { self.new ≡ (if is_ok result then with_lock rec exclusive owner.now self.old else self.old) }
+    {
+        if self.has(rec, false, owner) {
+            raise(&mut self.items, rec, exclusive, owner);
+        } else {
+            self.items.push(Lock {
+                rec,
+                exclusive,
+                owner: *owner,
+            })?;
+        }
+        Ok(())
+    }
+
+    fn take(&mut self, rec: RecId, exclusive: bool, txn: TxnId) -> Result<(), LockFault>
+        ensures held { holder_in result ≡ conflict rec exclusive txn self.old }
+        ensures locks { self.new ≡ (if is_ok result then with_lock rec exclusive (owner.Txn txn) self.old else self.old) }
+    {
+        let taker = Owner::Txn(txn);
+        match self.blocker(rec, exclusive, &taker) {
+            Some(owner) => Err(LockFault::Held { owner }),
+            None => {
+                self.put(rec, exclusive, &taker)?;
+                Ok(())
+            }
+        }
+    }
+
+    /// The least owner whose lock forbids the transaction the lock.
+    pub fn conflict(&self, rec: RecId, exclusive: bool, txn: TxnId) -> Option<Owner>
+        ensures { result ≡ conflict rec exclusive txn self.now }
+    {
+        self.blocker(rec, exclusive, &Owner::Txn(txn))
+    }
+
+    /// Whether the transaction has a lock on the record, an exclusive one where that is asked.
+    pub fn holds(&self, rec: RecId, exclusive: bool, txn: TxnId) -> bool
+        ensures { result ≡ holds rec exclusive (owner.Txn txn) self.now }
+    {
+        self.has(rec, exclusive, &Owner::Txn(txn))
+    }
+
+    /// Takes the shared lock; an exclusive one that the transaction has stays exclusive.
+    pub fn take_shared(&mut self, rec: RecId, txn: TxnId) -> Result<(), LockFault>
+        ensures held { holder_in result ≡ conflict rec false txn self.old }
+        ensures locks { self.new ≡ (if is_ok result then with_lock rec false (owner.Txn txn) self.old else self.old) }
+    {
+        self.take(rec, false, txn)
+    }
+
+    /// Takes the exclusive lock; a shared one that the transaction has becomes exclusive.
+    pub fn take_exclusive(&mut self, rec: RecId, txn: TxnId) -> Result<(), LockFault>
+        ensures held { holder_in result ≡ conflict rec true txn self.old }
+        ensures locks { self.new ≡ (if is_ok result then with_lock rec true (owner.Txn txn) self.old else self.old) }
+    {
+        self.take(rec, true, txn)
+    }
+
+    /// The transaction has the exclusive lock, whoever else has a lock on the record.
+    pub fn hold(&mut self, rec: RecId, txn: TxnId) -> Result<(), NoMemory>
+        ensures { self.new ≡ (if is_ok result then with_lock rec true (owner.Txn txn) self.old else self.old) }
+    {
+        self.put(rec, true, &Owner::Txn(txn))
+    }
+
+    /// The refresh of the record's copy has its lock, beside any other owner.
+    pub fn guard(&mut self, rec: RecId) -> Result<(), NoMemory>
+        ensures { self.new ≡ (if is_ok result then with_guard rec self.old else self.old) }
+    {
+        self.put(rec, true, &Owner::Refresh)
+    }
+
+    /// The refresh of the record's copy no longer has its lock.
+    pub fn unguard(&mut self, rec: RecId)
+        ensures { self.new ≡ without_guard rec self.old }
+    {
+        self.items.retain(|lock| !(lock.rec == rec && is_same_owner(&lock.owner, &Owner::Refresh)));
+    }
+
+    /// All locks of the transaction go.
+    pub fn release(&mut self, txn: TxnId)
+        ensures { self.new ≡ without_owner (owner.Txn txn) self.old }
+    {
+        let owner = Owner::Txn(txn);
+        self.items.retain(|lock| !is_same_owner(&lock.owner, &owner));
+    }
+
+    /// The shared locks of the transaction go, and its exclusive ones stay.
+    pub fn release_shared(&mut self, txn: TxnId)
+        ensures { self.new ≡ without_shared (owner.Txn txn) self.old }
+    {
+        let owner = Owner::Txn(txn);
+        self.items
+            .retain(|lock| lock.exclusive || !is_same_owner(&lock.owner, &owner));
+    }
+}
+
+fn raised_one(lock: &mut Lock, rec: RecId, exclusive: bool, owner: &Owner)
+    ensures { lock.new ≡ raised rec exclusive owner.now lock.old }
+{
+    if lock.rec == rec && is_same_owner(&lock.owner, owner) {
+        lock.exclusive = lock.exclusive || exclusive;
+    }
+}
+
+/// The owner's lock on the record becomes exclusive where that is asked.
+fn raise(items: &mut [Lock], rec: RecId, exclusive: bool, owner: &Owner)
+    ensures { items.new ≡ map (raised rec exclusive owner.now) items.old }
+{
+    for lock in items.iter_mut() {
+        raised_one(lock, rec, exclusive, owner);
+    }
+}

@@ -1,0 +1,61 @@
+-- A trace: each step's event under the number of its event line, and what it gave, one line each behind a blank.
+use Rattle.std.specs.Prelude.{ℕ, ◌+◌, ◌==◌, List, [], ◌∷◌, ◌++◌, filter, flat_map, codes}
+use Rattle.std.specs.List.{enumerate_from}
+use Rattle.std.specs.Fmt.{decimal}
+use Rattle.vp_model.specs.Types.{Commit, Sent, Reply, Event, Shown, Line}
+use Rattle.vp_model.specs.Types.event
+use Rattle.vp_model.specs.Types.shown
+use Rattle.vp_model.specs.Catalogue.{Catalogue}
+use Rattle.vp_model.specs.World.{Schedule, numbered_lines}
+use Rattle.vp_model.specs.Texts.Fields.{view_text, txn_text}
+use Rattle.vp_model.specs.Texts.Calls.{event_text}
+use Rattle.vp_model.specs.Texts.Answers.{answer_text}
+use Rattle.vp_model.specs.Texts.Messages.{message_text}
+
+abbrev pub commit_line : Commit → List ℕ
+commit_line commit = codes " commit " ++ (txn_text commit.txn ++ 32 ∷ (view_text commit.view ++ 10 ∷ []))
+
+abbrev pub sent_line : Catalogue → ℕ → Sent → List ℕ
+sent_line catalogue k sent =
+    codes " sent " ++ (decimal k ++ 32 ∷ (decimal sent.from ++ 62 ∷ (decimal sent.to ++ 32 ∷ (message_text catalogue sent.message ++ 10 ∷ []))))
+
+-- the messages are numbered over the whole run, the first of these by k
+abbrev pub sent_lines : Catalogue → ℕ → List Sent → List ℕ
+sent_lines catalogue k [] = []
+sent_lines catalogue k (sent ∷ messages) = sent_line catalogue k sent ++ sent_lines catalogue (k + 1) messages
+
+abbrev pub reply_line : Reply → List ℕ
+reply_line reply = codes " reply " ++ (answer_text reply.answer ++ 10 ∷ [])
+
+abbrev pub told_line : List ℕ → ℕ → List ℕ
+told_line word number = word ++ (decimal number ++ 10 ∷ [])
+
+abbrev pub shown_text : Catalogue → Shown → List ℕ
+shown_text catalogue (shown.Step commits first messages replies) =
+    flat_map commit_line commits ++ (sent_lines catalogue first messages ++ flat_map reply_line replies)
+shown_text catalogue shown.Nothing = []
+shown_text catalogue shown.NoMessage = codes " nomessage\n"
+shown_text catalogue (shown.Down site) = told_line (codes " down ") site
+shown_text catalogue (shown.Parted from to) = codes " cut " ++ (decimal from ++ 32 ∷ (decimal to ++ 10 ∷ []))
+shown_text catalogue (shown.Up site) = told_line (codes " up ") site
+shown_text catalogue (shown.Life life) = told_line (codes " life ") life
+shown_text catalogue (shown.LivesSpent life) = told_line (codes " lives spent ") life
+
+abbrev pub line_text : Catalogue → ℕ × Line → List ℕ
+line_text catalogue numbered =
+    decimal numbered.0 ++ 32 ∷ (event_text numbered.1.event ++ 10 ∷ shown_text catalogue numbered.1.shown)
+
+-- a flow has a line of its own before its deliveries
+abbrev pub own_line : ℕ → Event → List (ℕ × Line)
+own_line number (event.Flow count) = (number, record { event = event.Flow count; shown = shown.Nothing }) ∷ []
+own_line number _ = []
+
+-- the lines under an event line
+abbrev pub lines_under : List (ℕ × Line) → ℕ × Event → List (ℕ × Line)
+lines_under lines numbered = own_line numbered.0 numbered.1 ++ filter (λ (line : ℕ × Line). line.0 == numbered.0) lines
+
+abbrev pub printed_lines : Schedule → List (ℕ × Line)
+printed_lines s = flat_map (lines_under (numbered_lines s)) (enumerate_from 1 s.events)
+
+abbrev pub trace_text : Schedule → List ℕ
+trace_text s = flat_map (line_text s.catalogue) (printed_lines s)

@@ -1,0 +1,17 @@
+//! Printing.
+
+ghost use Rattle.std.specs.Prelude.{◌≡◌, ◌++◌, OnOk, OnErr};
+ghost use Rattle.std.specs.Fmt.{decimal};
+
+use std::alloc::AllocError;
+
+/// Appends the number in decimal digits. Without memory the bytes stay as they are.
+pub fn print_number(out: &mut Vec<u8>, number: u64) -> Result<(), AllocError>
+    ensures ok { OnOk result (out.new.items ≡ out.old.items ++ decimal number) }
+    ensures err { OnErr result (out.new.items ≡ out.old.items) }
+{
+    let alloc = *out.allocator();
+    let text = number.to_string(alloc)?;
+    out.extend_from_slice(text.as_bytes())?;
+    Ok(())
+}
