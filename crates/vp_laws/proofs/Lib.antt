@@ -13,7 +13,6 @@ pub mod Scenes
 pub mod InvViews
 pub mod Events
 pub mod Agreement
-pub mod Majorities
 pub mod Apart
 pub mod TableLed
 pub mod InvLed
@@ -24,3 +23,5 @@ pub mod InvNames
 pub mod TableVotes
 pub mod InvVotes
 pub mod Words
+pub mod Majorities
+pub mod OnlyCoordinator
