@@ -1,5 +1,5 @@
 -- The rows of the coordinator are made of its small moves, so a property of its part that survives these is kept by them.
-use Rattle.std.proofs.Common.{◌≡◌, ℕ, ◌+◌, Bool, true, false, cond, List, [], ◌∷◌, refl, arith, length}
+use Rattle.std.proofs.Common.{◌≡◌, ◌∙◌, ℕ, ◌+◌, Bool, true, false, cond, List, [], ◌∷◌, refl, arith, length}
 use Rattle.std.specs.Prelude.{Option, Some, None, is_some, filter, ◌==◌, nat_le, nat_lt}
 use Rattle.std.specs.List.{AllByRecursion}
 use Rattle.std.specs.Option.{option_map_or}
@@ -23,6 +23,7 @@ use Rattle.vp_model.specs.Calls.{handling, begin_in, on_begin, with_record, take
 use Rattle.vp_model.specs.Answers.{with_missing, count_in, read_answered, on_read_answer, write_answered, on_write_answer, refused_by, on_refuse, voted, on_vote, on_ack, on_inquire, on_answer}
 use Rattle.vp_model.specs.Step.{is_marked_call, least_missing, time_out_calls}
 use Rattle.vp_laws.proofs.Members.{Has, find_has, find_true, filter_has, has_first, has_more}
+use Rattle.vp_laws.proofs.Frames.{close-commits}
 use Rattle.vp_laws.specs.Votes.{is_commit}
 use Rattle.vp_laws.proofs.Table.{Comes, Handled, IsNext, Reads, Writes, Counts, remaining, IsLast, Locked, Completes, Decides, is_abort, lent_at, OfCoordinator}
 
@@ -60,19 +61,19 @@ module _ (catalogue : Catalogue) (x : SiteState) (given : Input) (Q : Lent → T
   all_handled [] sub = tt
   all_handled (t ∷ live) sub = (record { was = t; live = sub t (has_first t live); same = refl }, all_handled live (λ u q. sub u (has_more t live u q)))
 
-  close_all-kept : (why : Live → Ending) (live : List Live) (l : Lent) → AllByRecursion (Handled x) live → ((t : Live) → is_abort (why t) ≡ true) → Q l → Q (close_all x.id why live l)
-  close_all-kept why [] l all abort p = p
-  close_all-kept why (t ∷ live) l all abort p = close_all-kept why live (close x.id t (why t) l) all.1 abort (k.close t (why t) l all.0 (abort t) p)
+  close_all-kept : (why : Live → Ending) (live : List Live) (l : Lent) → AllByRecursion (Handled x) live → ((t : Live) → is_abort (why t) ≡ true) → l.effects.commits ≡ [] → Q l → Q (close_all x.id why live l)
+  close_all-kept why [] l all abort n p = p
+  close_all-kept why (t ∷ live) l all abort n p = close_all-kept why live (close x.id t (why t) l) all.1 abort (close-commits x.id t (why t) l ∙ n) (k.close t (why t) l all.0 (abort t) n p)
 
   pub abandon-kept : Q (abandon x.id (lent_at x))
   unfolding abandon
-  abandon-kept = close_all-kept (λ t. ViewChanged x.id t.view None) x.live (lent_at x) (all_handled x.live (λ t q. q)) (λ t. refl) h
+  abandon-kept = close_all-kept (λ t. ViewChanged x.id t.view None) x.live (lent_at x) (all_handled x.live (λ t q. q)) (λ t. refl) refl h
 
   pub time_out_calls-kept : given ≡ input.Tick → Q (time_out_calls x.id (lent_at x))
   unfolding time_out_calls
   time_out_calls-kept c =
       let late = filter (λ (t : Live). is_marked_call t.pending) x.live in
-      k.mark_calls _ c (close_all-kept (λ t. TimedOut (least_missing t.pending)) late (lent_at x) (all_handled late (λ t q. (filter_has (λ (t : Live). is_marked_call t.pending) x.live t q).0)) (λ t. refl) h)
+      k.mark_calls _ c (close_all-kept (λ t. TimedOut (least_missing t.pending)) late (lent_at x) (all_handled late (λ t q. (filter_has (λ (t : Live). is_marked_call t.pending) x.live t q).0)) (λ t. refl) refl h)
 
   on_begin-kept : (port : ℕ) → Q (on_begin (surroundings x) port (lent_at x))
   unfolding on_begin begin_in
@@ -87,7 +88,7 @@ module _ (catalogue : Catalogue) (x : SiteState) (given : Input) (Q : Lent → T
   -- the next call of a live transaction t
   module _ (t : Live) (p : Pending) (here : Has x.live t) (next : IsNext t p) where
     closing-kept : (why : Ending) → is_abort why ≡ true → Q (close x.id (handling t p) why (lent_at x))
-    closing-kept why a = k.close (handling t p) why (lent_at x) (handled_by t p here) a h
+    closing-kept why a = k.close (handling t p) why (lent_at x) (handled_by t p here) a refl h
 
     lock_here-kept : (name : List ℕ) (rec : ℕ) (exclusive : Bool) (stored : Stored) (rest : Lent → Lent) → is_usable catalogue x rec ≡ true → value_at rec x.copies ≡ Some stored → (conflict rec exclusive t.txn x.locks ≡ None → Q (take_lock t.txn rec exclusive (lent_at x)) → Q (rest (take_lock t.txn rec exclusive (lent_at x)))) → Q (lock_here x.id t p name rec exclusive rest (lent_at x))
     unfolding lock_here
@@ -215,13 +216,13 @@ module _ (catalogue : Catalogue) (x : SiteState) (given : Input) (Q : Lent → T
   on_write_answer-kept from txn number c = with_missing-kept txn from _ (λ t p here same f m. write_answered-kept from txn number t p p.call refl c here same f m)
 
   refused_by-kept : (why : Obstacle) (words : Call) (from : ℕ) (t : Live) → Has x.live t → Q (refused_by x.id why words from t (lent_at x))
-  refused_by-kept (obstacle.Held holder) (call.Read txn number name) from t here = k.close t (LockHeld name from holder) (lent_at x) (handled_as t here) refl h
-  refused_by-kept (obstacle.Held holder) (call.Write txn number name value) from t here = k.close t (LockHeld name from holder) (lent_at x) (handled_as t here) refl h
+  refused_by-kept (obstacle.Held holder) (call.Read txn number name) from t here = k.close t (LockHeld name from holder) (lent_at x) (handled_as t here) refl refl h
+  refused_by-kept (obstacle.Held holder) (call.Write txn number name value) from t here = k.close t (LockHeld name from holder) (lent_at x) (handled_as t here) refl refl h
   refused_by-kept (obstacle.Held holder) (call.Commit txn number) from t here = h
   refused_by-kept (obstacle.Held holder) (call.Abort txn number) from t here = h
   refused_by-kept (obstacle.Held holder) call.Begin from t here = h
   refused_by-kept (obstacle.Held holder) call.Regroup from t here = h
-  refused_by-kept (obstacle.OtherView now) words from t here = k.close t (ViewChanged from t.view now) (lent_at x) (handled_as t here) refl h
+  refused_by-kept (obstacle.OtherView now) words from t here = k.close t (ViewChanged from t.view now) (lent_at x) (handled_as t here) refl refl h
 
   on_refuse-kept : (from : ℕ) (txn : TxnId) (number : ℕ) (why : Obstacle) → Q (on_refuse x.id from txn number why (lent_at x))
   unfolding on_refuse

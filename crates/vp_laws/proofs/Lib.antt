@@ -25,3 +25,4 @@ pub mod InvVotes
 pub mod Words
 pub mod Majorities
 pub mod OnlyCoordinator
+pub mod TableEndings
