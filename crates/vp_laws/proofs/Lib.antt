@@ -26,3 +26,5 @@ pub mod Words
 pub mod Majorities
 pub mod OnlyCoordinator
 pub mod TableEndings
+pub mod Worlds
+pub mod InvEndings
