@@ -1,11 +1,11 @@
 -- The rows of the coordinator are made of its small moves, so a property of its part that survives these is kept by them.
-use Rattle.std.proofs.Common.{◌≡◌, ◌∙◌, ℕ, ◌+◌, Bool, true, false, cond, List, [], ◌∷◌, refl, arith, length}
+use Rattle.std.proofs.Common.{◌≡◌, ◌∙◌, ℕ, ◌+◌, Bool, true, false, cond, List, [], ◌∷◌, refl, arith, length, ap, sym, ⊎_elim}
 use Rattle.std.specs.Prelude.{Option, Some, None, is_some, filter, ◌==◌, nat_le, nat_lt}
 use Rattle.std.specs.List.{AllByRecursion}
 use Rattle.std.specs.Option.{option_map_or}
 use Rattle.std.proofs.lemmas.Bool.Decides.{nat_tests}
 use Rattle.std.proofs.lemmas.Bool.{eqb-true}
-use Rattle.vp_model.specs.Types.{TxnId, Stored, Call, Message, Obstacle, Input, Pending, Live, Ending, Finished}
+use Rattle.vp_model.specs.Types.{TxnId, Stored, Call, Message, Obstacle, Input, Pending, Live, Ending, Finished, Sent}
 use Rattle.vp_base.specs.declared.site.Ending.TheVariants.{LockHeld, ViewChanged, TimedOut, Aborted}
 use Rattle.vp_model.specs.Types.answer
 use Rattle.vp_model.specs.Types.call
@@ -15,17 +15,19 @@ use Rattle.vp_model.specs.Types.obstacle
 use Rattle.vp_model.specs.Words.{same_txn, has, first, value_at, is_empty, for_some}
 use Rattle.vp_model.specs.Catalogue.{Catalogue, find_record}
 use Rattle.vp_model.specs.Locks.{conflict}
-use Rattle.vp_model.specs.Site.{SiteState, Lent, surroundings, lent_reply}
+use Rattle.vp_model.specs.Site.{SiteState, Lent, surroundings, lent_reply, CoordinatorState, letters}
 use Rattle.vp_model.specs.Transactions.{live_of, finished_of, last_writes, close, close_all, decide}
 use Rattle.vp_model.specs.Refresh.{is_usable, other_holders}
 use Rattle.vp_model.specs.Views.{abandon}
 use Rattle.vp_model.specs.Calls.{handling, begin_in, on_begin, with_record, take_lock, lock_here, answer_read, answer_write, read, read_at, write_elsewhere, write, commit, new_call, live_call, finished_call, handled, on_txn_call, own_call}
 use Rattle.vp_model.specs.Answers.{with_missing, count_in, read_answered, on_read_answer, write_answered, on_write_answer, refused_by, on_refuse, voted, on_vote, on_ack, on_inquire, on_answer}
 use Rattle.vp_model.specs.Step.{is_marked_call, least_missing, time_out_calls}
-use Rattle.vp_laws.proofs.Members.{Has, find_has, find_true, filter_has, has_first, has_more}
-use Rattle.vp_laws.proofs.Frames.{close-commits}
+use Rattle.vp_laws.proofs.Members.{Has, find_has, find_true, filter_has, has_first, has_more, has_none, has_cases, map_has}
+use Rattle.vp_laws.proofs.Frames.{close-commits, close-ends}
+use Rattle.vp_laws.proofs.Lists.{without_first_has}
+use Rattle.vp_laws.proofs.LocalViews.{letter}
 use Rattle.vp_laws.specs.Votes.{is_commit}
-use Rattle.vp_laws.proofs.Table.{Comes, Handled, IsNext, Reads, Writes, Counts, remaining, IsLast, Locked, Completes, Decides, is_abort, lent_at, OfCoordinator}
+use Rattle.vp_laws.proofs.Table.{Closed, Comes, Handled, IsNext, Reads, Writes, Counts, remaining, IsLast, Locked, Completes, Decides, is_abort, lent_at, OfCoordinator}
 
 first_has : (xs : List ℕ) (q : ℕ) → first xs ≡ Some q → Has xs q
 first_has [] q e = cc
@@ -61,6 +63,25 @@ module _ (catalogue : Catalogue) (x : SiteState) (given : Input) (Q : Lent → T
   all_handled [] sub = tt
   all_handled (t ∷ live) sub = (record { was = t; live = sub t (has_first t live); same = refl }, all_handled live (λ u q. sub u (has_more t live u q)))
 
+  -- what closing leaves
+  closed_one : (t : Live) (why : Ending) (l : Lent) → Closed x l → Closed x (close x.id t why l)
+  closed_one t why l c =
+      let e = close-ends x.id t why l in
+      record {
+        live = λ u h. c.live u (without_first_has (λ (u : Live). same_txn u.txn t.txn) l.live u (rw (ap (λ (c : CoordinatorState). c.live) e.coordinator) at h));
+        commits = close-commits x.id t why l ∙ c.commits;
+        messages = λ m h. ⊎_elim (λ old. c.messages m old)
+            (λ new. let r = map_has (λ (q : ℕ). letter x.id q (message.Outcome t.txn false)) t.parts m new in (t.txn, sym (ap (λ (m : Sent). m.message) r.2)))
+            (has_cases l.effects.messages (letters x.id (λ q. message.Outcome t.txn false) t.parts) m (rw e.messages at h));
+      }
+
+  closed_all : (why : Live → Ending) (live : List Live) (l : Lent) → Closed x l → Closed x (close_all x.id why live l)
+  closed_all why [] l c = c
+  closed_all why (t ∷ live) l c = closed_all why live (close x.id t (why t) l) (closed_one t (why t) l c)
+
+  closed_none : Closed x (lent_at x)
+  closed_none = record { live = λ t h. h; commits = refl; messages = λ m h. absurd (has_none m h) }
+
   close_all-kept : (why : Live → Ending) (live : List Live) (l : Lent) → AllByRecursion (Handled x) live → ((t : Live) → is_abort (why t) ≡ true) → l.effects.commits ≡ [] → Q l → Q (close_all x.id why live l)
   close_all-kept why [] l all abort n p = p
   close_all-kept why (t ∷ live) l all abort n p = close_all-kept why live (close x.id t (why t) l) all.1 abort (close-commits x.id t (why t) l ∙ n) (k.close t (why t) l all.0 (abort t) n p)
@@ -73,7 +94,7 @@ module _ (catalogue : Catalogue) (x : SiteState) (given : Input) (Q : Lent → T
   unfolding time_out_calls
   time_out_calls-kept c =
       let late = filter (λ (t : Live). is_marked_call t.pending) x.live in
-      k.mark_calls _ c (close_all-kept (λ t. TimedOut (least_missing t.pending)) late (lent_at x) (all_handled late (λ t q. (filter_has (λ (t : Live). is_marked_call t.pending) x.live t q).0)) (λ t. refl) refl h)
+      k.mark_calls _ c (closed_all (λ t. TimedOut (least_missing t.pending)) late (lent_at x) closed_none) (close_all-kept (λ t. TimedOut (least_missing t.pending)) late (lent_at x) (all_handled late (λ t q. (filter_has (λ (t : Live). is_marked_call t.pending) x.live t q).0)) (λ t. refl) refl h)
 
   on_begin-kept : (port : ℕ) → Q (on_begin (surroundings x) port (lent_at x))
   unfolding on_begin begin_in

@@ -117,7 +117,7 @@ module _ (catalogue : Catalogue) (x : SiteState) (given : Input) (R : Coordinato
     still_waits = λ t p from h e g f c. record { id = refl; kept = m.still_waits t p from h e g f c };
     decide = λ t n d. record { id = refl; kept = m.decide t n d };
     close = λ t why l n a z q. record { id = refl; kept = m.close t why l n a z q.kept };
-    mark_calls = λ l c q. record { id = refl; kept = m.mark_calls l c q.kept };
+    mark_calls = λ l c z q. record { id = refl; kept = m.mark_calls l c z q.kept };
     acknowledge = λ from txn c w. record { id = refl; kept = m.acknowledge from txn c w };
     answer_inquiry = λ from txn c s n. record { id = refl; kept = m.answer_inquiry from txn c s n };
   }

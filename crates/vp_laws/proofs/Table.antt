@@ -1,7 +1,7 @@
 -- The table in small moves: what a property of a step's state has to survive, so that the whole step keeps it.
 use Rattle.std.proofs.Common.{◌≡◌, ◌⊎◌, ℕ, ◌+◌, Bool, true, false, List, [], map, length}
 use Rattle.std.specs.Prelude.{Some, None, is_some, filter, ◌==◌, ◌&&◌, not}
-use Rattle.vp_model.specs.Types.{ViewId, TxnId, View, Stored, Op, Owner, Answer, Message, Input, Part, Refreshing, Pending, Live, Ending}
+use Rattle.vp_model.specs.Types.{ViewId, TxnId, View, Stored, Op, Owner, Answer, Message, Sent, Input, Part, Refreshing, Pending, Live, Ending}
 use Rattle.vp_base.specs.declared.site.Ending.TheVariants.{Committed, Aborted, LockHeld, ViewChanged, TimedOut}
 use Rattle.vp_model.specs.Types.answer
 use Rattle.vp_model.specs.Types.call
@@ -133,6 +133,12 @@ is_abort (LockHeld name at owner) = true
 is_abort (ViewChanged at held now) = true
 is_abort (TimedOut at) = true
 
+-- so far transactions have only been closed
+pub record Closed (x : SiteState) (l : Lent) : Type 0 where
+  pub live : (t : Live) → Has l.live t → Has x.live t
+  pub commits : l.effects.commits ≡ []
+  pub messages : (m : Sent) → Has l.effects.messages m → (txn : TxnId) × (m.message ≡ message.Outcome txn false)
+
 -- Q speaks of what the coordinator has done so far, in a step from x for the input `given`
 pub record OfCoordinator (catalogue : Catalogue) (x : SiteState) (given : Input) (Q : Lent → Type 0) : Type 0 where
   pub begin : (port : ℕ) (view : View) → x.held ≡ Some view → Q (start_txn (next_name x) port view.id (lent_at x))
@@ -145,7 +151,7 @@ pub record OfCoordinator (catalogue : Catalogue) (x : SiteState) (given : Input)
   pub still_waits : (t : Live) (p : Pending) (from : ℕ) → Has x.live t → t.pending ≡ Some p → has p.missing from ≡ true → is_empty (remaining from p) ≡ false → Counts catalogue given t p from → Q (wait_for t p (remaining from p) (lent_at x))
   pub decide : (t : Live) → Handled x t → Decides catalogue x given t → Q (decide catalogue x.id t (lent_at x))
   pub close : (t : Live) (why : Ending) (l : Lent) → Handled x t → is_abort why ≡ true → l.effects.commits ≡ [] → Q l → Q (close x.id t why l)
-  pub mark_calls : (l : Lent) → given ≡ input.Tick → Q l → Q (mark_calls l)
+  pub mark_calls : (l : Lent) → given ≡ input.Tick → Closed x l → Q l → Q (mark_calls l)
   pub acknowledge : (from : ℕ) (txn : TxnId) → Comes given from (message.Ack txn) → waits_for txn from x.decisions ≡ true → Q (lent_coordinator (with_acknowledged txn from) (lent_force (entry.Acked txn from) (lent_at x)))
   pub answer_inquiry : (from : ℕ) (txn : TxnId) → Comes given from (message.Inquire txn) → (txn.site == x.id) ≡ true → is_live txn x.live ≡ false → Q (lent_send x.id (message.Outcome txn (is_decided txn x.decisions)) from (lent_at x))
 

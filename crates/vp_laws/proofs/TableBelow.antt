@@ -424,7 +424,7 @@ module _ (catalogue : Catalogue) (x : SiteState) (given : Input) (tidy : Tidy x)
       still_waits = λ t p from h e m f c. hushed (lent_at x) _ refl refl begins;
       decide = λ t n d. decide-cases K catalogue x.id t (lent_at x) (λ e. ends t Committed true _ _ (decided-ends x.id t (lent_at x)) begins) (λ e. ends t Committed true _ _ (decided-ends x.id t _) (keeps_writes t n));
       close = λ t why l n a z q. ends t why false l _ (close-ends x.id t why l) q;
-      mark_calls = λ l c q. hushed l _ refl refl q;
+      mark_calls = λ l c z q. hushed l _ refl refl q;
       acknowledge = λ from txn c w. hushed (lent_at x) _ refl refl begins;
       answer_inquiry = λ from txn c s n. one _ x.id from (message.Outcome txn (is_decided txn x.decisions)) refl (self_same x) refl;
     };

@@ -103,7 +103,7 @@ module _ (catalogue : Catalogue) (x : SiteState) (given : Input) where
       still_waits = λ t p from q e m f c. refl;
       decide = λ t q d. decide-cases K catalogue x.id t (lent_at x) (λ e. ends t Committed true _ _ (decided-ends x.id t (lent_at x)) refl) (λ e. ends t Committed true _ _ (decided-ends x.id t _) (keeps_writes t (lent_at x) refl));
       close = λ t why l q a z h. ends t why false l _ (close-ends x.id t why l) h;
-      mark_calls = λ l c h. h;
+      mark_calls = λ l c z h. h;
       acknowledge = λ from txn c w. refl;
       answer_inquiry = λ from txn c s n. refl;
     };

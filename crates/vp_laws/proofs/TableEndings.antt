@@ -357,7 +357,7 @@ module _ (catalogue : Catalogue) (x : SiteState) (given : Input) (led : Led x) (
     still_waits = λ t p from h e m f c. moves_on (record t { pending = Some (record p { missing = remaining from p }) }) t x.coordinator [] [] h refl begins;
     decide = λ t n d. decides t n;
     close = λ t why l n a z r. closed t why l _ n a z r.up (close-ends x.id t why l) (close-commits x.id t why l) r;
-    mark_calls = λ l c r. marks l.coordinator l.effects.messages l.effects.commits r;
+    mark_calls = λ l c z r. marks l.coordinator l.effects.messages l.effects.commits r;
     acknowledge = λ from txn c w. acknowledges txn from;
     answer_inquiry = λ from txn c s n. record {
       apart = apart;

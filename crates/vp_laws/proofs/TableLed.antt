@@ -494,7 +494,7 @@ module _ (catalogue : Catalogue) (x : SiteState) (given : Input) (tidy : Tidy x)
       still_waits = λ t p from h e m f c. waits t p _ h;
       decide = λ t n d. decide-cases K catalogue x.id t (lent_at x) (λ e. decideds t (lent_at x) n begins) (λ e. decideds t _ n (keeps_writes t (lent_at x) begins));
       close = λ t why l n a z q. closes t why l q;
-      mark_calls = λ l c q. marks l q;
+      mark_calls = λ l c z q. marks l q;
       acknowledge = λ from txn c w. plain (lent_at x) _ refl refl refl refl begins;
       answer_inquiry = λ from txn c s n. one _ x.id from (message.Outcome txn (is_decided txn x.decisions)) refl (self_same x) refl refl;
     };

@@ -534,7 +534,7 @@ module _ (N : TxnId → Type 0) (A : ViewId → Type 0) where
         still_waits = λ t p from h e m f c. hushed (lent_at x) _ refl refl refl begins;
         decide = λ t n d. decide-cases K catalogue x.id t (lent_at x) (λ e. ends t Committed true _ _ n (decided-ends x.id t (lent_at x)) begins) (λ e. ends t Committed true _ _ n (decided-ends x.id t _) (keeps_writes t n));
         close = λ t why l n a z q. ends t why false l _ n (close-ends x.id t why l) q;
-        mark_calls = λ l c q. hushed l _ refl refl refl q;
+        mark_calls = λ l c z q. hushed l _ refl refl refl q;
         acknowledge = λ from txn c w. silent (begin_step x) _ (coordinator_now (with_acknowledged txn from x.coordinator) (acknowledged_named txn from x.decisions names.decisions)) refl begins;
         answer_inquiry = λ from txn c s n. one _ x.id from (message.Outcome txn (is_decided txn x.decisions)) names (arrived from (message.Inquire txn) c) refl;
       };

@@ -350,7 +350,7 @@ module _ (catalogue : Catalogue) (x : SiteState) (given : Input) (tidy : Tidy x)
       still_waits = λ t p from h e m f c. hushed (lent_at x) _ refl begins;
       decide = λ t h d. decides t;
       close = λ t why l h a z q. ends t why false l _ (close-ends x.id t why l) q;
-      mark_calls = λ l c q. hushed l _ refl q;
+      mark_calls = λ l c z q. hushed l _ refl q;
       acknowledge = λ from txn c w. hushed (lent_at x) _ refl begins;
       answer_inquiry = λ from txn c s n. one_more _ from tt;
     };

@@ -346,7 +346,7 @@ module _ (catalogue : Catalogue) (x : SiteState) (given : Input) (led : Led x) (
       still_waits = λ t p from h e m f c. waits_on t p (remaining from p) h e;
       decide = λ t n d. decide-cases K catalogue x.id t (lent_at x) (λ e. ends t Committed true _ _ (decided-ends x.id t (lent_at x)) begins) (λ e. ends t Committed true _ _ (decided-ends x.id t _) (keeps_writes t (lent_at x) begins));
       close = λ t why l n a z q. ends t why false l _ (close-ends x.id t why l) q;
-      mark_calls = λ l c q. marks l q;
+      mark_calls = λ l c z q. marks l q;
       acknowledge = λ from txn c w. hushed (lent_at x) _ refl refl begins;
       answer_inquiry = λ from txn c s n. plain (lent_at x) _ (letter x.id from (message.Outcome txn (is_decided txn x.decisions)) ∷ []) refl refl (letter_still x.id from (message.Outcome txn (is_decided txn x.decisions)) refl) begins;
     };
