@@ -28,3 +28,4 @@ pub mod OnlyCoordinator
 pub mod TableEndings
 pub mod Worlds
 pub mod InvEndings
+pub mod TableSteps
