@@ -86,6 +86,10 @@ module _ (catalogue : Catalogue) (x : SiteState) (given : Input) (Q : Lent → T
   close_all-kept why [] l all abort n p = p
   close_all-kept why (t ∷ live) l all abort n p = close_all-kept why live (close x.id t (why t) l) all.1 abort (close-commits x.id t (why t) l ∙ n) (k.close t (why t) l all.0 (abort t) n p)
 
+  pub abandon-closed : Closed x (abandon x.id (lent_at x))
+  unfolding abandon
+  abandon-closed = closed_all (λ t. ViewChanged x.id t.view None) x.live (lent_at x) closed_none
+
   pub abandon-kept : Q (abandon x.id (lent_at x))
   unfolding abandon
   abandon-kept = close_all-kept (λ t. ViewChanged x.id t.view None) x.live (lent_at x) (all_handled x.live (λ t q. q)) (λ t. refl) refl h

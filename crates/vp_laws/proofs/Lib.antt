@@ -29,3 +29,4 @@ pub mod TableEndings
 pub mod Worlds
 pub mod InvEndings
 pub mod TableSteps
+pub mod TableShares

@@ -125,7 +125,7 @@ module _ (catalogue : Catalogue) (x : SiteState) (given : Input) (R : Coordinato
   pub only_table : Table catalogue x given P
   unfolding on_accept on_stale grant drop_view start_inviting accept hold fix ask_again start_refresh
   only_table = record {
-    drop_view = λ o e v p. silent o (drop_view o) refl refl refl refl p;
+    drop_view = λ l e z p. silent (put_back (begin_step x) l) (drop_view (put_back (begin_step x) l)) refl refl refl refl p;
     start_inviting = λ o s left p. many o (start_inviting catalogue (next_view x) o) (λ q. message.Invite (next_view x)) (other_sites catalogue o.site.id) refl refl refl refl (λ q. refl) p;
     accept = λ from id o c e left p. many o (accept from id o) (λ q. message.Accept id) (from ∷ []) refl refl refl refl (λ q. refl) p;
     stale = λ from id c e. one _ from (message.Stale id x.promise) refl refl refl refl refl;

@@ -20,7 +20,7 @@ use Rattle.vp_model.specs.Step.{fix, without_wait, fix_view, ask_again, ask_agai
 use Rattle.vp_laws.proofs.Members.{Has, filter_has, has_first, has_more}
 use Rattle.vp_laws.proofs.Frames.{close_all-beside, close_all-none}
 use Rattle.vp_laws.proofs.Table.{Comes, Left, Requests, Asks, lent_at, Back, Table}
-use Rattle.vp_laws.proofs.Coordinator.{by_test, abandon-kept, time_out_calls-kept, own_call-kept, on_answer-kept}
+use Rattle.vp_laws.proofs.Coordinator.{by_test, abandon-closed, abandon-kept, time_out_calls-kept, own_call-kept, on_answer-kept}
 
 -- a record that is accessible and has a copy here
 usable_here-has : (catalogue : Catalogue) (site : SiteState) (rec : ℕ) → Has (usable_here catalogue site) rec → (is_usable catalogue site rec ≡ true) × Has (keys site.copies) rec
@@ -33,7 +33,7 @@ module _ (catalogue : Catalogue) (x : SiteState) (given : Input) (P : Stepped �
 
   leave-kept : P (leave (begin_step x))
   unfolding leave abandon
-  leave-kept = k.drop_view (put_back (begin_step x) (abandon x.id (lent_at x))) (close_all-none x.id (λ t. ViewChanged x.id t.view None) x.live (lent_at x) refl) refl (abandon-kept catalogue x given K k.coordinator h)
+  leave-kept = k.drop_view (abandon x.id (lent_at x)) (close_all-none x.id (λ t. ViewChanged x.id t.view None) x.live (lent_at x) refl) (abandon-closed catalogue x given K k.coordinator h) (abandon-kept catalogue x given K k.coordinator h)
 
   left : Left x (leave (begin_step x))
   unfolding leave drop_view abandon

@@ -162,7 +162,7 @@ Back x P l = P (put_back (begin_step x) l)
 -- P speaks of the site and what it has given so far, in a step from x for the input `given`
 pub record Table (catalogue : Catalogue) (x : SiteState) (given : Input) (P : Stepped → Type 0) : Type 0 where
   -- views
-  pub drop_view : (o : Stepped) → o.site.live ≡ [] → o.site.views ≡ x.views → P o → P (drop_view o)
+  pub drop_view : (l : Lent) → l.live ≡ [] → Closed x l → Back x P l → P (drop_view (put_back (begin_step x) l))
   pub start_inviting : (o : Stepped) → is_spent x.views ≡ false → Left x o → P o → P (start_inviting catalogue (next_view x) o)
   pub accept : (from : ℕ) (id : ViewId) (o : Stepped) → Comes given from (message.Invite id) → view_before x.promise id ≡ true → Left x o → P o → P (accept from id o)
   pub stale : (from : ℕ) (id : ViewId) → Comes given from (message.Invite id) → view_before id x.promise ≡ true → P (send (message.Stale id x.promise) from (begin_step x))

@@ -387,7 +387,7 @@ module _ (catalogue : Catalogue) (x : SiteState) (given : Input) (tidy : Tidy x)
   pub table : Table catalogue x given (Lies x)
   unfolding on_accept on_stale start_txn take_lock read_at prepare_parts complete mark_calls
   table = record {
-    drop_view = λ o e v l. drops o l;
+    drop_view = λ l e z p. drops (put_back (begin_step x) l) p;
     start_inviting = λ o s left l. invites o left l;
     accept = λ from id o c e left l. accepts from id o e left l;
     stale = λ from id c e. one _ x.id from (message.Stale id x.promise) refl (self_same x) refl;

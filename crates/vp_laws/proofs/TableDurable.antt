@@ -66,7 +66,7 @@ module _ (catalogue : Catalogue) (x : SiteState) (given : Input) where
   pub table : Table catalogue x given (Folds (durable_of x))
   unfolding start_txn take_lock complete read_at write_at prepare_parts mark_calls grant on_stale on_accept hold fix drop_view start_refresh ask_again resend_one inquire apply
   table = record {
-    drop_view = λ o e v h. h;
+    drop_view = λ l e z h. h;
     start_inviting = λ o s left h. invites _ o h;
     accept = λ from id o c e left h. accepts from id o h;
     stale = λ from id c e. refl;

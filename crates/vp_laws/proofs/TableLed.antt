@@ -457,7 +457,7 @@ module _ (catalogue : Catalogue) (x : SiteState) (given : Input) (tidy : Tidy x)
   pub table : Table catalogue x given (Leads x)
   unfolding on_accept on_stale take_lock
   table = record {
-    drop_view = λ o e v l. drops o e l;
+    drop_view = λ l e z p. drops (put_back (begin_step x) l) e p;
     start_inviting = λ o s left l. invites o left l;
     accept = λ from id o c e left l. accepts from id o left l;
     stale = λ from id c e. one _ x.id from (message.Stale id x.promise) refl (self_same x) refl refl;

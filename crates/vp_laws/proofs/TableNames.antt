@@ -497,7 +497,7 @@ module _ (N : TxnId → Type 0) (A : ViewId → Type 0) where
     pub table : Table catalogue x given Calls
     unfolding on_accept on_stale start_txn read_at prepare_parts complete mark_calls
     table = record {
-      drop_view = λ o e v l. drops o l;
+      drop_view = λ l e z p. drops (put_back (begin_step x) l) p;
       start_inviting = λ o s left l. invites o l;
       accept = λ from id o c e left l. accepts from id o l;
       stale = λ from id c e. one _ x.id from (message.Stale id x.promise) names tt refl;

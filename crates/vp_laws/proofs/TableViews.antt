@@ -313,7 +313,7 @@ module _ (catalogue : Catalogue) (x : SiteState) (given : Input) (tidy : Tidy x)
   pub table : Table catalogue x given (Local x given)
   unfolding start_txn take_lock complete read_at prepare_parts mark_calls grant on_stale
   table = record {
-    drop_view = drops;
+    drop_view = λ l e z p. drops (put_back (begin_step x) l) e refl p;
     start_inviting = invites;
     accept = accepts;
     stale = λ from id c e. one_more (message.Stale id x.promise) from ((from, c), refl);

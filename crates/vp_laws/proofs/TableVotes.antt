@@ -309,7 +309,7 @@ module _ (catalogue : Catalogue) (x : SiteState) (given : Input) (led : Led x) (
   pub table : Table catalogue x given (Votes catalogue x given)
   unfolding on_accept on_stale start_txn take_lock read_at write_at complete grant drop_view start_inviting accept hold fix ask_again resend_one
   table = record {
-    drop_view = λ o e v l. silent o (drop_view o) refl refl refl l;
+    drop_view = λ l e z p. silent (put_back (begin_step x) l) (drop_view (put_back (begin_step x) l)) refl refl refl p;
     start_inviting = λ o s left l. alike o (start_inviting catalogue (next_view x) o) (letters o.site.id (λ q. message.Invite (next_view x)) (other_sites catalogue o.site.id)) refl refl refl (letters_still o.site.id (λ q. message.Invite (next_view x)) (other_sites catalogue o.site.id) (λ q. refl)) l;
     accept = λ from id o c e left l. alike o (accept from id o) (letter o.site.id from (message.Accept id) ∷ []) refl refl refl (letter_still o.site.id from (message.Accept id) refl) l;
     stale = λ from id c e. one _ from (message.Stale id x.promise) refl refl refl refl;
