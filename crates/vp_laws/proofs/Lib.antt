@@ -30,3 +30,4 @@ pub mod Worlds
 pub mod InvEndings
 pub mod TableSteps
 pub mod TableShares
+pub mod InvShares
