@@ -31,3 +31,4 @@ pub mod InvEndings
 pub mod TableSteps
 pub mod TableShares
 pub mod InvShares
+pub mod InvOps
