@@ -69,7 +69,7 @@ last_from (op.Write rec value ∷ ops) writes p h = ⊎_elim
 pub last_written : (ops : List Op) (p : ℕ × List ℕ) → Has (last_writes ops) p → (value : List ℕ) × Has ops (op.Write p.0 value)
 last_written ops p h = ⊎_elim (λ none. absurd (has_none p none)) (λ q. q) (last_from ops [] p h)
 
-value_key : {K : Type 0} (n : ℕ) (pairs : List (ℕ × K)) (v : K) → value_at n pairs ≡ Some v → (p : ℕ × K) × Has pairs p × (p.0 ≡ n)
+pub value_key : {K : Type 0} (n : ℕ) (pairs : List (ℕ × K)) (v : K) → value_at n pairs ≡ Some v → (p : ℕ × K) × Has pairs p × (p.0 ≡ n)
 value_key {K} n [] v e = cc
 value_key {K} n (p ∷ pairs) v e = go (p.0 == n) refl e (λ q. value_key n pairs v q)
   where
@@ -86,12 +86,21 @@ put_all_new : (ns ms : List ℕ) (a : ℕ) → Has ns a → Has (for_each ns put
 put_all_new [] ms a h = absurd (has_none a h)
 put_all_new (n ∷ ns) ms a h = ⊎_elim (λ (one : n ≡ a). put_all_keeps ns (put_number n ms) a (rw one (put_new nat_eq nat_lt a ms))) (λ more. put_all_new ns (put_number n ms) a more) (has_cons n ns a h)
 
-longer : {X : Type 0} (xs : List X) (x : X) → length (xs ++ x ∷ []) ≡ length xs + 1
+pub longer : {X : Type 0} (xs : List X) (x : X) → length (xs ++ x ∷ []) ≡ length xs + 1
 longer xs x = length-append xs (x ∷ [])
 
 empty_not : (xs : List ℕ) (q : ℕ) → is_empty xs ≡ true → Has xs q → ⊥
 empty_not [] q e h = has_none q h
 empty_not (x ∷ xs) q e h = cc
+
+pub read_not_write : {C : Type 0} (catalogue : Catalogue) (p : Pending) (rec other : ℕ) (value : List ℕ) → Reads catalogue p rec → Writes catalogue p other value → C
+read_not_write catalogue p rec other value r w = let a = r.words in let b = w.words in cc
+
+pub reads_same : (catalogue : Catalogue) (p : Pending) (rec other : ℕ) → Reads catalogue p rec → Reads catalogue p other → rec ≡ other
+reads_same catalogue p rec other r q = let a = sym r.words ∙ q.words in let name : r.name ≡ q.name = cc in let z : Some rec ≡ Some other = sym r.found ∙ ap (find_record catalogue) name ∙ q.found in cc
+
+pub writes_same : (catalogue : Catalogue) (p : Pending) (rec other : ℕ) (value v : List ℕ) → Writes catalogue p rec value → Writes catalogue p other v → rec ≡ other
+writes_same catalogue p rec other value v r q = let a = sym r.words ∙ q.words in let name : r.name ≡ q.name = cc in let z : Some rec ≡ Some other = sym r.found ∙ ap (find_record catalogue) name ∙ q.found in cc
 
 module _ (catalogue : Catalogue) (x : SiteState) (given : Input) (all : (u : Live) → Has x.live u → LiveOk catalogue x.id x.held u) where
   marked_ok : (u : Live) → LiveOk catalogue x.id x.held u → LiveOk catalogue x.id x.held (mark u)
@@ -161,15 +170,6 @@ module _ (catalogue : Catalogue) (x : SiteState) (given : Input) (all : (u : Liv
       let q = h.writing p rec value last.pending r in
       done_ok u operation words h (usable_write operation rec value o q.0) (λ r v f a k. q.1 a (rw (same_record operation rec r value v o f) k))
 
-  read_not_write : {C : Type 0} (p : Pending) (rec other : ℕ) (value : List ℕ) → Reads catalogue p rec → Writes catalogue p other value → C
-  read_not_write p rec other value r w = let a = r.words in let b = w.words in cc
-
-  reads_same : (p : Pending) (rec other : ℕ) → Reads catalogue p rec → Reads catalogue p other → rec ≡ other
-  reads_same p rec other r q = let a = sym r.words ∙ q.words in let name : r.name ≡ q.name = cc in let z : Some rec ≡ Some other = sym r.found ∙ ap (find_record catalogue) name ∙ q.found in cc
-
-  writes_same : (p : Pending) (rec other : ℕ) (value v : List ℕ) → Writes catalogue p rec value → Writes catalogue p other v → rec ≡ other
-  writes_same p rec other value v r q = let a = sym r.words ∙ q.words in let name : r.name ≡ q.name = cc in let z : Some rec ≡ Some other = sym r.found ∙ ap (find_record catalogue) name ∙ q.found in cc
-
   -- more parts
   wider : (u now : Live) → LiveOk catalogue x.id x.held u → now.ops ≡ u.ops → ((q : ℕ) → Has u.parts q → Has now.parts q) → (rec : ℕ) → HasWritten now rec → (q : ℕ) → Has (other_holders_in catalogue x.id x.held rec) q → Has now.parts q
   wider u now h same up rec k q z = up q (h.written rec (k.0, rw same at k.1) q z)
@@ -184,10 +184,10 @@ module _ (catalogue : Catalogue) (x : SiteState) (given : Input) (all : (u : Liv
     missing = λ b c e k. let is : record p { missing = q ∷ [] } ≡ b = cc in let m : Has (q ∷ []) c = rw (ap (λ (p : Pending). p.missing) is) k in rw (← (has_one_is q c m)) (put_new nat_eq nat_lt q u.parts);
     reading = λ b other e r.
         let is : record p { missing = q ∷ [] } ≡ b = cc in
-        rw (← (reads_same p rec other a.reads (record { txn = r.txn; number = r.number; name = r.name; words = ap (λ (p : Pending). p.call) is ∙ r.words; found = r.found }))) a.usable;
+        rw (← (reads_same catalogue p rec other a.reads (record { txn = r.txn; number = r.number; name = r.name; words = ap (λ (p : Pending). p.call) is ∙ r.words; found = r.found }))) a.usable;
     writing = λ b other value e r.
         let is : record p { missing = q ∷ [] } ≡ b = cc in
-        read_not_write p rec other value a.reads (record { txn = r.txn; number = r.number; name = r.name; words = ap (λ (p : Pending). p.call) is ∙ r.words; found = r.found });
+        read_not_write catalogue p rec other value a.reads (record { txn = r.txn; number = r.number; name = r.name; words = ap (λ (p : Pending). p.call) is ∙ r.words; found = r.found });
   }
 
   writes_ok : (u : Live) (p : Pending) (rec : ℕ) (value : List ℕ) → LiveOk catalogue x.id x.held u → AskingWrite catalogue x u p rec value → LiveOk catalogue x.id x.held (writing u p (other_holders catalogue x rec))
@@ -200,10 +200,10 @@ module _ (catalogue : Catalogue) (x : SiteState) (given : Input) (all : (u : Liv
     missing = λ b c e k. let is : record p { missing = other_holders catalogue x rec } ≡ b = cc in put_all_new (other_holders catalogue x rec) u.parts c (rw (ap (λ (p : Pending). p.missing) is) k);
     reading = λ b other e r.
         let is : record p { missing = other_holders catalogue x rec } ≡ b = cc in
-        read_not_write p other rec value (record { txn = r.txn; number = r.number; name = r.name; words = ap (λ (p : Pending). p.call) is ∙ r.words; found = r.found }) a.writes;
+        read_not_write catalogue p other rec value (record { txn = r.txn; number = r.number; name = r.name; words = ap (λ (p : Pending). p.call) is ∙ r.words; found = r.found }) a.writes;
     writing = λ b other v e r.
         let is : record p { missing = other_holders catalogue x rec } ≡ b = cc in
-        let same = writes_same p rec other value v a.writes (record { txn = r.txn; number = r.number; name = r.name; words = ap (λ (p : Pending). p.call) is ∙ r.words; found = r.found }) in
+        let same = writes_same catalogue p rec other value v a.writes (record { txn = r.txn; number = r.number; name = r.name; words = ap (λ (p : Pending). p.call) is ∙ r.words; found = r.found }) in
         (rw (← same) a.usable, (λ q k. put_all_new (other_holders catalogue x rec) u.parts q (rw same k)));
   }
 

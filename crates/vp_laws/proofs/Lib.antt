@@ -32,3 +32,4 @@ pub mod TableSteps
 pub mod TableShares
 pub mod InvShares
 pub mod InvOps
+pub mod InvAnswers
