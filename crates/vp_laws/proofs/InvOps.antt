@@ -248,7 +248,7 @@ unfolding start
 no_live catalogue s d t h = has_none t h
 
 -- a site with a live transaction holds the view that it held as the step began
-same_held : (catalogue : Catalogue) (w new : Scene) (s : ℕ) (x : SiteState) (given : Input) (o : Stepped) (t : Live) → InvViews catalogue w → InvViews catalogue new → plain_at w s ≡ Some x → plain_at new s ≡ Some o.site → Led x → Led o.site → ((v : View) → Has w.agreed v → Has new.agreed v) → Has o.site.live t → LiveNow catalogue x given t → x.held ≡ o.site.held
+pub same_held : (catalogue : Catalogue) (w new : Scene) (s : ℕ) (x : SiteState) (given : Input) (o : Stepped) (t : Live) → InvViews catalogue w → InvViews catalogue new → plain_at w s ≡ Some x → plain_at new s ≡ Some o.site → Led x → Led o.site → ((v : View) → Has w.agreed v → Has new.agreed v) → Has o.site.live t → LiveNow catalogue x given t → x.held ≡ o.site.held
 same_held catalogue w new s x given o t before after up now led led_now stays h from =
     let n = led_now.live t h in
     let v = held_from from in
