@@ -33,3 +33,4 @@ pub mod TableShares
 pub mod InvShares
 pub mod InvOps
 pub mod InvAnswers
+pub mod EntryWords
