@@ -34,3 +34,5 @@ pub mod InvShares
 pub mod InvOps
 pub mod InvAnswers
 pub mod EntryWords
+pub mod InvEntered
+pub mod Remaining
