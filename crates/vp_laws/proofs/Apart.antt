@@ -13,9 +13,6 @@ same_txn-is t u e = grind (arith, nat_tests, e)
 pub same_txn-not : (t u : TxnId) → same_txn t u ≡ false → t ≢ u
 same_txn-not t u e q = grind (arith, nat_tests, e, q)
 
-pub same_txn-from : (t u : TxnId) → t ≡ u → same_txn t u ≡ true
-same_txn-from t u e = grind (arith, nat_tests, e)
-
 abbrev pub Apart : List Live → Type 0
 Apart [] = Unit {0}
 Apart (t ∷ live) = ((u : Live) → Has live u → u.txn ≢ t.txn) × Apart live

@@ -1,7 +1,6 @@
 -- The laws of entries and doubts in the words of the contracts.
-use Rattle.std.proofs.Common.{◌≡◌, ◌≢◌, ◌∙◌, ap, sym, ℕ, Bool, true, false, List, [], ◌∷◌, refl, arith}
+use Rattle.std.proofs.Common.{◌≡◌, ◌≢◌, ◌∙◌, sym, ℕ, false, List, [], ◌∷◌, refl, arith}
 use Rattle.std.specs.Prelude.{Option, Some, None}
-use Rattle.std.specs.List.{Contains, AllPairs}
 use Rattle.std.proofs.lemmas.Bool.Decides.{nat_tests}
 use Rattle.std.proofs.lemmas.List.Kept.{AllPairs-cons}
 use Rattle.std.proofs.lemmas.List.Elements.{All-from_recursion}
@@ -9,10 +8,10 @@ use Rattle.vp_model.specs.Types.{ViewId, TxnId, Commit}
 use Rattle.vp_model.specs.Types.message
 use Rattle.vp_model.specs.Words.{same_txn}
 use Rattle.vp_model.specs.Durable.{Doubt}
-use Rattle.vp_model.specs.World.{Place, WorldState, Schedule, run_of, journal_of, place_of}
+use Rattle.vp_model.specs.World.{Place, Schedule, run_of, journal_of, place_of}
 use Rattle.vp_laws.specs.Entries.{IsOnce, doubts_in, VotesLeaveDoubts}
-use Rattle.vp_laws.proofs.Members.{Has, has_of, contains, all_of}
-use Rattle.vp_laws.proofs.Scenes.{scene_of, kept_in, kept_at}
+use Rattle.vp_laws.proofs.Members.{has_of, contains, all_of}
+use Rattle.vp_laws.proofs.Scenes.{kept_in}
 use Rattle.vp_laws.proofs.InvEndings.{Once}
 use Rattle.vp_laws.proofs.InvShares.{Sixth, shares_last}
 use Rattle.vp_laws.proofs.Events.{in_last}

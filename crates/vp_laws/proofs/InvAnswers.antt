@@ -1,7 +1,7 @@
 -- Requests and their answers, in every world: a request of a live transaction is of its pending call or of an answered one, and
 -- each other holder of what it wrote, and each site that it read at, has answered.
-use Rattle.std.proofs.Common.{◌≡◌, ◌≢◌, ◌⊎◌, ◌∙◌, ap, sym, subst, ℕ, ◌+◌, ◌≤◌, Bool, true, false, List, [], ◌∷◌, ◌++◌, refl, arith, inl, inr, ⊎_elim, length}
-use Rattle.std.specs.Prelude.{Option, Some, None, is_some, filter, not, ◌==◌}
+use Rattle.std.proofs.Common.{◌≡◌, ◌≢◌, ◌⊎◌, ◌∙◌, ap, sym, subst, ℕ, ◌+◌, ◌≤◌, true, List, [], ◌∷◌, ◌++◌, refl, arith, inl, inr, ⊎_elim, length}
+use Rattle.std.specs.Prelude.{Option, Some, None, not, ◌==◌}
 use Rattle.std.proofs.lemmas.Bool.Decides.{nat_tests}
 use Rattle.vp_model.specs.Types.{ViewId, TxnId, View, Sent, Message, Input, Op, Answer, Pending, Live}
 use Rattle.vp_model.specs.Types.message
@@ -17,14 +17,14 @@ use Rattle.vp_laws.specs.Votes.{is_commit}
 use Rattle.vp_laws.proofs.Members.{Has, has_none, has_one, has_one_is, has_cases, filter_keeps}
 use Rattle.vp_laws.proofs.Order.{same_site}
 use Rattle.vp_laws.proofs.LocalViews.{letter}
-use Rattle.vp_laws.proofs.Table.{Comes, next_name, IsNext, Reads, Writes, Counts, remaining, IsLast, Completes}
+use Rattle.vp_laws.proofs.Table.{Comes, next_name, IsNext, Reads, Writes, Counts, remaining, Completes}
 use Rattle.vp_laws.proofs.TableViews.{local-step}
 use Rattle.vp_laws.proofs.TableVotes.{some_not}
-use Rattle.vp_laws.proofs.TableSteps.{waiting, done, reading, writing, AskingRead, AskingWrite, AskingVotes, LiveNow, Only, SentFor, Steps, steps-step}
-use Rattle.vp_laws.proofs.OnlyCoordinator.{is_aside, Aside, OnCoordinator}
+use Rattle.vp_laws.proofs.TableSteps.{waiting, done, reading, writing, LiveNow, Only, SentFor, Steps, steps-step}
+use Rattle.vp_laws.proofs.OnlyCoordinator.{is_aside}
 use Rattle.vp_laws.proofs.InvNames.{UsedTxn, InvNames}
 use Rattle.vp_laws.proofs.InvShares.{InvShares}
-use Rattle.vp_laws.proofs.InvOps.{same_held, HasWritten, LiveOk, last_written, value_key, longer, read_not_write, reads_same, writes_same, InvOps, Seventh, ops_last}
+use Rattle.vp_laws.proofs.InvOps.{same_held, HasWritten, LiveOk, last_written, value_key, longer, read_not_write, reads_same, writes_same, Seventh, ops_last}
 use Rattle.vp_laws.proofs.Scenes.{Scene, plain_at, kept_at, Acted, acted, stepping}
 use Rattle.vp_laws.proofs.Events.{Arrives, Lasts}
 use Rattle.vp_laws.proofs.Worlds.{NowIs, now_is, Quiet, QuietIs, quiet_is, started, start_sent, With, Above, with_last}

@@ -1,8 +1,8 @@
 -- How transactions end, in every world: a transaction with an outcome or an entry is not live any more, has one entry, and
 -- a commit is told, kept or reported only of an entry.
-use Rattle.std.proofs.Common.{◌≡◌, ◌≢◌, ◌⊎◌, ◌∙◌, ap, sym, subst, ℕ, ◌+◌, ◌≤◌, Bool, true, false, List, [], ◌∷◌, ◌++◌, refl, arith, inl, inr, ⊎_elim, append-nil}
-use Rattle.std.specs.Prelude.{Option, Some, None}
-use Rattle.vp_model.specs.Types.{ViewId, TxnId, Sent, Commit, Message, Input, Live, Ending, Finished}
+use Rattle.std.proofs.Common.{◌≡◌, ◌≢◌, ◌⊎◌, ◌∙◌, ap, sym, subst, ℕ, ◌+◌, ◌≤◌, true, false, List, [], ◌∷◌, ◌++◌, refl, arith, inl, inr, ⊎_elim, append-nil}
+use Rattle.std.specs.Prelude.{Some}
+use Rattle.vp_model.specs.Types.{TxnId, Sent, Commit, Message, Input, Finished}
 use Rattle.vp_base.specs.declared.site.Ending.TheVariants.{Committed}
 use Rattle.vp_model.specs.Types.message
 use Rattle.vp_model.specs.Catalogue.{Catalogue, start_copies}
@@ -10,19 +10,17 @@ use Rattle.vp_model.specs.Durable.{DurableState, Decision, empty_durable}
 use Rattle.vp_model.specs.Site.{SiteState, Stepped}
 use Rattle.vp_model.specs.Step.{start, step, durable_of}
 use Rattle.vp_model.specs.World.{start_world}
-use Rattle.vp_laws.proofs.Members.{Has, has_none, has_first, has_more, has_cons, has_cases, has_one_is}
-use Rattle.vp_laws.proofs.Order.{same_site}
+use Rattle.vp_laws.proofs.Members.{Has, has_none, has_first, has_more, has_cases, has_one_is}
 use Rattle.vp_laws.proofs.Table.{next_name, is_abort}
-use Rattle.vp_laws.proofs.Scenes.{Scene, scene_of, up_in, plain_at, kept_at, Moved, Acted, acted, stepping}
+use Rattle.vp_laws.proofs.Scenes.{Scene, scene_of, plain_at, kept_at, Acted, stepping}
 use Rattle.vp_laws.proofs.TableViews.{local-step}
 use Rattle.vp_laws.proofs.TableLed.{Led, led-step}
 use Rattle.vp_laws.proofs.InvNames.{UsedTxn, InvNames}
 use Rattle.vp_laws.proofs.InvViews.{Used}
 use Rattle.vp_laws.proofs.TableNames.{Named}
 use Rattle.vp_laws.proofs.InvVotes.{Fourth, votes_last}
-use Rattle.vp_laws.proofs.OnlyCoordinator.{OnCoordinator}
 use Rattle.vp_laws.proofs.TableEndings.{Settled, NotLive, WasLive, WasDecided, IsEntered, Says, FinishedFrom, Endings, endings-step}
-use Rattle.vp_laws.proofs.Events.{Arrives, Lasts}
+use Rattle.vp_laws.proofs.Events.{Lasts}
 use Rattle.vp_laws.proofs.Worlds.{NowIs, now_is, KeptIs, kept_is, Quiet, QuietIs, quiet_is, quiet_kept, started, start_kept, start_sent, start_entered, start_journal, With, Above, with_last}
 
 abbrev pub HasEntry : Scene → TxnId → Type 0
@@ -140,12 +138,15 @@ module _ (catalogue : Catalogue) (w new : Scene) (s : ℕ) (x : SiteState) (give
   finished_lasts : (k : ℕ) (y : SiteState) (f : Finished) → plain_at w k ≡ Some y → Has y.finished f → f.txn.site ≡ k → Reported w f → Reported new f
   finished_lasts k y f h q site r = ⊎_elim
       (λ (c : (f.ending ≡ Committed) × HasEntry w f.txn). inl (c.0, entry_stays f.txn c.1))
-      (λ (a : (is_abort f.ending ≡ true) × ((e : Commit) → Has w.journal e → e.txn ≢ f.txn)). inr (a.0, (λ e z g. ⊎_elim (λ old. a.1 e old g)
-      (λ more. let was = (l.entered e more).0 in
-      let here : k ≡ s = sym site ∙ ap (λ (t : TxnId). t.site) (sym g) ∙ was_site e.txn was ∙ id in
-      let same : x ≡ y = (let z = rw here at h in cc) in
-      (inv.settled s x up).finished f was.0 (subst (λ (y : SiteState). Has y.finished f) (sym same) q) was.1 (was.2 ∙ g))
-      (st.entered e z))))
+      (λ (a : (is_abort f.ending ≡ true) × ((e : Commit) → Has w.journal e → e.txn ≢ f.txn)). inr (
+        a.0,
+        (λ e z g. ⊎_elim (λ old. a.1 e old g)
+            (λ more. let was = (l.entered e more).0 in
+            let here : k ≡ s = sym site ∙ ap (λ (t : TxnId). t.site) (sym g) ∙ was_site e.txn was ∙ id in
+            let same : x ≡ y = (let z = rw here at h in cc) in
+            (inv.settled s x up).finished f was.0 (subst (λ (y : SiteState). Has y.finished f) (sym same) q) was.1 (was.2 ∙ g))
+            (st.entered e z)),
+      ))
       r
 
   finished_new : (f : Finished) → FinishedFrom x o.effects.commits f → Reported new f
@@ -153,9 +154,12 @@ module _ (catalogue : Catalogue) (w new : Scene) (s : ℕ) (x : SiteState) (give
       (λ old. finished_lasts s x f up old (((inv.settled s x up).names f old).0 ∙ id) (inv.finished s x f up old))
       (λ (q : WasLive x f.txn × (((f.ending ≡ Committed) × IsEntered o.effects.commits f.txn) ⊎ ((is_abort f.ending ≡ true) × ((e : Commit) → Has o.effects.commits e → e.txn ≢ f.txn)))).
       ⊎_elim (λ (c : (f.ending ≡ Committed) × IsEntered o.effects.commits f.txn). inl (c.0, entry_here f.txn c.1))
-      (λ (a : (is_abort f.ending ≡ true) × ((e : Commit) → Has o.effects.commits e → e.txn ≢ f.txn)). inr (a.0, (λ e z g. ⊎_elim
-      (λ old. inv.entry e old x (rw (ap (λ (t : TxnId). t.site) g ∙ was_site f.txn q.0 ∙ id) up) q.0.0 q.0.1 (q.0.2 ∙ sym g))
-      (λ more. a.1 e more g) (st.entered e z)))) q.1)
+      (λ (a : (is_abort f.ending ≡ true) × ((e : Commit) → Has o.effects.commits e → e.txn ≢ f.txn)). inr (
+        a.0,
+        (λ e z g. ⊎_elim
+            (λ old. inv.entry e old x (rw (ap (λ (t : TxnId). t.site) g ∙ was_site f.txn q.0 ∙ id) up) q.0.0 q.0.1 (q.0.2 ∙ sym g))
+            (λ more. a.1 e more g) (st.entered e z)),
+      )) q.1)
       h
 
   pub endings_keep : InvEndings new
@@ -216,6 +220,7 @@ endings_start catalogue = record {
   once = subst Once (sym (start_journal catalogue)) tt;
   finished = λ s x f h k. absurd (none_finished catalogue s (empty_durable (start_copies catalogue s)) f (subst (λ (x : SiteState). Has x.finished f) (sym (started catalogue s x h)) k));
 }
+
 endings_above : (catalogue : Catalogue) → Above catalogue (Fourth catalogue) InvEndings
 endings_above catalogue = record {
   starts = endings_start catalogue;

@@ -1,10 +1,9 @@
 -- Entries in every world: each record that one uses is accessible in its view, and each other holder of what it wrote was sent
 -- a prepare and has voted. A site that waits for a view has no doubt and no entry of it.
-use Rattle.std.proofs.Common.{◌≡◌, ◌≢◌, ◌⊎◌, ◌∙◌, ap, sym, subst, ℕ, Bool, true, false, List, [], ◌∷◌, refl, arith, inl, inr, ⊎_elim}
-use Rattle.std.specs.Prelude.{Option, Some, None, option_map, ◌&&◌, ◌==◌, not, filter}
+use Rattle.std.proofs.Common.{◌≡◌, ◌≢◌, ◌∙◌, ap, sym, subst, ℕ, Bool, true, false, List, [], ◌∷◌, refl, arith, ⊎_elim}
+use Rattle.std.specs.Prelude.{Option, Some, None, option_map, ◌&&◌, ◌==◌, not}
 use Rattle.std.proofs.lemmas.Bool.Decides.{nat_tests}
-use Rattle.vp_model.specs.Types.{ViewId, TxnId, View, Sent, Commit, Message, Input, Op, Pending, Live}
-use Rattle.vp_model.specs.Types.input
+use Rattle.vp_model.specs.Types.{ViewId, TxnId, View, Commit, Message, Input, Op, Live}
 use Rattle.vp_model.specs.Types.message
 use Rattle.vp_model.specs.Types.op
 use Rattle.vp_model.specs.Words.{is_empty, has, is_view, keys}
@@ -12,26 +11,25 @@ use Rattle.vp_model.specs.Catalogue.{Catalogue, holders, accessible, start_copie
 use Rattle.vp_model.specs.Durable.{DurableState, Doubt, empty_durable}
 use Rattle.vp_model.specs.Site.{SiteState, Stepped}
 use Rattle.vp_model.specs.Transactions.{last_writes}
-use Rattle.vp_model.specs.Refresh.{members_in, is_usable_in, other_holders_in}
-use Rattle.vp_model.specs.Messages.{holds_view}
+use Rattle.vp_model.specs.Refresh.{is_usable_in, other_holders_in}
 use Rattle.vp_model.specs.Step.{start, step}
-use Rattle.vp_laws.proofs.Members.{Has, has_none, has_one, has_first, has_more, has_cons, has_cases, filter_keeps, map_has}
+use Rattle.vp_laws.proofs.Members.{Has, has_none, has_cons, filter_keeps, map_has}
 use Rattle.vp_laws.proofs.Order.{AtMost, Precedes, not_both, AtMost-same, same_site}
-use Rattle.vp_laws.proofs.LocalViews.{letter, Tidy, Local, InviteComes}
-use Rattle.vp_laws.proofs.Table.{Comes, IsNext, IsLast, remaining, Decides, Handled}
+use Rattle.vp_laws.proofs.LocalViews.{letter, Local, InviteComes}
+use Rattle.vp_laws.proofs.Table.{Comes, remaining, Decides}
 use Rattle.vp_laws.proofs.Scenes.{Scene, plain_at, kept_at, promise_at, Acted, acted, stepping}
 use Rattle.vp_laws.proofs.TableViews.{local-step}
 use Rattle.vp_laws.proofs.TableLed.{IsOf, Led}
 use Rattle.vp_laws.proofs.TableBelow.{Below}
 use Rattle.vp_laws.proofs.TableSteps.{EnteredFor, Steps, steps-step}
-use Rattle.vp_laws.proofs.TableShares.{Prepared, DoubtNow, Shares, shares-step}
+use Rattle.vp_laws.proofs.TableShares.{DoubtNow, Shares, shares-step}
 use Rattle.vp_laws.proofs.InvViews.{InvViews}
 use Rattle.vp_laws.proofs.InvLed.{InvLed}
 use Rattle.vp_laws.proofs.InvShares.{HasVote, InvShares}
-use Rattle.vp_laws.proofs.InvOps.{record_of, LiveOk, last_written, InvOps}
+use Rattle.vp_laws.proofs.InvOps.{record_of, LiveOk, last_written}
 use Rattle.vp_laws.proofs.InvAnswers.{Eighth, answers_last}
 use Rattle.vp_laws.proofs.Events.{Arrives, Lasts}
-use Rattle.vp_laws.proofs.Worlds.{NowIs, now_is, Quiet, QuietIs, quiet_is, quiet_kept, started, start_entered, With, Above, with_last}
+use Rattle.vp_laws.proofs.Worlds.{NowIs, now_is, QuietIs, quiet_is, started, start_entered, With, Above, with_last}
 
 -- the entry wrote the record
 abbrev pub Wrote : Commit → ℕ → Type 0

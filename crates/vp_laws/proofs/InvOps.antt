@@ -1,12 +1,9 @@
 -- What a live transaction has done and asks, in every world: its records are accessible, its parts are the other holders of
 -- what it wrote, its numbers go up by one, and a request is of the pending call or of one that was answered.
-use Rattle.std.proofs.Common.{◌≡◌, ◌≢◌, ◌⊎◌, ◌∙◌, ap, sym, subst, ℕ, ◌+◌, ◌≤◌, Bool, true, false, cond, List, [], ◌∷◌, ◌++◌, refl, arith, inl, inr, ⊎_elim, length, length-append}
-use Rattle.std.specs.Prelude.{Option, Some, None, is_some, fold, ◌==◌, nat_lt, filter, not, find, option_map, nat_eq}
-use Rattle.vp_model.specs.Types.{ViewId, TxnId, View, Sent, Message, Input, Op, Answer, Stored, Pending, Live}
-use Rattle.vp_model.specs.Types.call
+use Rattle.std.proofs.Common.{◌≡◌, ◌⊎◌, ◌∙◌, ap, sym, subst, ℕ, ◌+◌, Bool, true, false, cond, List, [], ◌∷◌, ◌++◌, refl, inl, inr, ⊎_elim, length, length-append}
+use Rattle.std.specs.Prelude.{Option, Some, None, fold, ◌==◌, nat_lt, not, find, option_map, nat_eq}
+use Rattle.vp_model.specs.Types.{ViewId, TxnId, View, Input, Op, Answer, Pending, Live}
 use Rattle.std.proofs.lemmas.Bool.{eqb-true}
-use Rattle.vp_model.specs.Types.input
-use Rattle.vp_model.specs.Types.message
 use Rattle.vp_model.specs.Types.op
 use Rattle.vp_model.specs.Words.{is_empty, for_each, put_number, put_at, value_at}
 use Rattle.vp_model.specs.Catalogue.{Catalogue, find_record, start_copies}
@@ -16,13 +13,12 @@ use Rattle.vp_model.specs.Transactions.{with_op, last_writes}
 use Rattle.vp_model.specs.Refresh.{is_usable_in, other_holders_in, other_holders}
 use Rattle.vp_model.specs.Calls.{begun}
 use Rattle.vp_model.specs.Step.{start, step, mark, marked_call}
-use Rattle.vp_model.specs.World.{start_world}
 use Rattle.vp_laws.specs.Votes.{is_commit}
-use Rattle.vp_laws.proofs.Members.{Has, has_none, has_one, has_one_is, has_first, has_more, has_cons, has_cases, has_left, has_right, filter_has}
-use Rattle.vp_laws.proofs.Lists.{put_has, put_new, value_has}
+use Rattle.vp_laws.proofs.Members.{Has, has_none, has_one_is, has_first, has_more, has_cons, has_cases, filter_has}
+use Rattle.vp_laws.proofs.Lists.{put_has, put_new}
 use Rattle.vp_laws.proofs.Order.{put_keeps}
-use Rattle.vp_laws.proofs.Table.{IsNext, Reads, Writes, Counts, remaining, IsLast, Completes}
-use Rattle.vp_laws.proofs.TableSteps.{waiting, done, reading, writing, AskingRead, AskingWrite, AskingVotes, LiveNow, Steps, steps-step}
+use Rattle.vp_laws.proofs.Table.{Reads, Writes, remaining, Completes}
+use Rattle.vp_laws.proofs.TableSteps.{waiting, done, reading, writing, AskingRead, AskingWrite, LiveNow, Steps, steps-step}
 use Rattle.vp_laws.proofs.TableViews.{local-step}
 use Rattle.vp_laws.proofs.TableLed.{Led}
 use Rattle.vp_laws.proofs.OnlyCoordinator.{OnCoordinator}

@@ -1,12 +1,11 @@
 -- Parts, doubts, votes and entries in every world: each doubt has its prepare, each vote on a transaction that writes has its
 -- doubt while the transaction is live, and an entry is what its prepares said.
-use Rattle.std.proofs.Common.{◌≡◌, ◌≢◌, ◌⊎◌, ◌∙◌, ap, sym, subst, ℕ, ◌+◌, ◌≤◌, Bool, true, false, List, [], ◌∷◌, ◌++◌, refl, arith, inl, inr, ⊎_elim}
-use Rattle.std.specs.Prelude.{Option, Some, None, is_some, option_map, filter, not, ◌==◌}
+use Rattle.std.proofs.Common.{◌≡◌, ◌≢◌, ◌⊎◌, ◌∙◌, ap, sym, subst, ℕ, ◌+◌, ◌≤◌, Bool, true, false, List, [], ◌∷◌, refl, arith, inl, inr, ⊎_elim}
+use Rattle.std.specs.Prelude.{Option, Some, None, is_some, option_map, not, ◌==◌}
 use Rattle.std.proofs.lemmas.Bool.Decides.{nat_tests}
 use Rattle.vp_model.specs.Types.{ViewId, TxnId, View, Sent, Commit, Message, Input, Part, Pending, Live}
-use Rattle.vp_model.specs.Types.input
 use Rattle.vp_model.specs.Types.message
-use Rattle.vp_model.specs.Words.{is_empty, is_view, has}
+use Rattle.vp_model.specs.Words.{is_empty, is_view}
 use Rattle.vp_model.specs.Catalogue.{Catalogue, start_copies}
 use Rattle.vp_model.specs.Durable.{DurableState, Doubt, empty_durable}
 use Rattle.vp_model.specs.Site.{SiteState, Stepped}
@@ -14,23 +13,22 @@ use Rattle.vp_model.specs.Transactions.{last_writes, writes_held}
 use Rattle.vp_model.specs.Messages.{holds_view}
 use Rattle.vp_model.specs.Refresh.{other_holders}
 use Rattle.vp_model.specs.Step.{start, step, durable_of, mark, marked_call}
-use Rattle.vp_model.specs.World.{start_world}
 use Rattle.vp_laws.specs.Votes.{is_commit}
 use Rattle.vp_laws.proofs.Members.{Has, has_none, filter_keeps}
 use Rattle.vp_laws.proofs.Apart.{Apart, apart_unique}
 use Rattle.vp_laws.proofs.Order.{same_site, same_is}
 use Rattle.vp_laws.proofs.LocalViews.{letter}
-use Rattle.vp_laws.proofs.Table.{Comes, next_name, IsOperating, IsNext, Reads, Writes, Counts, remaining, IsLast, Completes, Decides, Handled, Requests}
+use Rattle.vp_laws.proofs.Table.{Comes, next_name, IsOperating, Counts, remaining, Decides, Requests}
 use Rattle.vp_laws.proofs.TableBelow.{PartOk}
-use Rattle.vp_laws.proofs.Scenes.{Scene, scene_of, plain_at, kept_at, Acted, acted, stepping}
+use Rattle.vp_laws.proofs.Scenes.{Scene, plain_at, kept_at, Acted, stepping}
 use Rattle.vp_laws.proofs.TableViews.{local-step}
-use Rattle.vp_laws.proofs.TableVotes.{IsPrepared, some_not, operating_not, completes_operating}
+use Rattle.vp_laws.proofs.TableVotes.{some_not, operating_not, completes_operating}
 use Rattle.vp_laws.proofs.InvNames.{UsedTxn, InvNames}
-use Rattle.vp_laws.proofs.InvVotes.{Fourth, InvVotes, voted_pending}
-use Rattle.vp_laws.proofs.OnlyCoordinator.{is_aside, Aside}
-use Rattle.vp_laws.proofs.TableSteps.{waiting, done, reading, writing, AskingRead, AskingWrite, AskingVotes, LiveNow, Only, SentFor, EnteredFor, Steps, steps-step}
-use Rattle.vp_laws.proofs.TableShares.{is_reply, fresh_part, Prepared, Granted, PartNow, DoubtNow, OutcomeComes, Answered, ReplyTo, Shares, shares-step}
-use Rattle.vp_laws.proofs.InvEndings.{HasEntry, Over, Told, InvEndings, Fifth, endings_last}
+use Rattle.vp_laws.proofs.InvVotes.{InvVotes, voted_pending}
+use Rattle.vp_laws.proofs.OnlyCoordinator.{is_aside}
+use Rattle.vp_laws.proofs.TableSteps.{waiting, reading, writing, LiveNow, Only, SentFor, EnteredFor, Steps, steps-step}
+use Rattle.vp_laws.proofs.TableShares.{is_reply, PartNow, DoubtNow, OutcomeComes, ReplyTo, Shares, shares-step}
+use Rattle.vp_laws.proofs.InvEndings.{HasEntry, InvEndings, Fifth, endings_last}
 use Rattle.vp_laws.proofs.Events.{Arrives, Lasts}
 use Rattle.vp_laws.proofs.Worlds.{NowIs, now_is, KeptIs, kept_is, Quiet, QuietIs, quiet_is, quiet_kept, started, start_kept, start_sent, start_entered, With, Above, with_last}
 
@@ -109,10 +107,6 @@ was_viewed catalogue x given t (LiveNow.reads u p rec q h a e) = inl (u, h, ap (
 was_viewed catalogue x given t (LiveNow.writes u p rec value h a e) = inl (u, h, ap (λ (t : Live). t.txn) e, ap (λ (t : Live). t.view) e)
 was_viewed catalogue x given t (LiveNow.prepares u p h a e) = inl (u, h, ap (λ (t : Live). t.txn) e, ap (λ (t : Live). t.view) e)
 was_viewed catalogue x given t (LiveNow.begins view h e) = inr (ap (λ (t : Live). t.txn) (sym e))
-
--- a transaction whose commit was pending has its operations still
-IsCommitting : Live → Type 0
-IsCommitting u = (p : Pending) × (u.pending ≡ Some p) × (is_commit p.call ≡ true)
 
 committing_not : (u : Live) → IsOperating u → (p : Pending) → u.pending ≡ Some p → is_commit p.call ≡ true → ⊥
 committing_not u idle p e c = ⊎_elim (λ none. some_not u.pending p e none) (λ doing. operating_not u.pending p doing.0 e doing.1 c doing.2) idle

@@ -1,7 +1,7 @@
 -- What speaks of a site's own transactions and of what is sent for them alone is kept by all moves but the coordinator's.
-use Rattle.std.proofs.Common.{◌≡◌, ◌∙◌, ap, sym, subst, ℕ, Bool, true, false, cond, List, [], ◌∷◌, ◌++◌, map, refl, append-nil}
+use Rattle.std.proofs.Common.{◌≡◌, ◌∙◌, ap, sym, subst, ℕ, Bool, true, false, cond, List, [], ◌∷◌, ◌++◌, map, refl}
 use Rattle.std.specs.Prelude.{Option, Some, None, ◌==◌, not, filter}
-use Rattle.vp_model.specs.Types.{ViewId, TxnId, View, Stored, Message, Sent, Commit, Input, Refreshing}
+use Rattle.vp_model.specs.Types.{TxnId, Stored, Message, Sent, Commit, Input, Refreshing}
 use Rattle.vp_model.specs.Types.entry
 use Rattle.vp_model.specs.Types.input
 use Rattle.vp_model.specs.Types.message
@@ -14,7 +14,7 @@ use Rattle.vp_model.specs.Refresh.{newest, take_newer, end_refresh, start_refres
 use Rattle.vp_model.specs.Views.{other_sites, drop_view, start_inviting, hold}
 use Rattle.vp_model.specs.Messages.{held_id, accept, on_accept, on_stale, grant, end_here}
 use Rattle.vp_model.specs.Step.{fix, ask_again, resend_one, known, inquire}
-use Rattle.vp_laws.proofs.Members.{Has, has_none, has_one_is, map_has}
+use Rattle.vp_laws.proofs.Members.{Has, has_one_is, map_has}
 use Rattle.vp_laws.proofs.Table.{next_view, OfCoordinator, Back, Table}
 use Rattle.vp_laws.proofs.LocalViews.{letter}
 

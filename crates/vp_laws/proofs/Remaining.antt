@@ -1,7 +1,7 @@
 -- The parts of the invariant that are stated and not proved yet, by what they are about. What stands is in the files Inv*.
-use Rattle.std.proofs.Common.{◌≡◌, ◌≢◌, ◌⊎◌, ℕ, Bool, true, false, List, [], ◌∷◌}
+use Rattle.std.proofs.Common.{◌≡◌, ◌≢◌, ◌⊎◌, ℕ, Bool, true, false, List}
 use Rattle.std.specs.Prelude.{Option, Some, None, filter, not, slice_get, option_and_then}
-use Rattle.vp_model.specs.Types.{ViewId, TxnId, View, Sent, Commit, Message, Op, Stored, Pending, Live, Lock, Refreshing}
+use Rattle.vp_model.specs.Types.{ViewId, TxnId, View, Commit, Op, Stored, Pending, Live, Lock, Refreshing}
 use Rattle.vp_model.specs.Types.message
 use Rattle.vp_model.specs.Types.op
 use Rattle.vp_model.specs.Types.owner
@@ -10,7 +10,6 @@ use Rattle.vp_model.specs.Catalogue.{Catalogue, holders, accessible, start_value
 use Rattle.vp_model.specs.Durable.{Doubt, Decision}
 use Rattle.vp_model.specs.Locks.{holds}
 use Rattle.vp_model.specs.Site.{SiteState}
-use Rattle.vp_model.specs.Transactions.{last_writes}
 use Rattle.vp_model.specs.Refresh.{is_usable, refreshing_of}
 use Rattle.vp_model.specs.OneCopy.{Values, play, serial, order, content}
 use Rattle.vp_laws.proofs.Members.{Has}
@@ -18,7 +17,7 @@ use Rattle.vp_laws.proofs.Order.{AtMost, Precedes}
 use Rattle.vp_laws.proofs.LocalViews.{letter}
 use Rattle.vp_laws.proofs.Table.{Writes}
 use Rattle.vp_laws.proofs.Scenes.{Scene, plain_at, kept_at, promise_at}
-use Rattle.vp_laws.proofs.InvShares.{HasVote, HasPrepare, InDoubt}
+use Rattle.vp_laws.proofs.InvShares.{InDoubt}
 use Rattle.vp_laws.proofs.InvOps.{record_of}
 use Rattle.vp_laws.proofs.InvEntered.{Wrote, AgreedAs, Affected}
 use Rattle.vp_laws.proofs.InvAnswers.{HasRead, HasWrote}

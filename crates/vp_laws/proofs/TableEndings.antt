@@ -1,30 +1,28 @@
 -- How transactions end: what ends is not live any more, and is told, kept and entered as what it was.
 use Rattle.std.proofs.Common.{◌≡◌, ◌≢◌, ◌⊎◌, ◌∙◌, ap, sym, subst, ℕ, ◌+◌, ◌≤◌, Bool, true, false, cond, List, [], ◌∷◌, ◌++◌, map, refl, arith, inl, inr, ⊎_elim, length}
-use Rattle.std.specs.Prelude.{Option, Some, None, nat_lt, drop, filter, not, ◌==◌}
+use Rattle.std.specs.Prelude.{Some, None, nat_lt, drop, filter, not, ◌==◌}
 use Rattle.std.proofs.lemmas.Bool.Decides.{nat_tests}
-use Rattle.vp_model.specs.Types.{ViewId, TxnId, View, Message, Sent, Commit, Input, Op, Answer, Stored, Pending, Live, Ending, Finished}
+use Rattle.vp_model.specs.Types.{TxnId, View, Message, Sent, Commit, Input, Live, Ending, Finished}
 use Rattle.vp_base.specs.declared.site.Ending.TheVariants.{Committed}
-use Rattle.vp_model.specs.Types.entry
-use Rattle.vp_model.specs.Types.input
 use Rattle.vp_model.specs.Types.message
-use Rattle.vp_model.specs.Words.{same_txn, txn_before, is_empty, change_first, without_first, at_most, for_each, put_number}
+use Rattle.vp_model.specs.Words.{same_txn, txn_before, is_empty, at_most, for_each, put_number}
 use Rattle.vp_model.specs.Catalogue.{Catalogue}
 use Rattle.vp_model.specs.Durable.{Decision, put_decision, with_decision, acknowledged}
-use Rattle.vp_model.specs.Site.{CoordinatorState, SiteState, Lent, Stepped, letters}
-use Rattle.vp_model.specs.Transactions.{put_live, with_finished, answers_after, keep_writes, writing_parts, last_writes, close, decide, decided, complete, wait_for}
+use Rattle.vp_model.specs.Site.{CoordinatorState, SiteState, Lent, letters}
+use Rattle.vp_model.specs.Transactions.{put_live, with_finished, answers_after, keep_writes, writing_parts, decide, decided, complete}
 use Rattle.vp_model.specs.Refresh.{other_holders}
-use Rattle.vp_model.specs.Calls.{begun, with_begun, start_txn, take_lock, read_at, write_at, prepare_parts, prepare_for, handling}
+use Rattle.vp_model.specs.Calls.{begun, with_begun, start_txn, take_lock, read_at, write_at, prepare_parts, prepare_for}
 use Rattle.vp_model.specs.Answers.{with_acknowledged, is_live, is_decided}
 use Rattle.vp_model.specs.Step.{mark, mark_calls, step}
-use Rattle.vp_laws.proofs.Members.{Has, has_none, has_first, has_more, has_cons, has_one, has_one_is, has_left, has_right, has_cases, map_has, filter_has, any_true, any_false}
+use Rattle.vp_laws.proofs.Members.{Has, has_none, has_more, has_one, has_one_is, has_cases, map_has, filter_has, any_true, any_false}
 use Rattle.vp_laws.proofs.Lists.{put_has, without_first_has, change_first_has}
-use Rattle.vp_laws.proofs.Apart.{same_txn-is, same_txn-not, same_txn-from, Apart, named, apart_without, without_gone, apart_change, apart_more, apart_mark}
+use Rattle.vp_laws.proofs.Apart.{same_txn-is, same_txn-not, Apart, named, apart_without, without_gone, apart_change, apart_more, apart_mark}
 use Rattle.vp_laws.proofs.Frames.{Ends, close-ends, close-commits, decided-ends, decided-commits, decide-cases}
-use Rattle.vp_laws.proofs.Table.{Comes, next_name, lent_at, Handled, Completes, is_abort, remaining, OfCoordinator}
+use Rattle.vp_laws.proofs.Table.{Comes, next_name, lent_at, Handled, is_abort, remaining, OfCoordinator}
 use Rattle.vp_laws.proofs.Rows.{step-keeps}
 use Rattle.vp_laws.proofs.LocalViews.{letter}
 use Rattle.vp_laws.proofs.TableLed.{Led}
-use Rattle.vp_laws.proofs.OnlyCoordinator.{is_aside, Aside, OnCoordinator, Keeps, only_begins, only_table}
+use Rattle.vp_laws.proofs.OnlyCoordinator.{is_aside, OnCoordinator, Keeps, only_begins, only_table}
 
 -- a decision and a finished transaction are of no live one, and a finished one has a name that was given in this life
 pub record Settled (id life : ℕ) (c : CoordinatorState) : Type 0 where
@@ -361,7 +359,7 @@ module _ (catalogue : Catalogue) (x : SiteState) (given : Input) (led : Led x) (
     acknowledge = λ from txn c w. acknowledges txn from;
     answer_inquiry = λ from txn c s n. record {
       apart = apart;
-    up = same_up x.seq;
+      up = same_up x.seq;
       live = begins.live;
       settled = settled;
       says = λ m h. let q = has_one_is (letter x.id from (message.Outcome txn (is_decided txn x.decisions))) m h in subst (λ (m : Sent). Says x given x.live [] m.to m.message) q (inquired from txn c s n);

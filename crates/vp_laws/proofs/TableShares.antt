@@ -1,18 +1,18 @@
 -- Where each part and each doubt of a step comes from, and what each answer to another site answers.
 use Rattle.std.proofs.Common.{◌≡◌, ◌≢◌, ◌⊎◌, ◌∙◌, ap, sym, subst, ℕ, Bool, true, false, cond, List, [], ◌∷◌, ◌++◌, map, refl, arith, inl, inr, ⊎_elim, append-nil}
-use Rattle.std.specs.Prelude.{Option, Some, None, is_some, filter, not, ◌==◌, ◌||◌, ◌&&◌}
+use Rattle.std.specs.Prelude.{Option, Some, None, is_some, filter, not, ◌==◌, ◌||◌}
 use Rattle.std.proofs.lemmas.Bool.Decides.{nat_tests}
-use Rattle.vp_model.specs.Types.{ViewId, TxnId, View, Message, Sent, Input, Stored, Part, Refreshing, Live}
+use Rattle.vp_model.specs.Types.{ViewId, TxnId, Message, Sent, Input, Stored, Part, Refreshing, Live}
 use Rattle.vp_model.specs.Types.entry
 use Rattle.vp_model.specs.Types.input
 use Rattle.vp_model.specs.Types.message
 use Rattle.vp_model.specs.Types.obstacle
 use Rattle.vp_model.specs.Words.{same_txn, txn_before, has_txn, is_empty, value_at, replace_at, view_before}
 use Rattle.vp_model.specs.Catalogue.{Catalogue}
-use Rattle.vp_model.specs.Durable.{Doubt, Decision, doubt_of, put_doubt}
+use Rattle.vp_model.specs.Durable.{Doubt, doubt_of}
 use Rattle.vp_model.specs.Locks.{conflict}
 use Rattle.vp_model.specs.Site.{ParticipantState, SiteState, Lent, Stepped, begin_step, lent, put_back, letters, force, change_copies}
-use Rattle.vp_model.specs.Transactions.{close, decide, decided, keep_writes, complete}
+use Rattle.vp_model.specs.Transactions.{keep_writes, complete}
 use Rattle.vp_model.specs.Refresh.{newest, take_newer, end_refresh, start_refresh, other_holders, unanswered, is_doubtful}
 use Rattle.vp_model.specs.Views.{part_of, has_part, has_doubt, other_sites, drop_view, start_inviting, hold}
 use Rattle.vp_model.specs.Calls.{start_txn, take_lock, read_at, write_at, prepare_parts, prepare_for}
@@ -21,8 +21,8 @@ use Rattle.vp_model.specs.Messages.{held_id, holds_view, put_part, with_part, wi
 use Rattle.vp_model.specs.Step.{fix, mark_calls, ask_again, resend_one, known, inquire, step}
 use Rattle.vp_laws.proofs.Members.{Has, has_none, has_one_is, has_cases, map_has, filter_has, filter_keeps, find_has, find_true, any_true, any_false}
 use Rattle.vp_laws.proofs.Lists.{put_has, put_new, put_old}
-use Rattle.vp_laws.proofs.Apart.{same_txn-is, same_txn-not}
-use Rattle.vp_laws.proofs.Frames.{Ends, close-ends, decided-ends, decide-cases}
+use Rattle.vp_laws.proofs.Apart.{same_txn-is}
+use Rattle.vp_laws.proofs.Frames.{close-ends, decided-ends, decide-cases}
 use Rattle.vp_laws.proofs.Table.{Comes, Closed, next_view, lent_at, Requests, Back, Table}
 use Rattle.vp_laws.proofs.Rows.{step-keeps}
 use Rattle.vp_laws.proofs.LocalViews.{letter}
@@ -184,9 +184,6 @@ module _ (catalogue : Catalogue) (x : SiteState) (given : Input) where
   grants from txn number rec exclusive stored g words reply =
       replying _ (with_part txn g.view x.participant) from words refl refl refl (granted_parts from txn number rec exclusive stored g)
       (λ d h. DoubtNow.still (rw with_part-doubts at h)) (λ d h. inl (rw with_part-doubts h)) reply
-
-  same_for : (a b : Doubt) → Bool
-  same_for a b = same_txn a.0 b.0
 
   no_such : (txn : TxnId) (d : Doubt) (writes : List (ℕ × List ℕ)) (view : ViewId) → has_doubt txn x.doubts ≡ false → Has x.doubts d → same_txn txn d.0 ≡ false
   no_such txn d writes view e h = let n = any_false (λ (d : Doubt). same_txn d.0 txn) x.doubts e d h in turned d.0 txn n

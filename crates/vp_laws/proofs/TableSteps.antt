@@ -1,17 +1,16 @@
 -- Where each live transaction, each request and each entry of a step comes from.
-use Rattle.std.proofs.Common.{◌≡◌, ◌≢◌, ◌⊎◌, ◌∙◌, ap, sym, subst, ℕ, ◌+◌, ◌≤◌, Bool, true, false, List, [], ◌∷◌, ◌++◌, map, refl, arith, inl, inr, ⊎_elim, append-nil}
-use Rattle.std.specs.Prelude.{Option, Some, None}
-use Rattle.vp_model.specs.Types.{ViewId, TxnId, View, Message, Sent, Commit, Input, Effects, Op, Answer, Stored, Pending, Live, Ending}
+use Rattle.std.proofs.Common.{◌≡◌, ◌≢◌, ◌∙◌, ap, sym, subst, ℕ, ◌+◌, ◌≤◌, Bool, true, false, List, [], ◌∷◌, ◌++◌, map, refl, arith, ⊎_elim, append-nil}
+use Rattle.std.specs.Prelude.{Some, None}
+use Rattle.vp_model.specs.Types.{TxnId, View, Sent, Commit, Input, Effects, Op, Answer, Pending, Live, Ending}
 use Rattle.vp_base.specs.declared.site.Ending.TheVariants.{Committed}
 use Rattle.vp_model.specs.Types.input
 use Rattle.vp_model.specs.Types.message
-use Rattle.vp_model.specs.Words.{has, is_empty, change_first, without_first, for_each, put_number, value_at}
+use Rattle.vp_model.specs.Words.{has, is_empty, change_first, for_each, put_number, value_at}
 use Rattle.vp_model.specs.Catalogue.{Catalogue}
-use Rattle.vp_model.specs.Durable.{Decision}
-use Rattle.vp_model.specs.Site.{CoordinatorState, SiteState, Lent, Stepped, letters}
-use Rattle.vp_model.specs.Transactions.{put_live, close, with_finished, keep_writes, last_writes, decide, decided, complete}
+use Rattle.vp_model.specs.Site.{CoordinatorState, SiteState, Lent, letters}
+use Rattle.vp_model.specs.Transactions.{put_live, close, with_finished, keep_writes, last_writes, decide, complete}
 use Rattle.vp_model.specs.Refresh.{is_usable, other_holders}
-use Rattle.vp_model.specs.Calls.{begun, with_begun, start_txn, take_lock, read_at, write_at, prepare_parts, prepare_for, handling}
+use Rattle.vp_model.specs.Calls.{begun, start_txn, take_lock, read_at, write_at, prepare_parts, prepare_for}
 use Rattle.vp_model.specs.Answers.{is_decided, with_acknowledged}
 use Rattle.vp_model.specs.Step.{mark, mark_calls, step}
 use Rattle.vp_laws.specs.Votes.{is_commit}
@@ -19,7 +18,7 @@ use Rattle.vp_laws.proofs.Members.{Has, has_none, has_one_is, has_cases, map_has
 use Rattle.vp_laws.proofs.Lists.{without_first_has}
 use Rattle.vp_laws.proofs.Apart.{Apart, named, apart_without, change_cases, apart_change, apart_more, apart_mark}
 use Rattle.vp_laws.proofs.Frames.{Ends, close-ends, close-commits, decided-ends, decided-commits, decide-cases}
-use Rattle.vp_laws.proofs.Table.{Comes, next_name, lent_at, Handled, IsNext, Reads, Writes, Counts, remaining, Locked, Completes, Decides, Closed, OfCoordinator}
+use Rattle.vp_laws.proofs.Table.{next_name, lent_at, Handled, IsNext, Reads, Writes, Counts, remaining, Locked, Completes, Decides, Closed, OfCoordinator}
 use Rattle.vp_laws.proofs.Rows.{step-keeps}
 use Rattle.vp_laws.proofs.LocalViews.{letter}
 use Rattle.vp_laws.proofs.TableLed.{Led}

@@ -1,5 +1,5 @@
 -- Who each site is after an event, and how the world starts: what every invariant of all sites goes by.
-use Rattle.std.proofs.Common.{◌≡◌, ◌≢◌, ◌∙◌, ap, sym, ℕ, ◌+◌, List, [], map, refl, ⊎_elim}
+use Rattle.std.proofs.Common.{◌≡◌, ◌≢◌, ◌∙◌, ap, sym, ℕ, [], map, refl, ⊎_elim}
 use Rattle.std.specs.Prelude.{Option, Some, None, option_map}
 use Rattle.vp_model.specs.Types.{Sent, Commit, Input}
 use Rattle.vp_laws.proofs.Members.{Has, has_none}

@@ -1,5 +1,5 @@
 -- What the journal tells of transactions, and what the votes on a live one have left.
-use Rattle.std.specs.Prelude.{◌≡◌, ℕ, Bool, false, Some}
+use Rattle.std.specs.Prelude.{◌≡◌, ℕ, false, Some}
 use Rattle.std.specs.List.{Contains, AllPairs}
 use Rattle.vp_model.specs.Types.{TxnId, Commit, Live}
 use Rattle.vp_model.specs.Types.message
@@ -8,7 +8,6 @@ use Rattle.vp_model.specs.Catalogue.{Catalogue}
 use Rattle.vp_model.specs.Durable.{Doubt}
 use Rattle.vp_model.specs.Site.{SiteState}
 use Rattle.vp_model.specs.Transactions.{last_writes, writes_held}
-use Rattle.vp_model.specs.Refresh.{is_usable_in}
 use Rattle.vp_model.specs.World.{Place, WorldState, place_of, site_of}
 use Rattle.std.specs.Prelude.{Option, None, List, []}
 
