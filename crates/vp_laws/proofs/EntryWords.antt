@@ -1,19 +1,23 @@
 -- The laws of entries and doubts in the words of the contracts.
-use Rattle.std.proofs.Common.{◌≡◌, ◌≢◌, ◌∙◌, sym, ℕ, false, List, [], ◌∷◌, refl, arith}
+use Rattle.std.proofs.Common.{◌≡◌, ◌≢◌, ◌∙◌, sym, ℕ, false, List, [], ◌∷◌, refl, arith, ap}
 use Rattle.std.specs.Prelude.{Option, Some, None}
 use Rattle.std.proofs.lemmas.Bool.Decides.{nat_tests}
 use Rattle.std.proofs.lemmas.List.Kept.{AllPairs-cons}
 use Rattle.std.proofs.lemmas.List.Elements.{All-from_recursion}
-use Rattle.vp_model.specs.Types.{ViewId, TxnId, Commit}
+use Rattle.vp_model.specs.Types.{ViewId, TxnId, Commit, Op}
+use Rattle.vp_model.specs.Types.op
+use Rattle.vp_model.specs.Catalogue.{accessible}
 use Rattle.vp_model.specs.Types.message
 use Rattle.vp_model.specs.Words.{same_txn}
 use Rattle.vp_model.specs.Durable.{Doubt}
 use Rattle.vp_model.specs.World.{Place, Schedule, run_of, journal_of, place_of}
-use Rattle.vp_laws.specs.Entries.{IsOnce, doubts_in, VotesLeaveDoubts}
+use Rattle.vp_laws.specs.Entries.{IsOnce, doubts_in, VotesLeaveDoubts, record_in, EntriesAreAccessible}
 use Rattle.vp_laws.proofs.Members.{has_of, contains, all_of}
 use Rattle.vp_laws.proofs.Scenes.{kept_in}
 use Rattle.vp_laws.proofs.InvEndings.{Once}
 use Rattle.vp_laws.proofs.InvShares.{Sixth, shares_last}
+use Rattle.vp_laws.proofs.InvOps.{record_of}
+use Rattle.vp_laws.proofs.InvEntered.{Ninth, entered_last}
 use Rattle.vp_laws.proofs.Events.{in_last}
 
 differ : (a b : TxnId) → b ≢ a → same_txn a b ≡ false
@@ -44,3 +48,21 @@ doubted s from to txn x t sent up live same some =
   where
     doubt_is : (d : Doubt) (txn : TxnId) (view : ViewId) (writes : List (ℕ × List ℕ)) → d.0 ≡ txn → view ≡ d.1 → writes ≡ d.2 → d ≡ (txn, view, writes)
     doubt_is d txn view writes a b c = rw (← a, b, c) refl
+
+same_record : (operation : Op) → record_of operation ≡ record_in operation
+same_record (op.Read rec value) = refl
+same_record (op.Write rec value) = refl
+
+pub entered : (s : Schedule) → EntriesAreAccessible s.catalogue (run_of s).world
+entered s e h =
+    let w = (run_of s).world in
+    let inv = in_last s.catalogue (Ninth s.catalogue) (entered_last s.catalogue) s.events in
+    let led = inv.lower.lower.lower.lower.lower.third.second.first.led in
+    let there = has_of w.journal e h in
+    let q = led.entry e there in (
+      q.0,
+      contains w.agreed q.0 q.1,
+      q.2,
+      contains q.0.members e.txn.site q.3,
+      (λ operation k. ap (λ (n : ℕ). accessible s.catalogue n q.0.members) (sym (same_record operation)) ∙ inv.upper.accessible e q.0 operation there (q.1, q.2) (has_of e.ops operation k)),
+    )

@@ -102,15 +102,24 @@ module _ (catalogue : Catalogue) (x : SiteState) (given : Input) (all : (u : Liv
   marked_ok : (u : Live) → LiveOk catalogue x.id x.held u → LiveOk catalogue x.id x.held (mark u)
   marked_ok u h = record {
     numbers = h.numbers;
-    next = λ p e. let q = unmarked u.pending p e in ap (λ (p : Pending). p.number) (sym q.2) ∙ h.next q.0 q.1;
+    next = λ p e. let q = unmarked u.pending p e in numbered q.0 p (h.next q.0 q.1) q.2;
     usable = h.usable;
     written = h.written;
     remote = h.remote;
     missing = λ p a e k. let q = unmarked u.pending p e in h.missing q.0 a q.1 (rw (ap (λ (p : Pending). p.missing) q.2) k);
-    reading = λ p rec e r. let q = unmarked u.pending p e in h.reading q.0 rec q.1 (record { txn = r.txn; number = r.number; name = r.name; words = ap (λ (p : Pending). p.call) q.2 ∙ r.words; found = r.found });
-    writing = λ p rec value e r. let q = unmarked u.pending p e in h.writing q.0 rec value q.1 (record { txn = r.txn; number = r.number; name = r.name; words = ap (λ (p : Pending). p.call) q.2 ∙ r.words; found = r.found });
+    reading = λ p rec e r. let q = unmarked u.pending p e in h.reading q.0 rec q.1 (called_reads q.0 p rec q.2 r);
+    writing = λ p rec value e r. let q = unmarked u.pending p e in h.writing q.0 rec value q.1 (called_writes q.0 p rec value q.2 r);
   }
     where
+      numbered : (a p : Pending) → a.number ≡ length u.answers + 1 → record a { marked = true } ≡ p → p.number ≡ length u.answers + 1
+      numbered a p n e = ap (λ (p : Pending). p.number) (sym e) ∙ n
+
+      called_reads : (a p : Pending) (rec : ℕ) → record a { marked = true } ≡ p → Reads catalogue p rec → Reads catalogue a rec
+      called_reads a p rec e r = record { txn = r.txn; number = r.number; name = r.name; words = ap (λ (p : Pending). p.call) e ∙ r.words; found = r.found }
+
+      called_writes : (a p : Pending) (rec : ℕ) (value : List ℕ) → record a { marked = true } ≡ p → Writes catalogue p rec value → Writes catalogue a rec value
+      called_writes a p rec value e r = record { txn = r.txn; number = r.number; name = r.name; words = ap (λ (p : Pending). p.call) e ∙ r.words; found = r.found }
+
       unmarked : (o : Option Pending) (p : Pending) → marked_call o ≡ Some p → (a : Pending) × (o ≡ Some a) × (record a { marked = true } ≡ p)
       unmarked None p e = cc
       unmarked (Some a) p e = (a, refl, cc)

@@ -33,6 +33,6 @@ pub mod TableShares
 pub mod InvShares
 pub mod InvOps
 pub mod InvAnswers
-pub mod EntryWords
 pub mod InvEntered
+pub mod EntryWords
 pub mod Remaining

@@ -1,10 +1,11 @@
 -- What the journal tells of transactions, and what the votes on a live one have left.
-use Rattle.std.specs.Prelude.{◌≡◌, ℕ, false, Some}
+use Rattle.std.specs.Prelude.{◌≡◌, ℕ, false, Some, true}
 use Rattle.std.specs.List.{Contains, AllPairs}
-use Rattle.vp_model.specs.Types.{TxnId, Commit, Live}
+use Rattle.vp_model.specs.Types.{TxnId, View, Commit, Live, Op}
+use Rattle.vp_model.specs.Types.op
 use Rattle.vp_model.specs.Types.message
 use Rattle.vp_model.specs.Words.{same_txn, is_empty}
-use Rattle.vp_model.specs.Catalogue.{Catalogue}
+use Rattle.vp_model.specs.Catalogue.{Catalogue, accessible}
 use Rattle.vp_model.specs.Durable.{Doubt}
 use Rattle.vp_model.specs.Site.{SiteState}
 use Rattle.vp_model.specs.Transactions.{last_writes, writes_held}
@@ -28,3 +29,13 @@ doubts_of w site = doubts_in (place_of site w.places)
 abbrev pub VotesLeaveDoubts : Catalogue → WorldState → Type 0
 VotesLeaveDoubts catalogue w =
     (from to : ℕ) (txn : TxnId) (x : SiteState) (t : Live) → Contains w.sent (record { from = from; to = to; message = message.Vote txn }) → site_of w txn.site ≡ Some x → Contains x.live t → t.txn ≡ txn → is_empty (writes_held catalogue from (last_writes t.ops)) ≡ false → Contains (doubts_of w from) (txn, t.view, writes_held catalogue from (last_writes t.ops))
+
+-- the record of an operation
+abbrev pub record_in : Op → ℕ
+record_in (op.Read rec value) = rec
+record_in (op.Write rec value) = rec
+
+-- each entry is of an agreed view, of which its coordinator is a member, and in which each record that it uses is accessible
+abbrev pub EntriesAreAccessible : Catalogue → WorldState → Type 0
+EntriesAreAccessible catalogue w =
+    (e : Commit) → Contains w.journal e → (v : View) × Contains w.agreed v × (v.id ≡ e.view) × Contains v.members e.txn.site × ((operation : Op) → Contains e.ops operation → accessible catalogue (record_in operation) v.members ≡ true)
