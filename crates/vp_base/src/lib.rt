@@ -1,6 +1,7 @@
 //! The types that sites, logs, clients and schedules share.
 //!
-//! A contract sees an identifier as a number, a name as its bytes, and a list type as a list.
+//! A contract sees an identifier as a number, a name as its bytes, and a list type as a list. Names, values, views and
+//! transactions are read from text with the exact place of a fault; `proofs/` has the laws of their texts.
 #![tactic(auto)]
 
 mod answer;
@@ -15,6 +16,8 @@ mod message;
 mod places;
 mod seq;
 mod site;
+#[cfg(test)]
+mod tests;
 mod text;
 mod txn_text;
 mod view_text;

@@ -52,7 +52,7 @@ impl Name {
         })
     }
 
-    /// Takes a name from the front of what is left, as long as it goes.
+    /// Takes a name from the front of what is left, as long as it goes. Without memory the cursor stands behind it.
     pub fn take(alloc: Global, cursor: &mut Cursor) -> Result<Name, LineFault>
         ensures taken { Tries (λ a. a) line_left result cursor.new (word_at (has classes.Name) (most classes.Name) cursor.old) }
         ensures allowed { IfOk result (λ a. IsName a a) }
@@ -123,7 +123,7 @@ impl Value {
         })
     }
 
-    /// Takes a value from the front of what is left, as long as it goes.
+    /// Takes a value from the front of what is left, as long as it goes. Without memory the cursor stands behind it.
     pub fn take(alloc: Global, cursor: &mut Cursor) -> Result<Value, LineFault>
         ensures taken { Tries (λ a. a) line_left result cursor.new (word_at (has classes.Value) (most classes.Value) cursor.old) }
         ensures allowed { IfOk result (λ a. IsValue a a) }

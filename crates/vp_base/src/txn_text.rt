@@ -1,6 +1,6 @@
 //! The text of a transaction, SITE.LIFE.SEQ.
 
-ghost use Rattle.std.specs.Prelude.{◌≡◌, ◌++◌, OnOk};
+ghost use Rattle.std.specs.Prelude.{◌≡◌, ◌++◌, OnOk, OnErr, length, take};
 ghost use Rattle.vp_text.specs.Meaning.{Answers};
 ghost use Rattle.vp_text.specs.Reading.{Reads, whole, number_at};
 ghost use Rattle.vp_base.specs.Identifiers.{IsTxnText, txn_text};
@@ -58,9 +58,11 @@ impl TxnId {
         Ok(TxnId { site, life, seq })
     }
 
-    /// Appends the text of the transaction. Without memory a beginning of it may stand there.
+    /// Appends the text of the transaction. Without memory a beginning of it may stand behind the
+    /// bytes that were there.
     pub fn print(&self, out: &mut Vec<u8>) -> Result<(), NoMemory>
-        ensures { OnOk result (out.new.items ≡ out.old.items ++ txn_text self.now) }
+        ensures ok { OnOk result (out.new.items ≡ out.old.items ++ txn_text self.now) }
+        ensures err { OnErr result (take (length out.old.items) out.new.items ≡ out.old.items) }
     {
         print_number(out, u64::from(self.site.get()))?;
         out.push(b'.')?;

@@ -1,6 +1,6 @@
 //! The text of a view, NUMBER@SITE.
 
-ghost use Rattle.std.specs.Prelude.{◌≡◌, ◌++◌, OnOk};
+ghost use Rattle.std.specs.Prelude.{◌≡◌, ◌++◌, OnOk, OnErr, length, take};
 ghost use Rattle.vp_text.specs.Meaning.{Answers};
 ghost use Rattle.vp_text.specs.Reading.{Reads, whole, number_at};
 ghost use Rattle.vp_base.specs.Identifiers.{IsViewText, view_text};
@@ -57,9 +57,11 @@ impl ViewId {
         Ok(ViewId { number, site })
     }
 
-    /// Appends the text of the view. Without memory a beginning of it may stand there.
+    /// Appends the text of the view. Without memory a beginning of it may stand behind the
+    /// bytes that were there.
     pub fn print(&self, out: &mut Vec<u8>) -> Result<(), NoMemory>
-        ensures { OnOk result (out.new.items ≡ out.old.items ++ view_text self.now) }
+        ensures ok { OnOk result (out.new.items ≡ out.old.items ++ view_text self.now) }
+        ensures err { OnErr result (take (length out.old.items) out.new.items ≡ out.old.items) }
     {
         print_number(out, self.number)?;
         out.push(b'@')?;

@@ -4,12 +4,12 @@ ghost use Rattle.std.specs.Prelude.{◌≡◌, ◌≤◌, ◌<◌, ◌++◌, ◌
 ghost use Rattle.std.specs.List.{position_from};
 ghost use Rattle.std.specs.Str.{bytes_eq};
 ghost use Rattle.vp_model.specs.Words.{keys, value_at};
-ghost use Rattle.vp_model.specs.Catalogue.{sites_of, find_record, weights_of, holders, inside, total, accessible, weight, start_copies, copies_from};
+ghost use Rattle.vp_model.specs.Catalogue.{sites_of, find_record, weights_of, holders, inside, total, accessible, weight, start_values, start_copies, copies_from};
 
 use crate::placed::Placed;
 use std::alloc::Global;
 use std::marker::Model;
-use vp_base::{Copies, CopyOf, Name, NoMemory, RecId, SiteId, Sites, Stored, Value, ViewId};
+use vp_base::{Copies, CopyOf, Name, Names, NoMemory, RecId, SiteId, Sites, Stored, Value, ViewId};
 
 /// Sites with their ports, ascending by site, and at most 256 records, which are known by their places.
 #[derive(Drop)]
@@ -170,6 +170,21 @@ impl Catalog {
         u64::from(self.total(rec)) < 2 * u64::from(self.inside(rec, members))
     }
 
+    /// The names of the records, in their order.
+    pub fn names(&self, alloc: Global) -> Result<Names, NoMemory>
+        ensures { IfOk result (λ names. names ≡ map (λ entry. entry.name) self.now.records) }
+    {
+        let names = names_of(alloc, &self.records)?;
+        Ok(Names::from_vec(names))
+    }
+
+    /// The values that the records start with, in their order.
+    pub fn start_values(&self, alloc: Global) -> Result<Vec<Value>, NoMemory>
+        ensures { IfOk result (λ values. values.items ≡ start_values self.now) }
+    {
+        values_of(alloc, &self.records)
+    }
+
     /// The copies of a site as they start: the catalogue's values, dated with the opening view.
     pub fn copies(&self, alloc: Global, site: SiteId) -> Result<Copies, NoMemory>
         ensures { IfOk result (λ copies. copies ≡ start_copies self.now site) }
@@ -177,6 +192,26 @@ impl Catalog {
         let copies = copies_at(alloc, &self.records, site)?;
         Ok(Copies::from_vec(copies))
     }
+}
+
+fn names_of(alloc: Global, records: &[Placed]) -> Result<Vec<Name>, NoMemory>
+    ensures { IfOk result (λ names. names.items ≡ map (λ entry. entry.name) records.now) }
+{
+    let mut names = Vec::new(alloc);
+    for placed in records {
+        names.push(placed.name().copy_of()?)?;
+    }
+    Ok(names)
+}
+
+fn values_of(alloc: Global, records: &[Placed]) -> Result<Vec<Value>, NoMemory>
+    ensures { IfOk result (λ values. values.items ≡ map (λ entry. entry.start) records.now) }
+{
+    let mut values = Vec::new(alloc);
+    for placed in records {
+        values.push(placed.start().copy_of()?)?;
+    }
+    Ok(values)
 }
 
 /// The copies that a site has of the records, which has to be at most 256.

@@ -7,3 +7,6 @@ mod placed;
 
 pub use catalog::Catalog;
 pub use placed::Placed;
+
+#[cfg(test)]
+mod tests;

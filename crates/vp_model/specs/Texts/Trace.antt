@@ -1,12 +1,11 @@
 -- A trace: each step's event under the number of its event line, and what it gave, one line each behind a blank.
-use Rattle.std.specs.Prelude.{ℕ, ◌+◌, ◌==◌, List, [], ◌∷◌, ◌++◌, filter, flat_map, codes}
-use Rattle.std.specs.List.{enumerate_from}
+use Rattle.std.specs.Prelude.{ℕ, ◌+◌, List, [], ◌∷◌, ◌++◌, length, drop, map, flat_map, codes}
 use Rattle.std.specs.Fmt.{decimal}
 use Rattle.vp_model.specs.Types.{Commit, Sent, Reply, Event, Shown, Line}
 use Rattle.vp_model.specs.Types.event
 use Rattle.vp_model.specs.Types.shown
 use Rattle.vp_model.specs.Catalogue.{Catalogue}
-use Rattle.vp_model.specs.World.{Schedule, numbered_lines}
+use Rattle.vp_model.specs.World.{Moment, Run, Schedule, one_event, start_run}
 use Rattle.vp_model.specs.Texts.Fields.{view_text, txn_text}
 use Rattle.vp_model.specs.Texts.Calls.{event_text}
 use Rattle.vp_model.specs.Texts.Answers.{answer_text}
@@ -50,12 +49,20 @@ abbrev pub own_line : ℕ → Event → List (ℕ × Line)
 own_line number (event.Flow count) = (number, record { event = event.Flow count; shown = shown.Nothing }) ∷ []
 own_line number _ = []
 
--- the lines under an event line
-abbrev pub lines_under : List (ℕ × Line) → ℕ × Event → List (ℕ × Line)
-lines_under lines numbered = own_line numbered.0 numbered.1 ++ filter (λ (line : ℕ × Line). line.0 == numbered.0) lines
+-- the lines under an event line: its own, and those of the steps that it adds to the run
+abbrev pub lines_under : ℕ → Event → Run → Run → List (ℕ × Line)
+lines_under number event run after =
+    own_line number event ++ map (λ (m : Moment). (m.number, m.line)) (drop (length run.moments) after.moments)
+
+-- the lines under each event line in turn
+unfoldable pub printed_from : Catalogue → ℕ → List Event → Run → List (ℕ × Line)
+printed_from catalogue number [] run = []
+printed_from catalogue number (event ∷ events) run =
+    let after = one_event catalogue number event run in
+    lines_under number event run after ++ printed_from catalogue (number + 1) events after
 
 abbrev pub printed_lines : Schedule → List (ℕ × Line)
-printed_lines s = flat_map (lines_under (numbered_lines s)) (enumerate_from 1 s.events)
+printed_lines s = printed_from s.catalogue 1 s.events (start_run s.catalogue)
 
 abbrev pub trace_text : Schedule → List ℕ
 trace_text s = flat_map (line_text s.catalogue) (printed_lines s)

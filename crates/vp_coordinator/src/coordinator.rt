@@ -1,0 +1,86 @@
+//! The coordinator of a site.
+
+ghost use Rattle.std.specs.Prelude.{◌≡◌, OnOk, [], option_copied};
+ghost use Rattle.vp_model.specs.Calls.{own_call};
+ghost use Rattle.vp_coordinator.specs.Lent.{lent_of, around};
+
+use crate::here::Here;
+use crate::sites::At;
+use crate::transactions::Transactions;
+use std::alloc::Global;
+use std::marker::Model;
+use vp_base::{Call, Effects, NoMemory, SiteId, View, ViewId};
+use vp_catalog::Catalog;
+
+/// The transactions of one life of a site.
+#[derive(Drop)]
+pub struct Coordinator {
+    id: SiteId,
+    life: u32,
+    transactions: Transactions,
+}
+
+impl Model for Coordinator {
+    ghost use Rattle.vp_coordinator.specs.Lent.{Coordinating};
+
+    ghost Value = { Coordinating };
+
+    ghost view = { λ c. record { id = c.id; life = c.life; coordinator = c.transactions } };
+}
+
+impl Coordinator {
+    /// A coordinator without transactions and decisions, which takes no memory.
+    pub fn start(alloc: Global, id: SiteId, life: u32) -> Coordinator
+        ensures { result ≡ record { id = id; life = life; coordinator = record { seq = 0; live = []; finished = []; decisions = [] } } }
+    {
+        Coordinator {
+            id,
+            life,
+            transactions: Transactions {
+                seq: 0,
+                live: Vec::new(alloc),
+                finished: Vec::new(alloc),
+                decisions: Vec::new(alloc),
+            },
+        }
+    }
+
+    pub fn id(&self) -> SiteId
+        ensures { result ≡ self.now.id }
+    {
+        self.id
+    }
+
+    pub fn life(&self) -> u32
+        ensures { result ≡ self.now.life }
+    {
+        self.life
+    }
+
+    /// Does what the call of a client at this port asks; a call that changes the view does nothing here. Without
+    /// memory the coordinator, what is here and the effects may only be dropped.
+    pub fn call(
+        &mut self,
+        catalog: &Catalog,
+        held: Option<&View>,
+        promise: ViewId,
+        here: &mut Here,
+        from: u16,
+        call: &Call,
+        effects: &mut Effects,
+    ) -> Result<(), NoMemory>
+        ensures row { OnOk result (lent_of self.new.coordinator here.new effects.new ≡
+            own_call catalog.now from call.now (around self.old.id self.old.life promise (option_copied held.entry)) (lent_of self.old.coordinator here.old effects.old)) }
+        ensures id { self.new.id ≡ self.old.id }
+        ensures life { self.new.life ≡ self.old.life }
+    {
+        let at = At {
+            catalog,
+            held,
+            id: self.id,
+            life: self.life,
+            promise,
+        };
+        self.transactions.own_call(&at, from, call, here, effects)
+    }
+}

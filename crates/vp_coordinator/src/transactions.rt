@@ -1,0 +1,327 @@
+//! The transactions that a site began, and how they end.
+
+ghost use Rattle.std.specs.Prelude.{◌≡◌, ◌++◌, ◌∷◌, [], OnOk, IfOk, Some, None, nat_le, if◌then◌else◌, length, option_copied};
+ghost use Rattle.std.specs.Option.{option_map_or};
+ghost use Rattle.vp_base.specs.declared.answer.Answer.TheVariants as answer;
+ghost use Rattle.vp_model.specs.Words.{same_txn, change_first, without_first};
+ghost use Rattle.vp_model.specs.Site.{with_reply};
+ghost use Rattle.vp_model.specs.Transactions.{live_of, finished_of, last_writes, put_live, without_live, answer_of, answers_after, with_pending_reply, with_end, with_finished, with_kept, close, keep_writes, decided, decide};
+ghost use Rattle.vp_model.specs.Calls.{handling, kept_answer, begun};
+ghost use Rattle.vp_coordinator.specs.Lent.{lent_of, told_by, told_after};
+
+use crate::effects::{commit, force, reply, send_all};
+use crate::here::Here;
+use crate::writes::{last_writes, writes_held, writing_parts};
+use std::alloc::Global;
+use std::marker::Model;
+use std::mem;
+use vp_base::{
+    Answer, CallNo, Commit, CopyOf, Effects, Ending, Finished, Live, LogRecord, Message, NoMemory,
+    Ops, Pending, Seq, SiteId, Sites, TxnId, ViewId, Writes,
+};
+use vp_catalog::Catalog;
+use vp_lists::{find_txn, put, replace_txn, take_txn, write_copies};
+
+/// The live transactions, the ends of those that have ended, and the decisions that some site has not acknowledged.
+#[derive(Drop)]
+pub struct Transactions {
+    pub seq: u32,
+    pub live: Vec<Live>,
+    pub finished: Vec<Finished>,
+    pub decisions: Vec<(TxnId, Sites)>,
+}
+
+impl Model for Transactions {
+    ghost use Rattle.vp_model.specs.Site.{CoordinatorState};
+
+    ghost Value = { CoordinatorState };
+
+    ghost view = { λ c. record { seq = c.seq; live = c.live.items; finished = c.finished.items; decisions = c.decisions.items } };
+}
+
+/// The answer that an ending gives to a call.
+fn answer_to(txn: &TxnId, number: CallNo, why: &Ending) -> Result<Answer, NoMemory>
+    ensures { IfOk result (λ answer. answer ≡ answer_of txn.now number why.now) }
+{
+    let txn = *txn;
+    Ok(match why {
+        Ending::Committed => Answer::Committed { txn, number },
+        Ending::Aborted => Answer::Aborted { txn, number },
+        Ending::LockHeld { name, at, owner } => Answer::LockHeld {
+            txn,
+            number,
+            name: name.copy_of()?,
+            at: *at,
+            owner: *owner,
+        },
+        Ending::ViewChanged { at, held, now } => Answer::ViewChanged {
+            txn,
+            number,
+            at: *at,
+            held: *held,
+            now: *now,
+        },
+        Ending::TimedOut { at } => Answer::TimedOut {
+            txn,
+            number,
+            at: *at,
+        },
+    })
+}
+
+/// A pending call is answered by the ending.
+fn answer_pending(t: &mut Live, why: &Ending, effects: &mut Effects) -> Result<(), NoMemory>
+    ensures answers { OnOk result (t.new ≡ record t.old { answers = answers_after t.old why.now }) }
+    ensures effects { OnOk result (effects.new ≡ with_pending_reply t.old.txn why.now t.old.pending effects.old) }
+{
+    if let Some(pending) = &t.pending {
+        let number = pending.number;
+        let to = pending.port;
+        reply(effects, to, answer_to(&t.txn, number, why)?)?;
+        t.answers.push(answer_to(&t.txn, number, why)?)?;
+    }
+    Ok(())
+}
+
+fn kept_answer(answers: &[Answer], number: CallNo) -> Option<&Answer>
+    ensures { option_copied result ≡ kept_answer number answers.now }
+{
+    answers.get(number.get() as usize - 1)
+}
+
+/// The answer that was given to the call of this number.
+pub fn told_again(answers: &[Answer], number: CallNo) -> Result<Option<Answer>, NoMemory>
+    ensures { IfOk result (λ told. told ≡ kept_answer number answers.now) }
+{
+    match kept_answer(answers, number) {
+        None => Ok(None),
+        Some(answer) => Ok(Some(answer.copy_of()?)),
+    }
+}
+
+/// The call that is handled counts as pending.
+pub fn handling(t: Live, p: Pending) -> Live
+    ensures { result ≡ handling t p }
+{
+    let mut t = t;
+    t.pending = Some(p);
+    t
+}
+
+/// A transaction without operations.
+pub fn new_live(alloc: Global, txn: &TxnId, view: ViewId) -> Live
+    ensures { result ≡ begun txn.now view }
+{
+    Live {
+        txn: *txn,
+        view,
+        ops: Ops::new(alloc),
+        remote: Seq::new(alloc),
+        parts: Sites::new(alloc),
+        answers: Seq::new(alloc),
+        pending: None,
+    }
+}
+
+/// Takes the transaction into the hands of a method, where there is one: an empty one of its name keeps its place.
+fn lift(live: &mut Vec<Live>, txn: &TxnId) -> Option<Live>
+    ensures lifted { result ≡ live_of txn.now live.old.items }
+    ensures back { option_map_or (λ t. change_first (λ u. same_txn u.txn t.txn) (λ u. t) live.new.items) result live.new.items ≡ live.old.items }
+{
+    let alloc = *live.allocator();
+    let empty = new_live(alloc, txn, ViewId { number: 0, site: 0 });
+    replace_txn(live, txn, empty)
+}
+
+/// The transaction goes back into its place.
+fn lay_down(live: &mut Vec<Live>, t: Live)
+    ensures { live.new.items ≡ change_first (λ u. same_txn u.txn t.txn) (λ u. t) live.old.items }
+{
+    let txn = t.txn;
+    let _ = replace_txn(live, &txn, t);
+}
+
+impl Transactions {
+    pub fn allocator(&self) -> Global {
+        *self.live.allocator()
+    }
+
+    pub fn take_up(&mut self, txn: &TxnId) -> Option<Live>
+        ensures lifted { result ≡ live_of txn.now self.old.live }
+        ensures back { option_map_or (λ t. put_live t self.new) result self.new ≡ self.old }
+    {
+        lift(&mut self.live, txn)
+    }
+
+    pub fn put_live(&mut self, t: Live)
+        ensures { self.new ≡ put_live t self.old }
+    {
+        lay_down(&mut self.live, t)
+    }
+
+    fn drop_live(&mut self, txn: &TxnId)
+        ensures { self.new ≡ without_live txn.now self.old }
+    {
+        drop_txn(&mut self.live, txn)
+    }
+
+    /// The end of the transaction is kept, beside those of the 1,023 that ended last before it.
+    fn finish(&mut self, t: Live, why: Ending, effects: &mut Effects) -> Result<(), NoMemory>
+        ensures kept { OnOk result (self.new ≡ with_finished t why self.old) }
+        ensures effects { OnOk result (effects.new ≡ with_pending_reply t.txn why t.pending effects.old) }
+    {
+        let mut t = t;
+        answer_pending(&mut t, &why, effects)?;
+        self.drop_live(&t.txn);
+        self.finished.push(Finished {
+            txn: t.txn,
+            answers: t.answers,
+            ending: why,
+        })?;
+        if self.finished.len() > 1024 {
+            self.finished.remove(0);
+        }
+        Ok(())
+    }
+
+    /// The transaction ends without a commit.
+    #[tactic(auto, unfolding(vp_model::specs::Transactions::close, vp_model::specs::Transactions::finish))]
+    pub fn close(
+        &mut self,
+        id: SiteId,
+        t: Live,
+        why: Ending,
+        here: &mut Here,
+        effects: &mut Effects,
+    ) -> Result<(), NoMemory>
+        ensures { OnOk result (lent_of self.new here.new effects.new ≡ close id t why (lent_of self.old here.old effects.old)) }
+    {
+        let told = Message::Outcome {
+            txn: t.txn,
+            commit: false,
+        };
+        send_all(effects, id, t.parts.as_slice(), &told)?;
+        here.locks.release(t.txn);
+        self.finish(t, why, effects)
+    }
+
+    fn keep_decision(&mut self, txn: &TxnId, waiting: Sites) -> Result<(), NoMemory>
+        ensures { OnOk result (self.new ≡ with_kept txn.now waiting self.old) }
+    {
+        if waiting.as_slice().is_empty() {
+            return Ok(());
+        }
+        put(&mut self.decisions, (*txn, waiting))
+    }
+
+    #[tactic(auto, unfolding(vp_model::specs::Transactions::keep_writes))]
+    fn keep_writes(
+        &mut self,
+        catalog: &Catalog,
+        id: SiteId,
+        t: &Live,
+        writes: &Writes,
+        here: &mut Here,
+        effects: &mut Effects,
+    ) -> Result<(), NoMemory>
+        requires { writes.now ≡ last_writes t.now.ops }
+        ensures { OnOk result (lent_of self.new here.new effects.new ≡ keep_writes catalog.now id t.now (lent_of self.old here.old effects.old)) }
+    {
+        let alloc = self.allocator();
+        let own = writes_held(alloc, catalog, id, writes.as_slice())?;
+        let waiting = writing_parts(alloc, catalog, t, writes.as_slice())?;
+        write_copies(&mut here.copies, &t.view, own.as_slice())?;
+        force(
+            effects,
+            LogRecord::Commit {
+                txn: t.txn,
+                view: t.view,
+                writes: own,
+                waiting: waiting.copy_of()?,
+            },
+        )?;
+        self.keep_decision(&t.txn, waiting)
+    }
+
+    #[tactic(auto, unfolding(vp_model::specs::Transactions::decided, vp_model::specs::Transactions::finish))]
+    fn decided(
+        &mut self,
+        id: SiteId,
+        t: Live,
+        here: &mut Here,
+        effects: &mut Effects,
+    ) -> Result<(), NoMemory>
+        ensures { OnOk result (lent_of self.new here.new effects.new ≡ decided id t (lent_of self.old here.old effects.old)) }
+    {
+        let mut t = t;
+        let none = Ops::new(self.allocator());
+        let ops = mem::replace(&mut t.ops, none);
+        commit(
+            effects,
+            Commit {
+                txn: t.txn,
+                view: t.view,
+                ops,
+            },
+        )?;
+        let told = Message::Outcome {
+            txn: t.txn,
+            commit: true,
+        };
+        send_all(effects, id, t.parts.as_slice(), &told)?;
+        here.locks.release(t.txn);
+        self.finish(t, Ending::Committed, effects)
+    }
+
+    /// The transaction commits.
+    #[tactic(auto, unfolding(vp_model::specs::Transactions::decide))]
+    pub fn decide(
+        &mut self,
+        catalog: &Catalog,
+        id: SiteId,
+        t: Live,
+        here: &mut Here,
+        effects: &mut Effects,
+    ) -> Result<(), NoMemory>
+        ensures { OnOk result (lent_of self.new here.new effects.new ≡ decide catalog.now id t (lent_of self.old here.old effects.old)) }
+    {
+        let writes = last_writes(self.allocator(), t.ops.as_slice())?;
+        if writes.as_slice().is_empty() {
+            return self.decided(id, t, here, effects);
+        }
+        self.keep_writes(catalog, id, &t, &writes, here, effects)?;
+        self.decided(id, t, here, effects)
+    }
+
+    /// What a call is told whose transaction is not live.
+    pub fn told_after(&self, txn: &TxnId, number: CallNo) -> Result<Option<Answer>, NoMemory>
+        ensures { IfOk result (λ told. told ≡ told_after txn.now number (finished_of txn.now self.now.finished)) }
+    {
+        told_in(&self.finished, txn, number)
+    }
+}
+
+fn told_in(finished: &[Finished], txn: &TxnId, number: CallNo) -> Result<Option<Answer>, NoMemory>
+    ensures { IfOk result (λ told. told ≡ told_after txn.now number (finished_of txn.now finished.now)) }
+{
+    match find_txn(finished, txn) {
+        None => Ok(Some(Answer::Unknown { txn: *txn })),
+        Some(f) => told_by(f, number),
+    }
+}
+
+fn told_by(f: &Finished, number: CallNo) -> Result<Option<Answer>, NoMemory>
+    ensures { IfOk result (λ told. told ≡ told_by number f.now) }
+{
+    let answers = f.answers.as_slice();
+    if number.get() as usize > answers.len() {
+        return Ok(Some(answer_to(&f.txn, number, &f.ending)?));
+    }
+    told_again(answers, number)
+}
+
+fn drop_txn(live: &mut Vec<Live>, txn: &TxnId)
+    ensures { live.new.items ≡ without_first (λ u. same_txn u.txn txn.now) live.old.items }
+{
+    let _ = take_txn(live, txn);
+}

@@ -1,0 +1,10 @@
+use Rattle.std.proofs.Common.{lit<}
+use Rattle.vp_outside.proofs.Pieces.{given-next}
+use Rattle.vp_outside.proofs.sources.SureSourceSource.take.Goals as goal
+
+pub returns-clause-bytes : goal.returns-clause-bytes
+returns-clause-bytes c =
+    let text = c.args.self.now.text in
+    let gave = c.give.ensures in
+    let next = given-next text.bytes.items c.args.buf.now c.give.new.buf text.at c.give.result _ gave.count gave.given c.give.auto.buf (lit< tt) in
+    rw (gave.bytes, gave.at) next

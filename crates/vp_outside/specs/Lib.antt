@@ -1,0 +1,4 @@
+pub mod Causes
+pub mod Input
+pub mod Output
+pub mod Plans

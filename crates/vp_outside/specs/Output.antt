@@ -1,0 +1,22 @@
+-- What a sink gets, and what the faults of an output say.
+use Rattle.std.specs.Prelude.{ℕ, ◌≤◌, ◌<◌, ◌≡◌, List, length, take, Result, OnOk, IfOk, IsErrOf}
+use Rattle.std.specs.declared.option.Option.{Option}
+use Rattle.std.specs.Io.KnownBytes.{Appends}
+use Rattle.vp_outside.specs.Causes.{Rose}
+use Rattle.vp_outside.specs.declared.sink.OutFault.{OutFault}
+use Rattle.vp_outside.specs.declared.sink.OutFault.TheVariants.{Failed, NoMemory}
+
+-- of a piece that isn't empty a byte or more is taken
+abbrev pub TakesSome : {E : Type 0} → Result ℕ E → List ℕ → Type 0
+TakesSome result piece = IfOk result (λ n. 0 < length piece → 0 < n)
+
+-- the bytes that a sink holds, where it tells them, grow by a prefix of these
+abbrev pub AppendsPrefix : Option (List ℕ) → Option (List ℕ) → List ℕ → Type 0
+AppendsPrefix held held' bytes = (n : ℕ) × (n ≤ length bytes) × Appends held held' (take n bytes)
+
+-- The sink's count of failures rose where the answer is Failed, and stayed as it was at any other.
+pub record HasOutCause {T : Type 0} (before now : ℕ) (result : Result T OutFault) : Type 0 where
+  pub later : before ≤ now
+  pub failed : IsErrOf result Failed → Rose before now
+  pub ok : OnOk result (now ≡ before)
+  pub no_memory : IsErrOf result NoMemory → now ≡ before

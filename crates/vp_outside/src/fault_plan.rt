@@ -1,0 +1,38 @@
+//! Which calls of an object in memory fail.
+
+ghost use Rattle.std.specs.Prelude.{if◌then◌else◌, ◌≡◌, IsTrue};
+ghost use Rattle.vp_outside.specs.Causes.{count_after};
+ghost use Rattle.vp_outside.specs.Plans.{CountsCall};
+
+/// The numbers of the calls that are to fail. The first call has number 1.
+#[derive(Drop)]
+pub struct FaultPlan {
+    pub failing: Vec<u64>,
+    pub calls: u64,
+    pub faults: u64,
+}
+
+impl FaultPlan {
+    pub fn new(failing: Vec<u64>) -> FaultPlan
+        ensures { result ≡ record { failing = failing; calls = 0; faults = 0 } }
+    {
+        FaultPlan {
+            failing,
+            calls: 0,
+            faults: 0,
+        }
+    }
+
+    /// Counts a call, and answers whether it is to fail. That is counted as a fault.
+    pub fn fails_now(&mut self) -> bool
+        ensures counted { CountsCall self.old self.new (IsTrue result) }
+        ensures faults { self.new.faults ≡ (if result then count_after self.old.faults 1 else self.old.faults) }
+    {
+        self.calls = self.calls.saturating_add(1);
+        let fails = self.failing.contains(&self.calls);
+        if fails {
+            self.faults = self.faults.saturating_add(1);
+        }
+        fails
+    }
+}

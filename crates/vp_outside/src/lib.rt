@@ -1,0 +1,19 @@
+//! The world outside as traits, whose objects count their failures, and forms of them in memory.
+#![tactic(auto)]
+
+mod adapters;
+mod fault_plan;
+mod sink;
+mod sinks;
+mod source;
+mod sources;
+
+pub use adapters::{Reading, Writing};
+pub use fault_plan::FaultPlan;
+pub use sink::{OutFault, Sink, write_all};
+pub use sinks::{SureSink, TextSink};
+pub use source::{Failed, InputFault, Source, read_to_end};
+pub use sources::{SureSource, TextSource};
+
+#[cfg(test)]
+mod tests;

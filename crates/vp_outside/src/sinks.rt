@@ -1,0 +1,111 @@
+//! Sinks in memory.
+
+ghost use Rattle.std.specs.Prelude.{◌≡◌, ◌<◌, [], Some, length, min, IsErr, IsErrOf, IfOk};
+ghost use Rattle.std.specs.Io.{WritesAtMost};
+ghost use Rattle.std.specs.Io.KnownBytes.{WriteAppends};
+ghost use Rattle.vp_outside.specs.Output.{TakesSome, HasOutCause};
+ghost use Rattle.vp_outside.specs.Plans.{CountsCall};
+
+use crate::fault_plan::FaultPlan;
+use crate::sink::{OutFault, Sink};
+use std::alloc::Global;
+
+/// Collects bytes in memory, with a plan of the calls that fail. It tells what it holds.
+#[derive(Drop)]
+pub struct TextSink {
+    bytes: Vec<u8>,
+    /// The calls that fail. A call that finds no memory isn't counted there.
+    pub plan: FaultPlan,
+    /// How many bytes a call takes at most.
+    pub most: usize,
+    ghost some: { 0 < most },
+}
+
+impl TextSink {
+    /// The calls with these numbers will fail. The first call has number 1.
+    pub fn new(alloc: Global, failing: Vec<u64>) -> TextSink
+        ensures held { ⟦<TextSink as Sink>⟧.held result ≡ Some [] }
+        ensures plan { result.plan ≡ record { failing = failing; calls = 0; faults = 0 } }
+        ensures most { result.most ≡ usize.MAX }
+    {
+        TextSink {
+            bytes: Vec::new(alloc),
+            plan: FaultPlan::new(failing),
+            most: usize::MAX,
+        }
+    }
+
+    /// What it holds.
+    pub fn bytes(&self) -> &[u8]
+        ensures { Some result.now ≡ ⟦<TextSink as Sink>⟧.held self.now }
+    {
+        &self.bytes
+    }
+}
+
+impl Sink for TextSink {
+    ghost held = { λ s. Some s.bytes.items };
+
+    ghost faults = { λ s. s.plan.faults };
+
+    fn faults(&self) -> u64 {
+        self.plan.faults
+    }
+
+    fn put(&mut self, piece: &[u8]) -> Result<usize, OutFault>
+        ensures bound { WritesAtMost result piece.now }
+        ensures some { TakesSome result piece.now }
+        ensures bytes { WriteAppends (⟦<TextSink as Sink>⟧.held self.old) (⟦<TextSink as Sink>⟧.held self.new) result piece.now }
+        ensures cause { HasOutCause (⟦<TextSink as Sink>⟧.faults self.old) (⟦<TextSink as Sink>⟧.faults self.new) result }
+        ensures plan { ¬ IsErrOf result OutFault.NoMemory → CountsCall self.old.plan self.new.plan (IsErr result) }
+        ensures no_memory { IsErrOf result OutFault.NoMemory → self.new.plan ≡ self.old.plan }
+        ensures most { self.new.most ≡ self.old.most }
+        ensures piece { IfOk result (λ n. n ≡ min (length piece.now) self.old.most) }
+    {
+        let count = piece.len().min(self.most);
+        self.bytes.reserve(count)?;
+        if self.plan.fails_now() {
+            return Err(OutFault::Failed);
+        }
+        self.bytes.extend_from_slice(&piece[..count])?;
+        Ok(count)
+    }
+}
+
+/// Collects bytes in memory, and never fails but for want of it. It tells what it holds.
+#[derive(Drop)]
+pub struct SureSink {
+    bytes: Vec<u8>,
+}
+
+impl SureSink {
+    pub fn new(alloc: Global) -> SureSink
+        ensures { ⟦<SureSink as Sink>⟧.held result ≡ Some [] }
+    {
+        SureSink {
+            bytes: Vec::new(alloc),
+        }
+    }
+
+    /// What it holds.
+    pub fn bytes(&self) -> &[u8]
+        ensures { Some result.now ≡ ⟦<SureSink as Sink>⟧.held self.now }
+    {
+        &self.bytes
+    }
+}
+
+impl Sink for SureSink {
+    ghost held = { λ s. Some s.bytes.items };
+
+    ghost faults = { λ _. 0 };
+
+    fn faults(&self) -> u64 {
+        0
+    }
+
+    fn put(&mut self, piece: &[u8]) -> Result<usize, OutFault> {
+        self.bytes.extend_from_slice(piece)?;
+        Ok(piece.len())
+    }
+}

@@ -1,0 +1,144 @@
+//! Sources in memory.
+
+ghost use Rattle.std.specs.Prelude.{◌≡◌, ◌+◌, ◌-◌, ◌<◌, ◌≤◌, ◌==◌, ◌++◌, if◌then◌else◌, nat_lt, min, false, Some, length, take, drop, vec_len, IsErr, IfOk, IfSome};
+ghost use Rattle.std.specs.Io.{ReadsAtMost};
+ghost use Rattle.std.specs.Io.KnownBytes.{ReadConsumes};
+ghost use Rattle.vp_outside.specs.Causes.{HasCause};
+ghost use Rattle.vp_outside.specs.Input.{CountsTaken, TellsEnd};
+ghost use Rattle.vp_outside.specs.Plans.{CountsCall};
+
+use crate::fault_plan::FaultPlan;
+use crate::source::{Failed, Source};
+
+// Bytes that are given from the first one on.
+#[derive(Drop)]
+struct Text {
+    bytes: Vec<u8>,
+    at: usize,
+    ended: bool,
+    ghost within: { at ≤ vec_len bytes },
+}
+
+impl Text {
+    fn new(bytes: Vec<u8>) -> Text
+        ensures bytes { result.bytes ≡ bytes }
+        ensures at { result.at ≡ 0 }
+        ensures ended { result.ended ≡ false }
+    {
+        Text {
+            bytes,
+            at: 0,
+            ended: false,
+        }
+    }
+
+    // Gives what is left, as far as there is room and no more than `most` bytes.
+    fn give(&mut self, buf: &mut [u8], most: usize) -> usize
+        ensures count { result ≡ min (min (length buf.old) most) (length self.old.bytes.items - self.old.at) }
+        ensures given { buf.new ≡ take result (drop self.old.at self.old.bytes.items) ++ drop result buf.old }
+        ensures at { self.new.at ≡ self.old.at + result }
+        ensures bytes { self.new.bytes ≡ self.old.bytes }
+        ensures ended { self.new.ended ≡ (if nat_lt 0 (length buf.old) then result == 0 else self.old.ended) }
+    {
+        let count = buf.len().min(most).min(self.bytes.len() - self.at);
+        buf[..count].copy_from_slice(&self.bytes[self.at..self.at + count]);
+        self.at += count;
+        if !buf.is_empty() {
+            self.ended = count == 0;
+        }
+        count
+    }
+}
+
+/// A text in memory, and a plan of the calls that fail. It tells what it has left.
+#[derive(Drop)]
+pub struct TextSource {
+    text: Text,
+    /// The calls that fail.
+    pub plan: FaultPlan,
+    /// How many bytes a call gives at most.
+    pub most: usize,
+    ghost some: { 0 < most },
+}
+
+impl TextSource {
+    /// The calls with these numbers will fail. The first call has number 1.
+    pub fn new(bytes: Vec<u8>, failing: Vec<u64>) -> TextSource
+        ensures left { ⟦<TextSource as Source>⟧.left result ≡ Some bytes.items }
+        ensures taken { ⟦<TextSource as Source>⟧.taken result ≡ 0 }
+        ensures plan { result.plan ≡ record { failing = failing; calls = 0; faults = 0 } }
+        ensures most { result.most ≡ usize.MAX }
+    {
+        TextSource {
+            text: Text::new(bytes),
+            plan: FaultPlan::new(failing),
+            most: usize::MAX,
+        }
+    }
+}
+
+impl Source for TextSource {
+    ghost left = { λ s. Some (drop s.text.at s.text.bytes.items) };
+
+    ghost taken = { λ s. s.text.at };
+
+    ghost ended = { λ s. s.text.ended };
+
+    ghost faults = { λ s. s.plan.faults };
+
+    fn faults(&self) -> u64 {
+        self.plan.faults
+    }
+
+    fn take(&mut self, buf: &mut [u8]) -> Result<usize, Failed>
+        ensures bound { ReadsAtMost result buf.new }
+        ensures bytes { ReadConsumes (⟦<TextSource as Source>⟧.left self.old) (⟦<TextSource as Source>⟧.left self.new) result buf.new }
+        ensures count { CountsTaken (⟦<TextSource as Source>⟧.taken self.old) (⟦<TextSource as Source>⟧.taken self.new) result }
+        ensures end { TellsEnd (⟦<TextSource as Source>⟧.ended self.new) result buf.new }
+        ensures cause { HasCause (⟦<TextSource as Source>⟧.faults self.old) (⟦<TextSource as Source>⟧.faults self.new) result }
+        ensures plan { CountsCall self.old.plan self.new.plan (IsErr result) }
+        ensures most { self.new.most ≡ self.old.most }
+        ensures piece { IfOk result (λ n. IfSome (⟦<TextSource as Source>⟧.left self.old) (λ left.
+            n ≡ min (min (length buf.old) self.old.most) (length left))) }
+    {
+        if self.plan.fails_now() {
+            return Err(Failed);
+        }
+        Ok(self.text.give(buf, self.most))
+    }
+}
+
+/// A text in memory that never fails. It tells what it has left.
+#[derive(Drop)]
+pub struct SureSource {
+    text: Text,
+}
+
+impl SureSource {
+    pub fn new(bytes: Vec<u8>) -> SureSource
+        ensures left { ⟦<SureSource as Source>⟧.left result ≡ Some bytes.items }
+        ensures taken { ⟦<SureSource as Source>⟧.taken result ≡ 0 }
+    {
+        SureSource {
+            text: Text::new(bytes),
+        }
+    }
+}
+
+impl Source for SureSource {
+    ghost left = { λ s. Some (drop s.text.at s.text.bytes.items) };
+
+    ghost taken = { λ s. s.text.at };
+
+    ghost ended = { λ s. s.text.ended };
+
+    ghost faults = { λ _. 0 };
+
+    fn faults(&self) -> u64 {
+        0
+    }
+
+    fn take(&mut self, buf: &mut [u8]) -> Result<usize, Failed> {
+        Ok(self.text.give(buf, usize::MAX))
+    }
+}

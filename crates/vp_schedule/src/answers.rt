@@ -1,0 +1,209 @@
+//! What a client is told.
+
+ghost use Rattle.std.specs.Prelude.{◌≡◌, ◌++◌, ◌∷◌, [], OnOk, codes};
+ghost use Rattle.std.specs.Fmt.{decimal};
+ghost use Rattle.vp_model.specs.Texts.Answers.{answer_text, numbered_text};
+ghost use Rattle.vp_model.specs.Texts.Fields.{view_text, held_text, txn_text, owner_text};
+
+use crate::fields::{
+    print_call_name, print_count, print_held, print_owner, print_site, print_value, print_word,
+};
+use vp_base::{Answer, CallNo, Name, NoMemory, Owner, SiteId, TxnId, Value, ViewId};
+use vp_text::print_number;
+
+fn print_numbered(
+    out: &mut Vec<u8>,
+    word: &[u8],
+    txn: &TxnId,
+    number: CallNo,
+) -> Result<(), NoMemory>
+    ensures { OnOk result (out.new.items ≡ out.old.items ++ numbered_text word.now txn.now number) }
+{
+    print_word(out, word)?;
+    print_call_name(out, txn, number)
+}
+
+fn print_begun(out: &mut Vec<u8>, txn: &TxnId, view: &ViewId) -> Result<(), NoMemory>
+    ensures { OnOk result (out.new.items ≡ out.old.items ++ (codes "begun " ++ (txn_text txn.now ++ 32 ∷ view_text view.now))) }
+{
+    print_word(out, b"begun ")?;
+    txn.print(out)?;
+    out.push(b' ')?;
+    view.print(out)
+}
+
+fn print_view(out: &mut Vec<u8>, word: &[u8], view: &ViewId) -> Result<(), NoMemory>
+    ensures { OnOk result (out.new.items ≡ out.old.items ++ (word.now ++ view_text view.now)) }
+{
+    print_word(out, word)?;
+    view.print(out)
+}
+
+fn print_weights(out: &mut Vec<u8>, name: &Name, inside: u32, total: u32) -> Result<(), NoMemory>
+    ensures { OnOk result (out.new.items ≡ out.old.items ++ 32 ∷ (name.now ++ 32 ∷ (decimal inside ++ (codes " of " ++ decimal total)))) }
+{
+    out.push(b' ')?;
+    name.print(out)?;
+    out.push(b' ')?;
+    print_count(out, inside)?;
+    print_word(out, b" of ")?;
+    print_count(out, total)
+}
+
+/// Appends the weights of a record that may not be used.
+fn print_inaccessible(
+    out: &mut Vec<u8>,
+    txn: &TxnId,
+    number: CallNo,
+    name: &Name,
+    inside: u32,
+    total: u32,
+) -> Result<(), NoMemory>
+    ensures { OnOk result (out.new.items ≡ out.old.items
+        ++ (numbered_text (codes "inaccessible ") txn.now number ++ 32 ∷ (name.now ++ 32 ∷ (decimal inside ++ (codes " of " ++ decimal total))))) }
+{
+    print_numbered(out, b"inaccessible ", txn, number)?;
+    print_weights(out, name, inside, total)
+}
+
+/// Appends who has the lock, and where.
+fn print_lock_held(
+    out: &mut Vec<u8>,
+    txn: &TxnId,
+    number: CallNo,
+    name: &Name,
+    at: SiteId,
+    owner: &Owner,
+) -> Result<(), NoMemory>
+    ensures { OnOk result (out.new.items ≡ out.old.items
+        ++ (numbered_text (codes "lockheld ") txn.now number ++ 32 ∷ (name.now ++ (codes " at " ++ (decimal at ++ (codes " by " ++ owner_text owner.now)))))) }
+{
+    print_numbered(out, b"lockheld ", txn, number)?;
+    out.push(b' ')?;
+    name.print(out)?;
+    print_word(out, b" at ")?;
+    print_site(out, at)?;
+    print_word(out, b" by ")?;
+    print_owner(out, owner)
+}
+
+fn print_change(
+    out: &mut Vec<u8>,
+    at: SiteId,
+    held: &ViewId,
+    now: &Option<ViewId>,
+) -> Result<(), NoMemory>
+    ensures { OnOk result (out.new.items ≡ out.old.items
+        ++ (codes " at " ++ (decimal at ++ (codes " held " ++ (view_text held.now ++ (codes " now " ++ held_text now.now)))))) }
+{
+    print_word(out, b" at ")?;
+    print_site(out, at)?;
+    print_word(out, b" held ")?;
+    held.print(out)?;
+    print_word(out, b" now ")?;
+    print_held(out, now)
+}
+
+/// Appends which view a site held in place of the transaction's.
+fn print_view_changed(
+    out: &mut Vec<u8>,
+    txn: &TxnId,
+    number: CallNo,
+    at: SiteId,
+    held: &ViewId,
+    now: &Option<ViewId>,
+) -> Result<(), NoMemory>
+    ensures { OnOk result (out.new.items ≡ out.old.items
+        ++ (numbered_text (codes "viewchanged ") txn.now number ++ (codes " at " ++ (decimal at ++ (codes " held " ++ (view_text held.now ++ (codes " now " ++ held_text now.now))))))) }
+{
+    print_numbered(out, b"viewchanged ", txn, number)?;
+    print_change(out, at, held, now)
+}
+
+fn print_timed_out(
+    out: &mut Vec<u8>,
+    txn: &TxnId,
+    number: CallNo,
+    at: SiteId,
+) -> Result<(), NoMemory>
+    ensures { OnOk result (out.new.items ≡ out.old.items ++ (numbered_text (codes "timedout ") txn.now number ++ (codes " at " ++ decimal at))) }
+{
+    print_numbered(out, b"timedout ", txn, number)?;
+    print_word(out, b" at ")?;
+    print_site(out, at)
+}
+
+fn print_read(out: &mut Vec<u8>, txn: &TxnId, number: CallNo, value: &Value) -> Result<(), NoMemory>
+    ensures { OnOk result (out.new.items ≡ out.old.items ++ (numbered_text (codes "value ") txn.now number ++ 32 ∷ value.now)) }
+{
+    print_numbered(out, b"value ", txn, number)?;
+    print_value(out, value)
+}
+
+fn print_unknown(out: &mut Vec<u8>, txn: &TxnId) -> Result<(), NoMemory>
+    ensures { OnOk result (out.new.items ≡ out.old.items ++ (codes "unknown " ++ txn_text txn.now)) }
+{
+    print_word(out, b"unknown ")?;
+    txn.print(out)
+}
+
+fn print_spent(out: &mut Vec<u8>, number: u64) -> Result<(), NoMemory>
+    ensures { OnOk result (out.new.items ≡ out.old.items ++ (codes "spent " ++ decimal number)) }
+{
+    print_word(out, b"spent ")?;
+    print_number(out, number)?;
+    Ok(())
+}
+
+fn print_skipped(out: &mut Vec<u8>, txn: &TxnId, expected: CallNo) -> Result<(), NoMemory>
+    ensures { OnOk result (out.new.items ≡ out.old.items ++ (codes "skipped " ++ (txn_text txn.now ++ (codes " expected " ++ decimal expected)))) }
+{
+    print_word(out, b"skipped ")?;
+    txn.print(out)?;
+    print_word(out, b" expected ")?;
+    print_count(out, expected.get())
+}
+
+/// Appends an answer's text. Without memory a prefix of it may have been appended.
+pub fn print_answer(answer: &Answer, out: &mut Vec<u8>) -> Result<(), NoMemory>
+    ensures { OnOk result (out.new.items ≡ out.old.items ++ answer_text answer.now) }
+{
+    match answer {
+        Answer::Begun { txn, view } => print_begun(out, txn, view),
+        Answer::Value { txn, number, value } => print_read(out, txn, *number, value),
+        Answer::Written { txn, number } => print_numbered(out, b"written ", txn, *number),
+        Answer::Committed { txn, number } => print_numbered(out, b"committed ", txn, *number),
+        Answer::Aborted { txn, number } => print_numbered(out, b"aborted ", txn, *number),
+        Answer::Inviting { view } => print_view(out, b"inviting ", view),
+        Answer::NoView { promise } => print_view(out, b"noview ", promise),
+        Answer::Unknown { txn } => print_unknown(out, txn),
+        Answer::Skipped { txn, expected } => print_skipped(out, txn, *expected),
+        Answer::Busy { txn, number } => print_numbered(out, b"busy ", txn, *number),
+        Answer::NoRecord { txn, number } => print_numbered(out, b"norecord ", txn, *number),
+        Answer::TooManyOps { txn, number } => print_numbered(out, b"toomanyops ", txn, *number),
+        Answer::Inaccessible {
+            txn,
+            number,
+            name,
+            inside,
+            total,
+        } => print_inaccessible(out, txn, *number, name, *inside, *total),
+        Answer::LockHeld {
+            txn,
+            number,
+            name,
+            at,
+            owner,
+        } => print_lock_held(out, txn, *number, name, *at, owner),
+        Answer::ViewChanged {
+            txn,
+            number,
+            at,
+            held,
+            now,
+        } => print_view_changed(out, txn, *number, *at, held, now),
+        Answer::TimedOut { txn, number, at } => print_timed_out(out, txn, *number, *at),
+        Answer::Spent { number } => print_spent(out, *number),
+        Answer::TooManyLive => print_word(out, b"toomanylive 1024"),
+    }
+}

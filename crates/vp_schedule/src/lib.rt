@@ -1,0 +1,17 @@
+//! The text of schedules and traces.
+#![tactic(auto)]
+
+mod answers;
+mod calls;
+mod fields;
+mod messages;
+mod reading;
+#[cfg(test)]
+mod tests;
+mod trace;
+
+pub use answers::print_answer;
+pub use calls::{print_call, print_event};
+pub use messages::print_message;
+pub use reading::{read_call, take_call};
+pub use trace::print_line;

@@ -1,0 +1,230 @@
+//! Reading calls, as a schedule writes them behind the site.
+
+ghost use Rattle.std.specs.Prelude.{◌≡◌, ◌^◌, ◌-◌};
+ghost use Rattle.vp_text.specs.Meaning.{Answers};
+ghost use Rattle.vp_text.specs.Reading.{Reads, Tries, whole, number_at};
+ghost use Rattle.vp_base.specs.Faults.{name_place, line_left};
+ghost use Rattle.vp_schedule.specs.Grammar.{IsCallText};
+ghost use Rattle.vp_schedule.specs.Reading.{begin_at, regroup_at, bare_at, read_at, write_at, commit_at, abort_at, ending_at, change_at, deed_at, numbered_at, call_at};
+
+use std::alloc::Global;
+use vp_base::{Call, CallNo, LineFault, Name, NameFault, TxnId, Value};
+use vp_text::{Cursor, Unexpected};
+
+/// The call that the whole text is. `BadName` says how many bytes of the text begin one.
+pub fn read_call(alloc: Global, text: &[u8]) -> Result<Call, NameFault>
+    ensures { Answers IsCallText (λ c. c) name_place text.now result }
+{
+    let mut cursor = Cursor::new(text);
+    match take_whole(alloc, &mut cursor) {
+        Ok(call) => Ok(call),
+        Err(LineFault::NoMemory) => Err(NameFault::NoMemory),
+        Err(LineFault::Unexpected(e)) => Err(NameFault::BadName {
+            at: text.len() - e.left,
+        }),
+    }
+}
+
+fn take_whole(alloc: Global, cursor: &mut Cursor) -> Result<Call, LineFault>
+    ensures { Tries (λ c. c) line_left result cursor.new (whole call_at cursor.old) }
+{
+    let call = take_call(alloc, cursor)?;
+    cursor.end()?;
+    Ok(call)
+}
+
+/// Takes a call from the front of what is left.
+#[tactic(auto, unfolding(crate::specs::Reading::call_at))]
+pub fn take_call(alloc: Global, cursor: &mut Cursor) -> Result<Call, LineFault>
+    ensures { Tries (λ c. c) line_left result cursor.new (call_at cursor.old) }
+{
+    let mut other = cursor.fork();
+    match take_bare(cursor) {
+        Ok(call) => Ok(call),
+        Err(first) => match take_numbered(alloc, &mut other) {
+            Ok(call) => {
+                *cursor = other;
+                Ok(call)
+            }
+            Err(LineFault::NoMemory) => Err(LineFault::NoMemory),
+            Err(LineFault::Unexpected(second)) => Err(LineFault::Unexpected(first.farther(second))),
+        },
+    }
+}
+
+/// A call that names no transaction.
+#[tactic(auto, unfolding(crate::specs::Reading::bare_at))]
+fn take_bare(cursor: &mut Cursor) -> Result<Call, Unexpected>
+    ensures { Reads (λ c. c) (λ e. e.left) result cursor.new (bare_at cursor.old) }
+{
+    let mut other = cursor.fork();
+    match take_begin(cursor) {
+        Ok(call) => Ok(call),
+        Err(first) => match take_regroup(&mut other) {
+            Ok(call) => {
+                *cursor = other;
+                Ok(call)
+            }
+            Err(second) => Err(first.farther(second)),
+        },
+    }
+}
+
+#[tactic(auto, unfolding(crate::specs::Reading::begin_at))]
+fn take_begin(cursor: &mut Cursor) -> Result<Call, Unexpected>
+    ensures { Reads (λ c. c) (λ e. e.left) result cursor.new (begin_at cursor.old) }
+{
+    cursor.literal(b"begin")?;
+    Ok(Call::Begin)
+}
+
+#[tactic(auto, unfolding(crate::specs::Reading::regroup_at))]
+fn take_regroup(cursor: &mut Cursor) -> Result<Call, Unexpected>
+    ensures { Reads (λ c. c) (λ e. e.left) result cursor.new (regroup_at cursor.old) }
+{
+    cursor.literal(b"regroup")?;
+    Ok(Call::Regroup)
+}
+
+/// A call on a transaction.
+#[tactic(auto, unfolding(crate::specs::Reading::numbered_at))]
+fn take_numbered(alloc: Global, cursor: &mut Cursor) -> Result<Call, LineFault>
+    ensures { Tries (λ c. c) line_left result cursor.new (numbered_at cursor.old) }
+{
+    let txn = TxnId::take(cursor)?;
+    cursor.literal(b" ")?;
+    let number = take_number(cursor)?;
+    take_deed(alloc, cursor, &txn, number)
+}
+
+fn take_number(cursor: &mut Cursor) -> Result<CallNo, Unexpected>
+    ensures { Reads (λ n. n) (λ e. e.left) result cursor.new (number_at 1 (2 ^ 32 - 1) cursor.old) }
+{
+    let number = cursor.number_u32(1, u32::MAX)?;
+    match CallNo::new(number) {
+        Some(number) => Ok(number),
+        None => unreachable!(),
+    }
+}
+
+/// What a call does, behind its transaction and its number.
+#[tactic(auto, unfolding(crate::specs::Reading::deed_at))]
+fn take_deed(
+    alloc: Global,
+    cursor: &mut Cursor,
+    txn: &TxnId,
+    number: CallNo,
+) -> Result<Call, LineFault>
+    ensures { Tries (λ c. c) line_left result cursor.new (deed_at txn.now number cursor.old) }
+{
+    let mut other = cursor.fork();
+    match take_read(alloc, cursor, txn, number) {
+        Ok(call) => Ok(call),
+        Err(LineFault::NoMemory) => Err(LineFault::NoMemory),
+        Err(LineFault::Unexpected(first)) => match take_change(alloc, &mut other, txn, number) {
+            Ok(call) => {
+                *cursor = other;
+                Ok(call)
+            }
+            Err(LineFault::NoMemory) => Err(LineFault::NoMemory),
+            Err(LineFault::Unexpected(second)) => Err(LineFault::Unexpected(first.farther(second))),
+        },
+    }
+}
+
+#[tactic(auto, unfolding(crate::specs::Reading::read_at))]
+fn take_read(
+    alloc: Global,
+    cursor: &mut Cursor,
+    txn: &TxnId,
+    number: CallNo,
+) -> Result<Call, LineFault>
+    ensures { Tries (λ c. c) line_left result cursor.new (read_at txn.now number cursor.old) }
+{
+    cursor.literal(b" read ")?;
+    let name = Name::take(alloc, cursor)?;
+    Ok(Call::Read {
+        txn: *txn,
+        number,
+        name,
+    })
+}
+
+/// A write, or the end of a transaction.
+#[tactic(auto, unfolding(crate::specs::Reading::change_at))]
+fn take_change(
+    alloc: Global,
+    cursor: &mut Cursor,
+    txn: &TxnId,
+    number: CallNo,
+) -> Result<Call, LineFault>
+    ensures { Tries (λ c. c) line_left result cursor.new (change_at txn.now number cursor.old) }
+{
+    let mut other = cursor.fork();
+    match take_write(alloc, cursor, txn, number) {
+        Ok(call) => Ok(call),
+        Err(LineFault::NoMemory) => Err(LineFault::NoMemory),
+        Err(LineFault::Unexpected(first)) => match take_ending(&mut other, txn, number) {
+            Ok(call) => {
+                *cursor = other;
+                Ok(call)
+            }
+            Err(second) => Err(LineFault::Unexpected(first.farther(second))),
+        },
+    }
+}
+
+#[tactic(auto, unfolding(crate::specs::Reading::write_at))]
+fn take_write(
+    alloc: Global,
+    cursor: &mut Cursor,
+    txn: &TxnId,
+    number: CallNo,
+) -> Result<Call, LineFault>
+    ensures { Tries (λ c. c) line_left result cursor.new (write_at txn.now number cursor.old) }
+{
+    cursor.literal(b" write ")?;
+    let name = Name::take(alloc, cursor)?;
+    cursor.literal(b" ")?;
+    let value = Value::take(alloc, cursor)?;
+    Ok(Call::Write {
+        txn: *txn,
+        number,
+        name,
+        value,
+    })
+}
+
+/// The end of a transaction.
+#[tactic(auto, unfolding(crate::specs::Reading::ending_at))]
+fn take_ending(cursor: &mut Cursor, txn: &TxnId, number: CallNo) -> Result<Call, Unexpected>
+    ensures { Reads (λ c. c) (λ e. e.left) result cursor.new (ending_at txn.now number cursor.old) }
+{
+    let mut other = cursor.fork();
+    match take_commit(cursor, txn, number) {
+        Ok(call) => Ok(call),
+        Err(first) => match take_abort(&mut other, txn, number) {
+            Ok(call) => {
+                *cursor = other;
+                Ok(call)
+            }
+            Err(second) => Err(first.farther(second)),
+        },
+    }
+}
+
+#[tactic(auto, unfolding(crate::specs::Reading::commit_at))]
+fn take_commit(cursor: &mut Cursor, txn: &TxnId, number: CallNo) -> Result<Call, Unexpected>
+    ensures { Reads (λ c. c) (λ e. e.left) result cursor.new (commit_at txn.now number cursor.old) }
+{
+    cursor.literal(b" commit")?;
+    Ok(Call::Commit { txn: *txn, number })
+}
+
+#[tactic(auto, unfolding(crate::specs::Reading::abort_at))]
+fn take_abort(cursor: &mut Cursor, txn: &TxnId, number: CallNo) -> Result<Call, Unexpected>
+    ensures { Reads (λ c. c) (λ e. e.left) result cursor.new (abort_at txn.now number cursor.old) }
+{
+    cursor.literal(b" abort")?;
+    Ok(Call::Abort { txn: *txn, number })
+}

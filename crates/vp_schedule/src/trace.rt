@@ -1,0 +1,150 @@
+//! The lines of a trace.
+
+ghost use Rattle.std.specs.Prelude.{◌≡◌, ◌≤◌, ◌+◌, ◌<◌, ◌^◌, ◌++◌, ◌∷◌, [], OnOk, codes, flat_map, length};
+ghost use Rattle.std.specs.Fmt.{decimal};
+ghost use Rattle.vp_model.specs.Texts.Trace.{commit_line, sent_line, sent_lines, reply_line, told_line, shown_text, line_text};
+
+use crate::answers::print_answer;
+use crate::calls::print_event;
+use crate::fields::{print_count, print_site, print_word};
+use crate::messages::print_message;
+use vp_base::{Commit, Line, NoMemory, Reply, Sent, Shown, SiteId};
+use vp_catalog::Catalog;
+use vp_text::print_number;
+
+fn print_commit(commit: &Commit, out: &mut Vec<u8>) -> Result<(), NoMemory>
+    ensures { OnOk result (out.new.items ≡ out.old.items ++ commit_line commit.now) }
+{
+    print_word(out, b" commit ")?;
+    commit.txn.print(out)?;
+    out.push(b' ')?;
+    commit.view.print(out)?;
+    out.push(b'\n')?;
+    Ok(())
+}
+
+fn print_commits(commits: &[Commit], out: &mut Vec<u8>) -> Result<(), NoMemory>
+    ensures { OnOk result (out.new.items ≡ out.old.items ++ flat_map commit_line commits.now) }
+{
+    for commit in commits {
+        print_commit(commit, out)?;
+    }
+    Ok(())
+}
+
+fn print_route(out: &mut Vec<u8>, k: u64, from: SiteId, to: SiteId) -> Result<(), NoMemory>
+    ensures { OnOk result (out.new.items ≡ out.old.items ++ (decimal k ++ 32 ∷ (decimal from ++ 62 ∷ decimal to))) }
+{
+    print_number(out, k)?;
+    out.push(b' ')?;
+    print_site(out, from)?;
+    out.push(b'>')?;
+    print_site(out, to)
+}
+
+fn print_sent(catalog: &Catalog, k: u64, sent: &Sent, out: &mut Vec<u8>) -> Result<(), NoMemory>
+    ensures { OnOk result (out.new.items ≡ out.old.items ++ sent_line catalog.now k sent.now) }
+{
+    print_word(out, b" sent ")?;
+    print_route(out, k, sent.from, sent.to)?;
+    out.push(b' ')?;
+    print_message(catalog, &sent.message, out)?;
+    out.push(b'\n')?;
+    Ok(())
+}
+
+/// The messages are numbered, the first of them by `first`.
+fn print_messages(
+    catalog: &Catalog,
+    first: u64,
+    messages: &[Sent],
+    out: &mut Vec<u8>,
+) -> Result<(), NoMemory>
+    requires { first + length messages.now < 2 ^ 64 }
+    ensures { OnOk result (out.new.items ≡ out.old.items ++ sent_lines catalog.now first messages.now) }
+{
+    let mut k = first;
+    for sent in messages {
+        print_sent(catalog, k, sent, out)?;
+        k += 1;
+    }
+    Ok(())
+}
+
+fn print_reply(reply: &Reply, out: &mut Vec<u8>) -> Result<(), NoMemory>
+    ensures { OnOk result (out.new.items ≡ out.old.items ++ reply_line reply.now) }
+{
+    print_word(out, b" reply ")?;
+    print_answer(&reply.answer, out)?;
+    out.push(b'\n')?;
+    Ok(())
+}
+
+fn print_replies(replies: &[Reply], out: &mut Vec<u8>) -> Result<(), NoMemory>
+    ensures { OnOk result (out.new.items ≡ out.old.items ++ flat_map reply_line replies.now) }
+{
+    for reply in replies {
+        print_reply(reply, out)?;
+    }
+    Ok(())
+}
+
+fn print_told(out: &mut Vec<u8>, word: &[u8], number: u32) -> Result<(), NoMemory>
+    ensures { OnOk result (out.new.items ≡ out.old.items ++ told_line word.now number) }
+{
+    print_word(out, word)?;
+    print_count(out, number)?;
+    out.push(b'\n')?;
+    Ok(())
+}
+
+fn print_parted(out: &mut Vec<u8>, from: SiteId, to: SiteId) -> Result<(), NoMemory>
+    ensures { OnOk result (out.new.items ≡ out.old.items ++ (codes " cut " ++ (decimal from ++ 32 ∷ (decimal to ++ 10 ∷ [])))) }
+{
+    print_word(out, b" cut ")?;
+    print_site(out, from)?;
+    out.push(b' ')?;
+    print_site(out, to)?;
+    out.push(b'\n')?;
+    Ok(())
+}
+
+fn print_shown(catalog: &Catalog, shown: &Shown, out: &mut Vec<u8>) -> Result<(), NoMemory>
+    ensures { OnOk result (out.new.items ≡ out.old.items ++ shown_text catalog.now shown.now) }
+{
+    match shown {
+        Shown::Step {
+            commits,
+            first,
+            messages,
+            replies,
+        } => {
+            print_commits(commits.as_slice(), out)?;
+            print_messages(catalog, u64::from(*first), messages.as_slice(), out)?;
+            print_replies(replies.as_slice(), out)
+        }
+        Shown::Nothing => Ok(()),
+        Shown::NoMessage => print_word(out, b" nomessage\n"),
+        Shown::Down { site } => print_told(out, b" down ", u32::from(site.get())),
+        Shown::Parted { from, to } => print_parted(out, *from, *to),
+        Shown::Up { site } => print_told(out, b" up ", u32::from(site.get())),
+        Shown::Life { life } => print_told(out, b" life ", *life),
+        Shown::LivesSpent { life } => print_told(out, b" lives spent ", *life),
+    }
+}
+
+/// Appends the line `number EVENT` and the lines of what it gave. Without memory a prefix of it may have been appended.
+pub fn print_line(
+    number: u32,
+    line: &Line,
+    catalog: &Catalog,
+    out: &mut Vec<u8>,
+) -> Result<(), NoMemory>
+    ensures { OnOk result (out.new.items ≡ out.old.items ++ line_text catalog.now (number, line.now)) }
+{
+    print_count(out, number)?;
+    out.push(b' ')?;
+    print_event(&line.event, out)?;
+    out.push(b'\n')?;
+    print_shown(catalog, &line.shown, out)
+}
