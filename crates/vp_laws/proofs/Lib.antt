@@ -1,0 +1,45 @@
+-- words and lists
+pub mod Members
+pub mod Keeps
+pub mod Order
+pub mod Lists
+pub mod Apart
+pub mod Majorities
+-- the table in small moves, and that every step is made of them: no other file unfolds a row
+pub mod Table
+pub mod Frames
+pub mod Coordinator
+pub mod Rows
+-- what one step keeps and tells, a part of the invariant in each file
+pub mod LocalViews
+pub mod TableViews
+pub mod TableDurable
+pub mod TableLed
+pub mod TableBelow
+pub mod TableNames
+pub mod TableVotes
+pub mod OnlyCoordinator
+pub mod TableEndings
+pub mod TableSteps
+pub mod TableShares
+-- worlds and schedules
+pub mod Scenes
+pub mod Events
+pub mod Worlds
+-- the invariant in every world, each group above the ones before it
+pub mod InvViews
+pub mod Agreement
+pub mod InvLed
+pub mod InvBelow
+pub mod InvNames
+pub mod InvVotes
+pub mod InvEndings
+pub mod InvShares
+pub mod InvOps
+pub mod InvAnswers
+pub mod InvEntered
+-- the laws in the words of the contracts
+pub mod Words
+pub mod EntryWords
+-- what is stated and not proved yet
+pub mod Remaining

@@ -1,0 +1,5 @@
+use Rattle.vp_laws.proofs.EntryWords.{entered}
+use Rattle.vp_laws.proofs.claims.commits_are_accessible.Goals as goal
+
+pub returns : goal.returns
+returns c = entered

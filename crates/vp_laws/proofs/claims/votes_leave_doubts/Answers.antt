@@ -1,0 +1,5 @@
+use Rattle.vp_laws.proofs.EntryWords.{doubted}
+use Rattle.vp_laws.proofs.claims.votes_leave_doubts.Goals as goal
+
+pub returns : goal.returns
+returns c = doubted

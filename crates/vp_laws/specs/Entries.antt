@@ -1,0 +1,41 @@
+-- What the journal tells of transactions, and what the votes on a live one have left.
+use Rattle.std.specs.Prelude.{◌≡◌, ℕ, false, Some, true}
+use Rattle.std.specs.List.{Contains, AllPairs}
+use Rattle.vp_model.specs.Types.{TxnId, View, Commit, Live, Op}
+use Rattle.vp_model.specs.Types.op
+use Rattle.vp_model.specs.Types.message
+use Rattle.vp_model.specs.Words.{same_txn, is_empty}
+use Rattle.vp_model.specs.Catalogue.{Catalogue, accessible}
+use Rattle.vp_model.specs.Durable.{Doubt}
+use Rattle.vp_model.specs.Site.{SiteState}
+use Rattle.vp_model.specs.Transactions.{last_writes, writes_held}
+use Rattle.vp_model.specs.World.{Place, WorldState, place_of, site_of}
+use Rattle.std.specs.Prelude.{Option, None, List, []}
+
+-- no two entries are of one transaction
+abbrev pub IsOnce : List Commit → Type 0
+IsOnce journal = AllPairs (λ (a : Commit) (b : Commit). same_txn a.txn b.txn ≡ false) journal
+
+abbrev pub doubts_in : Option Place → List Doubt
+doubts_in None = []
+doubts_in (Some place) = place.durable.doubts
+
+-- what a site is in doubt about, be it up or down
+abbrev pub doubts_of : WorldState → ℕ → List Doubt
+doubts_of w site = doubts_in (place_of site w.places)
+
+-- while a transaction is live, each site that voted on it and holds a record that it wrote is in doubt about it, in its view
+-- and with its last values there
+abbrev pub VotesLeaveDoubts : Catalogue → WorldState → Type 0
+VotesLeaveDoubts catalogue w =
+    (from to : ℕ) (txn : TxnId) (x : SiteState) (t : Live) → Contains w.sent (record { from = from; to = to; message = message.Vote txn }) → site_of w txn.site ≡ Some x → Contains x.live t → t.txn ≡ txn → is_empty (writes_held catalogue from (last_writes t.ops)) ≡ false → Contains (doubts_of w from) (txn, t.view, writes_held catalogue from (last_writes t.ops))
+
+-- the record of an operation
+abbrev pub record_in : Op → ℕ
+record_in (op.Read rec value) = rec
+record_in (op.Write rec value) = rec
+
+-- each entry is of an agreed view, of which its coordinator is a member, and in which each record that it uses is accessible
+abbrev pub EntriesAreAccessible : Catalogue → WorldState → Type 0
+EntriesAreAccessible catalogue w =
+    (e : Commit) → Contains w.journal e → (v : View) × Contains w.agreed v × (v.id ≡ e.view) × Contains v.members e.txn.site × ((operation : Op) → Contains e.ops operation → accessible catalogue (record_in operation) v.members ≡ true)
