@@ -1,0 +1,4 @@
+pub mod Codes
+pub mod Alone
+pub mod Program
+pub mod Ends

@@ -1,0 +1,36 @@
+//! The program: makes the real objects, calls the top call, and exits with its status.
+#![tactic(auto)]
+
+use std::alloc::AllocError;
+use std::process::ExitCode;
+use std::{env, io};
+use vp_outside::{Reading, Writing};
+use vp_top::{Status, Word, run};
+
+/// The words of the command line, without the program's name.
+fn words_of(args: env::Args, words: &mut Vec<Word>) -> Result<(), AllocError> {
+    for arg in args.skip(1) {
+        words.push(Word::from_vec(arg.into_bytes()))?;
+    }
+    Ok(())
+}
+
+/// Where a word isn't text there is no list of words, which is no command.
+fn read_words(rt: &HostRuntime, words: &mut Vec<Word>) -> Result<(), AllocError> {
+    match env::args(rt) {
+        Ok(args) => words_of(args, words),
+        Err(fault) if fault.kind() == io::ErrorKind::OutOfMemory => Err(AllocError),
+        Err(_) => Ok(()),
+    }
+}
+
+fn main(rt: HostRuntime) -> ExitCode {
+    let mut words = Vec::new(rt.alloc());
+    if read_words(&rt, &mut words).is_err() {
+        return ExitCode::from(Status::NoMemory.code());
+    }
+    let mut source = Reading::new(rt.stdin());
+    let mut sink = Writing::new(rt.stdout());
+    let status = run(rt.alloc(), &words, &mut source, &mut sink);
+    ExitCode::from(status.code())
+}
