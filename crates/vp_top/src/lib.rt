@@ -10,3 +10,6 @@ mod words;
 pub use program::{MOST_BYTES, run};
 pub use status::Status;
 pub use words::Word;
+
+#[cfg(test)]
+mod tests;

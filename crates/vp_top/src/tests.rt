@@ -1,0 +1,137 @@
+//! Runs of the program over sources and sinks in memory.
+
+use crate::{Status, Word, run};
+use std::alloc::{AllocError, Global};
+use std::test::Fail;
+use vp_outside::{SureSink, SureSource, TextSink, TextSource};
+
+fn words(alloc: Global, texts: &[&str]) -> Result<Vec<Word>, AllocError> {
+    let mut words = Vec::new(alloc);
+    for text in texts {
+        words.push(Word::from_vec(Vec::from_slice(alloc, text.as_bytes())?))?;
+    }
+    Ok(words)
+}
+
+fn replay(alloc: Global, input: &str, sink: &mut SureSink) -> Result<Status, AllocError> {
+    let mut source = SureSource::new(Vec::from_slice(alloc, input.as_bytes())?);
+    let words = words(alloc, &["replay"])?;
+    Ok(run(alloc, &words, &mut source, sink))
+}
+
+const HEAD: &str = "site 1 7001\nrecord x 10 1:1\nevents\n";
+
+/// Inputs with their statuses and what is printed.
+const RUNS: [(&str, Status, &str); 12] = [
+    (
+        "site 1 7001\nrecord x 10 1:1\nevents\n",
+        Status::Done,
+        "history\nstart x 10\nend 0\n",
+    ),
+    (
+        "site 1 7001\nrecord x 10 1:1\nevents\ncall 1 begin\ncall 1 1.1.1 1 read x\ncall 1 1.1.1 2 write x 11\ncall 1 1.1.1 3 commit\ncall 1 begin\ncall 1 1.1.2 1 read x\ncall 1 1.1.2 2 commit\n",
+        Status::Done,
+        "1 call 1 begin\n reply begun 1.1.1 0@0\n2 call 1 1.1.1 1 read x\n reply value 1.1.1 1 10\n3 call 1 1.1.1 2 write x 11\n reply written 1.1.1 2\n4 call 1 1.1.1 3 commit\n commit 1.1.1 0@0\n reply committed 1.1.1 3\n5 call 1 begin\n reply begun 1.1.2 0@0\n6 call 1 1.1.2 1 read x\n reply value 1.1.2 1 11\n7 call 1 1.1.2 2 commit\n commit 1.1.2 0@0\n reply committed 1.1.2 2\nhistory\nstart x 10\ncommit 1.1.1 0@0 r x 10 w x 11\ncommit 1.1.2 0@0 r x 11\nend 2\n",
+    ),
+    (
+        "site 1 7001\nrecord x 10 1:1\nevents\ncall 1 begin\ncall 1 begin\ncall 1 1.1.1 1 write x 11\ncall 1 1.1.2 1 read x\ncall 1 1.1.2 2 commit\ncall 1 1.1.3 1 commit\n",
+        Status::Done,
+        "1 call 1 begin\n reply begun 1.1.1 0@0\n2 call 1 begin\n reply begun 1.1.2 0@0\n3 call 1 1.1.1 1 write x 11\n reply written 1.1.1 1\n4 call 1 1.1.2 1 read x\n reply lockheld 1.1.2 1 x at 1 by 1.1.1\n5 call 1 1.1.2 2 commit\n reply lockheld 1.1.2 2 x at 1 by 1.1.1\n6 call 1 1.1.3 1 commit\n reply unknown 1.1.3\nhistory\nstart x 10\nend 0\n",
+    ),
+    ("", Status::Unbuilt, "unbuilt\n"),
+    ("\u{7f}\u{0}\n", Status::Unbuilt, "unbuilt\n"),
+    (
+        "site 1 7001\nrecord x 10 1:1\nevents",
+        Status::Unbuilt,
+        "unbuilt\n",
+    ),
+    (
+        "site 1 7001\nrecord x 10 1:1\nevents\ncall 1 begin",
+        Status::Unbuilt,
+        "unbuilt\n",
+    ),
+    (
+        "site 1 7001\nrecord x 10 1:1\nevents\ncall 1 regroup\n",
+        Status::Unbuilt,
+        "unbuilt\n",
+    ),
+    (
+        "site 1 7001\nrecord x 10 1:1\nevents\ncall 2 begin\n",
+        Status::Unbuilt,
+        "unbuilt\n",
+    ),
+    (
+        "site 1 7001\nrecord x 10 1:1\nevents\ncall 1 1.1.1 1 read y\n",
+        Status::Unbuilt,
+        "unbuilt\n",
+    ),
+    (
+        "site 1 7001\nrecord x 10 1:0\nevents\n",
+        Status::Unbuilt,
+        "unbuilt\n",
+    ),
+    (
+        "site 1 7001\nrecord x 10 1:1\nevents\n\n",
+        Status::Unbuilt,
+        "unbuilt\n",
+    ),
+];
+
+#[test]
+fn inputs_give_their_status_and_text(rt: HostRuntime) -> Result<(), Fail> {
+    for (input, status, text) in RUNS {
+        let mut sink = SureSink::new(rt.alloc());
+        let end = replay(rt.alloc(), input, &mut sink)?;
+        assert!(rt; end == status, "{input}");
+        assert!(rt; sink.bytes() == text.as_bytes(), "{input}");
+    }
+    Ok(())
+}
+
+#[test]
+fn other_words_are_no_command(rt: HostRuntime) -> Result<(), Fail> {
+    for texts in [
+        [].as_slice(),
+        ["replay", "-", "--"].as_slice(),
+        ["replay", "--help"].as_slice(),
+        ["Replay"].as_slice(),
+    ] {
+        let words = words(rt.alloc(), texts)?;
+        let mut source = SureSource::new(Vec::new(rt.alloc()));
+        let mut sink = SureSink::new(rt.alloc());
+        assert!(rt; run(rt.alloc(), &words, &mut source, &mut sink) == Status::Usage);
+        assert!(rt; sink.bytes().starts_with(b"usage: vpdb replay|"));
+    }
+    Ok(())
+}
+
+#[test]
+fn failures_are_told(rt: HostRuntime) -> Result<(), Fail> {
+    let alloc = rt.alloc();
+    let words = words(alloc, &["replay", "--"])?;
+    let text = Vec::from_slice(alloc, HEAD.as_bytes())?;
+    let mut source = TextSource::new(text, Vec::from_slice(alloc, &[2])?);
+    let mut sink = TextSink::new(alloc, Vec::new(alloc));
+    assert!(rt; run(alloc, &words, &mut source, &mut sink) == Status::SourceFault);
+    assert!(rt; sink.bytes().is_empty());
+    let text = Vec::from_slice(alloc, HEAD.as_bytes())?;
+    let mut source = TextSource::new(text, Vec::new(alloc));
+    let mut sink = TextSink::new(alloc, Vec::from_slice(alloc, &[2])?);
+    sink.most = 5;
+    assert!(rt; run(alloc, &words, &mut source, &mut sink) == Status::SinkFault);
+    assert!(rt; sink.bytes() == b"histo".as_slice());
+    Ok(())
+}
+
+#[test]
+fn too_many_bytes_are_refused(rt: HostRuntime) -> Result<(), Fail> {
+    let alloc = rt.alloc();
+    let words = words(alloc, &["replay"])?;
+    let mut bytes = Vec::new(alloc);
+    bytes.resize(crate::MOST_BYTES + 1, b'a')?;
+    let mut source = SureSource::new(bytes);
+    let mut sink = SureSink::new(alloc);
+    assert!(rt; run(alloc, &words, &mut source, &mut sink) == Status::Limit);
+    assert!(rt; sink.bytes() == b"limit bytes 16777216\n".as_slice());
+    Ok(())
+}
