@@ -5,14 +5,21 @@
 #![tactic(auto)]
 
 mod checking;
+mod document;
+mod fault;
+mod line;
 mod map;
 mod ordering;
+mod passing;
 mod playing;
 mod printing;
+mod reading;
 #[cfg(test)]
 mod tests;
 
 pub use checking::{Verdict, check};
+pub use document::{prints_what_was_read, read_history};
+pub use fault::HistoryFault;
 pub use map::{History, Map};
 pub use ordering::order;
 pub use playing::{PlayFault, play};
