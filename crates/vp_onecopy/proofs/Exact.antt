@@ -1,8 +1,7 @@
 -- The lines of a history are read exactly.
-use Rattle.std.proofs.Common.{◌≡◌, ◌≢◌, ℕ, zero, suc, ◌+◌, ◌-◌, ◌^◌, ◌≤◌, ◌<◌, Bool, true, false, cond, List, [], ◌∷◌, ◌++◌, length, Some, None, Ok, refl, sym, ap, subst, ◌∙◌, arith, inl, inr}
+use Rattle.std.proofs.Common.{◌≡◌, ℕ, suc, ◌^◌, ◌<◌, Bool, true, false, cond, List, [], ◌∷◌, ◌++◌, length, Some, None, Ok, refl, sym, ap, subst, ◌∙◌, arith, inl, inr}
 use Rattle.std.specs.Prelude.{codes, IfSome, Option}
-use Rattle.std.specs.List.{AllByRecursion}
-use Rattle.vp_text.specs.Tokens.{IsLiteral, IsNumber, IsWord, Either, HasItems}
+use Rattle.vp_text.specs.Tokens.{IsLiteral, IsNumber, Either}
 use Rattle.std.specs.Fmt.{decimal}
 use Rattle.std.proofs.lemmas.Bool.{false≢true}
 use Rattle.std.proofs.lemmas.List.{length-append}
@@ -12,9 +11,8 @@ use Rattle.vp_text.specs.declared.class.Class.TheVariants as classes
 use Rattle.vp_text.proofs.Exact.{Exact, Then, Made, made_exact, exact_as, then_exact, one_value}
 use Rattle.vp_text.proofs.Words.{literal_exact}
 use Rattle.vp_text.proofs.Classes.{class_exact}
-use Rattle.vp_text.proofs.Numbers.{number_exact}
 use Rattle.vp_text.proofs.Fields.{literal_then, word_then, number_then, literal_outside, made_outside, Outside}
-use Rattle.vp_text.proofs.Choices.{GoesOn, goes_as, then_goes, literal_goes, made_goes, word_goes, either_goes, follows_from, either_exact, clear_keys, literal_opens, either_opens, IsClear, Opens, clear_or, or_clear}
+use Rattle.vp_text.proofs.Choices.{GoesOn, goes_as, then_goes, literal_goes, made_goes, word_goes, either_goes, follows_from, either_exact, clear_keys, literal_opens, IsClear, Opens, clear_or, or_clear}
 use Rattle.vp_text.proofs.Repeats.{Repeats, items_exact, next_exact}
 use Rattle.vp_base.specs.Words.{IsName, IsValue, IsPlace}
 use Rattle.vp_base.specs.Identifiers.{IsView, IsViewFrom, IsTxnText}
@@ -26,7 +24,7 @@ use Rattle.vp_model.specs.Types.{ViewId, Op}
 use Rattle.vp_model.specs.Types.op
 use Rattle.vp_onecopy.specs.declared.line.Line.{Line}
 use Rattle.vp_onecopy.specs.declared.line.Line.TheVariants.{Start, Commit, End}
-use Rattle.vp_onecopy.specs.Lines.{AllNames, Before, OpText, OpsText, some_names, may_start, StartText, CommitText, LineText}
+use Rattle.vp_onecopy.specs.Lines.{AllNames, Before, OpText, OpsText, some_names, may_start, LineText}
 use Rattle.vp_onecopy.specs.Reading.{commit_of, read_at, write_at, op_at, ops_at, start_at, commit_at, ending_at, later_at, line_at}
 
 -- ---- an operation

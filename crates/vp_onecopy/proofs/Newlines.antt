@@ -1,16 +1,14 @@
 -- Each allowed line has one newline, at its end, so none begins another.
-use Rattle.std.proofs.Common.{◌≡◌, ◌≢◌, ℕ, ◌+◌, ◌^◌, ◌≤◌, ◌<◌, List, [], ◌∷◌, ◌++◌, length, Bool, true, false, refl, sym, ap, subst, ◌∙◌, arith, append_assoc, inl, inr}
+use Rattle.std.proofs.Common.{◌≡◌, ◌≢◌, ℕ, ◌^◌, ◌<◌, List, [], ◌∷◌, ◌++◌, Bool, true, refl, sym, ap, subst, ◌∙◌, arith, append_assoc}
 use Rattle.std.specs.Prelude.{codes, nat_lt, ◌&&◌}
 use Rattle.std.specs.Fmt.{decimal}
 use Rattle.std.specs.List.{AllByRecursion}
 use Rattle.std.proofs.lemmas.Bool.{false≢true, and_parts, ltb-true}
-use Rattle.std.proofs.lemmas.List.{length-append}
-use Rattle.vp_text.specs.Classes.{has, most}
+use Rattle.vp_text.specs.Classes.{has}
 use Rattle.vp_text.specs.declared.class.Class.TheVariants as classes
-use Rattle.vp_text.specs.Tokens.{IsWord}
 use Rattle.vp_text.proofs.Numbers.{IsDigit, decimal_digits}
-use Rattle.vp_base.specs.Words.{IsName, IsValue, IsPlace}
-use Rattle.vp_base.specs.Identifiers.{IsTxnText, IsViewText, IsViewFrom}
+use Rattle.vp_base.specs.Words.{IsName, IsValue}
+use Rattle.vp_base.specs.Identifiers.{IsTxnText, IsViewText}
 use Rattle.vp_base.proofs.Among.{place_is_name}
 use Rattle.vp_model.specs.Types.{ViewId, TxnId, Op}
 use Rattle.vp_model.specs.Types.op

@@ -1,6 +1,6 @@
 -- Passing over lines.
-use Rattle.std.proofs.Common.{◌≡◌, ◌≢◌, ℕ, zero, suc, ◌+◌, ◌-◌, ◌^◌, ◌≤◌, ◌<◌, List, [], ◌∷◌, ◌++◌, length, take, drop, get_or, refl, sym, ap, subst, ◌∙◌, arith, append_assoc, Ok, Err, inl, inr}
-use Rattle.std.proofs.lemmas.List.{length-append, append-nil, take_more, take-append-drop, length-drop}
+use Rattle.std.proofs.Common.{◌≡◌, ℕ, suc, ◌+◌, ◌≤◌, ◌<◌, List, [], ◌∷◌, ◌++◌, length, take, drop, get_or, refl, sym, ap, subst, ◌∙◌, arith, append_assoc, Ok, Err, inl, inr}
+use Rattle.std.proofs.lemmas.List.{length-append, take_more, take-append-drop, length-drop}
 use Rattle.vp_text.specs.Reading.{literal_at}
 use Rattle.vp_text.proofs.Words.{literal_exact}
 use Rattle.vp_text.proofs.Exact.{Apart, at_err}

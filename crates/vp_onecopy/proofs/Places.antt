@@ -1,9 +1,9 @@
 -- The place of a name is below the count of names.
-use Rattle.std.proofs.Common.{◌≡◌, ◌<◌, ◌++◌, ◌≤◌, ℕ, zero, suc, List, [], ◌∷◌, length, Option, Some, None, Result, Ok, Err, refl, sym, ap, subst, ◌∙◌, arith, Bool, true, false}
+use Rattle.std.proofs.Common.{◌≡◌, ◌<◌, ℕ, zero, suc, List, [], ◌∷◌, length, Option, Some, None, Result, Ok, refl, ap, subst, arith}
 use Rattle.vp_text.specs.Reading.{scan, ended}
 use Rattle.vp_text.proofs.Exact.{ok_value, at_err}
 use Rattle.vp_base.specs.Words.{IsPlace}
-use Rattle.vp_base.specs.Reading.{starts_any, place_of, place_step, among_at}
+use Rattle.vp_base.specs.Reading.{place_of, place_step, among_at}
 use Rattle.vp_base.proofs.Among.{placed}
 
 pub place_below : (names : List (List ℕ)) (i : ℕ) (name : List ℕ) → IsPlace names i name → i < length names

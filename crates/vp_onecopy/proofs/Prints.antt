@@ -1,5 +1,5 @@
 -- What is printed is the text that was read, and what was read is whole.
-use Rattle.std.proofs.Common.{◌≡◌, ℕ, true, zero, suc, ◌≤◌, ◌<◌, List, [], ◌∷◌, ◌++◌, length, get_or, refl, sym, ap, subst, ◌∙◌, arith, append_assoc, eqb, ltb}
+use Rattle.std.proofs.Common.{◌≡◌, ℕ, true, zero, suc, ◌<◌, List, [], ◌∷◌, ◌++◌, length, get_or, refl, sym, ap, subst, ◌∙◌, arith, append_assoc, eqb, ltb}
 use Rattle.std.specs.Prelude.{codes, flat_map, Result, Ok, Err, IfOk}
 use Rattle.std.specs.List.{All}
 use Rattle.std.specs.Fmt.{decimal}
@@ -11,7 +11,6 @@ use Rattle.vp_base.specs.Words.{IsPlace}
 use Rattle.vp_base.specs.Identifiers.{txn_text, view_text}
 use Rattle.vp_model.specs.Types.{Op, Commit}
 use Rattle.vp_model.specs.Types.op
-use Rattle.vp_model.specs.OneCopy.{Values}
 use Rattle.vp_model.specs.Texts.History.{op_text, commit_text, start_text, starts_text, history_lines}
 use Rattle.vp_onecopy.specs.declared.line.Line.{Line}
 use Rattle.vp_onecopy.specs.declared.line.Line.TheVariants as kind
@@ -20,7 +19,7 @@ use Rattle.vp_onecopy.specs.declared.fault.HistoryFault.{HistoryFault}
 use Rattle.vp_onecopy.specs.Playing.{op_record}
 use Rattle.vp_onecopy.specs.Lines.{Before, OpText, OpsText, CommitText, may_start}
 use Rattle.vp_onecopy.specs.History.{before, IsHistory}
-use Rattle.vp_onecopy.specs.Passing.{history_line, Behind, IsWhole}
+use Rattle.vp_onecopy.specs.Passing.{history_line, Passed, Behind, IsPrintedIn, IsWhole}
 use Rattle.vp_onecopy.proofs.Places.{place_below}
 use Rattle.vp_onecopy.proofs.Steps.{Lines, all_said}
 
@@ -87,7 +86,7 @@ lines_are (kind.Commit commit ∷ es) t h =
     ∙ ap (λ (x : List ℕ). starts ++ x) (sym (flat_map_push (commit_text b.names) b.commits commit))
 lines_are (kind.End ∷ es) t h = absurd h.4
 
-pub history_is : (h : History) (text : List ℕ) → IsHistory h text → history_line ++ text ≡ history_lines h.names h.start h.commits
+history_is : (h : History) (text : List ℕ) → IsHistory h text → history_line ++ text ≡ history_lines h.names h.start h.commits
 history_is h text s =
     let starts = starts_text h.names h.start in
     let commits = flat_map (commit_text h.names) h.commits in
@@ -124,3 +123,7 @@ history_whole h text s = subst IsWhole s.says (record { values = sym (same_count
 pub behind_whole : (n : ℕ) (rest : List ℕ) (result : Result History HistoryFault) → Behind n rest result → IfOk result IsWhole
 behind_whole n rest (Ok h) s = history_whole h rest s
 behind_whole n rest (Err e) s = tt
+
+pub behind_printed : (n : ℕ) (text front rest : List ℕ) (result : Result History HistoryFault) → Passed n front → text ≡ front ++ (history_line ++ rest) → Behind n rest result → IfOk result (IsPrintedIn text)
+behind_printed n text front rest (Ok h) passed parts s = (n, front, passed, parts ∙ ap (λ (x : List ℕ). front ++ x) (history_is h rest s))
+behind_printed n text front rest (Err e) passed parts s = tt

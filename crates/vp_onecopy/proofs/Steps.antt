@@ -1,25 +1,23 @@
 -- Lines one after the other.
-use Rattle.std.proofs.Common.{◌≡◌, ℕ, suc, ◌+◌, ◌-◌, ◌^◌, ◌≤◌, ◌<◌, List, [], ◌∷◌, ◌++◌, length, get_or, refl, sym, ap, subst, ◌∙◌, arith, inl, inr, append_assoc, Ok, Err, Result, Bool, true, false}
+use Rattle.std.proofs.Common.{◌≡◌, ℕ, suc, ◌+◌, ◌-◌, ◌^◌, ◌≤◌, ◌<◌, List, [], ◌∷◌, ◌++◌, length, get_or, refl, sym, ap, subst, ◌∙◌, arith, inl, inr, Ok, Err, Result, Bool, true, false}
 use Rattle.std.specs.Prelude.{codes, nat_lt, ◌==◌}
 use Rattle.std.specs.Fmt.{decimal}
 use Rattle.std.proofs.lemmas.Bool.{false≢true, and_parts, ltb-true}
 use Rattle.std.proofs.lemmas.List.{length-append, append-nil, nil_from_length}
 use Rattle.vp_text.specs.Documents.{reached, LinesText, IsBadLine, IsFaultyLine}
-use Rattle.vp_text.proofs.Exact.{Exact}
-use Rattle.vp_text.proofs.Whole.{fault_left}
 use Rattle.vp_text.proofs.Lists.{Readable, SoFar, so_far_start, so_far_exact, so_far_shorter, so_far_more, so_far_bad, so_far_faulty}
 use Rattle.vp_base.specs.Words.{IsName}
 use Rattle.vp_base.specs.Identifiers.{IsView}
-use Rattle.vp_model.specs.Types.{ViewId, TxnId, Op, Commit}
+use Rattle.vp_model.specs.Types.{ViewId, Commit}
 use Rattle.vp_model.specs.Words.{opening}
 use Rattle.vp_onecopy.specs.declared.line.Line.{Line}
 use Rattle.vp_onecopy.specs.declared.line.Line.TheVariants as kind
 use Rattle.vp_onecopy.specs.declared.map.History.{History}
 use Rattle.vp_onecopy.specs.declared.fault.HistoryFault.{HistoryFault}
 use Rattle.vp_onecopy.specs.declared.fault.HistoryFault.TheVariants as faults
-use Rattle.vp_onecopy.specs.Lines.{AllNames, Before, may_start, LineText}
+use Rattle.vp_onecopy.specs.Lines.{AllNames, Before, LineText}
 use Rattle.vp_onecopy.specs.Reading.{line_at}
-use Rattle.vp_onecopy.specs.History.{last_from, before, empty, after, Allowed, IsNamed, Onward, NamesAgain, IsHistory, IsTooLong, Answered, NextLine, Adds, Finishes}
+use Rattle.vp_onecopy.specs.History.{last_from, before, empty, after, Allowed, Onward, NamesAgain, IsHistory, IsTooLong, Answered, NextLine, Adds, Finishes}
 use Rattle.vp_onecopy.proofs.Exact.{line_exact}
 use Rattle.vp_onecopy.proofs.Newlines.{line_is}
 
@@ -92,7 +90,7 @@ commits_le (kind.Start name value ∷ es) t h = omega (arith, commits_le es h.0 
 commits_le (kind.Commit commit ∷ es) t h = omega (arith, commits_le es h.0 h.2, length-append (all_said es).commits (commit ∷ []))
 commits_le (kind.End ∷ es) t h = absurd h.4
 
-readable : (most : ℕ) → most < 2 ^ 62 → Readable empty after Allowed Onward reads most
+readable : (most : ℕ) → most < 2 ^ 63 → Readable empty after Allowed Onward reads most
 readable most small = record {
   exact = λ es t le h. line_exact (before (all_said es)) (names_ok es t h) (view_ok es t h) (omega (arith, commits_le es t h, lines_le es t h));
   lines = λ es t le h. line_is (before (all_said es)) (names_ok es t h) (omega (arith, commits_le es t h, lines_le es t h));
@@ -112,13 +110,13 @@ stands_bound text rest h line s = s.bound
 pub stands_first : (text rest : List ℕ) (h : History) → rest ≡ text → h ≡ empty → Stands text rest h 1
 stands_first text rest h e g = subst (λ (h : History). Stands text rest h 1) (sym g) (subst (λ (r : List ℕ). Stands text r empty 1) (sym e) (so_far_start empty after Allowed Onward reads text))
 
-pub stands_room : (text rest : List ℕ) (h : History) (line : ℕ) → length text < 2 ^ 62 → Stands text rest h line → (left : ℕ) → reads h rest ≡ Err left → left ≤ length rest
+pub stands_room : (text rest : List ℕ) (h : History) (line : ℕ) → length text < 2 ^ 63 → Stands text rest h line → (left : ℕ) → reads h rest ≡ Err left → left ≤ length rest
 stands_room text rest h line small s left read = (so_far_bad empty after Allowed Onward reads text rest h line left (readable (length text) small) s read).0
 
-pub stands_shorter : (text rest new : List ℕ) (h : History) (line : ℕ) (e : Line) → length text < 2 ^ 62 → Stands text rest h line → reads h rest ≡ Ok (e, new) → length new < length rest
+pub stands_shorter : (text rest new : List ℕ) (h : History) (line : ℕ) (e : Line) → length text < 2 ^ 63 → Stands text rest h line → reads h rest ≡ Ok (e, new) → length new < length rest
 stands_shorter text rest new h line e small s read = so_far_shorter empty after Allowed Onward reads text rest new h line e (readable (length text) small) s read
 
-stands_done : (text rest new : List ℕ) (h : History) (line : ℕ) → length text < 2 ^ 62 → Stands text rest h line → reads h rest ≡ Ok (kind.End, new) → length new ≡ 0 → IsHistory h text
+stands_done : (text rest new : List ℕ) (h : History) (line : ℕ) → length text < 2 ^ 63 → Stands text rest h line → reads h rest ≡ Ok (kind.End, new) → length new ≡ 0 → IsHistory h text
 stands_done text rest new h line small s read none =
     let p = (so_far_exact empty after Allowed Onward reads text rest h line (readable (length text) small) s).ok rest kind.End new read in
     record {
@@ -131,7 +129,7 @@ stands_done text rest new h line small s read none =
       parts = s.parts ∙ ap (λ (x : List ℕ). s.front ++ x) (p.parts ∙ ap (λ (x : List ℕ). p.text ++ x) (nil_from_length new none) ∙ append-nil p.text);
     }
 
-stands_long : (text rest new : List ℕ) (h : History) (line : ℕ) → length text < 2 ^ 62 → Stands text rest h line → reads h rest ≡ Ok (kind.End, new) → (length new ≡ 0 → ⊥) → IsTooLong text (line + 1) 1
+stands_long : (text rest new : List ℕ) (h : History) (line : ℕ) → length text < 2 ^ 63 → Stands text rest h line → reads h rest ≡ Ok (kind.End, new) → (length new ≡ 0 → ⊥) → IsTooLong text (line + 1) 1
 stands_long text rest new h line small s read some =
     let p = (so_far_exact empty after Allowed Onward reads text rest h line (readable (length text) small) s).ok rest kind.End new read in
     record {
@@ -152,20 +150,20 @@ stands_long text rest new h line small s read some =
 pair_same : (a b c d : ℕ) → a ≡ b → c ≡ d → let p : ℕ × ℕ = (a, c) in let q : ℕ × ℕ = (b, d) in p ≡ q
 pair_same a b c d e f = rw (e, f) refl
 
-pub answered_next : (text rest new : List ℕ) (h : History) (line : ℕ) (e : HistoryFault) → length text < 2 ^ 62 → Stands text rest h line → NextLine h line rest new (Err e) → Answered text (Err e)
+pub answered_next : (text rest new : List ℕ) (h : History) (line : ℕ) (e : HistoryFault) → length text < 2 ^ 63 → Stands text rest h line → NextLine h line rest new (Err e) → Answered text (Err e)
 answered_next text rest new h line (faults.BadLine l at) small s n =
     let bad = (so_far_bad empty after Allowed Onward reads text rest h line n.1 (readable (length text) small) s n.2).1 in
     inl (subst (λ (p : ℕ × ℕ). IsBadLine empty after Allowed Onward text p.0 p.1) (pair_same line l (length rest - n.1 + 1) at (sym n.0) (sym n.3)) bad)
 answered_next text rest new h line (faults.Twice l) small s n = absurd n
 answered_next text rest new h line faults.NoMemory small s n = tt
 
-pub answered_add : (text rest new : List ℕ) (h k : History) (next : Line) (line : ℕ) (e : HistoryFault) → length text < 2 ^ 62 → Stands text rest h line → reads h rest ≡ Ok (next, new) → Adds h next line k (Err e) → Answered text (Err e)
+pub answered_add : (text rest new : List ℕ) (h k : History) (next : Line) (line : ℕ) (e : HistoryFault) → length text < 2 ^ 63 → Stands text rest h line → reads h rest ≡ Ok (next, new) → Adds h next line k (Err e) → Answered text (Err e)
 answered_add text rest new h k next line (faults.BadLine l at) small s read n = absurd n
 answered_add text rest new h k next line (faults.Twice l) small s read n =
     subst (IsFaultyLine empty after Allowed Onward NamesAgain text) (sym n.0) (so_far_faulty empty after Allowed Onward reads NamesAgain text rest new h line next (readable (length text) small) s read n.1)
 answered_add text rest new h k next line faults.NoMemory small s read n = tt
 
-pub answered_end : (text rest new : List ℕ) (h k : History) (next : Line) (line : ℕ) (b : Bool) (r : Result History HistoryFault) → length text < 2 ^ 62 → Stands text rest h line → reads h rest ≡ Ok (next, new) → Adds h next line k (Ok b) → b ≡ false → Finishes k line new r → Answered text r
+pub answered_end : (text rest new : List ℕ) (h k : History) (next : Line) (line : ℕ) (b : Bool) (r : Result History HistoryFault) → length text < 2 ^ 63 → Stands text rest h line → reads h rest ≡ Ok (next, new) → Adds h next line k (Ok b) → b ≡ false → Finishes k line new r → Answered text r
 answered_end text rest new h k next line true r small s read n off f = absurd (false≢true (sym off))
 answered_end text rest new h k next line false (Ok g) small s read n off f =
     let read_end : reads h rest ≡ Ok (kind.End, new) = read ∙ ap (λ (x : Line). Ok (x, new)) n.1 in
@@ -176,6 +174,6 @@ answered_end text rest new h k next line false (Err (faults.BadLine l at)) small
 answered_end text rest new h k next line false (Err (faults.Twice l)) small s read n off f = absurd f
 answered_end text rest new h k next line false (Err faults.NoMemory) small s read n off f = absurd f
 
-pub stands_more : (text rest new : List ℕ) (h k : History) (next : Line) (line : ℕ) (b : Bool) → length text < 2 ^ 62 → Stands text rest h line → reads h rest ≡ Ok (next, new) → Adds h next line k (Ok b) → b ≡ true → Stands text new k (line + 1)
+pub stands_more : (text rest new : List ℕ) (h k : History) (next : Line) (line : ℕ) (b : Bool) → length text < 2 ^ 63 → Stands text rest h line → reads h rest ≡ Ok (next, new) → Adds h next line k (Ok b) → b ≡ true → Stands text new k (line + 1)
 stands_more text rest new h k next line true small s read n on = subst (λ (k : History). Stands text new k (line + 1)) (sym n.0) (so_far_more empty after Allowed Onward reads text rest new h line next (readable (length text) small) s read n.1)
 stands_more text rest new h k next line false small s read n on = absurd (false≢true on)

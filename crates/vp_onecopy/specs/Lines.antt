@@ -5,7 +5,7 @@ use Rattle.std.specs.List.{AllByRecursion}
 use Rattle.vp_text.specs.Tokens.{HasItems}
 use Rattle.vp_base.specs.Words.{IsName, IsValue, IsPlace}
 use Rattle.vp_base.specs.Identifiers.{IsTxnText, IsViewFrom}
-use Rattle.vp_model.specs.Types.{ViewId, TxnId, Op, Commit}
+use Rattle.vp_model.specs.Types.{ViewId, Op, Commit}
 use Rattle.vp_model.specs.Types.op
 use Rattle.vp_onecopy.specs.declared.line.Line.{Line}
 use Rattle.vp_onecopy.specs.declared.line.Line.TheVariants as kind

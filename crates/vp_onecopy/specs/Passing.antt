@@ -1,7 +1,8 @@
 -- The lines before the line `history`.
-use Rattle.std.specs.Prelude.{◌≡◌, ◌≢◌, ◌≤◌, ◌<◌, ◌+◌, ⊤, ℕ, zero, suc, List, [], ◌∷◌, ◌++◌, length, codes, Result, Ok, Err, ◌⊎◌}
+use Rattle.std.specs.Prelude.{◌≡◌, ◌<◌, ◌+◌, ⊤, ℕ, zero, suc, List, [], ◌∷◌, ◌++◌, length, codes, Result, Ok, Err, ◌⊎◌}
 use Rattle.std.specs.List.{AllByRecursion, All}
 use Rattle.vp_text.specs.Documents.{IsBadLine, IsFaultyLine}
+use Rattle.vp_model.specs.Texts.History.{history_lines}
 use Rattle.vp_onecopy.specs.Playing.{op_record}
 use Rattle.vp_onecopy.specs.declared.map.History.{History}
 use Rattle.vp_onecopy.specs.declared.fault.HistoryFault.{HistoryFault}
@@ -46,6 +47,10 @@ IsMissing n rest (Err faults.NoMemory) = ⊥
 abbrev pub AnsweredAll : List ℕ → Result History HistoryFault → Type 0
 AnsweredAll text result = (n : ℕ) × (front : List ℕ) × (rest : List ℕ) × Passed n front
     × (((text ≡ front ++ (history_line ++ rest)) × Behind n rest result) ⊎ ((text ≡ front ++ rest) × IsMissing n rest result))
+
+-- Behind lines that are not the line `history` the text is that of the history, and it ends with it.
+abbrev pub IsPrintedIn : List ℕ → History → Type 0
+IsPrintedIn text h = (n : ℕ) × (front : List ℕ) × Passed n front × (text ≡ front ++ history_lines h.names h.start h.commits)
 
 -- Each record has a name and a value, and each operation is on one of them.
 pub record IsWhole (h : History) : Type 0 where

@@ -1,13 +1,12 @@
 //! Reading a history.
 
 ghost use Rattle.std.specs.Prelude.{◌≡◌, ◌≤◌, ◌<◌, ◌+◌, ◌++◌, ℕ, List, length, ◌^◌, Err, IfOk};
-ghost use Rattle.vp_model.specs.Texts.History.{history_lines};
 ghost use Rattle.vp_model.specs.Words.{opening};
 ghost use Rattle.vp_onecopy.specs.Lines.{AllNames};
 ghost use Rattle.vp_onecopy.specs.declared.map.History.{History};
 ghost use Rattle.vp_onecopy.specs.Reading.{line_at};
-ghost use Rattle.vp_onecopy.specs.Passing.{history_line, Behind, AnsweredAll, IsWhole};
-ghost use Rattle.vp_onecopy.specs.History.{before, last_from, IsHistory, Answered, NextLine, Adds, Finishes};
+ghost use Rattle.vp_onecopy.specs.Passing.{Behind, AnsweredAll, IsPrintedIn, IsWhole};
+ghost use Rattle.vp_onecopy.specs.History.{before, last_from, Answered, NextLine, Adds, Finishes};
 
 use crate::fault::HistoryFault;
 use crate::line::Line;
@@ -97,7 +96,7 @@ fn finish(history: History, cursor: &Cursor, line: usize) -> Result<History, His
 
 /// The history that the lines behind the line `history` spell, counted from 1.
 fn read_lines(alloc: Global, text: &[u8]) -> Result<History, HistoryFault>
-    requires { length text.now < 2 ^ 62 }
+    requires { length text.now < 2 ^ 63 }
     ensures { Answered text.now result }
 {
     let mut history = History::new(alloc);
@@ -114,7 +113,7 @@ fn read_lines(alloc: Global, text: &[u8]) -> Result<History, HistoryFault>
 
 /// The same, where so many lines and the line `history` stand before.
 fn read_behind(alloc: Global, rest: &[u8], passed: usize) -> Result<History, HistoryFault>
-    requires { passed + length rest.now < 2 ^ 62 }
+    requires { passed + length rest.now < 2 ^ 63 }
     ensures { Behind passed rest.now result }
 {
     match read_lines(alloc, rest) {
@@ -132,8 +131,8 @@ fn read_behind(alloc: Global, rest: &[u8], passed: usize) -> Result<History, His
 
 /// The history that the text spells, behind the lines before the first line `history`.
 pub fn read_history(alloc: Global, text: &[u8]) -> Result<History, HistoryFault>
-    requires { length text.now < 2 ^ 62 }
     ensures answer { AnsweredAll text.now result }
+    ensures printed { IfOk result (IsPrintedIn text.now) }
     ensures whole { IfOk result IsWhole }
 {
     let mut cursor = Cursor::new(text);
@@ -145,8 +144,3 @@ pub fn read_history(alloc: Global, text: &[u8]) -> Result<History, HistoryFault>
         }),
     }
 }
-
-/// What was read is printed as its text, byte for byte.
-pub fn prints_what_was_read()
-    ensures { (h : History) (text : List ℕ) → IsHistory h text → history_line ++ text ≡ history_lines h.names h.start h.commits }
-{}

@@ -1,7 +1,8 @@
 //! One copy of the records, and the serial run of committed transactions on it.
 //!
 //! A contract sees the copy as the list of its values, in catalogue order, and says of a run what `play` of `vp_model`
-//! gives. The committed transactions of a run are put in order and printed as a history.
+//! gives. The committed transactions of a run are put in order and printed as a history, and a history is read from text with
+//! the exact place of a fault, so that what was read is printed as it stood there.
 #![tactic(auto)]
 
 mod checking;
@@ -18,7 +19,7 @@ mod reading;
 mod tests;
 
 pub use checking::{Verdict, check};
-pub use document::{prints_what_was_read, read_history};
+pub use document::read_history;
 pub use fault::HistoryFault;
 pub use map::{History, Map};
 pub use ordering::order;

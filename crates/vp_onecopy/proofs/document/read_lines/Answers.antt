@@ -1,6 +1,5 @@
-use Rattle.std.proofs.Common.{arith}
 use Rattle.std.proofs.lemmas.Result.{err_from_is_err_and}
-use Rattle.vp_onecopy.proofs.Steps.{stands_names, stands_few, stands_bound, stands_first, stands_room, stands_shorter, answered_next, answered_add, answered_end, stands_more}
+use Rattle.vp_onecopy.proofs.Steps.{stands_names, stands_few, stands_room, stands_shorter, answered_next, answered_add, answered_end, stands_more}
 use Rattle.vp_onecopy.proofs.document.read_lines.Goals as goal
 
 pub next_line-requires-clause-names : goal.next_line-requires-clause-names

@@ -1,8 +1,7 @@
-use Rattle.std.proofs.Common.{◌≡◌, ◌<◌, ◌+◌, ◌-◌, suc, sym, ap, ◌∙◌, arith, length, Some, None, Ok, Err, ℕ, subst, List, [], ◌∷◌}
+use Rattle.std.proofs.Common.{◌≡◌, ◌<◌, ◌+◌, ◌-◌, suc, sym, ap, ◌∙◌, arith, length, ℕ, subst, List, [], ◌∷◌}
 use Rattle.vp_model.specs.Types.{Op}
 use Rattle.std.proofs.lemmas.List.{length-append}
 use Rattle.std.proofs.lemmas.Result.{err_from_is_err_and}
-use Rattle.vp_text.specs.Reading.{next_at}
 use Rattle.vp_text.proofs.Repeats.{with_front, items_start, items_go, items_end, items_fail}
 use Rattle.vp_base.specs.Faults.{line_left}
 use Rattle.vp_onecopy.specs.Lines.{some_names}
