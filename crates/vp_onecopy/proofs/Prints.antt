@@ -16,7 +16,7 @@ use Rattle.vp_onecopy.specs.declared.line.Line.{Line}
 use Rattle.vp_onecopy.specs.declared.line.Line.TheVariants as kind
 use Rattle.vp_onecopy.specs.declared.map.History.{History}
 use Rattle.vp_onecopy.specs.declared.fault.HistoryFault.{HistoryFault}
-use Rattle.vp_onecopy.specs.Playing.{op_record}
+use Rattle.vp_onecopy.specs.Playing.{op_record, CommitsWithin}
 use Rattle.vp_onecopy.specs.Lines.{Before, OpText, OpsText, CommitText, may_start}
 use Rattle.vp_onecopy.specs.History.{before, IsHistory}
 use Rattle.vp_onecopy.specs.Passing.{history_line, Passed, Behind, IsPrintedIn, IsWhole}
@@ -104,21 +104,20 @@ ops_below : (names : List (List ℕ)) (ops : List Op) (t : List ℕ) → OpsText
 ops_below names [] t h = All-nil (λ operation. op_record operation < length names)
 ops_below names (operation ∷ ops) t h = All-cons (λ operation. op_record operation < length names) operation ops (op_below names operation h.0 h.3) (ops_below names ops h.1 h.4)
 
-abbrev OnNames : ℕ → List Commit → Type 0
-OnNames count commits = All (λ commit. All (λ operation. op_record operation < count) commit.ops) commits
-
-on_names : (es : List Line) (t : List ℕ) → Lines es t → OnNames (length (all_said es).names) (all_said es).commits
+on_names : (es : List Line) (t : List ℕ) → Lines es t → CommitsWithin (length (all_said es).names) (all_said es).commits
 on_names [] t h = All-nil (λ (commit : Commit). All (λ operation. op_record operation < 0) commit.ops)
 on_names (kind.Start name value ∷ es) t h =
     let b = all_said es in
-    subst (OnNames (length (b.names ++ name ∷ []))) (sym (no_commits b h.3.allowed)) (All-nil (λ (commit : Commit). All (λ operation. op_record operation < length (b.names ++ name ∷ [])) commit.ops))
+    subst (CommitsWithin (length (b.names ++ name ∷ []))) (sym (no_commits b h.3.allowed)) (All-nil (λ (commit : Commit). All (λ operation. op_record operation < length (b.names ++ name ∷ [])) commit.ops))
 on_names (kind.Commit commit ∷ es) t h =
     let b = all_said es in
     All-push (λ (commit : Commit). All (λ operation. op_record operation < length b.names) commit.ops) b.commits commit (on_names es h.0 h.2) (ops_below b.names commit.ops h.3.ops h.3.ops_are)
 on_names (kind.End ∷ es) t h = absurd h.4
 
 history_whole : (h : History) (text : List ℕ) → IsHistory h text → IsWhole h
-history_whole h text s = subst IsWhole s.says (record { values = sym (same_count s.lines s.front s.lines_are); places = on_names s.lines s.front s.lines_are })
+history_whole h text s =
+    let same = same_count s.lines s.front s.lines_are in
+    subst IsWhole s.says (record { values = sym same; places = subst (λ (n : ℕ). CommitsWithin n (all_said s.lines).commits) same (on_names s.lines s.front s.lines_are) })
 
 pub behind_whole : (n : ℕ) (rest : List ℕ) (result : Result History HistoryFault) → Behind n rest result → IfOk result IsWhole
 behind_whole n rest (Ok h) s = history_whole h rest s

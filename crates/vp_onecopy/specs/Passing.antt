@@ -1,9 +1,9 @@
 -- The lines before the line `history`.
-use Rattle.std.specs.Prelude.{◌≡◌, ◌<◌, ◌+◌, ⊤, ℕ, zero, suc, List, [], ◌∷◌, ◌++◌, length, codes, Result, Ok, Err, ◌⊎◌}
-use Rattle.std.specs.List.{AllByRecursion, All}
+use Rattle.std.specs.Prelude.{◌≡◌, ◌+◌, ⊤, ℕ, zero, suc, List, [], ◌∷◌, ◌++◌, length, codes, Result, Ok, Err, ◌⊎◌}
+use Rattle.std.specs.List.{AllByRecursion}
 use Rattle.vp_text.specs.Documents.{IsBadLine, IsFaultyLine}
 use Rattle.vp_model.specs.Texts.History.{history_lines}
-use Rattle.vp_onecopy.specs.Playing.{op_record}
+use Rattle.vp_onecopy.specs.Playing.{CommitsWithin}
 use Rattle.vp_onecopy.specs.declared.map.History.{History}
 use Rattle.vp_onecopy.specs.declared.fault.HistoryFault.{HistoryFault}
 use Rattle.vp_onecopy.specs.declared.fault.HistoryFault.TheVariants as faults
@@ -55,4 +55,4 @@ IsPrintedIn text h = (n : ℕ) × (front : List ℕ) × Passed n front × (text 
 -- Each record has a name and a value, and each operation is on one of them.
 pub record IsWhole (h : History) : Type 0 where
   pub values : length h.start ≡ length h.names
-  pub places : All (λ commit. All (λ operation. op_record operation < length h.names) commit.ops) h.commits
+  pub places : CommitsWithin (length h.start) h.commits
