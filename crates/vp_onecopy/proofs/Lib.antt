@@ -1,4 +1,10 @@
+mod Exact
+mod Newlines
 mod Ordered
+mod Passes
+mod Places
+mod Prints
 mod Plays
 mod Serial
 mod Starts
+mod Steps

@@ -1,20 +1,18 @@
 -- Laws of playing transactions one after the other.
-use Rattle.std.proofs.Common.{◌≡◌, ◌<◌, ◌≤◌, ◌+◌, ◌-◌, ℕ, zero, suc, ◌∙◌, ap, sym, Bool, true, false, List, [], ◌∷◌, ◌++◌, length, take, drop, refl, arith, get_or, subst}
-use Rattle.std.specs.Prelude.{⊤, Option, Some, None, Result, Ok, Err, IfOk, slice_get, option_and_then}
+use Rattle.std.proofs.Common.{◌≡◌, ◌<◌, ◌+◌, ◌-◌, ℕ, ◌∙◌, ap, sym, false, List, [], ◌∷◌, ◌++◌, length, take, drop, refl, arith, get_or, subst}
+use Rattle.std.specs.Prelude.{Some, None, Result, Ok, Err, IfOk, option_and_then}
 use Rattle.std.specs.Str.{bytes_eq}
 use Rattle.std.proofs.lemmas.List.{take-append-drop, drop_more, take_more, length-append}
 use Rattle.std.proofs.lemmas.Bool.{false_from_ne_true}
 use Rattle.std.proofs.lemmas.Slice.Eq.{bytes_eq-Decides}
 use Rattle.vp_model.specs.Types.{TxnId, Op, Commit}
-use Rattle.vp_model.specs.Types.op
 use Rattle.vp_model.specs.OneCopy.{Values, play_one, play, serial}
-use Rattle.vp_onecopy.specs.Playing.{op_record, Misreads, PlaysUpTo, IsFirstMisread, Plays}
+use Rattle.vp_onecopy.specs.Playing.{op_record, Misreads, IsFirstMisread, Plays}
 use Rattle.vp_onecopy.specs.Checking.{IsFirstDifference, Decides, IsWithin, Tells}
 use Rattle.vp_base.specs.declared.memory.NoMemory.{NoMemory}
 use Rattle.vp_onecopy.specs.declared.playing.PlayFault.{PlayFault}
 use Rattle.vp_onecopy.specs.declared.playing.PlayFault.TheVariants as faults
 use Rattle.vp_onecopy.specs.declared.checking.Verdict.{Verdict}
-use Rattle.vp_onecopy.specs.declared.checking.Verdict.TheVariants as verdicts
 use Rattle.vp_onecopy.proofs.Plays.{then_append, play-append}
 
 serial-append : (m : Values) (xs ys : List Commit) → serial m (xs ++ ys) ≡ option_and_then (λ n. serial n ys) (serial m xs)

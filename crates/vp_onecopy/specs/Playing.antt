@@ -1,6 +1,7 @@
 -- What comes of playing operations on the one copy.
-use Rattle.std.specs.Prelude.{◌≡◌, ◌≢◌, ℕ, ◌+◌, ⊤, List, ◌∷◌, ◌++◌, length, slice_get, Some, Result, Ok, Err}
-use Rattle.vp_model.specs.Types.{Op}
+use Rattle.std.specs.Prelude.{◌≡◌, ◌≢◌, ℕ, ◌+◌, ◌<◌, ⊤, List, ◌∷◌, ◌++◌, length, slice_get, Some, Result, Ok, Err}
+use Rattle.std.specs.List.{All}
+use Rattle.vp_model.specs.Types.{Op, Commit}
 use Rattle.vp_model.specs.Types.op
 use Rattle.vp_model.specs.OneCopy.{Values, play_one, play}
 use Rattle.vp_onecopy.specs.declared.playing.PlayFault.{PlayFault}
@@ -10,6 +11,13 @@ use Rattle.vp_onecopy.specs.declared.playing.PlayFault.TheVariants as faults
 abbrev pub op_record : Op → ℕ
 op_record (op.Read rec value) = rec
 op_record (op.Write rec value) = rec
+
+-- each operation is on one of so many records
+abbrev pub OpsWithin : ℕ → List Op → Type 0
+OpsWithin count ops = All (λ operation. op_record operation < count) ops
+
+abbrev pub CommitsWithin : ℕ → List Commit → Type 0
+CommitsWithin count commits = All (λ commit. OpsWithin count commit.ops) commits
 
 -- the operation read another value of the record than the copy has
 pub record Misreads (copy : Values) (operation : Op) (rec : ℕ) (kept read : List ℕ) : Type 0 where

@@ -1,8 +1,7 @@
 //! The check that transactions ran one after the other on one copy.
 
-ghost use Rattle.std.specs.Prelude.{◌≡◌, ◌<◌, length, IfOk};
-ghost use Rattle.std.specs.List.{All};
-ghost use Rattle.vp_onecopy.specs.Playing.{op_record};
+ghost use Rattle.std.specs.Prelude.{◌≡◌, length, IfOk};
+ghost use Rattle.vp_onecopy.specs.Playing.{op_record, CommitsWithin};
 ghost use Rattle.vp_onecopy.specs.Checking.{Decides, IsWithin, Tells};
 
 use crate::map::Map;
@@ -28,7 +27,7 @@ pub enum Verdict {
 
 /// Plays the transactions one after the other on a copy of the start.
 pub fn check(start: &Map, list: &[Commit]) -> Result<Verdict, NoMemory>
-    requires { All (λ commit. All (λ operation. op_record operation < length start.now) commit.ops) list.now }
+    requires { CommitsWithin (length start.now) list.now }
     ensures { IfOk result (Decides start.now list.now) }
 {
     let mut map = start.copy_of()?;

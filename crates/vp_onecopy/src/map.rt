@@ -1,7 +1,9 @@
 //! The one copy, and a history.
 
-ghost use Rattle.std.specs.Prelude.{◌≡◌, ◌<◌, length, slice_set};
+ghost use Rattle.std.specs.Prelude.{◌≡◌, ◌<◌, ◌++◌, ◌∷◌, [], length, slice_set, OnOk, OnErr};
+ghost use Rattle.vp_onecopy.specs.History.{empty};
 
+use std::alloc::Global;
 use std::marker::Model;
 use vp_base::{Commits, CopyOf, Names, NoMemory, RecId, Value};
 
@@ -20,6 +22,24 @@ impl Model for Map {
 }
 
 impl Map {
+    /// No values, which take no memory.
+    pub fn new(alloc: Global) -> Map
+        ensures { result ≡ [] }
+    {
+        Map {
+            values: Vec::new(alloc),
+        }
+    }
+
+    /// Adds the value of the next record. Without memory the map stays as it is.
+    pub fn push(&mut self, value: Value) -> Result<(), NoMemory>
+        ensures ok { OnOk result (self.new ≡ self.old ++ value ∷ []) }
+        ensures err { OnErr result (self.new ≡ self.old) }
+    {
+        self.values.push(value)?;
+        Ok(())
+    }
+
     pub fn from_vec(values: Vec<Value>) -> Map
         ensures { result ≡ values.items }
     {
@@ -57,4 +77,17 @@ pub struct History {
     pub names: Names,
     pub start: Map,
     pub commits: Commits,
+}
+
+impl History {
+    /// A history of nothing, which takes no memory.
+    pub fn new(alloc: Global) -> History
+        ensures { result ≡ empty }
+    {
+        History {
+            names: Names::new(alloc),
+            start: Map::new(alloc),
+            commits: Commits::new(alloc),
+        }
+    }
 }

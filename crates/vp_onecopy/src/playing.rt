@@ -1,8 +1,7 @@
 //! Operations on the one copy.
 
 ghost use Rattle.std.specs.Prelude.{◌≡◌, ◌<◌, length, OnErr};
-ghost use Rattle.std.specs.List.{All};
-ghost use Rattle.vp_onecopy.specs.Playing.{op_record, PlaysOne, Plays};
+ghost use Rattle.vp_onecopy.specs.Playing.{op_record, OpsWithin, PlaysOne, Plays};
 
 use crate::map::Map;
 use vp_base::{CopyOf, NoMemory, Op, Ops, Value};
@@ -27,7 +26,7 @@ impl From<NoMemory> for PlayFault {
 
 /// Plays the operations in order. After a fault the copy stands behind the operations that were played.
 pub fn play(map: &mut Map, ops: &Ops) -> Result<(), PlayFault>
-    requires { All (λ operation. op_record operation < length map.old) ops.now }
+    requires { OpsWithin (length map.old) ops.now }
     ensures plays { Plays map.old ops.now map.new result }
     ensures len { length map.new ≡ length map.old }
 {

@@ -1,5 +1,5 @@
 use Rattle.std.proofs.Common.{rules}
-use Rattle.vp_onecopy.proofs.Serial.{serial_more, decided, within}
+use Rattle.vp_onecopy.proofs.Serial.{serial_more, decided}
 use Rattle.vp_onecopy.proofs.checking.check.Goals as goal
 
 pub returns-in-Err : goal.returns-in-Err

@@ -1,0 +1,58 @@
+-- The lines before the line `history`.
+use Rattle.std.specs.Prelude.{◌≡◌, ◌+◌, ⊤, ℕ, zero, suc, List, [], ◌∷◌, ◌++◌, length, codes, Result, Ok, Err, ◌⊎◌}
+use Rattle.std.specs.List.{AllByRecursion}
+use Rattle.vp_text.specs.Documents.{IsBadLine, IsFaultyLine}
+use Rattle.vp_model.specs.Texts.History.{history_lines}
+use Rattle.vp_onecopy.specs.Playing.{CommitsWithin}
+use Rattle.vp_onecopy.specs.declared.map.History.{History}
+use Rattle.vp_onecopy.specs.declared.fault.HistoryFault.{HistoryFault}
+use Rattle.vp_onecopy.specs.declared.fault.HistoryFault.TheVariants as faults
+use Rattle.vp_onecopy.specs.History.{empty, after, Allowed, Onward, NamesAgain, IsHistory, IsTooLong}
+
+abbrev pub HasNoNewline : List ℕ → Type 0
+HasNoNewline bytes = AllByRecursion (λ c. c ≡ 10 → ⊥) bytes
+
+-- bytes without a newline, and a newline
+abbrev pub IsLine : List ℕ → Type 0
+IsLine line = (body : List ℕ) × HasNoNewline body × (line ≡ body ++ 10 ∷ [])
+
+abbrev pub history_line : List ℕ
+history_line = codes "history\n"
+
+-- so many lines, none of which is the line `history`
+abbrev pub Passed : ℕ → List ℕ → Type 0
+Passed zero text = text ≡ []
+Passed (suc n) text = (front : List ℕ) × (line : List ℕ) × Passed n front × IsLine line × (line ≡ history_line → ⊥) × (text ≡ front ++ line)
+
+-- The first line `history` stands behind so many lines; or there is none, and behind so many lines stands none that ends.
+abbrev pub Passes : List ℕ → List ℕ → Result ℕ ℕ → Type 0
+Passes old new (Ok n) = (front : List ℕ) × Passed n front × (old ≡ front ++ (history_line ++ new))
+Passes old new (Err n) = (front : List ℕ) × Passed n front × (old ≡ front ++ new) × HasNoNewline new
+
+-- What is answered where the rest stands behind so many passed lines and the line `history`: its lines are counted on.
+abbrev pub Behind : ℕ → List ℕ → Result History HistoryFault → Type 0
+Behind n rest (Ok h) = IsHistory h rest
+Behind n rest (Err (faults.BadLine line at)) = (l : ℕ) × (line ≡ n + 1 + l) × (IsBadLine empty after Allowed Onward rest l at ⊎ IsTooLong rest l at)
+Behind n rest (Err (faults.Twice line)) = (l : ℕ) × (line ≡ n + 1 + l) × IsFaultyLine empty after Allowed Onward NamesAgain rest l
+Behind n rest (Err faults.NoMemory) = ⊤
+
+-- Where no line is `history`, the place is behind the last byte.
+abbrev pub IsMissing : ℕ → List ℕ → Result History HistoryFault → Type 0
+IsMissing n rest (Ok h) = ⊥
+IsMissing n rest (Err (faults.BadLine line at)) = (line ≡ n + 1) × (at ≡ length rest + 1) × HasNoNewline rest
+IsMissing n rest (Err (faults.Twice line)) = ⊥
+IsMissing n rest (Err faults.NoMemory) = ⊥
+
+-- What is answered of the whole text: it has so many lines before the first line `history`, or has no such line.
+abbrev pub AnsweredAll : List ℕ → Result History HistoryFault → Type 0
+AnsweredAll text result = (n : ℕ) × (front : List ℕ) × (rest : List ℕ) × Passed n front
+    × (((text ≡ front ++ (history_line ++ rest)) × Behind n rest result) ⊎ ((text ≡ front ++ rest) × IsMissing n rest result))
+
+-- Behind lines that are not the line `history` the text is that of the history, and it ends with it.
+abbrev pub IsPrintedIn : List ℕ → History → Type 0
+IsPrintedIn text h = (n : ℕ) × (front : List ℕ) × Passed n front × (text ≡ front ++ history_lines h.names h.start h.commits)
+
+-- Each record has a name and a value, and each operation is on one of them.
+pub record IsWhole (h : History) : Type 0 where
+  pub values : length h.start ≡ length h.names
+  pub places : CommitsWithin (length h.start) h.commits

@@ -1,0 +1,146 @@
+//! Reading a history.
+
+ghost use Rattle.std.specs.Prelude.{◌≡◌, ◌≤◌, ◌<◌, ◌+◌, ◌++◌, ℕ, List, length, ◌^◌, Err, IfOk};
+ghost use Rattle.vp_model.specs.Words.{opening};
+ghost use Rattle.vp_onecopy.specs.Lines.{AllNames};
+ghost use Rattle.vp_onecopy.specs.declared.map.History.{History};
+ghost use Rattle.vp_onecopy.specs.Reading.{line_at};
+ghost use Rattle.vp_onecopy.specs.Passing.{Behind, AnsweredAll, IsPrintedIn, IsWhole};
+ghost use Rattle.vp_onecopy.specs.History.{before, last_from, Answered, NextLine, Adds, Finishes};
+
+use crate::fault::HistoryFault;
+use crate::line::Line;
+use crate::map::History;
+use crate::passing::pass_over;
+use crate::reading::take_line;
+use std::alloc::Global;
+use vp_base::{Commit, LineFault, ViewId, place};
+use vp_text::Cursor;
+
+/// The view of the last of the commits; the opening view where there is none.
+fn last_view(commits: &[Commit]) -> ViewId
+    ensures { result ≡ last_from opening commits.now }
+{
+    match commits.last() {
+        Some(commit) => commit.view,
+        None => ViewId { number: 0, site: 0 },
+    }
+}
+
+/// The next line, which is allowed behind what the history says so far.
+fn next_line(
+    alloc: Global,
+    cursor: &mut Cursor,
+    history: &History,
+    line: usize,
+) -> Result<Line, HistoryFault>
+    requires names { AllNames history.now.names }
+    requires few { length history.now.names ≤ 256 }
+    requires room { (left : ℕ) → line_at (before history.now) cursor.old ≡ Err left → left ≤ length cursor.old }
+    requires small { length cursor.old < 2 ^ 63 }
+    ensures { NextLine history.now line cursor.old cursor.new result }
+{
+    let here = cursor.left();
+    let commits = history.commits.as_slice();
+    let last = last_view(commits);
+    match take_line(
+        alloc,
+        cursor,
+        history.names.as_slice(),
+        last,
+        commits.len() as u64,
+    ) {
+        Ok(next) => Ok(next),
+        Err(LineFault::NoMemory) => Err(HistoryFault::NoMemory),
+        Err(LineFault::Unexpected(e)) => Err(HistoryFault::BadLine {
+            line,
+            at: here - e.left + 1,
+        }),
+    }
+}
+
+/// Adds what a line says, where it isn't the end line.
+fn add(history: &mut History, line: Line, number: usize) -> Result<bool, HistoryFault>
+    ensures { Adds history.old line number history.new result }
+{
+    match line {
+        Line::Start { name, value } => {
+            if let Some(_) = place(history.names.as_slice(), name.as_bytes()) {
+                return Err(HistoryFault::Twice { line: number });
+            }
+            history.names.push(name)?;
+            history.start.push(value)?;
+            Ok(true)
+        }
+        Line::Commit(commit) => {
+            history.commits.push(commit)?;
+            Ok(true)
+        }
+        Line::End => Ok(false),
+    }
+}
+
+/// Behind the end line the input ends.
+fn finish(history: History, cursor: &Cursor, line: usize) -> Result<History, HistoryFault>
+    requires { line + 1 < 2 ^ 64 }
+    ensures { Finishes history line cursor.now result }
+{
+    if cursor.left() > 0 {
+        return Err(HistoryFault::BadLine {
+            line: line + 1,
+            at: 1,
+        });
+    }
+    Ok(history)
+}
+
+/// The history that the lines behind the line `history` spell, counted from 1.
+fn read_lines(alloc: Global, text: &[u8]) -> Result<History, HistoryFault>
+    requires { length text.now < 2 ^ 63 }
+    ensures { Answered text.now result }
+{
+    let mut history = History::new(alloc);
+    let mut cursor = Cursor::new(text);
+    let mut line = 1;
+    loop {
+        let next = next_line(alloc, &mut cursor, &history, line)?;
+        if !add(&mut history, next, line)? {
+            return finish(history, &cursor, line);
+        }
+        line += 1;
+    }
+}
+
+/// The same, where so many lines and the line `history` stand before.
+fn read_behind(alloc: Global, rest: &[u8], passed: usize) -> Result<History, HistoryFault>
+    requires { passed + length rest.now < 2 ^ 63 }
+    ensures { Behind passed rest.now result }
+{
+    match read_lines(alloc, rest) {
+        Ok(history) => Ok(history),
+        Err(HistoryFault::BadLine { line, at }) => Err(HistoryFault::BadLine {
+            line: passed + 1 + line,
+            at,
+        }),
+        Err(HistoryFault::Twice { line }) => Err(HistoryFault::Twice {
+            line: passed + 1 + line,
+        }),
+        Err(HistoryFault::NoMemory) => Err(HistoryFault::NoMemory),
+    }
+}
+
+/// The history that the text spells, behind the lines before the first line `history`.
+pub fn read_history(alloc: Global, text: &[u8]) -> Result<History, HistoryFault>
+    ensures answer { AnsweredAll text.now result }
+    ensures printed { IfOk result (IsPrintedIn text.now) }
+    ensures whole { IfOk result IsWhole }
+{
+    let mut cursor = Cursor::new(text);
+    match pass_over(&mut cursor) {
+        Ok(passed) => read_behind(alloc, cursor.rest(), passed),
+        Err(passed) => Err(HistoryFault::BadLine {
+            line: passed + 1,
+            at: cursor.left() + 1,
+        }),
+    }
+}

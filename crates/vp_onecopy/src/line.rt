@@ -1,0 +1,11 @@
+//! A line of a history.
+
+use vp_base::{Commit, Name, Value};
+
+/// A line behind the line `history`.
+#[derive(Drop)]
+pub enum Line {
+    Start { name: Name, value: Value },
+    Commit(Commit),
+    End,
+}

@@ -1,0 +1,201 @@
+//! Reading the lines of a history.
+
+ghost use Rattle.std.specs.Prelude.{◌∷◌, [], ◌≤◌, length, suc};
+ghost use Rattle.vp_text.specs.Reading.{Tries, Reads, next_at};
+ghost use Rattle.vp_base.specs.Faults.{line_left};
+ghost use Rattle.vp_base.specs.Reading.{among_at};
+ghost use Rattle.vp_onecopy.specs.Lines.{AllNames, some_names, Before};
+ghost use Rattle.vp_onecopy.specs.Reading.{read_at, write_at, op_at, ops_at, start_at, commit_at, ending_at, later_at, line_at};
+ghost use Rattle.vp_onecopy.specs.declared.line.Line.TheVariants as kind;
+
+use crate::line::Line;
+use std::alloc::Global;
+use vp_base::{Commit, LineFault, Name, Op, Ops, RecId, TxnId, Value, ViewId, take_place};
+use vp_text::{Cursor, Unexpected};
+
+/// The record whose name stands next.
+fn take_record(cursor: &mut Cursor, names: &[Name]) -> Result<RecId, Unexpected>
+    requires { length names.now ≤ 256 }
+    ensures { Reads (λ rec. rec) (λ e. e.left) result cursor.new (among_at names.now cursor.old) }
+{
+    let place = take_place(cursor, names)?;
+    Ok(RecId::new(place as u8))
+}
+
+#[tactic(auto, unfolding(crate::specs::Reading::read_at))]
+fn take_read(alloc: Global, cursor: &mut Cursor, names: &[Name]) -> Result<Op, LineFault>
+    requires { length names.now ≤ 256 }
+    ensures { Tries (λ op. op) line_left result cursor.new (read_at names.now cursor.old) }
+{
+    cursor.literal(b" r ")?;
+    let rec = take_record(cursor, names)?;
+    cursor.literal(b" ")?;
+    let value = Value::take(alloc, cursor)?;
+    Ok(Op::Read { rec, value })
+}
+
+#[tactic(auto, unfolding(crate::specs::Reading::write_at))]
+fn take_write(alloc: Global, cursor: &mut Cursor, names: &[Name]) -> Result<Op, LineFault>
+    requires { length names.now ≤ 256 }
+    ensures { Tries (λ op. op) line_left result cursor.new (write_at names.now cursor.old) }
+{
+    cursor.literal(b" w ")?;
+    let rec = take_record(cursor, names)?;
+    cursor.literal(b" ")?;
+    let value = Value::take(alloc, cursor)?;
+    Ok(Op::Write { rec, value })
+}
+
+#[tactic(auto, unfolding(crate::specs::Reading::op_at))]
+fn take_op(alloc: Global, cursor: &mut Cursor, names: &[Name]) -> Result<Op, LineFault>
+    requires { length names.now ≤ 256 }
+    ensures { Tries (λ op. op) line_left result cursor.new (op_at names.now cursor.old) }
+{
+    let mut other = cursor.fork();
+    match take_read(alloc, cursor, names) {
+        Ok(op) => Ok(op),
+        Err(LineFault::NoMemory) => Err(LineFault::NoMemory),
+        Err(LineFault::Unexpected(first)) => match take_write(alloc, &mut other, names) {
+            Ok(op) => {
+                *cursor = other;
+                Ok(op)
+            }
+            Err(LineFault::NoMemory) => Err(LineFault::NoMemory),
+            Err(LineFault::Unexpected(second)) => Err(LineFault::Unexpected(first.farther(second))),
+        },
+    }
+}
+
+/// The next operation, or None for the end of the line.
+#[tactic(auto, unfolding(vp_text::specs::Reading::next_at))]
+fn take_next(alloc: Global, cursor: &mut Cursor, names: &[Name]) -> Result<Option<Op>, LineFault>
+    requires { length names.now ≤ 256 }
+    ensures { Tries (λ op. op) line_left result cursor.new (next_at (some_names names.now) (op_at names.now) (10 ∷ []) cursor.old) }
+{
+    let mut other = cursor.fork();
+    match cursor.literal(b"\n") {
+        Ok(()) => Ok(None),
+        Err(first) if names.is_empty() => Err(LineFault::Unexpected(first)),
+        Err(first) => match take_op(alloc, &mut other, names) {
+            Ok(op) => {
+                *cursor = other;
+                Ok(Some(op))
+            }
+            Err(LineFault::NoMemory) => Err(LineFault::NoMemory),
+            Err(LineFault::Unexpected(second)) => Err(LineFault::Unexpected(first.farther(second))),
+        },
+    }
+}
+
+/// The operations up to the end of the line.
+fn take_ops(alloc: Global, cursor: &mut Cursor, names: &[Name]) -> Result<Ops, LineFault>
+    requires few { length names.now ≤ 256 }
+    requires names { AllNames names.now }
+    ensures { Tries (λ ops. ops) line_left result cursor.new (ops_at names.now (suc (length cursor.old)) cursor.old) }
+{
+    let mut ops = Vec::new(alloc);
+    while let Some(op) = take_next(alloc, cursor, names)? {
+        ops.push(op)?;
+    }
+    Ok(Ops::from_vec(ops))
+}
+
+#[tactic(auto, unfolding(crate::specs::Reading::start_at))]
+fn take_start(alloc: Global, cursor: &mut Cursor) -> Result<Line, LineFault>
+    ensures { Tries (λ line. line) line_left result cursor.new (start_at cursor.old) }
+{
+    cursor.literal(b"start ")?;
+    let name = Name::take(alloc, cursor)?;
+    cursor.literal(b" ")?;
+    let value = Value::take(alloc, cursor)?;
+    cursor.literal(b"\n")?;
+    Ok(Line::Start { name, value })
+}
+
+#[tactic(auto, unfolding(crate::specs::Reading::commit_at))]
+fn take_commit(
+    alloc: Global,
+    cursor: &mut Cursor,
+    names: &[Name],
+    last: ViewId,
+) -> Result<Line, LineFault>
+    requires few { length names.now ≤ 256 }
+    requires names { AllNames names.now }
+    ensures { Tries (λ line. line) line_left result cursor.new (commit_at names.now last cursor.old) }
+{
+    cursor.literal(b"commit ")?;
+    let txn = TxnId::take(cursor)?;
+    cursor.literal(b" ")?;
+    let view = ViewId::take_from(cursor, last)?;
+    let ops = take_ops(alloc, cursor, names)?;
+    Ok(Line::Commit(Commit { txn, view, ops }))
+}
+
+#[tactic(auto, unfolding(crate::specs::Reading::ending_at))]
+fn take_end(cursor: &mut Cursor, commits: u64) -> Result<(), Unexpected>
+    ensures { Reads (λ u. kind.End) (λ e. e.left) result cursor.new (ending_at commits cursor.old) }
+{
+    cursor.literal(b"end ")?;
+    cursor.number(commits, commits)?;
+    cursor.literal(b"\n")
+}
+
+/// A commit line or the end line.
+#[tactic(auto, unfolding(crate::specs::Reading::later_at))]
+fn take_later(
+    alloc: Global,
+    cursor: &mut Cursor,
+    names: &[Name],
+    last: ViewId,
+    commits: u64,
+) -> Result<Line, LineFault>
+    requires few { length names.now ≤ 256 }
+    requires names { AllNames names.now }
+    ensures { Tries (λ line. line) line_left result cursor.new (later_at (record { names = names.now; last = last; commits = commits }) cursor.old) }
+{
+    let mut other = cursor.fork();
+    match take_commit(alloc, cursor, names, last) {
+        Ok(line) => Ok(line),
+        Err(LineFault::NoMemory) => Err(LineFault::NoMemory),
+        Err(LineFault::Unexpected(first)) => match take_end(&mut other, commits) {
+            Ok(()) => {
+                *cursor = other;
+                Ok(Line::End)
+            }
+            Err(second) => Err(LineFault::Unexpected(first.farther(second))),
+        },
+    }
+}
+
+/// A line that is allowed after lines with these names, the last view and so many commits.
+#[tactic(auto, unfolding(crate::specs::Reading::line_at))]
+pub fn take_line(
+    alloc: Global,
+    cursor: &mut Cursor,
+    names: &[Name],
+    last: ViewId,
+    commits: u64,
+) -> Result<Line, LineFault>
+    requires few { length names.now ≤ 256 }
+    requires names { AllNames names.now }
+    ensures { Tries (λ line. line) line_left result cursor.new (line_at (record { names = names.now; last = last; commits = commits }) cursor.old) }
+{
+    if commits > 0 || names.len() >= 256 {
+        return take_later(alloc, cursor, names, last, commits);
+    }
+    let mut other = cursor.fork();
+    match take_start(alloc, cursor) {
+        Ok(line) => Ok(line),
+        Err(LineFault::NoMemory) => Err(LineFault::NoMemory),
+        Err(LineFault::Unexpected(first)) => match take_later(
+            alloc, &mut other, names, last, commits,
+        ) {
+            Ok(line) => {
+                *cursor = other;
+                Ok(line)
+            }
+            Err(LineFault::NoMemory) => Err(LineFault::NoMemory),
+            Err(LineFault::Unexpected(second)) => Err(LineFault::Unexpected(first.farther(second))),
+        },
+    }
+}
