@@ -1,3 +1,4 @@
 pub mod Ending
 pub mod Served
 pub mod Replaying
+pub mod Values

@@ -5,9 +5,11 @@ use Rattle.vp_top.specs.declared.status.Status.TheVariants as status
 
 abbrev pub code_of : Status → ℕ
 code_of status.Done = 0
+code_of status.BadLine = 1
 code_of status.Usage = 2
 code_of status.NoMemory = 3
 code_of status.SourceFault = 4
 code_of status.SinkFault = 5
 code_of status.Limit = 9
+code_of status.Differs = 10
 code_of status.Unbuilt = 13

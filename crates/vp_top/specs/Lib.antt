@@ -1,4 +1,6 @@
 pub mod Codes
+pub mod Commands
 pub mod Alone
+pub mod Checked
 pub mod Program
 pub mod Ends

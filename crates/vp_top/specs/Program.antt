@@ -1,21 +1,17 @@
 -- What the program defines for its words and for the bytes that it takes of its source.
-use Rattle.std.specs.Prelude.{◌≡◌, ◌<◌, ◌≤◌, ◌++◌, ◌⊎◌, ◌&&◌, ℕ, Bool, true, false, List, [], ◌∷◌, length, codes}
-use Rattle.std.specs.Str.{bytes_eq}
+use Rattle.std.specs.Prelude.{◌≡◌, ◌<◌, ◌≤◌, ◌++◌, ℕ, List, [], length, codes, Some, None, IsSome}
 use Rattle.vp_model.specs.World.{Schedule}
 use Rattle.vp_model.specs.Headline.{IsOneCopy}
 use Rattle.vp_model.specs.Texts.Schedule.{schedule_text}
 use Rattle.vp_model.specs.Texts.Trace.{trace_text}
 use Rattle.vp_model.specs.Texts.History.{history_text}
 use Rattle.vp_form.specs.Form.{IsFirstForm}
+use Rattle.vp_top.specs.Checked.{IsChecked, IsMisspelled}
+use Rattle.vp_top.specs.Commands.{command_of}
 use Rattle.vp_top.specs.declared.status.Status.{Status}
 use Rattle.vp_top.specs.declared.status.Status.TheVariants as status
-
--- the words are those of replay, with or without the word `--` behind it
-abbrev pub is_replay : List (List ℕ) → Bool
-is_replay [] = false
-is_replay (command ∷ []) = bytes_eq command (codes "replay")
-is_replay (command ∷ end ∷ []) = bytes_eq command (codes "replay") && bytes_eq end (codes "--")
-is_replay (command ∷ end ∷ more ∷ words) = false
+use Rattle.vp_top.specs.declared.words.Command.{Command}
+use Rattle.vp_top.specs.declared.words.Command.TheVariants as commands
 
 -- the most bytes that an input has
 abbrev pub most_bytes : ℕ
@@ -33,28 +29,30 @@ pub record IsReplayed (bytes text : List ℕ) : Type 0 where
 abbrev pub IsUnserved : List ℕ → Type 0
 IsUnserved bytes = (s : Schedule) → IsFirstForm s → schedule_text s ≡ bytes → ⊥
 
--- the input of replay was read to its end, and is not too long
-pub record IsInput (words : List (List ℕ)) (bytes : List ℕ) (ended : Type 0) : Type 0 where
-  pub replay : is_replay words ≡ true
+-- The text that a command defines for its input at each status; other statuses are none of the command's.
+abbrev pub IsAnswer : Command → List ℕ → Status → List ℕ → Type 0
+IsAnswer commands.Replay bytes status.Done text = IsReplayed bytes text
+IsAnswer commands.Replay bytes status.Unbuilt text = IsUnserved bytes × (text ≡ codes "unbuilt\n")
+IsAnswer commands.Replay bytes _ text = ⊥
+IsAnswer commands.Check bytes status.Done text = IsChecked bytes status.Done text
+IsAnswer commands.Check bytes status.Differs text = IsChecked bytes status.Differs text
+IsAnswer commands.Check bytes status.BadLine text = IsMisspelled bytes text
+IsAnswer commands.Check bytes _ text = ⊥
+
+-- The words are a command's, its input was read to its end and is not too long, and this is its answer.
+pub record IsAnswered (words : List (List ℕ)) (bytes : List ℕ) (ended : Type 0) (end : Status) (text : List ℕ) : Type 0 where
+  pub command : Command
+  pub words_are : command_of words ≡ Some command
   pub fits : length bytes ≤ most_bytes
   pub whole : ended
+  pub answer : IsAnswer command bytes end text
 
 -- The text that the program defines for its words at each status, where it took these bytes of its source, and found its end or didn't.
 abbrev pub IsDefined : List (List ℕ) → List ℕ → Type 0 → Status → List ℕ → Type 0
 IsDefined words bytes ended status.Usage text =
-    (is_replay words ≡ false)
+    (command_of words ≡ None)
     × (bytes ≡ [])
     × (text ≡ codes "usage: vpdb replay|check|node|client|tick|probe|stop|generate|soak\n")
 IsDefined words bytes ended status.Limit text =
-    (is_replay words ≡ true) × (most_bytes < length bytes) × (text ≡ codes "limit bytes 16777216\n")
-IsDefined words bytes ended status.Unbuilt text = IsInput words bytes ended × IsUnserved bytes × (text ≡ codes "unbuilt\n")
-IsDefined words bytes ended status.Done text = IsInput words bytes ended × IsReplayed bytes text
-IsDefined words bytes ended status.NoMemory text = ⊥
-IsDefined words bytes ended status.SourceFault text = ⊥
-IsDefined words bytes ended status.SinkFault text = ⊥
-
--- what is defined for an input that is not too long
-abbrev pub IsAnswer : List ℕ → Status → List ℕ → Type 0
-IsAnswer bytes end text =
-    ((end ≡ status.Done) × IsReplayed bytes text)
-    ⊎ ((end ≡ status.Unbuilt) × IsUnserved bytes × (text ≡ codes "unbuilt\n"))
+    IsSome (command_of words) × (most_bytes < length bytes) × (text ≡ codes "limit bytes 16777216\n")
+IsDefined words bytes ended end text = IsAnswered words bytes ended end text

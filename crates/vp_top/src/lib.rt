@@ -1,6 +1,7 @@
 //! The program as one call: from its words and its input to its output and its status.
 #![tactic(auto)]
 
+mod check;
 mod only_site;
 mod program;
 mod replay;
@@ -9,7 +10,7 @@ mod words;
 
 pub use program::{MOST_BYTES, run};
 pub use status::Status;
-pub use words::Word;
+pub use words::{Command, Word};
 
 #[cfg(test)]
 mod tests;

@@ -1,13 +1,14 @@
 //! The top call: from the words and the source to the sink and the status.
 
-ghost use Rattle.std.specs.Prelude.{◌≡◌, true, IfOk, IsErrOf};
+ghost use Rattle.std.specs.Prelude.{◌≡◌, IfOk, IsErrOf, IsSome};
 ghost use Rattle.vp_outside.specs.Causes.{Rose};
-ghost use Rattle.vp_top.specs.Program.{IsAnswer, is_replay};
+ghost use Rattle.vp_top.specs.Commands.{command_of};
+ghost use Rattle.vp_top.specs.Program.{IsAnswer};
 ghost use Rattle.vp_top.specs.Ends.{Defines, Ends};
 
-use crate::replay::answer;
-use crate::status::{Defined, Status};
-use crate::words::{Word, is_replay};
+use crate::status::{Defined, Status, limit_line, usage_line};
+use crate::words::{Command, Word};
+use crate::{check, replay};
 use std::alloc::{AllocError, Global};
 use vp_base::NoMemory;
 use vp_outside::{InputFault, OutFault, Sink, Source, read_to_end, write_all};
@@ -87,15 +88,31 @@ fn define<S: Source>(alloc: Global, words: &[Word], source: &mut S) -> Result<De
           faults_after = S.faults source.new;
         })
         defined.status defined.text.items) }
-    ensures source { IsErrOf result Stop.SourceFault → (is_replay words.now ≡ true) × Rose (S.faults source.old) (S.faults source.new) }
+    ensures source { IsErrOf result Stop.SourceFault → IsSome (command_of words.now) × Rose (S.faults source.old) (S.faults source.new) }
 {
-    if !is_replay(words) {
-        return Ok(Defined::usage(alloc)?);
-    }
+    let Some(command) = Command::of(words) else {
+        return Ok(Defined {
+            status: Status::Usage,
+            text: usage_line(alloc)?,
+        });
+    };
     match read_to_end(alloc, source, MOST_BYTES) {
-        Ok(input) => Ok(answer(alloc, &input)?),
+        Ok(input) => Ok(answer(alloc, command, &input)?),
         Err(InputFault::Failed) => Err(Stop::SourceFault),
-        Err(InputFault::TooLong) => Ok(Defined::too_long(alloc)?),
+        Err(InputFault::TooLong) => Ok(Defined {
+            status: Status::Limit,
+            text: limit_line(alloc)?,
+        }),
         Err(InputFault::NoMemory) => Err(Stop::NoMemory),
+    }
+}
+
+/// The status and the text that are defined for the input of a command.
+fn answer(alloc: Global, command: Command, input: &[u8]) -> Result<Defined, NoMemory>
+    ensures { IfOk result (λ defined. IsAnswer command input.now defined.status defined.text.items) }
+{
+    match command {
+        Command::Replay => replay::answer(alloc, input),
+        Command::Check => check::answer(alloc, input),
     }
 }

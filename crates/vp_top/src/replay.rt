@@ -10,9 +10,10 @@ ghost use Rattle.vp_model.specs.Texts.History.{history_lines, history_text};
 ghost use Rattle.vp_form.specs.Form.{IsFirstForm, schedule_of, schedule_with};
 ghost use Rattle.vp_top.specs.Alone.{IsAlone, called, line_of};
 ghost use Rattle.vp_top.specs.Program.{IsAnswer};
+ghost use Rattle.vp_top.specs.declared.words.Command.TheVariants as commands;
 
 use crate::only_site::OnlySite;
-use crate::status::{Defined, Status};
+use crate::status::{Defined, Status, unbuilt_line};
 use std::alloc::Global;
 use vp_base::{Call, Commit, Commits, CopyOf, Effects, Event, Line, NoMemory, Shown, SiteId};
 use vp_catalog::Catalog;
@@ -22,14 +23,17 @@ use vp_schedule::print_line;
 
 /// The status and the text that are defined for an input of `replay`.
 pub fn answer(alloc: Global, input: &[u8]) -> Result<Defined, NoMemory>
-    ensures { IfOk result (λ defined. IsAnswer input.now defined.status defined.text.items) }
+    ensures { IfOk result (λ defined. IsAnswer commands.Replay input.now defined.status defined.text.items) }
 {
     match read_form(alloc, input) {
         Ok(form) => Ok(Defined {
             status: Status::Done,
             text: print_replay(alloc, &form)?,
         }),
-        Err(FormFault::Unbuilt) => Ok(Defined::unbuilt(alloc)?),
+        Err(FormFault::Unbuilt) => Ok(Defined {
+            status: Status::Unbuilt,
+            text: unbuilt_line(alloc)?,
+        }),
         Err(FormFault::NoMemory) => Err(NoMemory),
     }
 }

@@ -1,7 +1,6 @@
 //! How a run of the program ends.
 
 ghost use Rattle.std.specs.Prelude.{◌≡◌, IfOk, codes};
-ghost use Rattle.vp_top.specs.declared.status.Status.TheVariants as status;
 
 use std::alloc::{AllocError, Global};
 
@@ -10,6 +9,8 @@ use std::alloc::{AllocError, Global};
 pub enum Status {
     /// All was done.
     Done = 0,
+    /// The input isn't in its grammar.
+    BadLine = 1,
     /// The words are no command.
     Usage = 2,
     /// There was no memory. What was printed is a prefix of what is defined.
@@ -20,6 +21,8 @@ pub enum Status {
     SinkFault = 5,
     /// The input has more than 16,777,216 bytes.
     Limit = 9,
+    /// A history has a read of another value than its one copy kept.
+    Differs = 10,
     /// The input is no schedule that is served yet.
     Unbuilt = 13,
 }
@@ -42,39 +45,32 @@ pub struct Defined {
     pub text: Vec<u8>,
 }
 
-impl Defined {
-    /// Where the words are no command.
-    pub fn usage(alloc: Global) -> Result<Defined, AllocError>
-        ensures status { IfOk result (λ defined. defined.status ≡ status.Usage) }
-        ensures text { IfOk result (λ defined. defined.text.items ≡ codes "usage: vpdb replay|check|node|client|tick|probe|stop|generate|soak\n") }
-    {
-        let text = b"usage: vpdb replay|check|node|client|tick|probe|stop|generate|soak\n";
-        Defined::fixed(alloc, Status::Usage, text)
-    }
+/// The line that tells the commands.
+pub fn usage_line(alloc: Global) -> Result<Vec<u8>, AllocError>
+    ensures { IfOk result (λ text. text.items ≡ codes "usage: vpdb replay|check|node|client|tick|probe|stop|generate|soak\n") }
+{
+    copied(
+        alloc,
+        b"usage: vpdb replay|check|node|client|tick|probe|stop|generate|soak\n",
+    )
+}
 
-    /// Where the input has too many bytes.
-    pub fn too_long(alloc: Global) -> Result<Defined, AllocError>
-        ensures status { IfOk result (λ defined. defined.status ≡ status.Limit) }
-        ensures text { IfOk result (λ defined. defined.text.items ≡ codes "limit bytes 16777216\n") }
-    {
-        Defined::fixed(alloc, Status::Limit, b"limit bytes 16777216\n")
-    }
+/// The line for an input that is too long.
+pub fn limit_line(alloc: Global) -> Result<Vec<u8>, AllocError>
+    ensures { IfOk result (λ text. text.items ≡ codes "limit bytes 16777216\n") }
+{
+    copied(alloc, b"limit bytes 16777216\n")
+}
 
-    /// Where the input is no schedule that is served.
-    pub fn unbuilt(alloc: Global) -> Result<Defined, AllocError>
-        ensures status { IfOk result (λ defined. defined.status ≡ status.Unbuilt) }
-        ensures text { IfOk result (λ defined. defined.text.items ≡ codes "unbuilt\n") }
-    {
-        Defined::fixed(alloc, Status::Unbuilt, b"unbuilt\n")
-    }
+/// The line for a schedule that is not served yet.
+pub fn unbuilt_line(alloc: Global) -> Result<Vec<u8>, AllocError>
+    ensures { IfOk result (λ text. text.items ≡ codes "unbuilt\n") }
+{
+    copied(alloc, b"unbuilt\n")
+}
 
-    fn fixed(alloc: Global, status: Status, text: &[u8]) -> Result<Defined, AllocError>
-        ensures status { IfOk result (λ defined. defined.status ≡ status) }
-        ensures text { IfOk result (λ defined. defined.text.items ≡ text.now) }
-    {
-        Ok(Defined {
-            status,
-            text: Vec::from_slice(alloc, text)?,
-        })
-    }
+fn copied(alloc: Global, text: &[u8]) -> Result<Vec<u8>, AllocError>
+    ensures { IfOk result (λ copy. copy.items ≡ text.now) }
+{
+    Vec::from_slice(alloc, text)
 }

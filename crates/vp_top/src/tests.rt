@@ -13,15 +13,20 @@ fn words(alloc: Global, texts: &[&str]) -> Result<Vec<Word>, AllocError> {
     Ok(words)
 }
 
-fn replay(alloc: Global, input: &str, sink: &mut SureSink) -> Result<Status, AllocError> {
+fn run_on(
+    alloc: Global,
+    command: &str,
+    input: &str,
+    sink: &mut SureSink,
+) -> Result<Status, AllocError> {
     let mut source = SureSource::new(Vec::from_slice(alloc, input.as_bytes())?);
-    let words = words(alloc, &["replay"])?;
+    let words = words(alloc, &[command])?;
     Ok(run(alloc, &words, &mut source, sink))
 }
 
 const HEAD: &str = "site 1 7001\nrecord x 10 1:1\nevents\n";
 
-/// Inputs with their statuses and what is printed.
+/// Schedules with their statuses and what is printed.
 const RUNS: [(&str, Status, &str); 12] = [
     (
         "site 1 7001\nrecord x 10 1:1\nevents\n",
@@ -81,7 +86,60 @@ const RUNS: [(&str, Status, &str); 12] = [
 fn inputs_give_their_status_and_text(rt: HostRuntime) -> Result<(), Fail> {
     for (input, status, text) in RUNS {
         let mut sink = SureSink::new(rt.alloc());
-        let end = replay(rt.alloc(), input, &mut sink)?;
+        let end = run_on(rt.alloc(), "replay", input, &mut sink)?;
+        assert!(rt; end == status, "{input}");
+        assert!(rt; sink.bytes() == text.as_bytes(), "{input}");
+    }
+    Ok(())
+}
+
+/// Histories with their statuses and what is printed.
+const CHECKS: [(&str, Status, &str); 10] = [
+    ("", Status::BadLine, "bad line 1 at 1\n"),
+    ("abc\n", Status::BadLine, "bad line 2 at 1\n"),
+    (
+        "history\nstart x 10\ncommit 1.1.1 0@0 r y 10",
+        Status::BadLine,
+        "bad line 3 at 20\n",
+    ),
+    (
+        "history\nstart x 10\nstart x 11\n",
+        Status::BadLine,
+        "twice line 3\n",
+    ),
+    (
+        "history\nstart x 10\ncommit 1.1.1 1@2\ncommit 2.1.1 0@0\n",
+        Status::BadLine,
+        "bad line 4 at 14\n",
+    ),
+    (
+        "history\nstart x 10\nend 1\n",
+        Status::BadLine,
+        "bad line 3 at 5\n",
+    ),
+    ("history\nend 0\n\n", Status::BadLine, "bad line 3 at 1\n"),
+    (
+        "history\nstart x 10\ncommit 1.1.1 0@0 w x 11\ncommit 1.1.2 0@0 r x 10\nend 2\n",
+        Status::Differs,
+        "differs 1.1.2 1 x kept 11 read 10\n",
+    ),
+    (
+        "1 call 1 begin\n reply begun 1.1.1 0@0\nhistory\nstart x 10\ncommit 1.1.1 0@0 r x 10 w x 11\ncommit 1.1.2 0@0 r x 11\nend 2\n",
+        Status::Done,
+        "serial 2\nx 11\n",
+    ),
+    (
+        "history\nstart x 10\nstart y 5\nend 0\n",
+        Status::Done,
+        "serial 0\nx 10\ny 5\n",
+    ),
+];
+
+#[test]
+fn histories_give_their_verdict(rt: HostRuntime) -> Result<(), Fail> {
+    for (input, status, text) in CHECKS {
+        let mut sink = SureSink::new(rt.alloc());
+        let end = run_on(rt.alloc(), "check", input, &mut sink)?;
         assert!(rt; end == status, "{input}");
         assert!(rt; sink.bytes() == text.as_bytes(), "{input}");
     }

@@ -2,26 +2,56 @@
 
 ghost use Rattle.std.specs.Prelude.{◌≡◌};
 ghost use Rattle.std.specs.Str.{bytes_eq};
-ghost use Rattle.vp_top.specs.Program.{is_replay};
 
 use vp_base::Seq;
 
 /// One word of the command line, as its bytes. The program's name is no word.
 pub type Word = Seq<u8>;
 
+/// What the program is asked to do.
+#[derive(Clone, Copy, Debug, PartialEq, Eq)]
+pub enum Command {
+    /// Replays a schedule.
+    Replay,
+    /// Checks a history.
+    Check,
+}
+
+impl Command {
+    ghost use Rattle.vp_top.specs.Commands.{command_of, named};
+
+    /// The command of the words: its name, with or without `--` behind it.
+    pub fn of(words: &[Word]) -> Option<Command>
+        ensures { result ≡ command_of words.now }
+    {
+        match words {
+            [name] => Command::named(name),
+            [name, end] => {
+                if is(end, b"--") {
+                    Command::named(name)
+                } else {
+                    None
+                }
+            }
+            _ => None,
+        }
+    }
+
+    fn named(word: &Word) -> Option<Command>
+        ensures { result ≡ named word.now }
+    {
+        if is(word, b"replay") {
+            Some(Command::Replay)
+        } else if is(word, b"check") {
+            Some(Command::Check)
+        } else {
+            None
+        }
+    }
+}
+
 fn is(word: &Word, text: &[u8]) -> bool
     ensures { result ≡ bytes_eq word.now text.now }
 {
     word.as_slice() == text
-}
-
-/// Whether the words are those of `replay`: the word itself, with or without `--` behind it.
-pub fn is_replay(words: &[Word]) -> bool
-    ensures { result ≡ is_replay words.now }
-{
-    match words {
-        [command] => is(command, b"replay"),
-        [command, end] => is(command, b"replay") && is(end, b"--"),
-        _ => false,
-    }
 }
