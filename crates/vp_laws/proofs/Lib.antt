@@ -22,6 +22,8 @@ pub mod OnlyCoordinator
 pub mod TableEndings
 pub mod TableSteps
 pub mod TableShares
+pub mod TableWaits
+pub mod TableLeaves
 -- worlds and schedules
 pub mod Scenes
 pub mod Events
@@ -38,6 +40,9 @@ pub mod InvShares
 pub mod InvOps
 pub mod InvAnswers
 pub mod InvEntered
+pub mod InvLived
+pub mod HasLeft
+pub mod InvSettled
 -- the laws in the words of the contracts
 pub mod Words
 pub mod EntryWords

@@ -5,35 +5,25 @@ use Rattle.vp_model.specs.Types.{ViewId, TxnId, View, Commit, Op, Stored, Pendin
 use Rattle.vp_model.specs.Types.message
 use Rattle.vp_model.specs.Types.op
 use Rattle.vp_model.specs.Types.owner
-use Rattle.vp_model.specs.Words.{same_txn, has_txn, keys, value_at, opening}
+use Rattle.vp_model.specs.Words.{same_txn, keys, value_at, opening}
 use Rattle.vp_model.specs.Catalogue.{Catalogue, holders, accessible, start_values}
-use Rattle.vp_model.specs.Durable.{Doubt, Decision}
+use Rattle.vp_model.specs.Durable.{Doubt}
 use Rattle.vp_model.specs.Locks.{holds}
 use Rattle.vp_model.specs.Site.{SiteState}
 use Rattle.vp_model.specs.Refresh.{is_usable, refreshing_of}
 use Rattle.vp_model.specs.OneCopy.{Values, play, serial, order, content}
 use Rattle.vp_laws.proofs.Members.{Has}
-use Rattle.vp_laws.proofs.Order.{AtMost, Precedes}
+use Rattle.vp_laws.proofs.Order.{Precedes}
 use Rattle.vp_laws.proofs.LocalViews.{letter}
 use Rattle.vp_laws.proofs.Table.{Writes}
-use Rattle.vp_laws.proofs.Scenes.{Scene, plain_at, kept_at, promise_at}
+use Rattle.vp_laws.proofs.Scenes.{Scene, plain_at, kept_at}
 use Rattle.vp_laws.proofs.InvShares.{InDoubt}
 use Rattle.vp_laws.proofs.InvOps.{record_of}
-use Rattle.vp_laws.proofs.InvEntered.{Wrote, AgreedAs, Affected}
+use Rattle.vp_laws.proofs.InvEntered.{Wrote, AgreedAs}
+use Rattle.vp_laws.proofs.HasLeft.{HasLeft}
 use Rattle.vp_laws.proofs.InvAnswers.{HasRead, HasWrote}
 
 -- words
-
--- the site uses the identifier: it holds it, waits for it, or invites to it
-pub data Uses (x : SiteState) (i : ViewId) : Type 0 where
-  held : (v : View) → x.held ≡ Some v → v.id ≡ i → Uses x i
-  awaited : x.waiting ≡ Some i → Uses x i
-  invited : (b : ViewId × List ℕ) → x.inviting ≡ Some b → b.0 ≡ i → Uses x i
-
--- the site has left the view, and will not use it again
-pub record HasLeft (w : Scene) (q : ℕ) (i : ViewId) : Type 0 where
-  pub promised : AtMost i (promise_at w q)
-  pub unused : (x : SiteState) → plain_at w q ≡ Some x → Uses x i → ⊥
 
 -- the site has left all views below, and has no doubt on the record of such a view
 pub record ClosedAt (w : Scene) (q rec : ℕ) (i : ViewId) : Type 0 where
@@ -51,18 +41,6 @@ value_after catalogue journal view rec = option_and_then (λ values. slice_get v
 -- the journal without the entry of a transaction
 abbrev pub without_entry : TxnId → List Commit → List Commit
 without_entry txn journal = filter (λ e. not (same_txn e.txn txn)) journal
-
--- entries and those who apply them
-
-pub record InvSettled (catalogue : Catalogue) (w : Scene) : Type 0 where
-  -- where it is in doubt still, the coordinator waits for it in its decisions
-  pub waited : (e : Commit) (s : ℕ) → Has w.journal e → Affected catalogue w e s → InDoubt w s e.txn → (d : Decision) × Has (kept_at w e.txn.site).decisions d × (d.0 ≡ e.txn) × Has d.1 s
-  -- where it is not in doubt any more, it has the transaction in its ended list, or has left the view
-  pub ended : (e : Commit) (s : ℕ) → Has w.journal e → Affected catalogue w e s → s ≢ e.txn.site → (InDoubt w s e.txn → ⊥) → HasLeft w s e.view ⊎ ((x : SiteState) × (plain_at w s ≡ Some x) × (has_txn x.ended e.txn ≡ true))
-  -- no site that has acknowledged a commit is in doubt about it
-  pub acknowledged : (s to : ℕ) (txn : TxnId) → Has w.sent (letter s to (message.Ack txn)) → InDoubt w s txn → ⊥
-  -- an abort of a transaction with an entry goes only to sites that are not in doubt about it
-  pub aborted : (e : Commit) (from s : ℕ) → Has w.journal e → Has w.sent (letter from s (message.Outcome e.txn false)) → InDoubt w s e.txn → ⊥
 
 -- locks
 

@@ -1,5 +1,5 @@
 -- Who each site is after an event, and how the world starts: what every invariant of all sites goes by.
-use Rattle.std.proofs.Common.{◌≡◌, ◌≢◌, ◌∙◌, ap, sym, ℕ, [], map, refl, ⊎_elim}
+use Rattle.std.proofs.Common.{◌≡◌, ◌≢◌, ◌∙◌, ap, sym, ℕ, ◌+◌, ◌≤◌, [], map, refl, arith, ⊎_elim}
 use Rattle.std.specs.Prelude.{Option, Some, None, option_map}
 use Rattle.vp_model.specs.Types.{Sent, Commit, Input}
 use Rattle.vp_laws.proofs.Members.{Has, has_none}
@@ -39,6 +39,7 @@ pub record Quiet (catalogue : Catalogue) (w new : Scene) (s : ℕ) : Type 0 wher
   pub copies : (kept_at new s).copies ≡ (kept_at w s).copies
   pub doubts : (kept_at new s).doubts ≡ (kept_at w s).doubts
   pub decisions : (kept_at new s).decisions ≡ (kept_at w s).decisions
+  pub life : (kept_at w s).life ≤ (kept_at new s).life
 
 -- a site after such an event: it starts, or is another one as it was
 pub data QuietIs (catalogue : Catalogue) (w : Scene) (s k : ℕ) (y : SiteState) : Type 0 where
@@ -56,6 +57,12 @@ down_kept : (o : Option Place) → kept_in (option_map (λ (place : Place). reco
 down_kept None = refl
 down_kept (Some p) = refl
 
+no_less : (a b : ℕ) → b ≡ a → a ≤ b
+no_less a b e = omega arith
+
+one_more : (a n b : ℕ) → a ≡ n → b ≡ n + 1 → a ≤ b
+one_more a n b e f = omega arith
+
 pub crash_quiet : (catalogue : Catalogue) (w : Scene) (s : ℕ) → Quiet catalogue w (crashed w s) s
 crash_quiet catalogue w s =
     let same : kept_at (crashed w s) s ≡ kept_at w s = ap kept_in (place-same s (λ (place : Place). record place { up = None }) w.places (λ p. refl)) ∙ down_kept (place_of s w.places) in
@@ -69,6 +76,7 @@ crash_quiet catalogue w s =
       copies = ap (λ (d : DurableState). d.copies) same;
       doubts = ap (λ (d : DurableState). d.doubts) same;
       decisions = ap (λ (d : DurableState). d.decisions) same;
+      life = no_less (kept_at w s).life (kept_at (crashed w s) s).life (ap (λ (d : DurableState). d.life) same);
     }
 
 pub restart_quiet : (catalogue : Catalogue) (w : Scene) (s : ℕ) (place : Place) → place_of s w.places ≡ Some place → place.id ≡ s → Quiet catalogue w (restarted catalogue w s) s
@@ -87,6 +95,7 @@ restart_quiet catalogue w s place e i =
       copies = ap (λ (d : DurableState). d.copies) now ∙ ap (λ (d : DurableState). d.copies) (sym was);
       doubts = ap (λ (d : DurableState). d.doubts) now ∙ ap (λ (d : DurableState). d.doubts) (sym was);
       decisions = ap (λ (d : DurableState). d.decisions) now ∙ ap (λ (d : DurableState). d.decisions) (sym was);
+      life = one_more (kept_at w s).life place.durable.life (kept_at (restarted catalogue w s) s).life (ap (λ (d : DurableState). d.life) was) (ap (λ (d : DurableState). d.life) now);
     }
 
 -- each site as the world starts
