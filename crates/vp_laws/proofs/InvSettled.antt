@@ -14,6 +14,7 @@ use Rattle.vp_model.specs.Refresh.{other_holders_in}
 use Rattle.vp_model.specs.Messages.{holds_view}
 use Rattle.vp_model.specs.Step.{step, durable_of}
 use Rattle.vp_laws.proofs.Members.{Has, has_none, has_first, has_from_test, filter_has, filter_keeps, map_has, any_true, any_false}
+use Rattle.vp_laws.proofs.Lists.{mapped_has}
 use Rattle.vp_laws.proofs.Apart.{same_txn-is, same_txn-not}
 use Rattle.vp_laws.proofs.Order.{AtMost, Precedes, not_both, same_is, same_site}
 use Rattle.vp_laws.proofs.LocalViews.{letter}
@@ -24,7 +25,7 @@ use Rattle.vp_laws.proofs.TableLed.{IsOf, Led}
 use Rattle.vp_laws.proofs.TableEndings.{MayAbort, Endings, endings-step}
 use Rattle.vp_laws.proofs.TableSteps.{EnteredFor, Steps, steps-step}
 use Rattle.vp_laws.proofs.TableShares.{is_reply, Prepared, DoubtNow, OutcomeComes, ReplyTo, Shares, shares-step}
-use Rattle.vp_laws.proofs.TableWaits.{IsWaited, mapped_has, Waits, waits-step}
+use Rattle.vp_laws.proofs.TableWaits.{IsWaited, Waits, waits-step}
 use Rattle.vp_laws.proofs.TableLeaves.{Uses, Leaves, leaves-step}
 use Rattle.vp_laws.proofs.InvViews.{InvViews, above}
 use Rattle.vp_laws.proofs.InvLed.{InvLed}

@@ -14,7 +14,7 @@ use Rattle.vp_model.specs.Calls.{start_txn, take_lock, read_at, write_at, prepar
 use Rattle.vp_model.specs.Answers.{with_acknowledged}
 use Rattle.vp_model.specs.Step.{mark_calls, step}
 use Rattle.vp_laws.proofs.Members.{Has, has_none, has_one_is, has_first, has_more, has_cons, filter_keeps}
-use Rattle.vp_laws.proofs.Lists.{put_new, put_old}
+use Rattle.vp_laws.proofs.Lists.{mapped_has, put_new, put_old}
 use Rattle.vp_laws.proofs.Apart.{same_txn-is, same_txn-not}
 use Rattle.vp_laws.proofs.Frames.{Ends, close-ends, close-commits, decided-ends, decided-commits, decide-cases}
 use Rattle.vp_laws.proofs.Order.{same_site}
@@ -37,11 +37,6 @@ pub record Waits (catalogue : Catalogue) (x : SiteState) (given : Input) (c : Co
 pub not_empty : (xs : List ℕ) (q : ℕ) → Has xs q → is_empty xs ≡ false
 not_empty [] q h = absurd (has_none q h)
 not_empty (x ∷ xs) q h = refl
-
--- what a map holds
-pub mapped_has : {X Y : Type 0} (f : X → Y) (xs : List X) (x : X) → Has xs x → Has (map f xs) (f x)
-mapped_has f [] x h = absurd (has_none x h)
-mapped_has f (y ∷ xs) x h = ⊎_elim (λ (one : y ≡ x). rw (ap f (sym one)) (has_first (f y) (map f xs))) (λ more. has_more (f y) (map f xs) (f x) (mapped_has f xs x more)) (has_cons y xs x h)
 
 module _ (catalogue : Catalogue) (x : SiteState) (given : Input) (settled : (d : Decision) (t : Live) → Has x.decisions d → Has x.live t → t.txn ≢ d.0) where
   abbrev R : CoordinatorState → List Sent → List Commit → Type 0
