@@ -25,6 +25,7 @@ pub mod TableSteps
 pub mod TableShares
 pub mod TableWaits
 pub mod TableLeaves
+pub mod LocalLocks
 -- worlds and schedules
 pub mod Scenes
 pub mod Events
@@ -44,6 +45,8 @@ pub mod InvEntered
 pub mod InvLived
 pub mod HasLeft
 pub mod InvSettled
+pub mod TableLocks
+pub mod InvGuards
 -- the laws in the words of the contracts
 pub mod Words
 pub mod EntryWords

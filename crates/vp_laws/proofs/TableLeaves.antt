@@ -126,15 +126,21 @@ module _ (catalogue : Catalogue) (x : SiteState) (given : Input) where
   above : Precedes x.promise (next_view x)
   above = omega arith
 
+  pub invites_only : (o : Stepped) → Left x o → (i : ViewId) → Uses (start_inviting catalogue (next_view x) o).site i → Precedes x.promise i
+  unfolding start_inviting
+  invites_only o l i u = only_invited _ (next_view x, o.site.id ∷ []) (ap (λ (v : ViewState). v.held) l.views) (ap (λ (v : ViewState). v.waiting) l.views) refl above i u
+
   invites : (o : Stepped) → Left x o → P (start_inviting catalogue (next_view x) o)
   unfolding start_inviting
-  invites o l = left (start_inviting catalogue (next_view x) o) (left_doubts o l)
-      (λ i u. only_invited _ (next_view x, o.site.id ∷ []) (ap (λ (v : ViewState). v.held) l.views) (ap (λ (v : ViewState). v.waiting) l.views) refl above i u)
+  invites o l = left (start_inviting catalogue (next_view x) o) (left_doubts o l) (invites_only o l)
+
+  pub accepts_only : (from : ℕ) (id : ViewId) (o : Stepped) → view_before x.promise id ≡ true → Left x o → (i : ViewId) → Uses (accept from id o).site i → Precedes x.promise i
+  unfolding accept
+  accepts_only from id o e l i u = only_awaited _ id (ap (λ (v : ViewState). v.held) l.views) refl (ap (λ (v : ViewState). v.inviting) l.views) (from_before x.promise id e) i u
 
   accepts : (from : ℕ) (id : ViewId) (o : Stepped) → view_before x.promise id ≡ true → Left x o → P (accept from id o)
   unfolding accept
-  accepts from id o e l = left (accept from id o) (left_doubts o l)
-      (λ i u. only_awaited _ id (ap (λ (v : ViewState). v.held) l.views) refl (ap (λ (v : ViewState). v.inviting) l.views) (from_before x.promise id e) i u)
+  accepts from id o e l = left (accept from id o) (left_doubts o l) (accepts_only from id o e l)
 
   accepteds : (from : ℕ) (id : ViewId) → P (on_accept from id (begin_step x))
   unfolding on_accept

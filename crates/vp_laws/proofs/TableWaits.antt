@@ -13,7 +13,7 @@ use Rattle.vp_model.specs.Transactions.{close, keep_writes, decided, decide, las
 use Rattle.vp_model.specs.Calls.{start_txn, take_lock, read_at, write_at, prepare_parts}
 use Rattle.vp_model.specs.Answers.{with_acknowledged}
 use Rattle.vp_model.specs.Step.{mark_calls, step}
-use Rattle.vp_laws.proofs.Members.{Has, has_none, has_one_is, has_first, has_more, has_cons, filter_keeps}
+use Rattle.vp_laws.proofs.Members.{Has, has_none, has_one_is, filter_keeps}
 use Rattle.vp_laws.proofs.Lists.{mapped_has, put_new, put_old}
 use Rattle.vp_laws.proofs.Apart.{same_txn-is, same_txn-not}
 use Rattle.vp_laws.proofs.Frames.{Ends, close-ends, close-commits, decided-ends, decided-commits, decide-cases}
