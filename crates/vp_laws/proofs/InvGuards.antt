@@ -94,7 +94,7 @@ module _ (catalogue : Catalogue) (w : Scene) (s : ℕ) (x : SiteState) (given : 
   site_ok = views.site s x up
 
   -- an outcome is of no live transaction
-  outcomes : (from : ℕ) (txn : TxnId) (commit : Bool) → Comes given from (message.Outcome txn commit) → NotLive x.live txn
+  pub outcomes : (from : ℕ) (txn : TxnId) (commit : Bool) → Comes given from (message.Outcome txn commit) → NotLive x.live txn
   outcomes from txn commit c t h e = go commit c
     where
       here : txn.site ≡ s
@@ -107,13 +107,13 @@ module _ (catalogue : Catalogue) (w : Scene) (s : ℕ) (x : SiteState) (given : 
   doubts_kept : (d : Doubt) → Has x.doubts d → Has (kept_at w s).doubts d
   doubts_kept d h = subst (λ (k : DurableState). Has k.doubts d) site_ok.kept h
 
-  awaited : (i : ViewId) → x.waiting ≡ Some i → Precedes opening i × ((d : Doubt) → Has x.doubts d → Precedes d.1 i)
+  pub awaited : (i : ViewId) → x.waiting ≡ Some i → Precedes opening i × ((d : Doubt) → Has x.doubts d → Precedes d.1 i)
   awaited i e = (
     (site_ok.awaits i e).1,
     (λ d h. strictly d.1 i (AtMost-along (below.doubts d h).0 refl (site_ok.tidy.waiting i e).0) (entered.no_doubt s x i d up e h)),
   )
 
-  invited : (b : ViewId × List ℕ) → x.inviting ≡ Some b → Precedes opening b.0 × ((d : Doubt) → Has x.doubts d → Precedes d.1 b.0)
+  pub invited : (b : ViewId × List ℕ) → x.inviting ≡ Some b → Precedes opening b.0 × ((d : Doubt) → Has x.doubts d → Precedes d.1 b.0)
   invited b e = (
     strictly opening b.0 (opening_least b.0) (λ z. site_ok.unfixed b _ e views.opening (sym z)),
     (λ d h. strictly d.1 b.0 (AtMost-along (below.doubts d h).0 refl (site_ok.tidy.inviting b e).0) (λ z.

@@ -47,6 +47,7 @@ pub mod HasLeft
 pub mod InvSettled
 pub mod TableLocks
 pub mod InvGuards
+pub mod InvUsed
 -- the laws in the words of the contracts
 pub mod Words
 pub mod EntryWords
