@@ -51,7 +51,7 @@ strictly a b h n = go (same_view a b) refl
     go true e = absurd (n (same_is a b e))
     go false e = grind (arith, nat_tests, e, h)
 
-txn_same : (t u : TxnId) → owner.Txn t ≡ owner.Txn u → t ≡ u
+pub txn_same : (t u : TxnId) → owner.Txn t ≡ owner.Txn u → t ≡ u
 txn_same t u e = cc
 
 doubt_lock : (d : Doubt) (l : Lock) → Has (locks_in_doubt d) l → Has (keys d.2) l.rec × (l.owner ≡ owner.Txn d.0) × (l.exclusive ≡ true)

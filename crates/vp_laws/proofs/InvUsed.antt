@@ -1,7 +1,7 @@
 -- What other sites have answered for live transactions, in every world: the site has the lock still, or has left the view.
 use Rattle.std.proofs.Common.{◌≡◌, ◌≢◌, ◌⊎◌, ◌∙◌, ap, sym, subst, ℕ, ◌+◌, ◌≤◌, Bool, true, false, List, [], ◌∷◌, refl, arith, inl, inr, ⊎_elim, length}
-use Rattle.std.specs.Prelude.{Option, Some, None}
-use Rattle.vp_model.specs.Types.{ViewId, TxnId, View, Sent, Message, Input, Stored, Pending, Live}
+use Rattle.std.specs.Prelude.{Some, None}
+use Rattle.vp_model.specs.Types.{ViewId, TxnId, Sent, Message, Input, Stored, Pending, Live}
 use Rattle.vp_model.specs.Types.message
 use Rattle.vp_model.specs.Types.owner
 use Rattle.vp_model.specs.Locks.{conflict}
@@ -12,16 +12,16 @@ use Rattle.vp_model.specs.Messages.{on_message, on_read_request, on_write_reques
 use Rattle.vp_model.specs.World.{start_world}
 use Rattle.vp_model.specs.Step.{on_input, start, step}
 use Rattle.vp_laws.proofs.Members.{Has, has_none}
-use Rattle.vp_laws.proofs.Order.{AtMost, Precedes, not_both, same_site}
+use Rattle.vp_laws.proofs.Order.{AtMost, not_both, same_site}
 use Rattle.vp_laws.proofs.LockTables.{HasLock, lock_taken}
 use Rattle.vp_laws.proofs.LocalViews.{letter}
-use Rattle.vp_laws.proofs.Table.{Comes, Requests, Reads, Writes, next_name}
+use Rattle.vp_laws.proofs.Table.{Comes, Requests, next_name}
 use Rattle.vp_laws.proofs.Scenes.{Scene, scene_of, up_in, plain_at, kept_at, promise_at, Acted, acted, stepping}
 use Rattle.vp_laws.proofs.TableViews.{local-step}
 use Rattle.vp_laws.proofs.TableVotes.{some_not}
 use Rattle.vp_laws.proofs.OnlyCoordinator.{is_aside}
-use Rattle.vp_laws.proofs.TableSteps.{reading, writing, AskingRead, AskingWrite, Only, LiveNow, SentFor, Steps, steps-step}
-use Rattle.vp_laws.proofs.TableShares.{is_reply, Granted, OutcomeComes, ReplyTo, Shares, shares-step}
+use Rattle.vp_laws.proofs.TableSteps.{reading, writing, AskingRead, AskingWrite, Only, SentFor, Steps, steps-step}
+use Rattle.vp_laws.proofs.TableShares.{is_reply, Granted, ReplyTo, Shares, shares-step}
 use Rattle.vp_laws.proofs.TableLeaves.{Uses, Leaves, leaves-step}
 use Rattle.vp_laws.proofs.TableLocks.{Gone, Guards, guards-step}
 use Rattle.vp_laws.proofs.InvViews.{InvViews, above}
@@ -32,11 +32,12 @@ use Rattle.vp_laws.proofs.InvEndings.{InvEndings, fresh}
 use Rattle.vp_laws.proofs.InvShares.{HasRequest, InvShares, was_viewed}
 use Rattle.vp_laws.proofs.InvOps.{reads_same, writes_same}
 use Rattle.vp_laws.proofs.InvAnswers.{HasRead, HasWrote, InvAnswers}
+use Rattle.vp_laws.proofs.InvSettled.{holding}
 use Rattle.vp_laws.proofs.InvLived.{InvLived}
 use Rattle.vp_laws.proofs.HasLeft.{HasLeft, left_lasts, left_here, left_quiet, left_by_quiet}
-use Rattle.vp_laws.proofs.InvGuards.{Twelfth, guards_last, outcomes, awaited, invited}
+use Rattle.vp_laws.proofs.InvGuards.{Twelfth, guards_last, txn_same, outcomes, awaited, invited}
 use Rattle.vp_laws.proofs.Events.{Arrives, Lasts}
-use Rattle.vp_laws.proofs.Worlds.{NowIs, now_is, Quiet, QuietIs, quiet_is, started, start_sent, With, Above, with_last}
+use Rattle.vp_laws.proofs.Worlds.{NowIs, now_is, Quiet, QuietIs, quiet_is, started, With, Above, with_last}
 
 -- the site has answered a request of the transaction for the record: shared a read, exclusive a write
 pub data HasAnswered (w : Scene) (q : ℕ) (txn : TxnId) (rec : ℕ) : Bool → Type 0 where
@@ -51,6 +52,8 @@ pub record InvUsed (catalogue : Catalogue) (w : Scene) : Type 0 where
   pub one : (s : ℕ) (x : SiteState) (t : Live) (a b c d number rec other : ℕ) (u v : ViewId) (exclusive : Bool) → plain_at w s ≡ Some x → Has x.live t → HasRequest w a b t.txn u number rec exclusive → HasRequest w c d t.txn v number other exclusive → rec ≡ other
   -- what another site has answered for a live transaction is locked there, or the site has left its view
   pub used : (s q rec : ℕ) (exclusive : Bool) (x : SiteState) (t : Live) → plain_at w s ≡ Some x → Has x.live t → HasAnswered w q t.txn rec exclusive → HasLeft w q t.view ⊎ LockedAt w q t.txn rec exclusive
+  -- no site has answered conflicting operations for two live transactions of one view
+  pub conflict : (s r q rec : ℕ) (exclusive : Bool) (x y : SiteState) (t u : Live) → plain_at w s ≡ Some x → Has x.live t → plain_at w r ≡ Some y → Has y.live u → t.view ≡ u.view → HasAnswered w q t.txn rec true → HasAnswered w q u.txn rec exclusive → t.txn ≡ u.txn
 
 -- a lock that is granted is there after the step
 granted_lock : (catalogue : Catalogue) (x : SiteState) (given : Input) (from : ℕ) (txn : TxnId) (number rec : ℕ) (exclusive : Bool) (stored : Stored) → Granted x given from txn number rec exclusive stored → HasLock rec exclusive (owner.Txn txn) (step catalogue x given).site.locks
@@ -60,6 +63,15 @@ granted_lock catalogue x given from txn number rec exclusive stored g = go exclu
     go : (exclusive : Bool) → Requests given from txn g.view number rec exclusive → conflict rec exclusive txn x.locks ≡ None → HasLock rec exclusive (owner.Txn txn) (step catalogue x given).site.locks
     go false (Requests.reads e) free = rw (e, g.held, g.going, g.copy, free) (lock_taken rec false (owner.Txn txn) x.locks)
     go true (Requests.writes e) free = rw (e, g.held, g.going, g.copy, free) (lock_taken rec true (owner.Txn txn) x.locks)
+
+-- and the views are as before
+granted_views : (catalogue : Catalogue) (x : SiteState) (given : Input) (from : ℕ) (txn : TxnId) (number rec : ℕ) (exclusive : Bool) (stored : Stored) → Granted x given from txn number rec exclusive stored → (step catalogue x given).site.held ≡ x.held
+unfolding step on_input on_message on_read_request on_write_request on_request lock_copy grant
+granted_views catalogue x given from txn number rec exclusive stored g = go exclusive g.comes g.free
+  where
+    go : (exclusive : Bool) → Requests given from txn g.view number rec exclusive → conflict rec exclusive txn x.locks ≡ None → (step catalogue x given).site.held ≡ x.held
+    go false (Requests.reads e) free = rw (e, g.held, g.going, g.copy, free) refl
+    go true (Requests.writes e) free = rw (e, g.held, g.going, g.copy, free) refl
 
 above_number : (a b : ℕ) → a ≤ b → a ≡ b + 1 → ⊥
 above_number a b h e = omega arith
@@ -312,10 +324,74 @@ module _ (catalogue : Catalogue) (w new : Scene) (s : ℕ) (x : SiteState) (give
       inr (subst (λ (rec : ℕ). LockedAt new q t.txn rec true) same (granted_now q r.0 t.txn r.1 a.rec true a.stored at a.granted)))
       (st.sent (letter q r.0 (message.WriteAnswer t.txn r.1)) r.3)
 
+  -- an answer was there before, or is given now in the view that is held
+  data Split (k : ℕ) (t : Live) (q rec : ℕ) (exclusive : Bool) : Type 0 where
+    before : Was k t → HasAnswered w q t.txn rec exclusive → Split k t q rec exclusive
+    now : q ≡ s → Uses o.site t.view → Split k t q rec exclusive
+
+  in_use : (k : ℕ) (t : Live) (to : ℕ) (number : ℕ) (exclusive : Bool) → Was k t → (q : ℕ) (a : NewAnswer q to t.txn number exclusive) → Uses o.site t.view
+  in_use k t to number exclusive old q a =
+      let h = holding x a.granted.view a.granted.held in
+      Uses.held h.0 (granted_views catalogue x given to t.txn number a.rec exclusive a.stored a.granted ∙ h.1) (h.2 ∙ sym (go exclusive (request_came to t.txn a.granted.view number a.rec exclusive a.granted.comes)))
+    where
+      at_site : plain_at w t.txn.site ≡ Some old.site
+      at_site = rw (ap (λ (t : TxnId). t.site) (sym old.named) ∙ owned k old.site old.u old.up_then old.here) old.up_then
+
+      go : (exclusive2 : Bool) → HasRequest w to s t.txn a.granted.view number a.rec exclusive2 → t.view ≡ a.granted.view
+      go false (HasRequest.to_read h) = sym old.viewed ∙ (shares.says _ h).live old.site old.u at_site old.here old.named
+      go true (HasRequest.to_write h) = sym old.viewed ∙ (shares.says _ h).live old.site old.u at_site old.here old.named
+
+  used_name : (a b number rec : ℕ) (txn : TxnId) (view : ViewId) (exclusive : Bool) → HasRequest w a b txn view number rec exclusive → UsedTxn w txn
+  used_name a b number rec txn view false (HasRequest.to_read h) = named_read a b number rec txn view h
+  used_name a b number rec txn view true (HasRequest.to_write h) = named_write a b number rec txn view h
+
+  split : (k : ℕ) (y : SiteState) (t : Live) → NowIs w s o.site k y → Has y.live t → (q rec : ℕ) (exclusive : Bool) → HasAnswered new q t.txn rec exclusive → Split k t q rec exclusive
+  split k y t n h q rec false (HasAnswered.read r) = ⊎_elim
+      (λ old. let a = shares.says _ old in
+      let same : a.1 ≡ rec = one_now k y t r.0 q r.0 q r.1 a.1 rec a.0 r.2 false n h (HasRequest.to_read (st.moved.sent _ a.2)) (HasRequest.to_read r.5) in
+      Split.before (was k y t (named_read r.0 q r.1 a.1 t.txn a.0 a.2) h n) (HasAnswered.read (rw (← same) (r.0, r.1, a.0, r.3, old, a.2))))
+      (λ more. let a = read_answered _ (p.replies (letter q r.0 (message.ReadAnswer t.txn r.1 r.3)) more) q t.txn r.1 r.3 refl in
+      let old = was k y t (used_name r.0 s r.1 a.rec t.txn a.granted.view false (request_came r.0 t.txn a.granted.view r.1 a.rec false a.granted.comes)) h n in
+      Split.now (p.from (letter q r.0 (message.ReadAnswer t.txn r.1 r.3)) more ∙ id) (in_use k t r.0 r.1 false old q a))
+      (st.sent (letter q r.0 (message.ReadAnswer t.txn r.1 r.3)) r.4)
+  split k y t n h q rec true (HasAnswered.wrote r) = ⊎_elim
+      (λ old. let a = shares.says _ old in
+      let same : a.1 ≡ rec = one_now k y t r.0 q r.0 q r.1 a.1 rec a.0 r.2 true n h (HasRequest.to_write (st.moved.sent _ a.2)) (HasRequest.to_write r.4) in
+      Split.before (was k y t (named_write r.0 q r.1 a.1 t.txn a.0 a.2) h n) (HasAnswered.wrote (rw (← same) (r.0, r.1, a.0, old, a.2))))
+      (λ more. let a = write_answered _ (p.replies (letter q r.0 (message.WriteAnswer t.txn r.1)) more) q t.txn r.1 refl in
+      let old = was k y t (used_name r.0 s r.1 a.rec t.txn a.granted.view true (request_came r.0 t.txn a.granted.view r.1 a.rec true a.granted.comes)) h n in
+      Split.now (p.from (letter q r.0 (message.WriteAnswer t.txn r.1)) more ∙ id) (in_use k t r.0 r.1 true old q a))
+      (st.sent (letter q r.0 (message.WriteAnswer t.txn r.1)) r.3)
+
+  -- a site that uses the view has one lock
+  at_once : (q rec : ℕ) (exclusive : Bool) (view : ViewId) (txn other : TxnId) → q ≡ s → Uses o.site view → HasLeft new q view ⊎ LockedAt new q txn rec true → HasLeft new q view ⊎ LockedAt new q other rec exclusive → txn ≡ other
+  at_once q rec exclusive view txn other e uses (inl l) b = absurd (l.unused o.site (rw e st.now) uses)
+  at_once q rec exclusive view txn other e uses (inr a) (inl l) = absurd (l.unused o.site (rw e st.now) uses)
+  at_once q rec exclusive view txn other e uses (inr (y, f, lock)) (inr (z, k, more)) =
+      let a : y ≡ o.site = (let n = st.now in let m = rw e at f in cc) in
+      let b : z ≡ o.site = (let n = st.now in let m = rw e at k in cc) in
+      let c : HasLock rec true (owner.Txn txn) o.site.locks = rw a at lock in
+      let d : HasLock rec exclusive (owner.Txn other) o.site.locks = rw b at more in
+      txn_same txn other (sym c.by ∙ g.ok.apart c.lock d.lock txn other c.has d.has (c.on ∙ sym d.on) (c.strong refl) c.by d.by ∙ d.by)
+
+  conflict_now : (k j q rec : ℕ) (exclusive : Bool) (y z : SiteState) (t u : Live) → NowIs w s o.site k y → Has y.live t → NowIs w s o.site j z → Has z.live u → t.view ≡ u.view → HasAnswered new q t.txn rec true → HasAnswered new q u.txn rec exclusive → t.txn ≡ u.txn
+  conflict_now k j q rec exclusive y z t u n h m i e a b = go (split k y t n h q rec true a) (split j z u m i q rec exclusive b)
+    where
+      both : q ≡ s → Uses o.site t.view → t.txn ≡ u.txn
+      both at uses = at_once q rec exclusive t.view t.txn u.txn at uses (used_now k y t n h q rec true a) (subst (λ (i : ViewId). HasLeft new q i ⊎ LockedAt new q u.txn rec exclusive) (sym e) (used_now j z u m i q rec exclusive b))
+
+      go : Split k t q rec true → Split j u q rec exclusive → t.txn ≡ u.txn
+      go (Split.now at uses) other = both at uses
+      go (Split.before old was) (Split.now at uses) = both at (subst (Uses o.site) (sym e) uses)
+      go (Split.before old had) (Split.before other has) =
+          sym old.named ∙ inv.conflict k j q rec exclusive old.site other.site old.u other.u old.up_then old.here other.up_then other.here (old.viewed ∙ e ∙ sym other.viewed)
+          (subst (λ (txn : TxnId). HasAnswered w q txn rec true) (sym old.named) had) (subst (λ (txn : TxnId). HasAnswered w q txn rec exclusive) (sym other.named) has) ∙ other.named
+
   pub used_keep : InvUsed catalogue new
   used_keep = record {
     one = λ k y t a b e d number rec other u z exclusive g h f i. one_now k y t a b e d number rec other u z exclusive (now_is w new s x o st k y g) h f i;
     used = λ k q rec exclusive y t g h a. used_now k y t (now_is w new s x o st k y g) h q rec exclusive a;
+    conflict = λ k j q rec exclusive y z t u g h f i e a b. conflict_now k j q rec exclusive y z t u (now_is w new s x o st k y g) h (now_is w new s x o st j z f) i e a b;
   }
 
 abbrev pub Thirteenth : Catalogue → Scene → Type 0
@@ -353,6 +429,7 @@ module _ (catalogue : Catalogue) (w new : Scene) (s : ℕ) (q : Quiet catalogue 
         ⊎_elim (λ (l : HasLeft w at t.view). inl (left_quiet catalogue w new s q lived at t.view l))
         (λ (l : LockedAt w at t.txn rec exclusive). lock_on at t.view t.txn rec exclusive (answered_promised catalogue w views asked shares k y t at rec exclusive old (owned k y t old h) h b) l)
         (inv.used k at rec exclusive y t old h b);
+    conflict = λ k j at rec exclusive y z t u g h f i e a b. inv.conflict k j at rec exclusive y z t u (still_there k y t (quiet_is catalogue w new s q k y g) h) h (still_there j z u (quiet_is catalogue w new s q j z f) i) i e (answered_on at t.txn rec true a) (answered_on at u.txn rec exclusive b);
   }
 
 used_above : (catalogue : Catalogue) → Above catalogue (Twelfth catalogue) (InvUsed catalogue)
@@ -360,6 +437,7 @@ used_above catalogue = record {
   starts = record {
     one = λ s x t a b c d number rec other u v exclusive up h f g. absurd (none s x t up h);
     used = λ s q rec exclusive x t up h a. absurd (none s x t up h);
+    conflict = λ s r q rec exclusive x y t u up h up2 k e a b. absurd (none s x t up h);
   };
   acts = λ w s x given up r low now inv.
       let ninth = low.lower.lower.lower in

@@ -1,14 +1,12 @@
 -- The parts of the invariant that are stated and not proved yet, by what they are about. What stands is in the files Inv*.
 use Rattle.std.proofs.Common.{◌≡◌, ◌≢◌, ◌⊎◌, ℕ, Bool, true, false, List}
 use Rattle.std.specs.Prelude.{Option, Some, None, filter, not, slice_get, option_and_then}
-use Rattle.vp_model.specs.Types.{ViewId, TxnId, View, Commit, Op, Stored, Pending, Live, Lock, Refreshing}
+use Rattle.vp_model.specs.Types.{ViewId, TxnId, View, Commit, Op, Stored, Pending, Live, Refreshing}
 use Rattle.vp_model.specs.Types.message
 use Rattle.vp_model.specs.Types.op
-use Rattle.vp_model.specs.Types.owner
 use Rattle.vp_model.specs.Words.{same_txn, keys, value_at, opening}
 use Rattle.vp_model.specs.Catalogue.{Catalogue, holders, accessible, start_values}
 use Rattle.vp_model.specs.Durable.{Doubt}
-use Rattle.vp_model.specs.Locks.{holds}
 use Rattle.vp_model.specs.Site.{SiteState}
 use Rattle.vp_model.specs.Refresh.{is_usable, refreshing_of}
 use Rattle.vp_model.specs.OneCopy.{Values, play, serial, order, content}
@@ -52,24 +50,6 @@ pub data Used (catalogue : Catalogue) (w : Scene) (x : SiteState) (t : Live) (q 
   own_read : (value : List ℕ) (stored : Stored) → q ≡ x.id → Has t.ops (op.Read rec value) → value_at rec x.copies ≡ Some stored → Used catalogue w x t q rec false
   own_wrote : (value : List ℕ) (stored : Stored) → q ≡ x.id → Has t.ops (op.Write rec value) → value_at rec x.copies ≡ Some stored → Used catalogue w x t q rec true
   own_asked : (p : Pending) (value : List ℕ) (stored : Stored) → q ≡ x.id → t.pending ≡ Some p → Writes catalogue p rec value → value_at rec x.copies ≡ Some stored → Used catalogue w x t q rec true
-
-abbrev pub HasLock : SiteState → ℕ → Bool → TxnId → Type 0
-HasLock x rec exclusive txn = holds rec exclusive (owner.Txn txn) x.locks ≡ true
-
-pub record InvLocks (catalogue : Catalogue) (w : Scene) : Type 0 where
-  -- two locks on one record with different owners are shared
-  pub apart : (s : ℕ) (x : SiteState) (a b : Lock) → plain_at w s ≡ Some x → Has x.locks a → Has x.locks b → a.rec ≡ b.rec → a.owner ≢ b.owner → (a.exclusive ≡ false) × (b.exclusive ≡ false)
-  -- a transaction with a lock is live here, or has a part or a doubt here
-  pub owners : (s : ℕ) (x : SiteState) (txn : TxnId) (rec : ℕ) (exclusive : Bool) → plain_at w s ≡ Some x → Has x.locks (record { rec = rec; exclusive = exclusive; owner = owner.Txn txn }) → ((t : Live) × Has x.live t × (t.txn ≡ txn)) ⊎ (((view : ViewId) × (voted : Bool) × Has x.parts (record { txn = txn; view = view; voted = voted })) ⊎ InDoubt w s txn)
-  -- a doubt has the exclusive locks of its writes
-  pub doubts : (s : ℕ) (x : SiteState) (d : Doubt) (rec : ℕ) → plain_at w s ≡ Some x → Has x.doubts d → Has (keys d.2) rec → HasLock x rec true d.0
-  -- two doubts of one site, be it up or down, write different records
-  pub writes : (s : ℕ) (c d : Doubt) (rec : ℕ) → Has (kept_at w s).doubts c → Has (kept_at w s).doubts d → Has (keys c.2) rec → Has (keys d.2) rec → c ≡ d
-  -- what a live transaction has used at a site is locked there, or the site has left its view
-  pub used : (s q rec : ℕ) (exclusive : Bool) (x : SiteState) (t : Live) → plain_at w s ≡ Some x → Has x.live t → Used catalogue w x t q rec exclusive → HasLeft w q t.view ⊎ ((y : SiteState) × (plain_at w q ≡ Some y) × HasLock y rec exclusive t.txn)
-  -- a record is listed where its refresh lock is set, in a view above the opening one, and other locks on it are of doubts of lower views
-  pub listed : (s rec : ℕ) (x : SiteState) (r : Refreshing) → plain_at w s ≡ Some x → refreshing_of rec x.refresh ≡ Some r → (holds rec true owner.Refresh x.locks ≡ true) × ((v : View) × (x.held ≡ Some v) × Precedes opening v.id × ((l : Lock) (txn : TxnId) → Has x.locks l → l.rec ≡ rec → l.owner ≡ owner.Txn txn → (d : Doubt) × Has x.doubts d × (d.0 ≡ txn) × Precedes d.1 v.id))
-  pub guarded : (s rec : ℕ) (x : SiteState) → plain_at w s ≡ Some x → holds rec false owner.Refresh x.locks ≡ true → (r : Refreshing) × (refreshing_of rec x.refresh ≡ Some r)
 
 -- copies and their refresh
 
