@@ -48,6 +48,8 @@ pub mod InvSettled
 pub mod TableLocks
 pub mod InvGuards
 pub mod InvUsed
+pub mod TableCopies
+pub mod InvDated
 -- the laws in the words of the contracts
 pub mod Words
 pub mod EntryWords
