@@ -1,13 +1,13 @@
 -- Dates of copies, in every world: each other date than the opening one is of an entry that wrote the record, and a kept answer
 -- to a refresh was sent by another holder in the held view.
-use Rattle.std.proofs.Common.{◌≡◌, ◌≢◌, ◌⊎◌, ◌∙◌, ap, sym, subst, ℕ, Bool, true, false, List, [], refl, arith, inl, inr, ⊎_elim}
-use Rattle.std.specs.Prelude.{Option, Some, None, not, ◌==◌, ◌&&◌}
+use Rattle.std.proofs.Common.{◌≡◌, ◌≢◌, ◌⊎◌, ◌∙◌, ap, sym, subst, ℕ, true, List, refl, arith, inl, inr, ⊎_elim}
+use Rattle.std.specs.Prelude.{Option, Some, not, ◌==◌, ◌&&◌}
 use Rattle.std.proofs.lemmas.Bool.Decides.{nat_tests}
-use Rattle.vp_model.specs.Types.{ViewId, TxnId, View, Sent, Commit, Message, Input, Stored, Live, Refreshing}
+use Rattle.vp_model.specs.Types.{ViewId, View, Sent, Commit, Message, Input, Stored, Refreshing}
 use Rattle.vp_model.specs.Types.message
 use Rattle.vp_model.specs.Words.{has, keys, opening}
 use Rattle.vp_model.specs.Catalogue.{Catalogue, holders, start_copies}
-use Rattle.vp_model.specs.Durable.{DurableState, Doubt, empty_durable}
+use Rattle.vp_model.specs.Durable.{DurableState, empty_durable}
 use Rattle.vp_model.specs.Refresh.{unanswered, members_in, other_holders}
 use Rattle.vp_model.specs.Site.{SiteState, Stepped}
 use Rattle.vp_model.specs.Step.{start, step, durable_of}
@@ -19,7 +19,7 @@ use Rattle.vp_laws.proofs.Table.{Comes}
 use Rattle.vp_laws.proofs.Scenes.{Scene, plain_at, kept_at, Acted, acted, stepping}
 use Rattle.vp_laws.proofs.TableViews.{local-step}
 use Rattle.vp_laws.proofs.TableShares.{ReplyTo, is_reply, Shares, shares-step}
-use Rattle.vp_laws.proofs.TableCopies.{dated_at, AnswerNow, CopyNow, Copies, value_pair, copies-step}
+use Rattle.vp_laws.proofs.TableCopies.{AnswerNow, CopyNow, Copies, value_pair, copies-step}
 use Rattle.vp_laws.proofs.InvEndings.{InvEndings}
 use Rattle.vp_laws.proofs.InvShares.{InvShares}
 use Rattle.vp_laws.proofs.InvEntered.{Wrote}

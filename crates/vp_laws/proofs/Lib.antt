@@ -50,6 +50,7 @@ pub mod InvGuards
 pub mod InvUsed
 pub mod TableCopies
 pub mod InvDated
+pub mod InvReads
 -- the laws in the words of the contracts
 pub mod Words
 pub mod EntryWords

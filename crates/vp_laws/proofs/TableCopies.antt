@@ -1,31 +1,30 @@
 -- Where each copy and each kept answer to a refresh comes from in a step.
-use Rattle.std.proofs.Common.{◌≡◌, ◌⊎◌, ◌∙◌, ap, sym, subst, ℕ, Bool, true, false, cond, List, [], ◌∷◌, ◌++◌, map, refl, arith, inl, inr, ⊎_elim}
-use Rattle.std.specs.Prelude.{Option, Some, None, filter, find, option_map, not, ◌==◌, ◌&&◌, nat_lt}
-use Rattle.std.proofs.lemmas.Bool.Decides.{nat_tests}
+use Rattle.std.proofs.Common.{◌≡◌, ◌⊎◌, ◌∙◌, ap, sym, subst, ℕ, Bool, true, false, cond, List, [], ◌∷◌, map, refl, inl, inr, ⊎_elim}
+use Rattle.std.specs.Prelude.{Option, Some, None, filter, find, option_map, not, ◌==◌, nat_lt}
 use Rattle.std.proofs.lemmas.Bool.{eqb-true}
-use Rattle.vp_model.specs.Types.{ViewId, TxnId, View, Commit, Message, Input, Stored, Live, Ending, Refreshing}
+use Rattle.vp_model.specs.Types.{ViewId, TxnId, View, Commit, Input, Stored, Live, Ending, Refreshing}
 use Rattle.vp_model.specs.Types.entry
 use Rattle.vp_model.specs.Types.input
 use Rattle.vp_model.specs.Types.message
-use Rattle.vp_model.specs.Words.{same_txn, put, put_at, view_before, replace_at, value_at, has}
+use Rattle.vp_model.specs.Words.{same_txn, put_at, view_before, replace_at, value_at, has}
 use Rattle.vp_model.specs.Catalogue.{Catalogue}
 use Rattle.vp_model.specs.Locks.{without_guard}
-use Rattle.vp_model.specs.Durable.{Doubt, doubt_of, with_writes, with_outcome}
-use Rattle.vp_model.specs.Site.{Here, SiteState, Lent, Stepped, begin_step, lent, put_back, force, change_copies}
+use Rattle.vp_model.specs.Durable.{Doubt, doubt_of, with_writes}
+use Rattle.vp_model.specs.Site.{Here, SiteState, Lent, Stepped, begin_step, put_back, force, change_copies}
 use Rattle.vp_model.specs.Transactions.{last_writes, writes_held, close, keep_writes, decide, complete}
 use Rattle.vp_model.specs.Refresh.{newer, newest, take_newer, end_refresh, start_refresh, refreshing_of, unanswered}
 use Rattle.vp_model.specs.Views.{drop_view, start_inviting, hold}
 use Rattle.vp_model.specs.Calls.{start_txn, take_lock, read_at, write_at, prepare_parts}
 use Rattle.vp_model.specs.Messages.{holds_view, with_answer, accept, on_accept, on_stale, grant, end_here}
-use Rattle.vp_model.specs.Step.{fix, mark_calls, ask_again, resend_one, known, inquire, step}
-use Rattle.vp_laws.proofs.Members.{Has, has_none, has_one, has_first, has_more, has_cons, map_has, filter_has, find_has, find_true}
+use Rattle.vp_model.specs.Step.{fix, mark_calls, ask_again, resend_one, inquire, step}
+use Rattle.vp_laws.proofs.Members.{Has, has_none, has_one, has_first, has_more, map_has, filter_has, find_has, find_true}
 use Rattle.vp_laws.proofs.Apart.{same_txn-is}
 use Rattle.vp_laws.proofs.Lists.{put_has}
 use Rattle.vp_laws.proofs.Order.{is_view_is}
 use Rattle.vp_laws.proofs.Members.{both_true}
-use Rattle.vp_laws.proofs.Frames.{Ends, close-ends, close-commits, decided-ends, decided-commits, decide-cases}
+use Rattle.vp_laws.proofs.Frames.{close-ends, close-commits, decided-ends, decided-commits, decide-cases}
 use Rattle.vp_laws.proofs.LocalViews.{Tidy}
-use Rattle.vp_laws.proofs.Table.{Comes, Left, Joined, next_view, lent_at, Back, Table}
+use Rattle.vp_laws.proofs.Table.{Comes, Left, lent_at, Back, Table}
 use Rattle.vp_laws.proofs.Rows.{step-keeps}
 
 abbrev pub dated_at : ViewId → ℕ × List ℕ → ℕ × Stored
