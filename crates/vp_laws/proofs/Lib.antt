@@ -51,6 +51,7 @@ pub mod InvUsed
 pub mod TableCopies
 pub mod InvDated
 pub mod InvReads
+pub mod Closing
 -- the laws in the words of the contracts
 pub mod Words
 pub mod EntryWords

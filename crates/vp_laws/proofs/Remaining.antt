@@ -1,11 +1,11 @@
 -- The parts of the invariant that are stated and not proved yet, by what they are about. What stands is in the files Inv*.
-use Rattle.std.proofs.Common.{◌≡◌, ◌≢◌, ◌⊎◌, ℕ, Bool, true, false, List}
+use Rattle.std.proofs.Common.{◌≡◌, ◌≢◌, ℕ, Bool, true, false, List}
 use Rattle.std.specs.Prelude.{Option, Some, None, filter, not, slice_get, option_and_then}
 use Rattle.vp_model.specs.Types.{ViewId, TxnId, View, Commit, Op, Stored, Pending, Live, Refreshing}
 use Rattle.vp_model.specs.Types.message
 use Rattle.vp_model.specs.Types.op
-use Rattle.vp_model.specs.Words.{same_txn, keys, value_at, opening}
-use Rattle.vp_model.specs.Catalogue.{Catalogue, holders, accessible, start_values}
+use Rattle.vp_model.specs.Words.{same_txn, keys, value_at}
+use Rattle.vp_model.specs.Catalogue.{Catalogue, accessible, start_values}
 use Rattle.vp_model.specs.Durable.{Doubt}
 use Rattle.vp_model.specs.Site.{SiteState}
 use Rattle.vp_model.specs.Refresh.{is_usable, refreshing_of}
@@ -18,19 +18,10 @@ use Rattle.vp_laws.proofs.Scenes.{Scene, plain_at, kept_at}
 use Rattle.vp_laws.proofs.InvShares.{InDoubt}
 use Rattle.vp_laws.proofs.InvOps.{record_of}
 use Rattle.vp_laws.proofs.InvEntered.{Wrote, AgreedAs}
-use Rattle.vp_laws.proofs.HasLeft.{HasLeft}
+use Rattle.vp_laws.proofs.Closing.{ClosedAt, Closed}
 use Rattle.vp_laws.proofs.InvAnswers.{HasRead, HasWrote}
 
 -- words
-
--- the site has left all views below, and has no doubt on the record of such a view
-pub record ClosedAt (w : Scene) (q rec : ℕ) (i : ViewId) : Type 0 where
-  pub left : (j : ViewId) → Precedes j i → HasLeft w q j
-  pub certain : (d : Doubt) → Has (kept_at w q).doubts d → Has (keys d.2) rec → Precedes d.1 i → ⊥
-
--- no transaction of a lower view that writes the record can be decided any more
-abbrev pub Closed : Catalogue → Scene → ℕ → View → Type 0
-Closed catalogue w rec v = (q : ℕ) → Has (holders catalogue rec) q → Has v.members q → ClosedAt w q rec v.id
 
 -- a value of the record after the entries of views up to this one
 abbrev pub value_after : Catalogue → List Commit → ViewId → ℕ → Option (List ℕ)
@@ -70,8 +61,6 @@ pub record InvCopies (catalogue : Catalogue) (w : Scene) : Type 0 where
   pub above : (s rec : ℕ) (c : Stored) (e : Commit) (v : View) → value_at rec (kept_at w s).copies ≡ Some c → Has w.journal e → Wrote e rec → Precedes c.date e.view → AgreedAs w e.view v → Has v.members s → InDoubt w s e.txn
   -- where a copy is from
   pub from : (s rec : ℕ) (c : Stored) → value_at rec (kept_at w s).copies ≡ Some c → FromView catalogue w s rec c.date
-  -- a date other than the opening one is of an entry that wrote the record
-  pub dated : (s rec : ℕ) (c : Stored) → value_at rec (kept_at w s).copies ≡ Some c → (c.date ≡ opening) ⊎ ((e : Commit) × Has w.journal e × Wrote e rec × (e.view ≡ c.date))
   -- a copy that may be used and is not under refresh has missed no entry below the held view, and its record is closed for it
   pub between : (s rec : ℕ) (x : SiteState) (v : View) (c : Stored) (e : Commit) → plain_at w s ≡ Some x → x.held ≡ Some v → is_usable catalogue x rec ≡ true → refreshing_of rec x.refresh ≡ None → value_at rec x.copies ≡ Some c → Has w.journal e → Wrote e rec → Precedes c.date e.view → Precedes e.view v.id → ⊥
   pub usable : (s rec : ℕ) (x : SiteState) (v : View) (c : Stored) → plain_at w s ≡ Some x → x.held ≡ Some v → is_usable catalogue x rec ≡ true → refreshing_of rec x.refresh ≡ None → value_at rec x.copies ≡ Some c → Closed catalogue w rec v
@@ -89,8 +78,6 @@ pub record InvRefresh (catalogue : Catalogue) (w : Scene) : Type 0 where
   pub used : (s q rec : ℕ) (exclusive : Bool) (x : SiteState) (t : Live) (v : View) → plain_at w s ≡ Some x → Has x.live t → Used catalogue w x t q rec exclusive → AgreedAs w t.view v → Closed catalogue w rec v
   -- while a record is listed, no entry of the held view has written it
   pub unwritten : (s rec : ℕ) (x : SiteState) (v : View) (r : Refreshing) (e : Commit) → plain_at w s ≡ Some x → x.held ≡ Some v → refreshing_of rec x.refresh ≡ Some r → Has w.journal e → Wrote e rec → e.view ≢ v.id
-  -- a kept answer was sent, by another holder in the held view
-  pub kept : (s : ℕ) (x : SiteState) (v : View) (r : Refreshing) (a : ℕ × Stored) → plain_at w s ≡ Some x → x.held ≡ Some v → Has x.refresh r → Has r.answers a → Has w.sent (letter a.0 s (message.RefreshAnswer v.id r.rec a.1.value a.1.date)) × Has v.members a.0 × Has (holders catalogue r.rec) a.0 × (a.0 ≢ s)
 
 -- the order
 
