@@ -57,7 +57,7 @@ some_first : {X : Type 0} (xs : List X) → is_empty xs ≡ false → (x : X) ×
 some_first [] e = cc
 some_first (x ∷ xs) e = (x, has_first x xs)
 
-some_not_empty : {X : Type 0} (xs : List X) (x : X) → Has xs x → is_empty xs ≡ false
+pub some_not_empty : {X : Type 0} (xs : List X) (x : X) → Has xs x → is_empty xs ≡ false
 some_not_empty [] x h = absurd (has_none x h)
 some_not_empty (y ∷ xs) x h = refl
 

@@ -52,6 +52,7 @@ pub mod TableCopies
 pub mod InvDated
 pub mod InvReads
 pub mod Closing
+pub mod Stopping
 -- the laws in the words of the contracts
 pub mod Words
 pub mod EntryWords
