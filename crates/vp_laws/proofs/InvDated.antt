@@ -101,8 +101,7 @@ module _ (catalogue : Catalogue) (w new : Scene) (s : ℕ) (x : SiteState) (give
       let v = holding x view held in
       let asked = (filter_has (λ q. not (has (keys r.answers) q)) (other_holders catalogue x r.rec) from (has_from_test (unanswered catalogue x r) from u)).0 in
       let f = filter_has (λ (q : ℕ). has (members_in x.held) q && not (q == x.id)) (holders catalogue r.rec) from asked in
-      let b = both_true (has (members_in x.held) from) (not (from == x.id)) f.1 in
-      (
+      let b = both_true (has (members_in x.held) from) (not (from == x.id)) f.1 in (
         v.0,
         v.1,
         subst (WasSent catalogue w s rec v.0) is (

@@ -117,9 +117,9 @@ module _ (catalogue : Catalogue) (w : Scene) (s : ℕ) (x : SiteState) (given : 
   invited b e = (
     strictly opening b.0 (opening_least b.0) (λ z. site_ok.unfixed b _ e views.opening (sym z)),
     (λ d h. strictly d.1 b.0 (AtMost-along (below.doubts d h).0 refl (site_ok.tidy.inviting b e).0) (λ z.
-    let q = shares.doubts s d (doubts_kept d h) in
-    let v = asked.asked _ q.0.3 in
-    site_ok.unfixed b v.0 e v.1 (sym z ∙ sym v.2))),
+        let q = shares.doubts s d (doubts_kept d h) in
+        let v = asked.asked _ q.0.3 in
+        site_ok.unfixed b v.0 e v.1 (sym z ∙ sym v.2))),
   )
 
 guards_above : (catalogue : Catalogue) → Above catalogue (Eleventh catalogue) (InvGuards catalogue)

@@ -84,8 +84,7 @@ module _ (catalogue : Catalogue) (w : Scene) (asked : InvLed w) (shares : InvSha
       let q = shares.entry e there from k view number reads writes (rw (← named) sent) in
       let b = asked.asked _ sent in
       let p = some_first (writes_held catalogue k (last_writes e.ops)) (rw q.1 some) in
-      let f = filter_has (λ (w : ℕ × List ℕ). has (holders catalogue w.0) k) (last_writes e.ops) p.0 p.1 in
-      (
+      let f = filter_has (λ (w : ℕ × List ℕ). has (holders catalogue w.0) k) (last_writes e.ops) p.0 p.1 in (
         record {
           view = b.0;
           agreed = (b.1, b.2 ∙ sym q.0);

@@ -26,6 +26,8 @@ pub mod TableShares
 pub mod TableWaits
 pub mod TableLeaves
 pub mod LocalLocks
+pub mod TableLocks
+pub mod TableCopies
 -- worlds and schedules
 pub mod Scenes
 pub mod Events
@@ -45,16 +47,16 @@ pub mod InvEntered
 pub mod InvLived
 pub mod HasLeft
 pub mod InvSettled
-pub mod TableLocks
 pub mod InvGuards
 pub mod InvUsed
-pub mod TableCopies
 pub mod InvDated
 pub mod InvReads
+-- a closed record: it stays so, and no lower writer of it is decided
 pub mod Closing
 pub mod Stopping
 -- the laws in the words of the contracts
 pub mod Words
 pub mod EntryWords
+pub mod SiteWords
 -- what is stated and not proved yet
 pub mod Remaining

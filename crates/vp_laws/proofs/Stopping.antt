@@ -6,7 +6,6 @@ use Rattle.vp_model.specs.Types.message
 use Rattle.vp_model.specs.Types.op
 use Rattle.vp_model.specs.Words.{is_empty, has, keys}
 use Rattle.vp_model.specs.Catalogue.{Catalogue, holders, weights_of, accessible}
-use Rattle.vp_model.specs.Durable.{Doubt}
 use Rattle.vp_model.specs.Transactions.{last_writes, writes_held}
 use Rattle.vp_model.specs.Site.{SiteState, Stepped}
 use Rattle.vp_laws.proofs.Members.{Has, has_from_test, any_true, both_true, map_has, filter_keeps}
@@ -18,7 +17,7 @@ use Rattle.vp_laws.proofs.TableLed.{IsOf, Led}
 use Rattle.vp_laws.proofs.TableSteps.{EnteredFor, Steps}
 use Rattle.vp_laws.proofs.TableShares.{Shares}
 use Rattle.vp_laws.proofs.TableLeaves.{Uses}
-use Rattle.vp_laws.proofs.Scenes.{Scene, plain_at, kept_at, Acted}
+use Rattle.vp_laws.proofs.Scenes.{Scene, plain_at, Acted}
 use Rattle.vp_laws.proofs.InvShares.{InDoubt, InvShares}
 use Rattle.vp_laws.proofs.InvEntered.{Wrote, AgreedAs, InvEntered, has_test, written_op}
 use Rattle.vp_laws.proofs.InvSettled.{some_not_empty}

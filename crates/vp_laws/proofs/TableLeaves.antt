@@ -62,6 +62,9 @@ any_last (t ∷ txns) txn = go (same_txn t txn) (any_last txns txn)
     go true rest = refl
     go false rest = rest
 
+first_is : (b c : ViewId × List ℕ) (i : ViewId) → b.0 ≡ c.0 → c.0 ≡ i → b.0 ≡ i
+first_is b c i e f = e ∙ f
+
 held_id_is : (a v : View) (i : ViewId) → Some a ≡ Some v → v.id ≡ i → a.id ≡ i
 held_id_is a v i e same = let z : a ≡ v = cc in rw z same
 
@@ -160,7 +163,7 @@ module _ (catalogue : Catalogue) (x : SiteState) (given : Input) where
       was : (i : ViewId) → Uses (on_accept from id (begin_step x)).site i → Uses x i
       was i (Uses.held v e same) = Uses.held v e same
       was i (Uses.awaited e) = Uses.awaited e
-      was i (Uses.invited c e same) = let q = old x.inviting c e in Uses.invited q.0 q.1 (q.2 ∙ same)
+      was i (Uses.invited c e same) = let q = old x.inviting c e in Uses.invited q.0 q.1 (first_is q.0 c i q.2 same)
 
   holds : (id : ViewId) (members : List ℕ) → (is_view x.waiting id && has members x.id) ≡ true → P (hold (record { id = id; members = members }) (begin_step x))
   unfolding hold
