@@ -206,7 +206,7 @@ none_live : (catalogue : Catalogue) (s : ℕ) (d : DurableState) (txn : TxnId) �
 unfolding start
 none_live catalogue s d txn t h g = has_none t h
 
-fresh : (w : Scene) (s : ℕ) (x : SiteState) → plain_at w s ≡ Some x → x.id ≡ s → (txn : TxnId) → UsedTxn w txn → txn ≢ next_name x
+pub fresh : (w : Scene) (s : ℕ) (x : SiteState) → plain_at w s ≡ Some x → x.id ≡ s → (txn : TxnId) → UsedTxn w txn → txn ≢ next_name x
 fresh w s x up id txn u n =
     let here : txn.site ≡ s = ap (λ (t : TxnId). t.site) n ∙ id in
     one_above txn.seq x.seq (u.seq x (rw here up) (sym (ap (λ (t : TxnId). t.life) n))) (ap (λ (t : TxnId). t.seq) n)

@@ -56,12 +56,12 @@ pub record InvEntered (catalogue : Catalogue) (w : Scene) : Type 0 where
   pub no_doubt : (s : ℕ) (x : SiteState) (i : ViewId) (d : Doubt) → plain_at w s ≡ Some x → x.waiting ≡ Some i → Has x.doubts d → d.1 ≢ i
   pub no_entry : (s : ℕ) (x : SiteState) (i : ViewId) (e : Commit) → plain_at w s ≡ Some x → x.waiting ≡ Some i → Has w.journal e → e.txn.site ≡ s → e.view ≢ i
 
-has_test : (xs : List ℕ) (a : ℕ) → Has xs a → has xs a ≡ true
+pub has_test : (xs : List ℕ) (a : ℕ) → Has xs a → has xs a ≡ true
 has_test [] a h = absurd (has_none a h)
 has_test (x ∷ xs) a h = ⊎_elim (λ (one : x ≡ a). let t : (x == a) ≡ true = grind (arith, nat_tests, one) in grind (arith, t)) (λ more. let t = has_test xs a more in grind (arith, t)) (has_cons x xs a h)
 
 -- a holder that is another member of the held view
-other_holder : (catalogue : Catalogue) (id rec q : ℕ) (v : View) → Has (holders catalogue rec) q → Has v.members q → q ≢ id → Has (other_holders_in catalogue id (Some v) rec) q
+pub other_holder : (catalogue : Catalogue) (id rec q : ℕ) (v : View) → Has (holders catalogue rec) q → Has v.members q → q ≢ id → Has (other_holders_in catalogue id (Some v) rec) q
 other_holder catalogue id rec q v h m n = filter_keeps (λ (q : ℕ). has v.members q && not (q == id)) (holders catalogue rec) q h (both (has v.members q) (q == id) (has_test v.members q m) differs)
   where
     differs : (q == id) ≡ false
@@ -70,7 +70,7 @@ other_holder catalogue id rec q v h m n = filter_keeps (λ (q : ℕ). has v.memb
     both : (a b : Bool) → a ≡ true → b ≡ false → (a && not b) ≡ true
     both a b e f = rw (e, f) refl
 
-written_op : (ops : List Op) (rec : ℕ) → Has (keys (last_writes ops)) rec → (value : List ℕ) × Has ops (op.Write rec value)
+pub written_op : (ops : List Op) (rec : ℕ) → Has (keys (last_writes ops)) rec → (value : List ℕ) × Has ops (op.Write rec value)
 written_op ops rec h =
     let r = map_has (λ (p : ℕ × List ℕ). p.0) (last_writes ops) rec h in
     let q = last_written ops r.0 r.1 in
@@ -83,7 +83,7 @@ is_none : {X : Type 0} (xs : List X) → is_empty xs ≡ true → xs ≡ []
 is_none [] e = refl
 is_none (x ∷ xs) e = cc
 
-not_same : (a b : ℕ) → a ≢ b → not (a == b) ≡ true
+pub not_same : (a b : ℕ) → a ≢ b → not (a == b) ≡ true
 not_same a b n = grind (arith, nat_tests, n)
 
 module _ (catalogue : Catalogue) (w new : Scene) (s : ℕ) (x : SiteState) (given : Input) (o : Stepped) (up : plain_at w s ≡ Some x) (arrives : Arrives w s given) (id : x.id ≡ s) (promise : x.promise ≡ promise_at w s) (views : InvViews catalogue w) (views_now : InvViews catalogue new) (led : Led x) (asked : InvLed w) (below : Below x) (shares : InvShares catalogue w) (ops : (u : Live) → Has x.live u → LiveOk catalogue x.id x.held u) (inv : InvEntered catalogue w) (l : Local x given o) (c : Steps catalogue x given o.site.coordinator o.effects.messages o.effects.commits) (p : Shares x given o) (st : Acted w new s x o) where

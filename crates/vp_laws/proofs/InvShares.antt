@@ -98,7 +98,7 @@ not_none : {X : Type 0} (xs ys : List X) → xs ≡ ys → is_empty xs ≡ false
 not_none xs ys e f g = let z = ap is_empty e in cc
 
 -- what a live transaction was, by its name and view
-was_viewed : (catalogue : Catalogue) (x : SiteState) (given : Input) (t : Live) → LiveNow catalogue x given t → ((u : Live) × Has x.live u × (u.txn ≡ t.txn) × (u.view ≡ t.view)) ⊎ (t.txn ≡ next_name x)
+pub was_viewed : (catalogue : Catalogue) (x : SiteState) (given : Input) (t : Live) → LiveNow catalogue x given t → ((u : Live) × Has x.live u × (u.txn ≡ t.txn) × (u.view ≡ t.view)) ⊎ (t.txn ≡ next_name x)
 was_viewed catalogue x given t (LiveNow.still h) = inl (t, h, refl, refl)
 was_viewed catalogue x given t (LiveNow.marked u h tick e) = inl (u, h, ap (λ (t : Live). t.txn) e, ap (λ (t : Live). t.view) e)
 was_viewed catalogue x given t (LiveNow.waits u p from h f m l c e) = inl (u, h, ap (λ (t : Live). t.txn) e, ap (λ (t : Live). t.view) e)

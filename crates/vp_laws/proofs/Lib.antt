@@ -5,6 +5,7 @@ pub mod Order
 pub mod Lists
 pub mod Apart
 pub mod Majorities
+pub mod LockTables
 -- the table in small moves, and that every step is made of them: no other file unfolds a row
 pub mod Table
 pub mod Frames
@@ -22,6 +23,11 @@ pub mod OnlyCoordinator
 pub mod TableEndings
 pub mod TableSteps
 pub mod TableShares
+pub mod TableWaits
+pub mod TableLeaves
+pub mod LocalLocks
+pub mod TableLocks
+pub mod TableCopies
 -- worlds and schedules
 pub mod Scenes
 pub mod Events
@@ -38,8 +44,19 @@ pub mod InvShares
 pub mod InvOps
 pub mod InvAnswers
 pub mod InvEntered
+pub mod InvLived
+pub mod HasLeft
+pub mod InvSettled
+pub mod InvGuards
+pub mod InvUsed
+pub mod InvDated
+pub mod InvReads
+-- a closed record: it stays so, and no lower writer of it is decided
+pub mod Closing
+pub mod Stopping
 -- the laws in the words of the contracts
 pub mod Words
 pub mod EntryWords
+pub mod SiteWords
 -- what is stated and not proved yet
 pub mod Remaining

@@ -1,48 +1,27 @@
 -- The parts of the invariant that are stated and not proved yet, by what they are about. What stands is in the files Inv*.
-use Rattle.std.proofs.Common.{◌≡◌, ◌≢◌, ◌⊎◌, ℕ, Bool, true, false, List}
+use Rattle.std.proofs.Common.{◌≡◌, ◌≢◌, ℕ, Bool, true, false, List}
 use Rattle.std.specs.Prelude.{Option, Some, None, filter, not, slice_get, option_and_then}
-use Rattle.vp_model.specs.Types.{ViewId, TxnId, View, Commit, Op, Stored, Pending, Live, Lock, Refreshing}
+use Rattle.vp_model.specs.Types.{ViewId, TxnId, View, Commit, Op, Stored, Pending, Live, Refreshing}
 use Rattle.vp_model.specs.Types.message
 use Rattle.vp_model.specs.Types.op
-use Rattle.vp_model.specs.Types.owner
-use Rattle.vp_model.specs.Words.{same_txn, has_txn, keys, value_at, opening}
-use Rattle.vp_model.specs.Catalogue.{Catalogue, holders, accessible, start_values}
-use Rattle.vp_model.specs.Durable.{Doubt, Decision}
-use Rattle.vp_model.specs.Locks.{holds}
+use Rattle.vp_model.specs.Words.{same_txn, keys, value_at}
+use Rattle.vp_model.specs.Catalogue.{Catalogue, accessible, start_values}
+use Rattle.vp_model.specs.Durable.{Doubt}
 use Rattle.vp_model.specs.Site.{SiteState}
 use Rattle.vp_model.specs.Refresh.{is_usable, refreshing_of}
 use Rattle.vp_model.specs.OneCopy.{Values, play, serial, order, content}
 use Rattle.vp_laws.proofs.Members.{Has}
-use Rattle.vp_laws.proofs.Order.{AtMost, Precedes}
+use Rattle.vp_laws.proofs.Order.{Precedes}
 use Rattle.vp_laws.proofs.LocalViews.{letter}
 use Rattle.vp_laws.proofs.Table.{Writes}
-use Rattle.vp_laws.proofs.Scenes.{Scene, plain_at, kept_at, promise_at}
+use Rattle.vp_laws.proofs.Scenes.{Scene, plain_at, kept_at}
 use Rattle.vp_laws.proofs.InvShares.{InDoubt}
 use Rattle.vp_laws.proofs.InvOps.{record_of}
-use Rattle.vp_laws.proofs.InvEntered.{Wrote, AgreedAs, Affected}
+use Rattle.vp_laws.proofs.InvEntered.{Wrote, AgreedAs}
+use Rattle.vp_laws.proofs.Closing.{ClosedAt, Closed}
 use Rattle.vp_laws.proofs.InvAnswers.{HasRead, HasWrote}
 
 -- words
-
--- the site uses the identifier: it holds it, waits for it, or invites to it
-pub data Uses (x : SiteState) (i : ViewId) : Type 0 where
-  held : (v : View) → x.held ≡ Some v → v.id ≡ i → Uses x i
-  awaited : x.waiting ≡ Some i → Uses x i
-  invited : (b : ViewId × List ℕ) → x.inviting ≡ Some b → b.0 ≡ i → Uses x i
-
--- the site has left the view, and will not use it again
-pub record HasLeft (w : Scene) (q : ℕ) (i : ViewId) : Type 0 where
-  pub promised : AtMost i (promise_at w q)
-  pub unused : (x : SiteState) → plain_at w q ≡ Some x → Uses x i → ⊥
-
--- the site has left all views below, and has no doubt on the record of such a view
-pub record ClosedAt (w : Scene) (q rec : ℕ) (i : ViewId) : Type 0 where
-  pub left : (j : ViewId) → Precedes j i → HasLeft w q j
-  pub certain : (d : Doubt) → Has (kept_at w q).doubts d → Has (keys d.2) rec → Precedes d.1 i → ⊥
-
--- no transaction of a lower view that writes the record can be decided any more
-abbrev pub Closed : Catalogue → Scene → ℕ → View → Type 0
-Closed catalogue w rec v = (q : ℕ) → Has (holders catalogue rec) q → Has v.members q → ClosedAt w q rec v.id
 
 -- a value of the record after the entries of views up to this one
 abbrev pub value_after : Catalogue → List Commit → ViewId → ℕ → Option (List ℕ)
@@ -51,18 +30,6 @@ value_after catalogue journal view rec = option_and_then (λ values. slice_get v
 -- the journal without the entry of a transaction
 abbrev pub without_entry : TxnId → List Commit → List Commit
 without_entry txn journal = filter (λ e. not (same_txn e.txn txn)) journal
-
--- entries and those who apply them
-
-pub record InvSettled (catalogue : Catalogue) (w : Scene) : Type 0 where
-  -- where it is in doubt still, the coordinator waits for it in its decisions
-  pub waited : (e : Commit) (s : ℕ) → Has w.journal e → Affected catalogue w e s → InDoubt w s e.txn → (d : Decision) × Has (kept_at w e.txn.site).decisions d × (d.0 ≡ e.txn) × Has d.1 s
-  -- where it is not in doubt any more, it has the transaction in its ended list, or has left the view
-  pub ended : (e : Commit) (s : ℕ) → Has w.journal e → Affected catalogue w e s → s ≢ e.txn.site → (InDoubt w s e.txn → ⊥) → HasLeft w s e.view ⊎ ((x : SiteState) × (plain_at w s ≡ Some x) × (has_txn x.ended e.txn ≡ true))
-  -- no site that has acknowledged a commit is in doubt about it
-  pub acknowledged : (s to : ℕ) (txn : TxnId) → Has w.sent (letter s to (message.Ack txn)) → InDoubt w s txn → ⊥
-  -- an abort of a transaction with an entry goes only to sites that are not in doubt about it
-  pub aborted : (e : Commit) (from s : ℕ) → Has w.journal e → Has w.sent (letter from s (message.Outcome e.txn false)) → InDoubt w s e.txn → ⊥
 
 -- locks
 
@@ -74,24 +41,6 @@ pub data Used (catalogue : Catalogue) (w : Scene) (x : SiteState) (t : Live) (q 
   own_read : (value : List ℕ) (stored : Stored) → q ≡ x.id → Has t.ops (op.Read rec value) → value_at rec x.copies ≡ Some stored → Used catalogue w x t q rec false
   own_wrote : (value : List ℕ) (stored : Stored) → q ≡ x.id → Has t.ops (op.Write rec value) → value_at rec x.copies ≡ Some stored → Used catalogue w x t q rec true
   own_asked : (p : Pending) (value : List ℕ) (stored : Stored) → q ≡ x.id → t.pending ≡ Some p → Writes catalogue p rec value → value_at rec x.copies ≡ Some stored → Used catalogue w x t q rec true
-
-abbrev pub HasLock : SiteState → ℕ → Bool → TxnId → Type 0
-HasLock x rec exclusive txn = holds rec exclusive (owner.Txn txn) x.locks ≡ true
-
-pub record InvLocks (catalogue : Catalogue) (w : Scene) : Type 0 where
-  -- two locks on one record with different owners are shared
-  pub apart : (s : ℕ) (x : SiteState) (a b : Lock) → plain_at w s ≡ Some x → Has x.locks a → Has x.locks b → a.rec ≡ b.rec → a.owner ≢ b.owner → (a.exclusive ≡ false) × (b.exclusive ≡ false)
-  -- a transaction with a lock is live here, or has a part or a doubt here
-  pub owners : (s : ℕ) (x : SiteState) (txn : TxnId) (rec : ℕ) (exclusive : Bool) → plain_at w s ≡ Some x → Has x.locks (record { rec = rec; exclusive = exclusive; owner = owner.Txn txn }) → ((t : Live) × Has x.live t × (t.txn ≡ txn)) ⊎ (((view : ViewId) × (voted : Bool) × Has x.parts (record { txn = txn; view = view; voted = voted })) ⊎ InDoubt w s txn)
-  -- a doubt has the exclusive locks of its writes
-  pub doubts : (s : ℕ) (x : SiteState) (d : Doubt) (rec : ℕ) → plain_at w s ≡ Some x → Has x.doubts d → Has (keys d.2) rec → HasLock x rec true d.0
-  -- two doubts of one site, be it up or down, write different records
-  pub writes : (s : ℕ) (c d : Doubt) (rec : ℕ) → Has (kept_at w s).doubts c → Has (kept_at w s).doubts d → Has (keys c.2) rec → Has (keys d.2) rec → c ≡ d
-  -- what a live transaction has used at a site is locked there, or the site has left its view
-  pub used : (s q rec : ℕ) (exclusive : Bool) (x : SiteState) (t : Live) → plain_at w s ≡ Some x → Has x.live t → Used catalogue w x t q rec exclusive → HasLeft w q t.view ⊎ ((y : SiteState) × (plain_at w q ≡ Some y) × HasLock y rec exclusive t.txn)
-  -- a record is listed where its refresh lock is set, in a view above the opening one, and other locks on it are of doubts of lower views
-  pub listed : (s rec : ℕ) (x : SiteState) (r : Refreshing) → plain_at w s ≡ Some x → refreshing_of rec x.refresh ≡ Some r → (holds rec true owner.Refresh x.locks ≡ true) × ((v : View) × (x.held ≡ Some v) × Precedes opening v.id × ((l : Lock) (txn : TxnId) → Has x.locks l → l.rec ≡ rec → l.owner ≡ owner.Txn txn → (d : Doubt) × Has x.doubts d × (d.0 ≡ txn) × Precedes d.1 v.id))
-  pub guarded : (s rec : ℕ) (x : SiteState) → plain_at w s ≡ Some x → holds rec false owner.Refresh x.locks ≡ true → (r : Refreshing) × (refreshing_of rec x.refresh ≡ Some r)
 
 -- copies and their refresh
 
@@ -112,8 +61,6 @@ pub record InvCopies (catalogue : Catalogue) (w : Scene) : Type 0 where
   pub above : (s rec : ℕ) (c : Stored) (e : Commit) (v : View) → value_at rec (kept_at w s).copies ≡ Some c → Has w.journal e → Wrote e rec → Precedes c.date e.view → AgreedAs w e.view v → Has v.members s → InDoubt w s e.txn
   -- where a copy is from
   pub from : (s rec : ℕ) (c : Stored) → value_at rec (kept_at w s).copies ≡ Some c → FromView catalogue w s rec c.date
-  -- a date other than the opening one is of an entry that wrote the record
-  pub dated : (s rec : ℕ) (c : Stored) → value_at rec (kept_at w s).copies ≡ Some c → (c.date ≡ opening) ⊎ ((e : Commit) × Has w.journal e × Wrote e rec × (e.view ≡ c.date))
   -- a copy that may be used and is not under refresh has missed no entry below the held view, and its record is closed for it
   pub between : (s rec : ℕ) (x : SiteState) (v : View) (c : Stored) (e : Commit) → plain_at w s ≡ Some x → x.held ≡ Some v → is_usable catalogue x rec ≡ true → refreshing_of rec x.refresh ≡ None → value_at rec x.copies ≡ Some c → Has w.journal e → Wrote e rec → Precedes c.date e.view → Precedes e.view v.id → ⊥
   pub usable : (s rec : ℕ) (x : SiteState) (v : View) (c : Stored) → plain_at w s ≡ Some x → x.held ≡ Some v → is_usable catalogue x rec ≡ true → refreshing_of rec x.refresh ≡ None → value_at rec x.copies ≡ Some c → Closed catalogue w rec v
@@ -131,8 +78,6 @@ pub record InvRefresh (catalogue : Catalogue) (w : Scene) : Type 0 where
   pub used : (s q rec : ℕ) (exclusive : Bool) (x : SiteState) (t : Live) (v : View) → plain_at w s ≡ Some x → Has x.live t → Used catalogue w x t q rec exclusive → AgreedAs w t.view v → Closed catalogue w rec v
   -- while a record is listed, no entry of the held view has written it
   pub unwritten : (s rec : ℕ) (x : SiteState) (v : View) (r : Refreshing) (e : Commit) → plain_at w s ≡ Some x → x.held ≡ Some v → refreshing_of rec x.refresh ≡ Some r → Has w.journal e → Wrote e rec → e.view ≢ v.id
-  -- a kept answer was sent, by another holder in the held view
-  pub kept : (s : ℕ) (x : SiteState) (v : View) (r : Refreshing) (a : ℕ × Stored) → plain_at w s ≡ Some x → x.held ≡ Some v → Has x.refresh r → Has r.answers a → Has w.sent (letter a.0 s (message.RefreshAnswer v.id r.rec a.1.value a.1.date)) × Has v.members a.0 × Has (holders catalogue r.rec) a.0 × (a.0 ≢ s)
 
 -- the order
 

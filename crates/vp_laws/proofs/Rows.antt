@@ -1,6 +1,6 @@
 -- Every row of the table is made of the small moves, so a property that survives these is kept by a step.
-use Rattle.std.proofs.Common.{◌≡◌, ℕ, Bool, true, false, List, [], ◌∷◌, refl, arith}
-use Rattle.std.specs.Prelude.{Option, Some, None}
+use Rattle.std.proofs.Common.{◌≡◌, ℕ, Bool, true, false, List, [], ◌∷◌, refl, arith, inl, inr}
+use Rattle.std.specs.Prelude.{Option, Some, None, ◌&&◌}
 use Rattle.std.specs.Option.{option_map_or}
 use Rattle.vp_model.specs.Types.{ViewId, TxnId, View, Stored, Owner, Call, Message, Input, Refreshing}
 use Rattle.vp_base.specs.declared.site.Ending.TheVariants.{ViewChanged}
@@ -8,7 +8,7 @@ use Rattle.vp_model.specs.Types.answer
 use Rattle.vp_model.specs.Types.call
 use Rattle.vp_model.specs.Types.input
 use Rattle.vp_model.specs.Types.message
-use Rattle.vp_model.specs.Words.{keys}
+use Rattle.vp_model.specs.Words.{keys, is_view, has}
 use Rattle.vp_model.specs.Catalogue.{Catalogue}
 use Rattle.vp_model.specs.Durable.{Decision, doubt_of}
 use Rattle.vp_model.specs.Site.{SiteState, Lent, Stepped, begin_step, lent, put_back, change_views}
@@ -17,9 +17,10 @@ use Rattle.vp_model.specs.Views.{abandon, highest, is_spent, drop_view, leave, i
 use Rattle.vp_model.specs.Calls.{on_regroup, on_call}
 use Rattle.vp_model.specs.Messages.{doubted_records, on_invite, on_view_commit, on_probe_message, lock_copy, on_request, on_read_request, on_write_request, first_vote, on_prepare, end_part, on_outcome, on_refresh_request, on_refresh_answer, answered, on_message}
 use Rattle.vp_model.specs.Step.{fix, without_wait, fix_view, ask_again, ask_again_all, time_out_calls, time_out, tick_view, resend_one, resend, resend_decisions, on_tick, probe_in, on_probe, on_input, step}
-use Rattle.vp_laws.proofs.Members.{Has, filter_has, has_first, has_more}
+use Rattle.vp_laws.proofs.Members.{Has, filter_has, has_first, has_more, both_true}
+use Rattle.vp_laws.proofs.Order.{is_view_is}
 use Rattle.vp_laws.proofs.Frames.{close_all-beside, close_all-none}
-use Rattle.vp_laws.proofs.Table.{Comes, Left, Requests, Asks, lent_at, Back, Table}
+use Rattle.vp_laws.proofs.Table.{Comes, Left, Joined, Requests, Asks, lent_at, Back, Table}
 use Rattle.vp_laws.proofs.Coordinator.{by_test, abandon-closed, abandon-kept, time_out_calls-kept, own_call-kept, on_answer-kept}
 
 -- a record that is accessible and has a copy here
@@ -70,21 +71,22 @@ module _ (catalogue : Catalogue) (x : SiteState) (given : Input) (P : Stepped �
   settle_all-kept [] o p = p
   settle_all-kept (rec ∷ recs) o p = settle_all-kept recs (settle catalogue rec o) (settle-kept rec o p)
 
-  start_refresh_all-kept : (view : View) (recs : List ℕ) (o : Stepped) → ((rec : ℕ) → Has recs rec → (is_usable catalogue o.site rec ≡ true) × Has (keys o.site.copies) rec) → o.site.held ≡ Some view → P o → P (start_refresh_all catalogue view recs o)
+  start_refresh_all-kept : (view : View) (recs : List ℕ) (o : Stepped) → ((rec : ℕ) → Has recs rec → (is_usable catalogue o.site rec ≡ true) × Has (keys o.site.copies) rec) → Joined x view o → P o → P (start_refresh_all catalogue view recs o)
   unfolding start_refresh
   start_refresh_all-kept view [] o all e p = p
   start_refresh_all-kept view (rec ∷ recs) o all e p =
       let now = all rec (has_first rec recs) in
-      start_refresh_all-kept view recs (start_refresh catalogue view rec o) (λ other q. all other (has_more rec recs other q)) e (k.start_refresh view rec o e now.0 now.1 p)
+      start_refresh_all-kept view recs (start_refresh catalogue view rec o) (λ other q. all other (has_more rec recs other q)) (record { held = e.held; origin = e.origin; participant = e.participant; live = e.live }) (k.start_refresh view rec o e now.0 now.1 p)
 
-  refresh_here-kept : (view : View) (o : Stepped) → o.site.held ≡ Some view → P o → P (refresh_here catalogue view o)
+  refresh_here-kept : (view : View) (o : Stepped) → Joined x view o → P o → P (refresh_here catalogue view o)
   unfolding refresh_here
   refresh_here-kept view o e p =
       settle_all-kept (usable_here catalogue o.site) _ (start_refresh_all-kept view (usable_here catalogue o.site) o (usable_here-has catalogue o.site) e p)
 
-  held_then-kept : (view : View) (o : Stepped) → P (hold view o) → P (refresh_here catalogue view (hold view o))
+  held_then-kept : (id : ViewId) (members : List ℕ) → (is_view x.waiting id && has members x.id) ≡ true → P (hold (record { id = id; members = members }) (begin_step x)) → P (refresh_here catalogue (record { id = id; members = members }) (hold (record { id = id; members = members }) (begin_step x)))
   unfolding hold
-  held_then-kept view o p = refresh_here-kept view (hold view o) refl p
+  held_then-kept id members e p =
+      refresh_here-kept (record { id = id; members = members }) (hold (record { id = id; members = members }) (begin_step x)) (record { held = refl; origin = inl (is_view_is x.waiting id (both_true _ _ e).0); participant = refl; live = refl }) p
 
   on_view_commit-kept : (from : ℕ) (id : ViewId) (members : List ℕ) → Comes given from (message.ViewCommit id members) → P (on_view_commit catalogue id members (begin_step x))
   unfolding on_view_commit join
@@ -96,7 +98,7 @@ module _ (catalogue : Catalogue) (x : SiteState) (given : Input) (P : Stepped �
 
   fix_view-kept : (inviting : ViewId × List ℕ) → given ≡ input.Tick → x.inviting ≡ Some inviting → P (fix_view catalogue inviting (begin_step x))
   unfolding fix_view fix hold
-  fix_view-kept inviting c e = let view : View = record { id = inviting.0; members = inviting.1 } in refresh_here-kept view (fix view (begin_step x)) refl (k.fix view c e)
+  fix_view-kept inviting c e = let view : View = record { id = inviting.0; members = inviting.1 } in refresh_here-kept view (fix view (begin_step x)) (record { held = refl; origin = inr e; participant = refl; live = refl }) (k.fix view c e)
 
   -- parts
   on_read_request-kept : (from : ℕ) (txn : TxnId) (view : ViewId) (number rec : ℕ) → Comes given from (message.ReadRequest txn view number rec) → P (on_read_request from txn view number rec (begin_step x))

@@ -52,6 +52,13 @@ pub record Left (x : SiteState) (o : Stepped) : Type 0 where
   pub seq : o.site.seq ≡ x.seq
   pub decisions : o.site.decisions ≡ x.decisions
 
+-- the site has just joined the view, which it waited for or invited to
+pub record Joined (x : SiteState) (view : View) (o : Stepped) : Type 0 where
+  pub held : o.site.held ≡ Some view
+  pub origin : (x.waiting ≡ Some view.id) ⊎ (x.inviting ≡ Some (view.id, view.members))
+  pub participant : o.site.participant ≡ x.participant
+  pub live : o.site.live ≡ x.live
+
 -- a request for a lock, shared or exclusive, and any message that names the view of its transaction
 pub data Requests (given : Input) (from : ℕ) (txn : TxnId) (view : ViewId) (number rec : ℕ) : Bool → Type 0 where
   reads : Comes given from (message.ReadRequest txn view number rec) → Requests given from txn view number rec false
@@ -176,7 +183,7 @@ pub record Table (catalogue : Catalogue) (x : SiteState) (given : Input) (P : St
   pub probe : (view : View) → given ≡ input.Probe → x.held ≡ Some view → P (probe_all catalogue view (begin_step x))
   pub answers_inviting : (port : ℕ) → is_spent x.views ≡ false → P (invite catalogue (begin_step x)) → P (reply (answer.Inviting (next_view x)) port (invite catalogue (begin_step x)))
   -- refresh
-  pub start_refresh : (view : View) (rec : ℕ) (o : Stepped) → o.site.held ≡ Some view → is_usable catalogue o.site rec ≡ true → Has (keys o.site.copies) rec → P o → P (start_refresh catalogue view rec o)
+  pub start_refresh : (view : View) (rec : ℕ) (o : Stepped) → Joined x view o → is_usable catalogue o.site rec ≡ true → Has (keys o.site.copies) rec → P o → P (start_refresh catalogue view rec o)
   pub end_refresh : (rec : ℕ) (r : Refreshing) (own : Stored) (o : Stepped) → refreshing_of rec o.site.refresh ≡ Some r → is_empty (unanswered catalogue o.site r) ≡ true → is_doubtful o.site r.rec ≡ false → value_at r.rec o.site.copies ≡ Some own → P o → P (end_refresh r own o)
   pub keep_answer : (from : ℕ) (view : ViewId) (rec : ℕ) (stored : Stored) (r : Refreshing) → Comes given from (message.RefreshAnswer view rec stored.value stored.date) → holds_view x view ≡ true → refreshing_of rec x.refresh ≡ Some r → has (unanswered catalogue x r) from ≡ true → P (change_refresh (map (with_answer rec from stored)) (begin_step x))
   pub answer_refresh : (from : ℕ) (view : ViewId) (rec : ℕ) (stored : Stored) → Comes given from (message.RefreshRequest view rec) → holds_view x view ≡ true → is_doubtful x rec ≡ false → value_at rec x.copies ≡ Some stored → P (send (message.RefreshAnswer view rec stored.value stored.date) from (begin_step x))

@@ -469,7 +469,7 @@ module _ (catalogue : Catalogue) (x : SiteState) (given : Input) (tidy : Tidy x)
     fix = λ view c e. fixes view e;
     without_wait = λ id c i w. silent (begin_step x) _ (record { id = refl; life = refl; seq = refl; live = refl; held = refl; ended = λ n q. q; refresh = λ n q. q; monitor = λ n q. q }) refl refl begins;
     probe = λ view c e. beside (begin_step x) (probe_all catalogue view (begin_step x)) _ (monitored (with_monitor x.views) refl (is_there view e)) refl refl (letters_none x.id (λ q. message.Probe view.id) (other_sites catalogue x.id) (λ q. refl)) begins;
-    start_refresh = λ view rec o e a h l. starts_refresh view rec o e l;
+    start_refresh = λ view rec o e a h l. starts_refresh view rec o e.held l;
     end_refresh = λ rec r own o e a d v l. ends_refresh r own o l;
     keep_answer = λ from view rec stored r c e f g. silent (begin_step x) _ (record { id = refl; life = refl; seq = refl; live = refl; held = refl; ended = λ n q. q; refresh = λ n q. rw q refl; monitor = λ n q. q }) refl refl begins;
     answer_refresh = λ from view rec stored c e d v. one _ x.id from (message.RefreshAnswer view rec stored.value stored.date) refl (self_same x) refl refl;

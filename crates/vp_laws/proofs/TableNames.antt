@@ -509,7 +509,7 @@ module _ (N : TxnId → Type 0) (A : ViewId → Type 0) where
       fix = λ view c e. fixes view e;
       without_wait = λ id c i w. silent (begin_step x) _ (views_now (without_wait x.views) refl) refl begins;
       probe = λ view c e. more (begin_step x) (probe_all catalogue view (begin_step x)) _ (views_now (with_monitor x.views) refl) refl (letters_named x.id (λ q. message.Probe view.id) (other_sites catalogue x.id) (λ q. names.held view e)) begins;
-      start_refresh = λ view rec o e a h l. starts_refresh view rec o e l;
+      start_refresh = λ view rec o e a h l. starts_refresh view rec o e.held l;
       end_refresh = λ rec r own o e a d v l. ends_refresh rec r own o e v l;
       keep_answer = λ from view rec stored r c e f g. keeps_answer from rec stored (arrived from (message.RefreshAnswer view rec stored.value stored.date) c).1;
       answer_refresh = λ from view rec stored c e d v. answers_refresh from rec view stored (view_of view e) v;

@@ -1,9 +1,10 @@
 -- Who each site is after an event, and how the world starts: what every invariant of all sites goes by.
-use Rattle.std.proofs.Common.{◌≡◌, ◌≢◌, ◌∙◌, ap, sym, ℕ, [], map, refl, ⊎_elim}
+use Rattle.std.proofs.Common.{◌≡◌, ◌≢◌, ◌∙◌, ap, sym, ℕ, ◌+◌, ◌≤◌, [], map, refl, arith, ⊎_elim}
 use Rattle.std.specs.Prelude.{Option, Some, None, option_map}
-use Rattle.vp_model.specs.Types.{Sent, Commit, Input}
-use Rattle.vp_laws.proofs.Members.{Has, has_none}
-use Rattle.vp_model.specs.Catalogue.{Catalogue, sites_of, start_copies}
+use Rattle.vp_model.specs.Types.{Stored, Sent, Commit, Input}
+use Rattle.vp_laws.proofs.Members.{Has, has_none, map_has}
+use Rattle.vp_model.specs.Words.{opening}
+use Rattle.vp_model.specs.Catalogue.{Catalogue, RecordEntry, sites_of, start_copies}
 use Rattle.vp_model.specs.Durable.{DurableState, empty_durable, apply}
 use Rattle.vp_model.specs.Site.{SiteState, Stepped}
 use Rattle.vp_model.specs.Step.{start, start_record, durable_of, step}
@@ -39,6 +40,7 @@ pub record Quiet (catalogue : Catalogue) (w new : Scene) (s : ℕ) : Type 0 wher
   pub copies : (kept_at new s).copies ≡ (kept_at w s).copies
   pub doubts : (kept_at new s).doubts ≡ (kept_at w s).doubts
   pub decisions : (kept_at new s).decisions ≡ (kept_at w s).decisions
+  pub life : (kept_at w s).life ≤ (kept_at new s).life
 
 -- a site after such an event: it starts, or is another one as it was
 pub data QuietIs (catalogue : Catalogue) (w : Scene) (s k : ℕ) (y : SiteState) : Type 0 where
@@ -56,6 +58,12 @@ down_kept : (o : Option Place) → kept_in (option_map (λ (place : Place). reco
 down_kept None = refl
 down_kept (Some p) = refl
 
+no_less : (a b : ℕ) → b ≡ a → a ≤ b
+no_less a b e = omega arith
+
+one_more : (a n b : ℕ) → a ≡ n → b ≡ n + 1 → a ≤ b
+one_more a n b e f = omega arith
+
 pub crash_quiet : (catalogue : Catalogue) (w : Scene) (s : ℕ) → Quiet catalogue w (crashed w s) s
 crash_quiet catalogue w s =
     let same : kept_at (crashed w s) s ≡ kept_at w s = ap kept_in (place-same s (λ (place : Place). record place { up = None }) w.places (λ p. refl)) ∙ down_kept (place_of s w.places) in
@@ -69,6 +77,7 @@ crash_quiet catalogue w s =
       copies = ap (λ (d : DurableState). d.copies) same;
       doubts = ap (λ (d : DurableState). d.doubts) same;
       decisions = ap (λ (d : DurableState). d.decisions) same;
+      life = no_less (kept_at w s).life (kept_at (crashed w s) s).life (ap (λ (d : DurableState). d.life) same);
     }
 
 pub restart_quiet : (catalogue : Catalogue) (w : Scene) (s : ℕ) (place : Place) → place_of s w.places ≡ Some place → place.id ≡ s → Quiet catalogue w (restarted catalogue w s) s
@@ -87,6 +96,7 @@ restart_quiet catalogue w s place e i =
       copies = ap (λ (d : DurableState). d.copies) now ∙ ap (λ (d : DurableState). d.copies) (sym was);
       doubts = ap (λ (d : DurableState). d.doubts) now ∙ ap (λ (d : DurableState). d.doubts) (sym was);
       decisions = ap (λ (d : DurableState). d.decisions) now ∙ ap (λ (d : DurableState). d.decisions) (sym was);
+      life = one_more (kept_at w s).life place.durable.life (kept_at (restarted catalogue w s) s).life (ap (λ (d : DurableState). d.life) was) (ap (λ (d : DurableState). d.life) now);
     }
 
 -- each site as the world starts
@@ -102,17 +112,21 @@ started catalogue s x h = go (place_of s (map (start_place catalogue) (sites_of 
 pub record StartKept (d : DurableState) : Type 0 where
   pub doubts : d.doubts ≡ []
   pub decisions : d.decisions ≡ []
+  pub dated : (a : ℕ × Stored) → Has d.copies a → a.1.date ≡ opening
+
+start_dated : (catalogue : Catalogue) (s : ℕ) (a : ℕ × Stored) → Has (start_copies catalogue s) a → a.1.date ≡ opening
+start_dated catalogue s a h = let r = map_has (λ (placed : ℕ × RecordEntry). (placed.0, record { value = placed.1.start; date = opening })) _ a h in ap (λ (c : ℕ × Stored). c.1.date) (sym r.2)
 
 pub start_kept : (catalogue : Catalogue) (s : ℕ) → StartKept (kept_at (scene_of (start_world catalogue)) s)
 unfolding start_world apply
 start_kept catalogue s = go (place_of s (map (start_place catalogue) (sites_of catalogue))) refl
   where
     go : (o : Option Place) → place_of s (map (start_place catalogue) (sites_of catalogue)) ≡ o → StartKept (kept_in (place_of s (map (start_place catalogue) (sites_of catalogue))))
-    go None e = rw e (record { doubts = refl; decisions = refl })
+    go None e = rw e (record { doubts = refl; decisions = refl; dated = λ a h. absurd (has_none a h) })
     go (Some p) e =
         let all = start_at catalogue s (sites_of catalogue) p e in
         let d : p.durable ≡ apply (start_record (empty_durable (start_copies catalogue s))) (empty_durable (start_copies catalogue s)) = ap (λ (p : Place). p.durable) (sym all.1) in
-        rw (e, d) (record { doubts = refl; decisions = refl })
+        rw (e, d) (record { doubts = refl; decisions = refl; dated = start_dated catalogue s })
 
 pub start_journal : (catalogue : Catalogue) → (scene_of (start_world catalogue)).journal ≡ []
 unfolding start_world

@@ -1,0 +1,183 @@
+-- Locks in every world, site by site: whose they are, and that no two transactions conflict at a site, be it up or down.
+use Rattle.std.proofs.Common.{◌≡◌, ◌≢◌, ◌∙◌, ap, sym, subst, ℕ, Bool, true, false, List, [], ◌∷◌, refl, arith, inr, ⊎_elim}
+use Rattle.std.specs.Prelude.{Some, flat_map}
+use Rattle.std.proofs.lemmas.Bool.Decides.{nat_tests}
+use Rattle.vp_model.specs.Types.{ViewId, TxnId, Input, Lock}
+use Rattle.vp_model.specs.Types.message
+use Rattle.vp_model.specs.Types.owner
+use Rattle.vp_model.specs.Words.{same_view, keys, opening}
+use Rattle.vp_model.specs.Catalogue.{Catalogue, start_copies}
+use Rattle.vp_model.specs.Durable.{DurableState, Doubt, empty_durable}
+use Rattle.vp_model.specs.Site.{SiteState, Stepped}
+use Rattle.vp_model.specs.Step.{locks_in_doubt, start, step, durable_of}
+use Rattle.vp_laws.proofs.Members.{Has, has_none, has_first, has_more, has_cons, has_cases, has_left, has_right, map_has}
+use Rattle.vp_laws.proofs.Lists.{mapped_has}
+use Rattle.vp_laws.proofs.Order.{AtMost, Precedes, AtMost-along, opening_least, same_is}
+use Rattle.vp_laws.proofs.Table.{Comes}
+use Rattle.vp_laws.proofs.LocalViews.{letter}
+use Rattle.vp_laws.proofs.Scenes.{Scene, plain_at, kept_at, Acted, acted, stepping}
+use Rattle.vp_laws.proofs.TableViews.{local-step}
+use Rattle.vp_laws.proofs.TableLed.{Led}
+use Rattle.vp_laws.proofs.TableBelow.{Below}
+use Rattle.vp_laws.proofs.TableEndings.{NotLive}
+use Rattle.vp_laws.proofs.TableLocks.{LocksAt, Guards, guards-step}
+use Rattle.vp_laws.proofs.InvViews.{InvViews, SiteOk}
+use Rattle.vp_laws.proofs.InvLed.{InvLed}
+use Rattle.vp_laws.proofs.InvEndings.{InvEndings}
+use Rattle.vp_laws.proofs.InvShares.{InvShares}
+use Rattle.vp_laws.proofs.InvEntered.{InvEntered}
+use Rattle.vp_laws.proofs.InvSettled.{Eleventh, settled_last}
+use Rattle.vp_laws.proofs.Events.{Arrives, Lasts}
+use Rattle.vp_laws.proofs.Worlds.{NowIs, now_is, KeptIs, kept_is, QuietIs, quiet_is, quiet_kept, started, start_kept, With, Above, with_last}
+
+pub record InvGuards (catalogue : Catalogue) (w : Scene) : Type 0 where
+  -- the locks of a site are in order
+  pub site : (s : ℕ) (x : SiteState) → plain_at w s ≡ Some x → LocksAt catalogue x
+  -- two doubts of one site, be it up or down, write different records
+  pub writes : (s : ℕ) (c d : Doubt) (rec : ℕ) → Has (kept_at w s).doubts c → Has (kept_at w s).doubts d → Has (keys c.2) rec → Has (keys d.2) rec → c.0 ≡ d.0
+
+flat_has : {X Y : Type 0} (f : X → List Y) (xs : List X) (y : Y) → Has (flat_map f xs) y → (x : X) × Has xs x × Has (f x) y
+flat_has f [] y h = absurd (has_none y h)
+flat_has f (x ∷ xs) y h = ⊎_elim (λ here. (x, has_first x xs, here)) (λ more. let r = flat_has f xs y more in (r.0, has_more x xs r.0 r.1, r.2)) (has_cases (f x) (flat_map f xs) y h)
+
+has_flat : {X Y : Type 0} (f : X → List Y) (xs : List X) (x : X) (y : Y) → Has xs x → Has (f x) y → Has (flat_map f xs) y
+has_flat f [] x y h k = absurd (has_none x h)
+has_flat f (a ∷ xs) x y h k = ⊎_elim (λ (one : a ≡ x). has_left (f a) (flat_map f xs) y (rw one k)) (λ more. has_right (f a) (flat_map f xs) y (has_flat f xs x y more k)) (has_cons a xs x h)
+
+pub strictly : (a b : ViewId) → AtMost a b → a ≢ b → Precedes a b
+strictly a b h n = go (same_view a b) refl
+  where
+    go : (t : Bool) → same_view a b ≡ t → Precedes a b
+    go true e = absurd (n (same_is a b e))
+    go false e = grind (arith, nat_tests, e, h)
+
+pub txn_same : (t u : TxnId) → owner.Txn t ≡ owner.Txn u → t ≡ u
+txn_same t u e = cc
+
+doubt_lock : (d : Doubt) (l : Lock) → Has (locks_in_doubt d) l → Has (keys d.2) l.rec × (l.owner ≡ owner.Txn d.0) × (l.exclusive ≡ true)
+doubt_lock d l h =
+    let r = map_has (λ (w : ℕ × List ℕ). record { rec = w.0; exclusive = true; owner = owner.Txn d.0 }) d.2 l h in
+    (subst (Has (keys d.2)) (ap (λ (l : Lock). l.rec) r.2) (mapped_has (λ (w : ℕ × List ℕ). w.0) d.2 r.0 r.1), sym (ap (λ (l : Lock). l.owner) r.2), sym (ap (λ (l : Lock). l.exclusive) r.2))
+
+-- the locks of a site that starts are those of its doubts
+start_locks : (catalogue : Catalogue) (s : ℕ) (k : DurableState) → ((c d : Doubt) (rec : ℕ) → Has k.doubts c → Has k.doubts d → Has (keys c.2) rec → Has (keys d.2) rec → c.0 ≡ d.0) → LocksAt catalogue (start catalogue s k)
+unfolding start
+start_locks catalogue s k writes = record {
+  apart = λ a b t u h g r x f e.
+      let p = flat_has locks_in_doubt k.doubts a h in
+      let q = flat_has locks_in_doubt k.doubts b g in
+      let c = doubt_lock p.0 a p.2 in
+      let d = doubt_lock q.0 b q.2 in
+      c.1 ∙ ap owner.Txn (writes p.0 q.0 a.rec p.1 q.1 c.0 (rw r d.0)) ∙ sym d.1;
+  owners = λ l txn h e.
+      let p = flat_has locks_in_doubt k.doubts l h in
+      let c = doubt_lock p.0 l p.2 in inr (inr (p.0, p.1, txn_same p.0.0 txn (sym c.1 ∙ e)));
+  doubted = λ d rec h z.
+      let r = map_has (λ (w : ℕ × List ℕ). w.0) d.2 rec z in
+      record {
+        lock = record { rec = r.0.0; exclusive = true; owner = owner.Txn d.0 };
+        has = has_flat locks_in_doubt k.doubts d _ h (mapped_has (λ (w : ℕ × List ℕ). record { rec = w.0; exclusive = true; owner = owner.Txn d.0 }) d.2 r.0 r.1);
+        on = r.2;
+        by = refl;
+        strong = λ e. refl;
+      };
+  listed = λ r h. absurd (has_none r h);
+  guard = λ l h e.
+      let p = flat_has locks_in_doubt k.doubts l h in
+      let c = doubt_lock p.0 l p.2 in absurd (let z = sym c.1 ∙ e in cc);
+  lower = λ r h. absurd (has_none r h);
+  own = λ t h. absurd (has_none t h);
+}
+
+module _ (catalogue : Catalogue) (w : Scene) (s : ℕ) (x : SiteState) (given : Input) (up : plain_at w s ≡ Some x) (arrives : Arrives w s given) (views : InvViews catalogue w) (led : Led x) (asked : InvLed w) (below : Below x) (ends : InvEndings w) (shares : InvShares catalogue w) (entered : InvEntered catalogue w) where
+  site_ok : SiteOk w s x
+  site_ok = views.site s x up
+
+  -- an outcome is of no live transaction
+  pub outcomes : (from : ℕ) (txn : TxnId) (commit : Bool) → Comes given from (message.Outcome txn commit) → NotLive x.live txn
+  outcomes from txn commit c t h e = go commit c
+    where
+      here : txn.site ≡ s
+      here = ap (λ (t : TxnId). t.site) (sym e) ∙ (led.names t h).0 ∙ site_ok.id
+
+      go : (commit : Bool) → Comes given from (message.Outcome txn commit) → ⊥
+      go true c = (ends.told (letter from s (message.Outcome txn true)) (rw c at arrives)).0 x (rw here up) t h e
+      go false c = ends.told (letter from s (message.Outcome txn false)) (rw c at arrives) x (rw here up) t h e
+
+  doubts_kept : (d : Doubt) → Has x.doubts d → Has (kept_at w s).doubts d
+  doubts_kept d h = subst (λ (k : DurableState). Has k.doubts d) site_ok.kept h
+
+  pub awaited : (i : ViewId) → x.waiting ≡ Some i → Precedes opening i × ((d : Doubt) → Has x.doubts d → Precedes d.1 i)
+  awaited i e = (
+    (site_ok.awaits i e).1,
+    (λ d h. strictly d.1 i (AtMost-along (below.doubts d h).0 refl (site_ok.tidy.waiting i e).0) (entered.no_doubt s x i d up e h)),
+  )
+
+  pub invited : (b : ViewId × List ℕ) → x.inviting ≡ Some b → Precedes opening b.0 × ((d : Doubt) → Has x.doubts d → Precedes d.1 b.0)
+  invited b e = (
+    strictly opening b.0 (opening_least b.0) (λ z. site_ok.unfixed b _ e views.opening (sym z)),
+    (λ d h. strictly d.1 b.0 (AtMost-along (below.doubts d h).0 refl (site_ok.tidy.inviting b e).0) (λ z.
+        let q = shares.doubts s d (doubts_kept d h) in
+        let v = asked.asked _ q.0.3 in
+        site_ok.unfixed b v.0 e v.1 (sym z ∙ sym v.2))),
+  )
+
+guards_above : (catalogue : Catalogue) → Above catalogue (Eleventh catalogue) (InvGuards catalogue)
+guards_above catalogue = record {
+  starts = record {
+    site = λ s x h. subst (LocksAt catalogue) (started catalogue s x h) (start_locks catalogue s (empty_durable (start_copies catalogue s)) (λ c d rec h k a b. absurd (has_none c h)));
+    writes = λ s c d rec h k a b. absurd (has_none c (rw (start_kept catalogue s).doubts at h));
+  };
+  acts = λ w s x given up r low now inv.
+      let ninth = low.lower.lower in
+      let sixth = ninth.lower.lower.lower in
+      let fifth = sixth.lower in
+      let fourth = fifth.lower in
+      let second = fourth.third.second in
+      let views = second.first.views in
+      let ok = views.site s x up in
+      let led = second.first.led.site s x up in
+      let below = second.below.site s x up in
+      let o = step catalogue x given in
+      guards_keep w s x given o (guards-step catalogue x given ok.tidy led below (fourth.votes.site s x up) (inv.site s x up)
+      (outcomes catalogue w s x given up r views led second.first.led below fifth.upper sixth.upper ninth.upper)
+      (awaited catalogue w s x given up r views led second.first.led below fifth.upper sixth.upper ninth.upper)
+      (invited catalogue w s x given up r views led second.first.led below fifth.upper sixth.upper ninth.upper))
+      (stepping catalogue w s x given up ok.kept (local-step catalogue x given ok.tidy)) inv;
+  quiet = λ w new s q low now inv.
+      let doubts = λ (k : ℕ). quiet_kept catalogue w new s q (λ (d : DurableState). d.doubts) q.doubts k in
+      record {
+        site = λ k y h. quiet_site w s inv k y (quiet_is catalogue w new s q k y h);
+        writes = λ k c d rec h g. inv.writes k c d rec (subst (λ (ds : List Doubt). Has ds c) (doubts k) h) (subst (λ (ds : List Doubt). Has ds d) (doubts k) g);
+      };
+}
+  where
+    quiet_site : (w : Scene) (s : ℕ) → InvGuards catalogue w → (k : ℕ) (y : SiteState) → QuietIs catalogue w s k y → LocksAt catalogue y
+    quiet_site w s inv k y (QuietIs.other n old) = inv.site k y old
+    quiet_site w s inv k y (QuietIs.here e same) = subst (LocksAt catalogue) same (start_locks catalogue s (kept_at w s) (inv.writes s))
+
+    guards_keep : (w : Scene) (s : ℕ) (x : SiteState) (given : Input) (o : Stepped) → Guards catalogue x given o → Acted w (acted w s x o) s x o → InvGuards catalogue w → InvGuards catalogue (acted w s x o)
+    guards_keep w s x given o g st inv = record {
+      site = λ k y h. site_now k y (now_is w (acted w s x o) s x o st k y h);
+      writes = λ k c d rec h z a b. writes_now k c d rec h z a b (kept_is w (acted w s x o) s x o st k);
+    }
+      where
+        site_now : (k : ℕ) (y : SiteState) → NowIs w s o.site k y → LocksAt catalogue y
+        site_now k y (NowIs.other n old) = inv.site k y old
+        site_now k y (NowIs.here e same) = subst (LocksAt catalogue) same g.ok
+
+        one_owner : (c d : Doubt) (rec : ℕ) → Has o.site.doubts c → Has o.site.doubts d → Has (keys c.2) rec → Has (keys d.2) rec → c.0 ≡ d.0
+        one_owner c d rec h z a b =
+            let p = g.ok.doubted c rec h a in
+            let q = g.ok.doubted d rec z b in
+            txn_same c.0 d.0 (sym p.by ∙ g.ok.apart p.lock q.lock c.0 d.0 p.has q.has (p.on ∙ sym q.on) (p.strong refl) p.by q.by ∙ q.by)
+
+        writes_now : (k : ℕ) (c d : Doubt) (rec : ℕ) → Has (kept_at (acted w s x o) k).doubts c → Has (kept_at (acted w s x o) k).doubts d → Has (keys c.2) rec → Has (keys d.2) rec → KeptIs w (acted w s x o) s (durable_of o.site) k → c.0 ≡ d.0
+        writes_now k c d rec h z a b (KeptIs.other n same) = inv.writes k c d rec (subst (λ (k : DurableState). Has k.doubts c) same h) (subst (λ (k : DurableState). Has k.doubts d) same z) a b
+        writes_now k c d rec h z a b (KeptIs.here e same) = one_owner c d rec (subst (λ (k : DurableState). Has k.doubts c) same h) (subst (λ (k : DurableState). Has k.doubts d) same z) a b
+
+abbrev pub Twelfth : Catalogue → Scene → Type 0
+Twelfth catalogue w = With (Eleventh catalogue) (InvGuards catalogue) w
+
+pub guards_last : (catalogue : Catalogue) → Lasts catalogue (Twelfth catalogue)
+guards_last catalogue = with_last catalogue (Eleventh catalogue) (InvGuards catalogue) (settled_last catalogue) (guards_above catalogue)

@@ -1,0 +1,89 @@
+-- No transaction of a lower view is decided that wrote a record which is closed for a view.
+use Rattle.std.proofs.Common.{◌≡◌, ◌≢◌, ◌∙◌, ap, sym, subst, ℕ, true, false, List, ⊎_elim}
+use Rattle.std.specs.Prelude.{Some, ◌&&◌}
+use Rattle.vp_model.specs.Types.{ViewId, TxnId, View, Commit, Input, Live}
+use Rattle.vp_model.specs.Types.message
+use Rattle.vp_model.specs.Types.op
+use Rattle.vp_model.specs.Words.{is_empty, has, keys}
+use Rattle.vp_model.specs.Catalogue.{Catalogue, holders, weights_of, accessible}
+use Rattle.vp_model.specs.Transactions.{last_writes, writes_held}
+use Rattle.vp_model.specs.Site.{SiteState, Stepped}
+use Rattle.vp_laws.proofs.Members.{Has, has_from_test, any_true, both_true, map_has, filter_keeps}
+use Rattle.vp_laws.proofs.Lists.{mapped_has}
+use Rattle.vp_laws.proofs.Majorities.{accessible-share}
+use Rattle.vp_laws.proofs.Order.{Precedes, same_site}
+use Rattle.vp_laws.proofs.LocalViews.{letter}
+use Rattle.vp_laws.proofs.TableLed.{IsOf, Led}
+use Rattle.vp_laws.proofs.TableSteps.{EnteredFor, Steps}
+use Rattle.vp_laws.proofs.TableShares.{Shares}
+use Rattle.vp_laws.proofs.TableLeaves.{Uses}
+use Rattle.vp_laws.proofs.Scenes.{Scene, plain_at, Acted}
+use Rattle.vp_laws.proofs.InvShares.{InDoubt, InvShares}
+use Rattle.vp_laws.proofs.InvEntered.{Wrote, AgreedAs, InvEntered, has_test, written_op}
+use Rattle.vp_laws.proofs.InvSettled.{some_not_empty}
+use Rattle.vp_laws.proofs.Closing.{ClosedAt, Closed}
+
+-- two sets of sites in which a record is accessible share a holder
+pub shared_holder : (catalogue : Catalogue) (rec : ℕ) (sites others : List ℕ) → accessible catalogue rec sites ≡ true → accessible catalogue rec others ≡ true → (q : ℕ) × Has (holders catalogue rec) q × Has sites q × Has others q
+shared_holder catalogue rec sites others a b =
+    let r = any_true (λ (w : ℕ × ℕ). has sites w.0 && has others w.0) (weights_of catalogue rec) (accessible-share catalogue rec sites others a b) in
+    let t = both_true (has sites r.0.0) (has others r.0.0) r.2 in
+    (r.0.0, mapped_has (λ (w : ℕ × ℕ). w.0) (weights_of catalogue rec) r.0 r.1, has_from_test sites r.0.0 t.0, has_from_test others r.0.0 t.1)
+
+module _ (catalogue : Catalogue) (w new : Scene) (s : ℕ) (x : SiteState) (given : Input) (o : Stepped) (up : plain_at w s ≡ Some x) (id : x.id ≡ s) (led : Led x) (shares : InvShares catalogue w) (shares_now : InvShares catalogue new) (entered_now : InvEntered catalogue new) (steps : Steps catalogue x given o.site.coordinator o.effects.messages o.effects.commits) (p : Shares x given o) (st : Acted w new s x o) where
+  pub closed_stops : (e : Commit) (v u : View) (rec : ℕ) → Has o.effects.commits e → AgreedAs new e.view v → Wrote e rec → Precedes e.view u.id → accessible catalogue rec u.members ≡ true → Closed catalogue w rec u → ⊥
+  closed_stops e v u rec h agreed wrote below usable closed = ⊎_elim
+      (λ (own : q.0 ≡ e.txn.site). (c.left e.view below).unused x (rw (own ∙ site) up) (Uses.held of.0 of.1 (of.2 ∙ viewed)))
+      (λ (other : q.0 ≢ e.txn.site). certain other)
+      (same_site q.0 e.txn.site)
+    where
+      f : EnteredFor catalogue x given e
+      f = steps.entered e h
+
+      named : f.handled.was.txn ≡ e.txn
+      named = sym (ap (λ (t : Live). t.txn) f.handled.same) ∙ ap (λ (e : Commit). e.txn) f.is
+
+      viewed : f.handled.was.view ≡ e.view
+      viewed = sym (ap (λ (t : Live). t.view) f.handled.same) ∙ ap (λ (e : Commit). e.view) f.is
+
+      done : f.handled.was.ops ≡ e.ops
+      done = sym (ap (λ (t : Live). t.ops) f.handled.same) ∙ ap (λ (e : Commit). e.ops) f.is
+
+      site : e.txn.site ≡ s
+      site = ap (λ (t : TxnId). t.site) (sym named) ∙ (led.names f.handled.was f.handled.live).0 ∙ id
+
+      of : IsOf x f.handled.was
+      of = led.live f.handled.was f.handled.live
+
+      written : (value : List ℕ) × Has e.ops (op.Write rec value)
+      written = written_op e.ops rec wrote
+
+      q : (q : ℕ) × Has (holders catalogue rec) q × Has v.members q × Has u.members q
+      q = shared_holder catalogue rec v.members u.members (entered_now.accessible e v (op.Write rec written.0) (st.enters e h) agreed written.1) usable
+
+      c : ClosedAt w q.0 rec u.id
+      c = closed q.0 q.1 q.3
+
+      writes : Has (keys (writes_held catalogue q.0 (last_writes e.ops))) rec
+      writes =
+          let r = map_has (λ (p : ℕ × List ℕ). p.0) (last_writes e.ops) rec wrote in
+          let k = filter_keeps (λ (w : ℕ × List ℕ). has (holders catalogue w.0) q.0) (last_writes e.ops) r.0 r.1 (has_test (holders catalogue r.0.0) q.0 (subst (λ (n : ℕ). Has (holders catalogue n) q.0) (sym r.2) q.1)) in
+          subst (Has (keys (writes_held catalogue q.0 (last_writes e.ops)))) r.2 (mapped_has (λ (p : ℕ × List ℕ). p.0) _ r.0 k)
+
+      some : is_empty (writes_held catalogue q.0 (last_writes e.ops)) ≡ false
+      some = let r = map_has (λ (p : ℕ × List ℕ). p.0) _ rec writes in some_not_empty _ r.0 r.1
+
+      doubted : q.0 ≢ e.txn.site → InDoubt w q.0 e.txn
+      doubted other =
+          let vote = entered_now.voted e q.0 (st.enters e h) (record { view = v; agreed = agreed; rec = rec; wrote = wrote; holder = q.1; member = q.2 }) other in
+          ⊎_elim
+          (λ old. shares.says (letter q.0 vote.0 (message.Vote e.txn)) old x f.handled.was (rw site up) f.handled.live named (rw done some))
+          (λ more. absurd (other (p.from (letter q.0 vote.0 (message.Vote e.txn)) more ∙ id ∙ sym site)))
+          (st.sent (letter q.0 vote.0 (message.Vote e.txn)) vote.1)
+
+      certain : q.0 ≢ e.txn.site → ⊥
+      certain other =
+          let d = doubted other in
+          let g = (shares.doubts q.0 d.0 d.1).0 in
+          let says = shares_now.entry e (st.enters e h) g.0 q.0 d.0.1 g.1 g.2 d.0.2 (subst (λ (t : TxnId). Has new.sent (letter g.0 q.0 (message.Prepare t d.0.1 g.1 g.2 d.0.2))) d.2 (st.moved.sent _ g.3)) in
+          c.certain d.0 d.1 (subst (λ (ws : List (ℕ × List ℕ)). Has (keys ws) rec) says.1 writes) (subst (λ (i : ViewId). Precedes i u.id) says.0 below)
