@@ -1,0 +1,88 @@
+#!/usr/bin/env python3
+"""Compares `vpdb check` with another program on random histories, and on mutated ones.
+
+usage: compare_check.py PROGRAM OTHER [SEED [COUNT]]
+
+PROGRAM is the built vpdb, OTHER the path of the reference program. Both are called with the word `check`. A history has up
+to six records and thirty transactions of rising views; its reads are right but for one in fifty. Two in three are mutated:
+cut anywhere, a byte changed or put in, two lines swapped, a line twice, lines before it. Bytes and statuses have to agree.
+"""
+import random
+import subprocess
+import sys
+
+NAMES = [b"x", b"y", b"ab", b"abcd", b"r0", b"r1", b"a_long_name_of16"]
+
+
+def made(draw):
+    names = draw.sample(NAMES, draw.randint(0, 6))
+    values = {name: b"%d" % draw.randrange(20) for name in names}
+    lines = [b"history"] + [b"start %s %s" % (name, values[name]) for name in names]
+    number, site = 0, 0
+    for k in range(count := draw.choice([0, 1, 3, 10, 30])):
+        if draw.randrange(3) == 0:
+            number, site = (number + draw.choice([1, 1, 9]), draw.randint(1, 16)) if draw.randrange(2) or not number else (number, draw.randint(site, 16))
+        ops = b""
+        for _ in range(draw.randrange(5) if names else 0):
+            name = draw.choice(names)
+            if draw.randrange(2):
+                wrong = draw.randrange(50) == 0
+                ops += b" r %s %s" % (name, b"other" if wrong else values[name])
+            else:
+                values[name] = bytes(draw.choice(b"!~09az_#") for _ in range(draw.choice([1, 2, 64])))
+                ops += b" w %s %s" % (name, values[name])
+        lines.append(b"commit %d.%d.%d %d@%d" % (draw.randint(1, 16), draw.choice([1, 2, 4294967295]), k + 1, number, site) + ops)
+    lines.append(b"end %d" % count)
+    return b"\n".join(lines) + b"\n"
+
+
+def mutated(draw, text):
+    kind = draw.randrange(7)
+    place = draw.randrange(len(text))
+    if kind == 0:
+        return text[:place]
+    if kind == 1:
+        return text[:place] + bytes([draw.randrange(256)]) + text[place + 1 :]
+    if kind == 2:
+        return text[:place] + bytes([draw.choice(b"0 \n19x@.")]) + text[place:]
+    if kind == 3:
+        return text[:place] + text[place + 1 :]
+    lines = text.split(b"\n")
+    one, two = draw.randrange(len(lines)), draw.randrange(len(lines))
+    if kind == 4:
+        lines[one], lines[two] = lines[two], lines[one]
+    elif kind == 5:
+        lines.insert(two, lines[one])
+    else:
+        lines[0:0] = draw.choice([[b""], [b"1 call 1 begin", b" reply begun 1.1.1 0@0"], [b"histor"], [b"history "]])
+    return b"\n".join(lines)
+
+
+def run(program, text):
+    done = subprocess.run([program, "check"], input=text, capture_output=True, timeout=60)
+    return done.returncode, done.stdout
+
+
+def main():
+    program, other = sys.argv[1:3]
+    seed = int(sys.argv[3]) if len(sys.argv) > 3 else 1
+    count = int(sys.argv[4]) if len(sys.argv) > 4 else 1000
+    ends = {}
+    for k in range(seed, seed + count):
+        draw = random.Random(k)
+        text = made(draw)
+        if draw.randrange(3):
+            text = mutated(draw, text)
+        mine, wanted = run(program, text), run(other, text)
+        ends[mine[0]] = ends.get(mine[0], 0) + 1
+        if mine != wanted:
+            print("differs at seed", k)
+            sys.stdout.buffer.write(text + b"\n----\n" + mine[1] + b"----\n" + wanted[1])
+            print(mine[0], wanted[0])
+            return 1
+    print(f"{count} inputs from seed {seed} agree; by status: {dict(sorted(ends.items()))}")
+    return 0
+
+
+if __name__ == "__main__":
+    sys.exit(main())
