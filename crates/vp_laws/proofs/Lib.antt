@@ -6,6 +6,7 @@ pub mod Lists
 pub mod Apart
 pub mod Majorities
 pub mod LockTables
+pub mod Journal
 -- the table in small moves, and that every step is made of them: no other file unfolds a row
 pub mod Table
 pub mod Frames
