@@ -60,4 +60,6 @@ pub mod Words
 pub mod EntryWords
 pub mod SiteWords
 -- what is stated and not proved yet
+pub mod ValuesAfter
+pub mod Playing
 pub mod Remaining
