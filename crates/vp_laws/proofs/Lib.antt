@@ -52,6 +52,7 @@ pub mod InvGuards
 pub mod InvUsed
 pub mod InvDated
 pub mod InvReads
+pub mod InvHeld
 -- a closed record: it stays so, and no lower writer of it is decided
 pub mod Closing
 pub mod Stopping
