@@ -54,6 +54,7 @@ pub mod InvUsed
 pub mod InvDated
 pub mod InvReads
 pub mod InvHeld
+pub mod InvListed
 -- a closed record: it stays so, and no lower writer of it is decided
 pub mod Closing
 pub mod Stopping

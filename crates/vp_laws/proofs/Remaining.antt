@@ -69,8 +69,6 @@ pub record InvRefresh (catalogue : Catalogue) (w : Scene) : Type 0 where
   pub entry : (e : Commit) (v : View) (operation : Op) → Has w.journal e → AgreedAs w e.view v → Has e.ops operation → Closed catalogue w (record_of operation) v
   -- and so is one that a live transaction has used
   pub used : (s q rec : ℕ) (exclusive : Bool) (x : SiteState) (t : Live) (v : View) → plain_at w s ≡ Some x → Has x.live t → Used catalogue w x t q rec exclusive → AgreedAs w t.view v → Closed catalogue w rec v
-  -- while a record is listed, no entry of the held view has written it
-  pub unwritten : (s rec : ℕ) (x : SiteState) (v : View) (r : Refreshing) (e : Commit) → plain_at w s ≡ Some x → x.held ≡ Some v → refreshing_of rec x.refresh ≡ Some r → Has w.journal e → Wrote e rec → e.view ≢ v.id
 
 -- the order
 
