@@ -29,6 +29,7 @@ pub mod TableLeaves
 pub mod LocalLocks
 pub mod TableLocks
 pub mod TableCopies
+pub mod TableCopyAt
 pub mod TableListed
 -- worlds and schedules
 pub mod Scenes
