@@ -1,5 +1,5 @@
 -- The copies of a site, in every world: they are of the records that it holds, one of each.
-use Rattle.std.proofs.Common.{◌≡◌, ◌≢◌, ◌⊎◌, ◌∙◌, ap, sym, subst, ℕ, ◌+◌, ◌≤◌, zero, suc, Bool, true, false, cond, List, [], ◌∷◌, refl, arith, inl, inr, ⊎_elim, map}
+use Rattle.std.proofs.Common.{◌≡◌, ◌≢◌, ◌⊎◌, ◌∙◌, ap, sym, subst, ℕ, ◌+◌, zero, suc, Bool, true, false, cond, List, [], ◌∷◌, refl, arith, inl, inr, ⊎_elim, map}
 use Rattle.std.specs.Prelude.{Option, Some, None, option_map, filter, find, slice_get, ◌==◌}
 use Rattle.std.specs.List.{enumerate_from}
 use Rattle.std.proofs.lemmas.Bool.Decides.{nat_tests}
@@ -7,9 +7,9 @@ use Rattle.std.proofs.lemmas.Bool.{eqb-true}
 use Rattle.vp_model.specs.Types.{Input, Stored}
 use Rattle.vp_model.specs.Words.{has, keys, value_at}
 use Rattle.vp_model.specs.Catalogue.{Catalogue, RecordEntry, weights_in, holders, sites_of, copies_from, start_copies}
-use Rattle.vp_model.specs.Durable.{DurableState, empty_durable, apply}
+use Rattle.vp_model.specs.Durable.{DurableState, apply}
 use Rattle.vp_model.specs.Site.{SiteState, Stepped}
-use Rattle.vp_model.specs.Step.{start_record, step, durable_of}
+use Rattle.vp_model.specs.Step.{step, durable_of}
 use Rattle.vp_model.specs.World.{Place, place_of, start_world}
 use Rattle.vp_laws.proofs.Members.{Has, has_none, has_first, has_more, has_cons, has_from_test}
 use Rattle.vp_laws.proofs.Lists.{mapped_has}
@@ -17,7 +17,6 @@ use Rattle.vp_laws.proofs.Order.{same_site}
 use Rattle.vp_laws.proofs.Scenes.{Scene, scene_of, kept_in, up-place, plain_at, kept_at, Acted, acted, stepping}
 use Rattle.vp_laws.proofs.TableViews.{local-step}
 use Rattle.vp_laws.proofs.TableLocks.{Guards, guards-step, not_copied}
-use Rattle.vp_laws.proofs.TableCopies.{value_pair}
 use Rattle.vp_laws.proofs.InvEntered.{has_test}
 use Rattle.vp_laws.proofs.InvGuards.{outcomes, awaited, invited}
 use Rattle.vp_laws.proofs.InvReads.{Fifteenth, reads_last}

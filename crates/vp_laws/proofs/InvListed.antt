@@ -1,9 +1,8 @@
 -- Records under refresh, in every world: each has a copy here and may be used, and no entry of the held view has written it.
 use Rattle.std.proofs.Common.{◌≡◌, ◌≢◌, ◌⊎◌, ◌∙◌, ap, sym, subst, ℕ, true, false, List, refl, arith, ⊎_elim}
-use Rattle.std.specs.Prelude.{Option, Some, None}
+use Rattle.std.specs.Prelude.{Some, None}
 use Rattle.vp_model.specs.Types.{ViewId, TxnId, View, Commit, Input, Live, Refreshing}
 use Rattle.vp_model.specs.Types.message
-use Rattle.vp_model.specs.Types.owner
 use Rattle.vp_model.specs.Words.{is_empty, has, has_txn, keys}
 use Rattle.vp_model.specs.Catalogue.{Catalogue, holders, start_copies}
 use Rattle.vp_model.specs.Durable.{DurableState, Doubt, empty_durable}
@@ -12,26 +11,24 @@ use Rattle.vp_model.specs.Site.{SiteState, Stepped}
 use Rattle.vp_model.specs.Step.{start, step}
 use Rattle.vp_laws.proofs.Members.{Has, has_none, map_has, filter_keeps}
 use Rattle.vp_laws.proofs.Lists.{mapped_has}
-use Rattle.vp_laws.proofs.LockTables.{HasLock}
 use Rattle.vp_laws.proofs.Order.{Precedes}
 use Rattle.vp_laws.proofs.LocalViews.{letter}
 use Rattle.vp_laws.proofs.TableViews.{local-step}
 use Rattle.vp_laws.proofs.TableLed.{IsOf, Led}
-use Rattle.vp_laws.proofs.TableSteps.{EnteredFor, Steps, steps-step}
+use Rattle.vp_laws.proofs.TableSteps.{Steps, steps-step}
 use Rattle.vp_laws.proofs.TableShares.{Shares, shares-step}
 use Rattle.vp_laws.proofs.TableLeaves.{Uses}
-use Rattle.vp_laws.proofs.TableLocks.{LocksAt}
 use Rattle.vp_laws.proofs.TableListed.{IsListed, ListedNow, Listing, listing-step}
 use Rattle.vp_laws.proofs.Scenes.{Scene, plain_at, kept_at, Acted, acted, stepping}
 use Rattle.vp_laws.proofs.InvViews.{InvViews, SiteOk}
 use Rattle.vp_laws.proofs.InvLed.{InvLed}
 use Rattle.vp_laws.proofs.InvShares.{InDoubt, InvShares}
-use Rattle.vp_laws.proofs.InvEntered.{Wrote, AgreedAs, Affected, InvEntered, has_test, written_op}
+use Rattle.vp_laws.proofs.InvEntered.{Wrote, Affected, InvEntered, has_test, written_op}
 use Rattle.vp_laws.proofs.InvSettled.{InvSettled, HasEnded, some_not_empty}
 use Rattle.vp_laws.proofs.InvGuards.{InvGuards}
 use Rattle.vp_laws.proofs.HasLeft.{HasLeft}
 use Rattle.vp_laws.proofs.InvHeld.{InvHeld, copy_held, Sixteenth, held_last}
-use Rattle.vp_laws.proofs.Events.{Arrives, Lasts}
+use Rattle.vp_laws.proofs.Events.{Lasts}
 use Rattle.vp_laws.proofs.Worlds.{NowIs, now_is, QuietIs, quiet_is, started, start_entered, With, Above, with_last}
 
 pub record InvListed (catalogue : Catalogue) (w : Scene) : Type 0 where

@@ -10,7 +10,7 @@ use Rattle.vp_model.specs.Transactions.{last_writes}
 use Rattle.vp_model.specs.OneCopy.{Values, play, serial, order, content}
 use Rattle.vp_one_site.proofs.Play.{Write, op_record, set_all, get_set, get_other, get_all, get_all-other, play_sets, last_ascending, serial-append, AgreeOn, play_agrees}
 use Rattle.vp_laws.proofs.Members.{Has, has_first, has_more, has_right, all_of}
-use Rattle.vp_laws.proofs.Order.{AtMost, Precedes, AtMost-refl, from_before, same_site}
+use Rattle.vp_laws.proofs.Order.{Precedes, AtMost-refl, same_site}
 use Rattle.vp_laws.proofs.InvEntered.{Wrote}
 use Rattle.vp_laws.proofs.Journal.{Split, order_has, order_more}
 use Rattle.vp_laws.proofs.ValuesAfter.{overwritten, value_in, upto, value_after, test_above, test_up_to, upto_all, upto_none, upto_append, unwritten_value}

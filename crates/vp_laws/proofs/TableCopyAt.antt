@@ -1,6 +1,6 @@
 -- Where each copy comes from in a step, with what has not been written: a copy that stays is of no doubt that commits now and of no entry.
 use Rattle.std.proofs.Common.{◌≡◌, ◌≢◌, ◌⊎◌, ◌∙◌, ap, sym, subst, ℕ, Bool, true, false, cond, List, [], ◌∷◌, map, refl, arith, inl, inr, ⊎_elim}
-use Rattle.std.specs.Prelude.{Option, Some, None, filter, find, option_map, not, ◌==◌, nat_lt}
+use Rattle.std.specs.Prelude.{Option, Some, None, filter, not, ◌==◌, nat_lt}
 use Rattle.std.proofs.lemmas.Bool.{eqb-true}
 use Rattle.std.proofs.lemmas.Bool.Decides.{nat_tests}
 use Rattle.vp_model.specs.Types.{ViewId, TxnId, View, Commit, Op, Input, Stored, Live, Ending, Refreshing}
@@ -13,14 +13,14 @@ use Rattle.vp_model.specs.Locks.{without_guard}
 use Rattle.vp_model.specs.Durable.{Doubt, doubt_of, with_writes}
 use Rattle.vp_model.specs.Site.{Here, SiteState, Lent, Stepped, begin_step, put_back, force, change_copies}
 use Rattle.vp_model.specs.Transactions.{last_writes, writes_held, close, keep_writes, decide, complete}
-use Rattle.vp_model.specs.Refresh.{newer, newest, take_newer, end_refresh, start_refresh, refreshing_of, unanswered}
+use Rattle.vp_model.specs.Refresh.{newest, take_newer, end_refresh, start_refresh, refreshing_of, unanswered}
 use Rattle.vp_model.specs.Views.{drop_view, start_inviting, hold}
 use Rattle.vp_model.specs.Calls.{start_txn, take_lock, read_at, write_at, prepare_parts}
 use Rattle.vp_model.specs.Messages.{holds_view, with_answer, accept, on_accept, on_stale, grant, end_here}
 use Rattle.vp_model.specs.Step.{fix, mark_calls, ask_again, resend_one, inquire, step}
 use Rattle.vp_laws.proofs.Members.{Has, has_none, has_one, has_one_is, has_first, has_more, has_cons, map_has, filter_has, find_has, find_true}
 use Rattle.vp_laws.proofs.Apart.{same_txn-is}
-use Rattle.vp_laws.proofs.Lists.{put_has, mapped_has}
+use Rattle.vp_laws.proofs.Lists.{put_has}
 use Rattle.vp_laws.proofs.Order.{is_view_is}
 use Rattle.vp_laws.proofs.Members.{both_true}
 use Rattle.vp_laws.proofs.Frames.{close-ends, close-commits, decided-ends, decided-commits, decide-cases}

@@ -1,9 +1,8 @@
 -- Which records are under refresh after a step: each has a copy here and may be used, and was so before or is of a view that was joined now.
-use Rattle.std.proofs.Common.{◌≡◌, ◌⊎◌, ◌∙◌, ap, sym, subst, ℕ, Bool, true, false, cond, List, [], map, refl, inl, inr, ⊎_elim}
+use Rattle.std.proofs.Common.{◌≡◌, ◌⊎◌, ◌∙◌, ap, sym, subst, ℕ, Bool, true, false, cond, List, [], map, refl, ⊎_elim}
 use Rattle.std.specs.Prelude.{Option, Some, None, filter, not, ◌==◌, nat_lt}
-use Rattle.vp_model.specs.Types.{ViewId, TxnId, View, Input, Stored, Live, Ending, Refreshing}
+use Rattle.vp_model.specs.Types.{TxnId, View, Input, Stored, Live, Ending, Refreshing}
 use Rattle.vp_model.specs.Types.entry
-use Rattle.vp_model.specs.Types.message
 use Rattle.vp_model.specs.Words.{put_at, view_before, replace_at, keys}
 use Rattle.vp_model.specs.Catalogue.{Catalogue}
 use Rattle.vp_model.specs.Locks.{without_guard}
@@ -20,7 +19,7 @@ use Rattle.vp_laws.proofs.Lists.{put_has}
 use Rattle.vp_laws.proofs.Order.{is_view_is}
 use Rattle.vp_laws.proofs.Frames.{close-ends, decided-ends, decide-cases}
 use Rattle.vp_laws.proofs.LocalViews.{Tidy}
-use Rattle.vp_laws.proofs.Table.{Comes, Left, Joined, lent_at, Back, Table}
+use Rattle.vp_laws.proofs.Table.{Left, Joined, lent_at, Back, Table}
 use Rattle.vp_laws.proofs.Rows.{step-keeps}
 use Rattle.vp_laws.proofs.TableLocks.{replaced_keys, written_keys}
 

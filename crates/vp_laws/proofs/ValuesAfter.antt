@@ -1,5 +1,5 @@
 -- The value of a record after the entries of views up to one, and what an added entry makes of it.
-use Rattle.std.proofs.Common.{◌≡◌, ◌≢◌, ◌⊎◌, ◌∙◌, ap, sym, subst, ℕ, Bool, true, false, cond, List, [], ◌∷◌, ◌++◌, refl, arith, inl, inr, ⊎_elim}
+use Rattle.std.proofs.Common.{◌≡◌, ◌≢◌, ◌∙◌, ap, sym, subst, ℕ, Bool, true, false, cond, List, [], ◌∷◌, ◌++◌, refl, arith, ⊎_elim}
 use Rattle.std.specs.Prelude.{Option, Some, None, option_map, slice_get, filter, flat_map, not}
 use Rattle.std.specs.Option.{option_map_or}
 use Rattle.std.proofs.lemmas.Bool.Decides.{nat_tests}
@@ -10,9 +10,9 @@ use Rattle.vp_model.specs.Words.{same_view, view_before, same_txn, value_at}
 use Rattle.vp_model.specs.Catalogue.{Catalogue, start_values}
 use Rattle.vp_model.specs.Transactions.{last_writes}
 use Rattle.vp_model.specs.OneCopy.{views_of, in_view, order}
-use Rattle.vp_laws.proofs.Members.{Has, has_none, has_first, has_more, has_cons, has_left, has_right, filter_has}
+use Rattle.vp_laws.proofs.Members.{Has, has_none, has_first, has_more, has_cons, has_right, filter_has}
 use Rattle.vp_laws.proofs.Lists.{mapped_has}
-use Rattle.vp_laws.proofs.Order.{AtMost, Precedes, AtMost-refl, Precedes-at_most, not_both, from_before, same_is}
+use Rattle.vp_laws.proofs.Order.{AtMost, Precedes, AtMost-refl, Precedes-at_most, from_before, same_is}
 use Rattle.vp_laws.proofs.TableLocks.{not_copied}
 use Rattle.vp_laws.proofs.InvOps.{value_key}
 use Rattle.vp_laws.proofs.InvEntered.{Wrote}
@@ -194,34 +194,31 @@ module _ (journal : List Commit) (v : ViewId) where
 
       go : (a b : Bool) → same_view v u ≡ a → view_before v u ≡ b → (((f : Commit) → Has journal f → f.view ≡ v → Has vs v) → (low : List Commit) × (upto v (flat_map (in_view journal) vs) ≡ low ++ in_view journal v)) → (low : List Commit) × (upto v (in_view journal u ++ flat_map (in_view journal) vs) ≡ low ++ in_view journal v)
       go true b e f rest =
-          let is : v ≡ u = same_is v u e in
-          (
+          let is : v ≡ u = same_is v u e in (
             [],
             upto_append v (in_view journal u) (flat_map (in_view journal) vs)
-            ∙ ap (λ (l : List Commit). upto v (in_view journal u) ++ l) (higher (λ k q. rw is (h.0 k q)))
-            ∙ append-nil (upto v (in_view journal u))
-            ∙ upto_all v (in_view journal u) (λ f q. rw (in_at u f q, ← is) (AtMost-refl v))
-            ∙ ap (in_view journal) (sym is),
+                ∙ ap (λ (l : List Commit). upto v (in_view journal u) ++ l) (higher (λ k q. rw is (h.0 k q)))
+                ∙ append-nil (upto v (in_view journal u))
+                ∙ upto_all v (in_view journal u) (λ f q. rw (in_at u f q, ← is) (AtMost-refl v))
+                ∙ ap (in_view journal) (sym is),
           )
       go false true e f rest =
-          let p = from_before v u f in
-          (
+          let p = from_before v u f in (
             [],
             upto_append v (in_view journal u) (flat_map (in_view journal) vs)
-            ∙ ap (λ (l : List Commit). upto v (in_view journal u) ++ l) (higher (λ k q. further k p (h.0 k q)))
-            ∙ append-nil (upto v (in_view journal u))
-            ∙ upto_none v (in_view journal u) (λ f q. rw (in_at u f q) p)
-            ∙ sym (empty_at (λ f q g. ⊎_elim (λ (one : u ≡ v). itself (subst (λ (k : ViewId). Precedes v k) one p)) (λ more. itself (further v p (h.0 v more))) (has_cons u vs v (all f q g)))),
+                ∙ ap (λ (l : List Commit). upto v (in_view journal u) ++ l) (higher (λ k q. further k p (h.0 k q)))
+                ∙ append-nil (upto v (in_view journal u))
+                ∙ upto_none v (in_view journal u) (λ f q. rw (in_at u f q) p)
+                ∙ sym (empty_at (λ f q g. ⊎_elim (λ (one : u ≡ v). itself (subst (λ (k : ViewId). Precedes v k) one p)) (λ more. itself (further v p (h.0 v more))) (has_cons u vs v (all f q g)))),
           )
       go false false e f rest =
           let p = above_from v u e f in
-          let r = rest (λ f q g. ⊎_elim (λ (one : u ≡ v). absurd (itself (subst (λ (k : ViewId). Precedes k v) one p))) (λ more. more) (has_cons u vs v (all f q g))) in
-          (
+          let r = rest (λ f q g. ⊎_elim (λ (one : u ≡ v). absurd (itself (subst (λ (k : ViewId). Precedes k v) one p))) (λ more. more) (has_cons u vs v (all f q g))) in (
             in_view journal u ++ r.0,
             upto_append v (in_view journal u) (flat_map (in_view journal) vs)
-            ∙ ap (λ (l : List Commit). l ++ upto v (flat_map (in_view journal) vs)) (upto_all v (in_view journal u) (λ f q. rw (in_at u f q) (Precedes-at_most u v p)))
-            ∙ ap (λ (l : List Commit). in_view journal u ++ l) r.1
-            ∙ sym (append_assoc (in_view journal u) r.0 (in_view journal v)),
+                ∙ ap (λ (l : List Commit). l ++ upto v (flat_map (in_view journal) vs)) (upto_all v (in_view journal u) (λ f q. rw (in_at u f q) (Precedes-at_most u v p)))
+                ∙ ap (λ (l : List Commit). in_view journal u ++ l) r.1
+                ∙ sym (append_assoc (in_view journal u) r.0 (in_view journal v)),
           )
 
   pub upto_ends : (low : List Commit) × (upto v (order journal) ≡ low ++ in_view journal v)
