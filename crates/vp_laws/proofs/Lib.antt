@@ -65,5 +65,6 @@ pub mod EntryWords
 pub mod SiteWords
 -- what is stated and not proved yet
 pub mod ValuesAfter
+pub mod TableUnlisted
 pub mod Playing
 pub mod Remaining

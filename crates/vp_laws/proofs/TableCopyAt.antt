@@ -49,7 +49,7 @@ pub record CopiesAt (catalogue : Catalogue) (x : SiteState) (given : Input) (o :
   -- answers are kept while the view is held
   pub answers : (r : Refreshing) (k : ℕ × Stored) → Has o.site.refresh r → Has r.answers k → AnswerNow catalogue x given r.rec k × (o.site.held ≡ x.held)
 
-replaced_not : (n : ℕ) (v : Stored) (pairs : List (ℕ × Stored)) (a : ℕ × Stored) → Has (replace_at n v pairs) a → (a ≡ (n, v)) ⊎ (Has pairs a × (n ≢ a.0))
+pub replaced_not : (n : ℕ) (v : Stored) (pairs : List (ℕ × Stored)) (a : ℕ × Stored) → Has (replace_at n v pairs) a → (a ≡ (n, v)) ⊎ (Has pairs a × (n ≢ a.0))
 replaced_not n v pairs a h = let r = map_has (λ (p : ℕ × Stored). cond (p.0 == n) (n, v) p) pairs a h in go (r.0.0 == n) r.0 refl r.1 r.2
   where
     differs : (c b : ℕ) → (c == b) ≡ false → b ≢ c
@@ -83,7 +83,7 @@ module _ (catalogue : Catalogue) (x : SiteState) (given : Input) (tidy : Tidy x)
   copy_on doubts now commits a keep (CopyAt.entered e w h k f) = CopyAt.entered e w h k f
   copy_on doubts now commits a keep (CopyAt.refreshed k n e) = CopyAt.refreshed k n e
 
-  starts : P (begin_step x)
+  pub starts : P (begin_step x)
   starts = record { copies = λ a h. CopyAt.still h (at_start a.0); answers = λ r k h a. (AnswerNow.was r h refl a, refl) }
 
   -- copies and refreshes stay, in the same view
