@@ -1,24 +1,24 @@
 -- Why a record is not under refresh after a step: it was not before, in the same view; its refresh has ended; or the view was joined now.
-use Rattle.std.proofs.Common.{◌≡◌, ◌≢◌, ◌⊎◌, ◌∙◌, ap, sym, subst, ℕ, Bool, true, false, cond, List, [], ◌∷◌, map, refl, arith, inl, inr, ⊎_elim}
-use Rattle.std.specs.Prelude.{Option, Some, None, filter, find, option_map, not, ◌==◌, nat_lt}
+use Rattle.std.proofs.Common.{◌≡◌, ◌≢◌, ◌⊎◌, ◌∙◌, ap, sym, subst, ℕ, Bool, true, false, cond, List, [], ◌∷◌, refl, arith, inl, inr, ⊎_elim}
+use Rattle.std.specs.Prelude.{Option, Some, None, filter, find, option_map, not, ◌==◌}
 use Rattle.std.proofs.lemmas.Bool.{eqb-true}
 use Rattle.std.proofs.lemmas.Bool.Decides.{nat_tests}
-use Rattle.vp_model.specs.Types.{ViewId, TxnId, View, Input, Stored, Live, Ending, Refreshing}
+use Rattle.vp_model.specs.Types.{TxnId, View, Input, Stored, Refreshing}
 use Rattle.vp_model.specs.Types.entry
-use Rattle.vp_model.specs.Words.{put_at, view_before, replace_at, value_at, is_empty, keys}
+use Rattle.vp_model.specs.Words.{put_at, view_before, replace_at, value_at, is_empty}
 use Rattle.vp_model.specs.Catalogue.{Catalogue}
 use Rattle.vp_model.specs.Locks.{without_guard}
-use Rattle.vp_model.specs.Site.{SiteState, Lent, Stepped, begin_step, put_back, force, change_copies}
+use Rattle.vp_model.specs.Site.{SiteState, Stepped, begin_step, put_back, force, change_copies}
 use Rattle.vp_model.specs.Refresh.{newer, newest, take_newer, end_refresh, start_refresh, refreshing_of, unanswered, is_doubtful}
 use Rattle.vp_model.specs.Views.{drop_view, start_inviting, hold}
 use Rattle.vp_model.specs.Durable.{Doubt, doubt_of}
 use Rattle.vp_model.specs.Messages.{with_answer, accept, on_accept, on_stale, grant, end_here}
 use Rattle.vp_model.specs.Step.{fix, ask_again, resend_one, inquire, step}
-use Rattle.vp_laws.proofs.Members.{Has, has_none, has_cons, has_first, has_more, map_has, filter_has, filter_keeps, find_has, find_true, both_true}
-use Rattle.vp_laws.proofs.Lists.{mapped_has, put_new, put_old}
+use Rattle.vp_laws.proofs.Members.{Has, has_none, has_cons, filter_keeps, find_has, both_true}
+use Rattle.vp_laws.proofs.Lists.{mapped_has}
 use Rattle.vp_laws.proofs.Order.{AtMost, AtMost-refl, AtMost-trans, Precedes-at_most, from_before, is_view_is, same_site}
 use Rattle.vp_laws.proofs.LocalViews.{Tidy}
-use Rattle.vp_laws.proofs.Table.{Left, Joined, lent_at, Back, Table}
+use Rattle.vp_laws.proofs.Table.{Left, Joined, Table}
 use Rattle.vp_laws.proofs.TableCopies.{AnswerNow, value_pair}
 use Rattle.vp_laws.proofs.TableCopyAt.{CopiesAt, replaced_not}
 use Rattle.vp_laws.proofs.TableCopyAt.{table as copies_table, starts as copies_start}
