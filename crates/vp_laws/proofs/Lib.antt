@@ -56,6 +56,7 @@ pub mod InvDated
 pub mod InvReads
 pub mod InvHeld
 pub mod InvListed
+pub mod OneDoubt
 -- a closed record: it stays so, and no lower writer of it is decided
 pub mod Closing
 pub mod Stopping
