@@ -69,3 +69,4 @@ pub mod ValuesAfter
 pub mod TableUnlisted
 pub mod Playing
 pub mod Remaining
+pub mod UsableCopies
