@@ -1,6 +1,6 @@
 -- What the stated invariant of copies gives: a copy that may be used, is not under refresh and has no doubt on it has the value after the
 -- entries of views up to the held one.
-use Rattle.std.proofs.Common.{◌≡◌, ◌∙◌, ap, sym, subst, ℕ, Bool, true, false, List, refl, arith}
+use Rattle.std.proofs.Common.{◌≡◌, ◌∙◌, ap, sym, subst, ℕ, Bool, true, false, List, refl}
 use Rattle.std.specs.Prelude.{Option, Some, None, option_map, slice_get}
 use Rattle.vp_model.specs.Types.{ViewId, TxnId, View, Commit, Stored}
 use Rattle.vp_model.specs.Types.message
