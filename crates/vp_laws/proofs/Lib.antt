@@ -6,6 +6,7 @@ pub mod Lists
 pub mod Apart
 pub mod Majorities
 pub mod LockTables
+pub mod Journal
 -- the table in small moves, and that every step is made of them: no other file unfolds a row
 pub mod Table
 pub mod Frames
@@ -28,6 +29,8 @@ pub mod TableLeaves
 pub mod LocalLocks
 pub mod TableLocks
 pub mod TableCopies
+pub mod TableCopyAt
+pub mod TableListed
 -- worlds and schedules
 pub mod Scenes
 pub mod Events
@@ -51,6 +54,9 @@ pub mod InvGuards
 pub mod InvUsed
 pub mod InvDated
 pub mod InvReads
+pub mod InvHeld
+pub mod InvListed
+pub mod OneDoubt
 -- a closed record: it stays so, and no lower writer of it is decided
 pub mod Closing
 pub mod Stopping
@@ -59,4 +65,8 @@ pub mod Words
 pub mod EntryWords
 pub mod SiteWords
 -- what is stated and not proved yet
+pub mod ValuesAfter
+pub mod TableUnlisted
+pub mod Playing
 pub mod Remaining
+pub mod UsableCopies

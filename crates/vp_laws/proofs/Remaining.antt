@@ -1,10 +1,10 @@
 -- The parts of the invariant that are stated and not proved yet, by what they are about. What stands is in the files Inv*.
-use Rattle.std.proofs.Common.{◌≡◌, ◌≢◌, ℕ, Bool, true, false, List}
-use Rattle.std.specs.Prelude.{Option, Some, None, filter, not, slice_get, option_and_then}
-use Rattle.vp_model.specs.Types.{ViewId, TxnId, View, Commit, Op, Stored, Pending, Live, Refreshing}
+use Rattle.std.proofs.Common.{◌≡◌, ◌≢◌, ℕ, Bool, true, false, List, ◌∷◌, ◌++◌}
+use Rattle.std.specs.Prelude.{Option, Some, None}
+use Rattle.vp_model.specs.Types.{ViewId, View, Commit, Op, Stored, Pending, Live}
 use Rattle.vp_model.specs.Types.message
 use Rattle.vp_model.specs.Types.op
-use Rattle.vp_model.specs.Words.{same_txn, keys, value_at}
+use Rattle.vp_model.specs.Words.{keys, value_at}
 use Rattle.vp_model.specs.Catalogue.{Catalogue, accessible, start_values}
 use Rattle.vp_model.specs.Durable.{Doubt}
 use Rattle.vp_model.specs.Site.{SiteState}
@@ -20,16 +20,7 @@ use Rattle.vp_laws.proofs.InvOps.{record_of}
 use Rattle.vp_laws.proofs.InvEntered.{Wrote, AgreedAs}
 use Rattle.vp_laws.proofs.Closing.{ClosedAt, Closed}
 use Rattle.vp_laws.proofs.InvAnswers.{HasRead, HasWrote}
-
--- words
-
--- a value of the record after the entries of views up to this one
-abbrev pub value_after : Catalogue → List Commit → ViewId → ℕ → Option (List ℕ)
-value_after catalogue journal view rec = option_and_then (λ values. slice_get values rec) (content (start_values catalogue) journal view)
-
--- the journal without the entry of a transaction
-abbrev pub without_entry : TxnId → List Commit → List Commit
-without_entry txn journal = filter (λ e. not (same_txn e.txn txn)) journal
+use Rattle.vp_laws.proofs.ValuesAfter.{value_after, without_entry}
 
 -- locks
 
@@ -57,6 +48,8 @@ pub record InvCopies (catalogue : Catalogue) (w : Scene) : Type 0 where
   -- a copy has the value after the entries of views up to its date, but for the entry of a doubt of that view
   pub value : (s rec : ℕ) (c : Stored) → value_at rec (kept_at w s).copies ≡ Some c → ((d : Doubt) → DoubtOn w s rec c.date d → ⊥) → value_after catalogue w.journal c.date rec ≡ Some c.value
   pub value_in_doubt : (s rec : ℕ) (c : Stored) (d : Doubt) → value_at rec (kept_at w s).copies ≡ Some c → DoubtOn w s rec c.date d → value_after catalogue (without_entry d.0 w.journal) c.date rec ≡ Some c.value
+  -- and no later entry of that view than the doubt's own wrote the record
+  pub last : (s rec : ℕ) (c : Stored) (d : Doubt) (front back : List Commit) (e f : Commit) → value_at rec (kept_at w s).copies ≡ Some c → DoubtOn w s rec c.date d → w.journal ≡ front ++ e ∷ back → e.txn ≡ d.0 → Has back f → Wrote f rec → f.view ≢ e.view
   -- each entry that wrote the record in a later view of the site is in doubt there
   pub above : (s rec : ℕ) (c : Stored) (e : Commit) (v : View) → value_at rec (kept_at w s).copies ≡ Some c → Has w.journal e → Wrote e rec → Precedes c.date e.view → AgreedAs w e.view v → Has v.members s → InDoubt w s e.txn
   -- where a copy is from
@@ -76,8 +69,6 @@ pub record InvRefresh (catalogue : Catalogue) (w : Scene) : Type 0 where
   pub entry : (e : Commit) (v : View) (operation : Op) → Has w.journal e → AgreedAs w e.view v → Has e.ops operation → Closed catalogue w (record_of operation) v
   -- and so is one that a live transaction has used
   pub used : (s q rec : ℕ) (exclusive : Bool) (x : SiteState) (t : Live) (v : View) → plain_at w s ≡ Some x → Has x.live t → Used catalogue w x t q rec exclusive → AgreedAs w t.view v → Closed catalogue w rec v
-  -- while a record is listed, no entry of the held view has written it
-  pub unwritten : (s rec : ℕ) (x : SiteState) (v : View) (r : Refreshing) (e : Commit) → plain_at w s ≡ Some x → x.held ≡ Some v → refreshing_of rec x.refresh ≡ Some r → Has w.journal e → Wrote e rec → e.view ≢ v.id
 
 -- the order
 

@@ -47,7 +47,7 @@ pub record Copies (catalogue : Catalogue) (x : SiteState) (given : Input) (o : S
   -- answers are kept while the view is held
   pub answers : (r : Refreshing) (k : ℕ × Stored) → Has o.site.refresh r → Has r.answers k → AnswerNow catalogue x given r.rec k × (o.site.held ≡ x.held)
 
-replaced_from : (n : ℕ) (v : Stored) (pairs : List (ℕ × Stored)) (a : ℕ × Stored) → Has (replace_at n v pairs) a → (a ≡ (n, v)) ⊎ Has pairs a
+pub replaced_from : (n : ℕ) (v : Stored) (pairs : List (ℕ × Stored)) (a : ℕ × Stored) → Has (replace_at n v pairs) a → (a ≡ (n, v)) ⊎ Has pairs a
 replaced_from n v pairs a h = let r = map_has (λ (p : ℕ × Stored). cond (p.0 == n) (n, v) p) pairs a h in go (r.0.0 == n) r.0 r.1 r.2
   where
     go : (b : Bool) (p : ℕ × Stored) → Has pairs p → cond b (n, v) p ≡ a → (a ≡ (n, v)) ⊎ Has pairs a
@@ -73,7 +73,7 @@ value_pair n pairs v e = go (find (λ (p : ℕ × Stored). p.0 == n) pairs) refl
         let same : p.1 ≡ v = cc in
         subst (Has pairs) (is_pair p n v (eqb-true p.0 n (find_true (λ (p : ℕ × Stored). p.0 == n) pairs p f)) same) (find_has (λ (p : ℕ × Stored). p.0 == n) pairs p f)
 
-newest_from : (own : Stored) (answers : List (ℕ × Stored)) → (newest own answers ≡ own) ⊎ ((k : ℕ × Stored) × Has answers k × (k.1 ≡ newest own answers))
+pub newest_from : (own : Stored) (answers : List (ℕ × Stored)) → (newest own answers ≡ own) ⊎ ((k : ℕ × Stored) × Has answers k × (k.1 ≡ newest own answers))
 newest_from own [] = inl refl
 newest_from own (a ∷ answers) = ⊎_elim
     (λ (e : newest (newer own a.1) answers ≡ newer own a.1). ⊎_elim (λ (f : newer own a.1 ≡ own). inl (e ∙ f)) (λ (f : newer own a.1 ≡ a.1). inr (a, has_first a answers, sym (e ∙ f))) (one_of (view_before own.date a.1.date)))

@@ -57,7 +57,7 @@ pub record Guards (catalogue : Catalogue) (x : SiteState) (given : Input) (o : S
   -- a lock of a transaction stays, or is gone for a reason
   pub stays : (rec : ℕ) (exclusive : Bool) (txn : TxnId) → HasLock rec exclusive (owner.Txn txn) x.locks → HasLock rec exclusive (owner.Txn txn) o.site.locks ⊎ Gone x given o txn
 
-replaced_keys : {K : Type 0} (n : ℕ) (v : K) (pairs : List (ℕ × K)) → keys (replace_at n v pairs) ≡ keys pairs
+pub replaced_keys : {K : Type 0} (n : ℕ) (v : K) (pairs : List (ℕ × K)) → keys (replace_at n v pairs) ≡ keys pairs
 replaced_keys {K} n v [] = refl
 replaced_keys {K} n v (p ∷ pairs) = ap (λ (k : ℕ). k ∷ keys (replace_at n v pairs)) (go (p.0 == n) refl) ∙ ap (λ (ks : List ℕ). p.0 ∷ ks) (replaced_keys n v pairs)
   where
@@ -65,7 +65,7 @@ replaced_keys {K} n v (p ∷ pairs) = ap (λ (k : ℕ). k ∷ keys (replace_at n
     go true e = sym (eqb-true p.0 n e)
     go false e = refl
 
-written_keys : (date : ViewId) (writes : List (ℕ × List ℕ)) (copies : List (ℕ × Stored)) → keys (with_writes date writes copies) ≡ keys copies
+pub written_keys : (date : ViewId) (writes : List (ℕ × List ℕ)) (copies : List (ℕ × Stored)) → keys (with_writes date writes copies) ≡ keys copies
 written_keys date [] copies = refl
 written_keys date (w ∷ writes) copies = written_keys date writes (replace_at w.0 (record { value = w.1; date = date }) copies) ∙ replaced_keys w.0 (record { value = w.1; date = date }) copies
 
