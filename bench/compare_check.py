@@ -7,9 +7,9 @@ PROGRAM is the built vpdb, OTHER the path of the reference program. Both are cal
 to six records and thirty transactions of rising views; its reads are right but for one in fifty. Two in three are mutated:
 cut anywhere, a byte changed or put in, two lines swapped, a line twice, lines before it. Bytes and statuses have to agree.
 """
-import random
-import subprocess
 import sys
+
+from comparison import compare, with_byte_changed
 
 NAMES = [b"x", b"y", b"ab", b"abcd", b"r0", b"r1", b"a_long_name_of16"]
 
@@ -38,14 +38,10 @@ def made(draw):
 
 def mutated(draw, text):
     kind = draw.randrange(7)
-    place = draw.randrange(len(text))
-    if kind == 0:
-        return text[:place]
-    if kind == 1:
-        return text[:place] + bytes([draw.randrange(256)]) + text[place + 1 :]
-    if kind == 2:
-        return text[:place] + bytes([draw.choice(b"0 \n19x@.")]) + text[place:]
+    if kind < 3:
+        return with_byte_changed(draw, text, kind, b"0 \n19x@.")
     if kind == 3:
+        place = draw.randrange(len(text))
         return text[:place] + text[place + 1 :]
     lines = text.split(b"\n")
     one, two = draw.randrange(len(lines)), draw.randrange(len(lines))
@@ -58,31 +54,10 @@ def mutated(draw, text):
     return b"\n".join(lines)
 
 
-def run(program, text):
-    done = subprocess.run([program, "check"], input=text, capture_output=True, timeout=60)
-    return done.returncode, done.stdout
-
-
-def main():
-    program, other = sys.argv[1:3]
-    seed = int(sys.argv[3]) if len(sys.argv) > 3 else 1
-    count = int(sys.argv[4]) if len(sys.argv) > 4 else 1000
-    ends = {}
-    for k in range(seed, seed + count):
-        draw = random.Random(k)
-        text = made(draw)
-        if draw.randrange(3):
-            text = mutated(draw, text)
-        mine, wanted = run(program, text), run(other, text)
-        ends[mine[0]] = ends.get(mine[0], 0) + 1
-        if mine != wanted:
-            print("differs at seed", k)
-            sys.stdout.buffer.write(text + b"\n----\n" + mine[1] + b"----\n" + wanted[1])
-            print(mine[0], wanted[0])
-            return 1
-    print(f"{count} inputs from seed {seed} agree; by status: {dict(sorted(ends.items()))}")
-    return 0
+def drawn(draw):
+    text = made(draw)
+    return mutated(draw, text) if draw.randrange(3) else text
 
 
 if __name__ == "__main__":
-    sys.exit(main())
+    sys.exit(compare("check", drawn))

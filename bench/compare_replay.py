@@ -7,10 +7,10 @@ PROGRAM is the built vpdb, OTHER the path of the reference program. Both are cal
 schedule of one site and one record with up to 64 calls; one in three is mutated by a byte, a cut or a swapped line. Where
 the input is not of the form, PROGRAM has to answer status 13 and `unbuilt`; else both have to agree on bytes and status.
 """
-import random
 import re
-import subprocess
 import sys
+
+from comparison import compare, with_byte_changed
 
 EVENT = re.compile(
     rb"call 1 (begin|X N commit|X N read NAME|X N write NAME VALUE)".replace(
@@ -66,47 +66,22 @@ def made(draw):
 
 def mutated(draw, text):
     kind = draw.randrange(4)
-    place = draw.randrange(len(text))
-    if kind == 0:
-        return text[:place]
-    if kind == 1:
-        return text[:place] + bytes([draw.randrange(256)]) + text[place + 1 :]
-    if kind == 2:
-        return text[:place] + bytes([draw.choice(b"0 \n19x")]) + text[place:]
+    if kind < 3:
+        return with_byte_changed(draw, text, kind, b"0 \n19x")
     lines = text.split(b"\n")
     one, two = draw.randrange(len(lines)), draw.randrange(len(lines))
     lines[one], lines[two] = lines[two], lines[one]
     return b"\n".join(lines)
 
 
-def run(program, text):
-    done = subprocess.run([program, "replay"], input=text, capture_output=True, timeout=60)
-    return done.returncode, done.stdout
+def drawn(draw):
+    text = made(draw)
+    return text if draw.randrange(3) else mutated(draw, text)
 
 
-def main():
-    program, other = sys.argv[1:3]
-    seed = int(sys.argv[3]) if len(sys.argv) > 3 else 1
-    count = int(sys.argv[4]) if len(sys.argv) > 4 else 1000
-    served = 0
-    for k in range(seed, seed + count):
-        draw = random.Random(k)
-        text = made(draw)
-        if draw.randrange(3) == 0:
-            text = mutated(draw, text)
-        mine = run(program, text)
-        wanted = (13, b"unbuilt\n")
-        if is_form(text):
-            served += 1
-            wanted = run(other, text)
-        if mine != wanted:
-            print("differs at seed", k)
-            sys.stdout.buffer.write(text + b"----\n" + mine[1] + b"----\n" + wanted[1])
-            print(mine[0], wanted[0])
-            return 1
-    print(f"{count} inputs from seed {seed}: {served} of the form agree, {count - served} are refused")
-    return 0
+def unserved(text):
+    return None if is_form(text) else (13, b"unbuilt\n")
 
 
 if __name__ == "__main__":
-    sys.exit(main())
+    sys.exit(compare("replay", drawn, unserved))

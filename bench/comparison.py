@@ -1,0 +1,44 @@
+"""Runs a program and another one on random inputs, each made from its own seed, up to the first where they differ."""
+import random
+import subprocess
+import sys
+
+
+def run(program, command, text):
+    """The exit status and the standard output of one run of a program."""
+    done = subprocess.run([program, command], input=text, capture_output=True, timeout=60)
+    return done.returncode, done.stdout
+
+
+def compare(command, made, unserved=lambda text: None):
+    """Compares the programs of the command line on `made(draw)` for each seed, and tells the statuses that were met.
+
+    `unserved` gives what the first program has to answer to an input that it does not serve, and None to any other, where
+    the second program's answer is wanted. The answer is the exit status of the comparison: 1 where an input tells them apart.
+    """
+    program, other = sys.argv[1:3]
+    seed = int(sys.argv[3]) if len(sys.argv) > 3 else 1
+    count = int(sys.argv[4]) if len(sys.argv) > 4 else 1000
+    ends = {}
+    for k in range(seed, seed + count):
+        text = made(random.Random(k))
+        mine = run(program, command, text)
+        wanted = unserved(text) or run(other, command, text)
+        ends[mine[0]] = ends.get(mine[0], 0) + 1
+        if mine != wanted:
+            print("differs at seed", k)
+            sys.stdout.buffer.write(text + b"\n----\n" + mine[1] + b"----\n" + wanted[1])
+            print(mine[0], wanted[0])
+            return 1
+    print(f"{count} inputs from seed {seed} agree; by status: {dict(sorted(ends.items()))}")
+    return 0
+
+
+def with_byte_changed(draw, text, kind, inserted):
+    """The text with a cut (kind 0), another byte (1) or one byte more out of `inserted` (2) at a random place."""
+    place = draw.randrange(len(text))
+    if kind == 0:
+        return text[:place]
+    if kind == 1:
+        return text[:place] + bytes([draw.randrange(256)]) + text[place + 1 :]
+    return text[:place] + bytes([draw.choice(inserted)]) + text[place:]
