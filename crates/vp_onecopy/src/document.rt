@@ -5,7 +5,8 @@ ghost use Rattle.vp_model.specs.Words.{opening};
 ghost use Rattle.vp_onecopy.specs.Lines.{AllNames};
 ghost use Rattle.vp_onecopy.specs.declared.map.History.{History};
 ghost use Rattle.vp_onecopy.specs.Reading.{line_at};
-ghost use Rattle.vp_onecopy.specs.Passing.{Behind, AnsweredAll, IsOnly, IsPrintedIn, IsWhole};
+ghost use Rattle.vp_onecopy.specs.Passing.{Behind, AnsweredAll, IsOnly, IsPrintedIn};
+ghost use Rattle.vp_onecopy.specs.Whole.{IsWhole};
 ghost use Rattle.vp_onecopy.specs.History.{before, last_from, Answered, NextLine, Adds, Finishes};
 
 use crate::fault::HistoryFault;

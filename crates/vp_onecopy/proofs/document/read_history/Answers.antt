@@ -1,7 +1,8 @@
 use Rattle.std.proofs.Common.{rules, ◌<◌, ◌+◌, ◌^◌, ℕ, length, refl, ap, inl, inr}
 use Rattle.vp_onecopy.specs.Passing.{AnsweredAll}
 use Rattle.vp_onecopy.proofs.Only.{answer_is_only, bad_line}
-use Rattle.vp_onecopy.proofs.Prints.{behind_printed, behind_whole}
+use Rattle.vp_onecopy.proofs.Prints.{behind_printed}
+use Rattle.vp_onecopy.proofs.Whole.{behind_whole}
 use Rattle.vp_onecopy.proofs.document.read_history.Goals as goal
 
 pub returns-in-Ok-clause-only : goal.returns-in-Ok-clause-only
