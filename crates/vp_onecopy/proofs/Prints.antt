@@ -1,11 +1,9 @@
 -- What is printed is the text that was read.
-use Rattle.std.proofs.Common.{◌≡◌, ℕ, true, zero, suc, ◌<◌, List, [], ◌∷◌, ◌++◌, length, get_or, refl, sym, ap, subst, ◌∙◌, arith, append_assoc, eqb, ltb}
+use Rattle.std.proofs.Common.{◌≡◌, ℕ, true, zero, suc, List, [], ◌∷◌, ◌++◌, length, get_or, refl, sym, ap, ◌∙◌, arith, append_assoc, eqb, ltb}
 use Rattle.std.specs.Prelude.{codes, flat_map, Result, Ok, Err, IfOk}
-use Rattle.std.specs.List.{All}
 use Rattle.std.specs.Fmt.{decimal}
 use Rattle.std.proofs.lemmas.List.{length-append, append-nil, nil_from_length}
 use Rattle.std.proofs.lemmas.List.Concat.{flat_map-cons}
-use Rattle.std.proofs.lemmas.List.Elements.{All-nil, All-cons, All-push}
 use Rattle.std.proofs.lemmas.Bool.{eqb-true, and_parts}
 use Rattle.vp_base.specs.Words.{IsPlace}
 use Rattle.vp_base.specs.Identifiers.{txn_text, view_text}
@@ -16,11 +14,9 @@ use Rattle.vp_onecopy.specs.declared.line.Line.{Line}
 use Rattle.vp_onecopy.specs.declared.line.Line.TheVariants as kind
 use Rattle.vp_onecopy.specs.declared.map.History.{History}
 use Rattle.vp_onecopy.specs.declared.fault.HistoryFault.{HistoryFault}
-use Rattle.vp_onecopy.specs.Playing.{op_record, CommitsWithin}
 use Rattle.vp_onecopy.specs.Lines.{Before, OpText, OpsText, CommitText, may_start}
 use Rattle.vp_onecopy.specs.History.{before, IsHistory}
 use Rattle.vp_onecopy.specs.Passing.{history_line, Passed, Behind, IsPrintedIn}
-use Rattle.vp_onecopy.proofs.Places.{place_below}
 use Rattle.vp_onecopy.proofs.Steps.{Lines, all_said}
 
 starts-push : (names values : List (List ℕ)) (n v : List ℕ) → length names ≡ length values → starts_text (names ++ n ∷ []) (values ++ v ∷ []) ≡ starts_text names values ++ start_text n v

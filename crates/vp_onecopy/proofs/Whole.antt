@@ -1,9 +1,9 @@
 -- The histories that have a text are the whole ones.
-use Rattle.std.proofs.Common.{◌≡◌, ◌≢◌, ℕ, true, false, zero, suc, ◌≤◌, ◌<◌, List, [], ◌∷◌, ◌++◌, length, get_or, refl, sym, ap, subst, ◌∙◌, arith, append_assoc, inl, inr}
+use Rattle.std.proofs.Common.{◌≡◌, ◌≢◌, ℕ, true, false, zero, suc, ◌≤◌, ◌<◌, List, [], ◌∷◌, ◌++◌, length, get_or, refl, sym, ap, subst, ◌∙◌, arith, append_assoc, inl}
 use Rattle.std.specs.Prelude.{codes, Result, Ok, Err, IfOk, All, AllPairs}
 use Rattle.std.specs.Fmt.{decimal}
 use Rattle.std.proofs.lemmas.List.{length-append, append-nil, get_or_append_left, get_or_at, get_or_default}
-use Rattle.std.proofs.lemmas.List.Elements.{All-nil, All-cons, All-head, All-tail, All-push, recursion_from_All}
+use Rattle.std.proofs.lemmas.List.Elements.{All-nil, All-cons, All-head, All-tail, All-push}
 use Rattle.std.proofs.lemmas.List.Quantifiers.{all_pairs_push}
 use Rattle.std.proofs.lemmas.Bool.Decides.{nat_tests}
 use Rattle.vp_base.specs.Words.{IsName, IsValue, IsPlace}
@@ -20,8 +20,9 @@ use Rattle.vp_onecopy.specs.declared.fault.HistoryFault.{HistoryFault}
 use Rattle.vp_onecopy.specs.Playing.{op_record, OpsWithin, CommitsWithin}
 use Rattle.vp_onecopy.specs.Lines.{Before, OpText, OpsText, CommitText, some_names, may_start}
 use Rattle.vp_onecopy.specs.History.{last_from, before, empty, after, Allowed, IsNamed, Onward, IsHistory}
-use Rattle.vp_onecopy.specs.Passing.{Behind, IsReadBack}
+use Rattle.vp_onecopy.specs.Passing.{history_line, Behind, AnsweredAll, IsOnly, IsTaken, IsReadBack}
 use Rattle.vp_onecopy.specs.Whole.{op_value, IsEntry, IsWhole}
+use Rattle.vp_onecopy.proofs.Only.{NoMemory, answered}
 use Rattle.vp_onecopy.proofs.Ordered.{not_itself, chain}
 use Rattle.vp_onecopy.proofs.Places.{place_below}
 use Rattle.vp_onecopy.proofs.Prints.{place_is, no_commits, history_is}
@@ -237,9 +238,27 @@ whole_spelled h w =
     let starts = starts_added [] [] h.names h.start w.values w.few w.named w.starting w.apart nothing in
     commits_added h.names h.start [] h.commits w.apart w.entries (subst (λ (n : ℕ). CommitsWithin n h.commits) w.values w.places) w.ascending starts
 
-pub read_back : (h : History) → IsWhole h → IsReadBack h
-read_back h w =
+-- the text of such a history, behind the line `history`
+record ReadBack (h : History) : Type 0 where
+  rest : List ℕ
+  lines_are : history_lines h.names h.start h.commits ≡ history_line ++ rest
+  spelled : IsHistory h rest
+
+whole_text : (h : History) → IsWhole h → ReadBack h
+whole_text h w =
     let s = whole_spelled h w in
     let last = codes "end " ++ (decimal (length h.commits) ++ 10 ∷ []) in
     let spelled : IsHistory h (s.front ++ last) = record { lines = s.lines; front = s.front; last = last; lines_are = s.lines_are; says = s.says; last_is = refl; parts = refl } in
-    (0, [], s.front ++ last, refl, inl (sym (history_is h (s.front ++ last) spelled), spelled))
+    record { rest = s.front ++ last; lines_are = sym (history_is h (s.front ++ last) spelled); spelled = spelled }
+
+pub read_back : (h : History) → IsWhole h → IsReadBack h
+read_back h w = let t = whole_text h w in (0, [], t.rest, refl, inl (t.lines_are, t.spelled))
+
+no_fault : (h : History) → answered h ≢ NoMemory
+no_fault h e = cc
+
+pub only_taken : (text : List ℕ) (result : Result History HistoryFault) → IsOnly text result → IsTaken text result
+only_taken text result only h w p found =
+    let t = whole_text h w in
+    let answer : AnsweredAll text (answered h) = (p.0, p.1, t.rest, p.2, inl (p.3 ∙ ap (λ (x : List ℕ). p.1 ++ x) t.lines_are, t.spelled)) in
+    sym (only (answered h) answer found (no_fault h))

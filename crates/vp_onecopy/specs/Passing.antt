@@ -57,6 +57,10 @@ IsOnly text result =
 abbrev pub IsPrintedIn : List ℕ → History → Type 0
 IsPrintedIn text h = (n : ℕ) × (front : List ℕ) × Passed n front × (text ≡ front ++ history_lines h.names h.start h.commits)
 
+-- Where memory is found, such a text of a whole history is read as this history.
+abbrev pub IsTaken : List ℕ → Result History HistoryFault → Type 0
+IsTaken text result = (h : History) → IsWhole h → IsPrintedIn text h → result ≢ Err faults.NoMemory → result ≡ Ok h
+
 -- The text that is printed of the history is that of this very history.
 abbrev pub IsReadBack : History → Type 0
 IsReadBack h = AnsweredAll (history_lines h.names h.start h.commits) (Ok h)
