@@ -6,6 +6,7 @@ mod calls;
 mod fields;
 mod messages;
 mod reading;
+mod schedule;
 #[cfg(test)]
 mod tests;
 mod trace;
@@ -14,4 +15,5 @@ pub use answers::print_answer;
 pub use calls::{print_call, print_event};
 pub use messages::print_message;
 pub use reading::{read_call, take_call};
+pub use schedule::Schedule;
 pub use trace::print_line;
