@@ -1,4 +1,5 @@
 pub mod Ending
-pub mod Served
+pub mod OneSite
+pub mod Formed
 pub mod Replaying
 pub mod Values
