@@ -1,1 +1,2 @@
-pub mod Exact
+mod Exact
+mod KindWords

@@ -4,6 +4,7 @@
 mod answers;
 mod calls;
 mod fields;
+mod kind;
 mod messages;
 mod reading;
 mod schedule;
