@@ -4,9 +4,11 @@
 
 mod catalog;
 mod placed;
+mod site;
 
 pub use catalog::Catalog;
 pub use placed::Placed;
+pub use site::take_site;
 
 #[cfg(test)]
 mod tests;
