@@ -1,10 +1,10 @@
 -- The word of one of some kinds is read exactly.
-use Rattle.std.proofs.Common.{◌≡◌, ◌⊎◌, ℕ, ◌+◌, ◌≤◌, drop, Bool, true, ◌&&◌, min, List, [], ◌∷◌, ◌++◌, length, Result, Ok, Err, refl, sym, ap, subst, ◌∙◌, append_assoc, arith, inl, inr}
-use Rattle.std.proofs.lemmas.List.{append-nil, length-append, drop_all}
+use Rattle.std.proofs.Common.{◌≡◌, ◌⊎◌, ℕ, ◌≤◌, Bool, true, ◌&&◌, min, List, [], ◌∷◌, ◌++◌, length, Result, Ok, Err, refl, sym, ap, subst, ◌∙◌, arith, inl, inr}
+use Rattle.std.proofs.lemmas.List.{length-append}
 use Rattle.std.proofs.lemmas.Bool.{and_parts}
-use Rattle.vp_text.specs.Tokens.{IsLiteral, Either}
+use Rattle.vp_text.specs.Tokens.{IsLiteral}
 use Rattle.vp_text.specs.Reading.{◌>>=◌, literal_at, either}
-use Rattle.vp_text.proofs.Exact.{IsRight, IsRead, Exact, exact_from, exact_as, right, Made, made_exact}
+use Rattle.vp_text.proofs.Exact.{IsRight, Exact, exact_from, exact_as, right, Made, made_exact}
 use Rattle.vp_text.proofs.Words.{literal_exact}
 use Rattle.vp_text.proofs.Choices.{IsClear, Opens, made_opens, clear_keys, either_exact, differ}
 use Rattle.vp_text.proofs.Whole.{fault_left}

@@ -1,2 +1,4 @@
 mod Exact
 mod KindWords
+mod OtherSites
+mod EventTexts

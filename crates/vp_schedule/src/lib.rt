@@ -3,6 +3,7 @@
 
 mod answers;
 mod calls;
+mod event_reading;
 mod fields;
 mod kind;
 mod messages;
@@ -14,6 +15,7 @@ mod trace;
 
 pub use answers::print_answer;
 pub use calls::{print_call, print_event};
+pub use event_reading::take_event;
 pub use messages::print_message;
 pub use reading::{read_call, take_call};
 pub use schedule::Schedule;
