@@ -1,5 +1,6 @@
 mod Exact
 mod Newlines
+mod Only
 mod Ordered
 mod Passes
 mod Places

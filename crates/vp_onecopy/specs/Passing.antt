@@ -1,5 +1,5 @@
 -- The lines before the line `history`.
-use Rattle.std.specs.Prelude.{◌≡◌, ◌+◌, ⊤, ℕ, zero, suc, List, [], ◌∷◌, ◌++◌, length, codes, Result, Ok, Err, ◌⊎◌}
+use Rattle.std.specs.Prelude.{◌≡◌, ◌≢◌, ◌+◌, ⊤, ℕ, zero, suc, List, [], ◌∷◌, ◌++◌, length, codes, Result, Ok, Err, ◌⊎◌}
 use Rattle.std.specs.List.{AllByRecursion}
 use Rattle.vp_text.specs.Documents.{IsBadLine, IsFaultyLine}
 use Rattle.vp_model.specs.Texts.History.{history_lines}
@@ -47,6 +47,11 @@ IsMissing n rest (Err faults.NoMemory) = ⊥
 abbrev pub AnsweredAll : List ℕ → Result History HistoryFault → Type 0
 AnsweredAll text result = (n : ℕ) × (front : List ℕ) × (rest : List ℕ) × Passed n front
     × (((text ≡ front ++ (history_line ++ rest)) × Behind n rest result) ⊎ ((text ≡ front ++ rest) × IsMissing n rest result))
+
+-- Nothing else can be answered of the text, but for want of memory.
+abbrev pub IsOnly : List ℕ → Result History HistoryFault → Type 0
+IsOnly text result =
+    (other : Result History HistoryFault) → AnsweredAll text other → result ≢ Err faults.NoMemory → other ≢ Err faults.NoMemory → other ≡ result
 
 -- Behind lines that are not the line `history` the text is that of the history, and it ends with it.
 abbrev pub IsPrintedIn : List ℕ → History → Type 0
