@@ -1,1 +1,4 @@
+pub mod Entries
+pub mod EntriesExact
+pub mod Holders
 pub mod Sites
