@@ -1,1 +1,5 @@
+pub mod Entries
+pub mod EntriesExact
+pub mod Holders
+pub mod Newlines
 pub mod Sites

@@ -42,21 +42,21 @@ site_lost sites above bytes left e = rw e refl
 
 -- ---- what stands in a list
 
-or_left : (x y : Bool) → x ≡ true → (x || y) ≡ true
+pub or_left : (x y : Bool) → x ≡ true → (x || y) ≡ true
 or_left true y e = refl
 or_left false y e = absurd (false≢true e)
 
-or_right : (x y : Bool) → y ≡ true → (x || y) ≡ true
+pub or_right : (x y : Bool) → y ≡ true → (x || y) ≡ true
 or_right true y e = refl
 or_right false y e = e
 
-has_cons : (x s : ℕ) (xs : List ℕ) → has (x ∷ xs) s ≡ true → (x ≡ s) ⊎ (has xs s ≡ true)
+pub has_cons : (x s : ℕ) (xs : List ℕ) → has (x ∷ xs) s ≡ true → (x ≡ s) ⊎ (has xs s ≡ true)
 has_cons x s xs h = elim (or_cases (eqb x s) (has xs s) h) [ inl e ↦ inl (eqb-true x s e) | inr e ↦ inr e ]
 
-has_here : (x s : ℕ) (xs : List ℕ) → x ≡ s → has (x ∷ xs) s ≡ true
+pub has_here : (x s : ℕ) (xs : List ℕ) → x ≡ s → has (x ∷ xs) s ≡ true
 has_here x s xs e = or_left (eqb x s) (has xs s) (eq-eqb x s e)
 
-has_later : (x s : ℕ) (xs : List ℕ) → has xs s ≡ true → has (x ∷ xs) s ≡ true
+pub has_later : (x s : ℕ) (xs : List ℕ) → has xs s ≡ true → has (x ∷ xs) s ≡ true
 has_later x s xs e = or_right (eqb x s) (has xs s) e
 
 above_has : (sites : List ℕ) (above s : ℕ) → has (sites_above sites above) s ≡ true → (has sites s ≡ true) × (above < s)

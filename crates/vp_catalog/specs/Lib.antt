@@ -1,1 +1,4 @@
+pub mod Adding
+pub mod Entries
+pub mod EntryReading
 pub mod Sites

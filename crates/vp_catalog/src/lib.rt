@@ -3,11 +3,17 @@
 #![tactic(auto)]
 
 mod catalog;
+mod entry;
+mod fault;
 mod placed;
+mod reading;
 mod site;
 
 pub use catalog::Catalog;
+pub use entry::Entry;
+pub use fault::CatalogFault;
 pub use placed::Placed;
+pub use reading::take_entry;
 pub use site::take_site;
 
 #[cfg(test)]

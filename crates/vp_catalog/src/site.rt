@@ -1,6 +1,6 @@
 //! Reading the number of a site.
 
-ghost use Rattle.std.specs.Prelude.{◌≡◌, nat_eq};
+ghost use Rattle.std.specs.Prelude.{◌≡◌, ◌<◌, nat_eq, IfOk, IfSome};
 ghost use Rattle.std.specs.Fmt.{decimal};
 ghost use Rattle.std.specs.List.{starts_with};
 ghost use Rattle.std.specs.Str.{bytes_eq};
@@ -17,7 +17,8 @@ use vp_text::{Cursor, Unexpected};
 /// It takes a digit only where the number of such a site begins so: of the sites 1 and 12 it takes nothing of `2`, and the
 /// 1 of `13`.
 pub fn take_site(cursor: &mut Cursor, sites: &[SiteId], above: u8) -> Result<SiteId, Unexpected>
-    ensures { Reads (λ site. site) (λ e. e.left) result cursor.new (site_at sites.now above cursor.old) }
+    ensures read { Reads (λ site. site) (λ e. e.left) result cursor.new (site_at sites.now above cursor.old) }
+    ensures higher { IfOk result (λ site. above < site) }
 {
     let bytes = cursor.rest();
     let mut count = 0;
@@ -49,7 +50,8 @@ fn some_starts(sites: &[SiteId], above: u8, prefix: &[u8]) -> bool
 
 /// The site above the given one whose number is the text.
 fn named(sites: &[SiteId], above: u8, text: &[u8]) -> Option<SiteId>
-    ensures { result ≡ site_named sites.now above text.now }
+    ensures site { result ≡ site_named sites.now above text.now }
+    ensures higher { IfSome result (λ site. above < site) }
 {
     for site in sites {
         if above < site.get() && is_number(site.get(), text) {

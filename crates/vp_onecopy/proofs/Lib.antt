@@ -9,3 +9,4 @@ mod Plays
 mod Serial
 mod Starts
 mod Steps
+mod Whole

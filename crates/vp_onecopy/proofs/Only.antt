@@ -112,7 +112,10 @@ twice_twice text small l m f g =
     let same = faulty_same empty after Allowed Onward NamesAgain NamesAgain again_stops again_stops text (lines_plain text small) l m f g in
     sym f.number ∙ ap (λ (x : List Line). length x + 1) same.lines ∙ g.number
 
-abbrev NoMemory : Result History HistoryFault
+abbrev pub answered : History → Result History HistoryFault
+answered h = Ok h
+
+abbrev pub NoMemory : Result History HistoryFault
 NoMemory = Err faults.NoMemory
 
 abbrev pub bad_line : ℕ → ℕ → Result History HistoryFault
@@ -128,7 +131,7 @@ bad_line_same : (l m i k : ℕ) → l ≡ m → i ≡ k → bad_line l i ≡ bad
 bad_line_same l m i k e f = rw (e, f) refl
 
 behind_same : (n : ℕ) (text : List ℕ) → length text < 2 ^ 63 → (r s : Result History HistoryFault) → Behind n text r → Behind n text s → r ≢ NoMemory → s ≢ NoMemory → r ≡ s
-behind_same n text small (Ok h) (Ok g) a b t u = ap (λ (x : History). Ok x) (ok_ok text small h g a b)
+behind_same n text small (Ok h) (Ok g) a b t u = ap answered (ok_ok text small h g a b)
 behind_same n text small (Ok h) (Err (faults.BadLine m k)) a b t u = absurd (ok_bad text small h b.0 k a b.2)
 behind_same n text small (Ok h) (Err (faults.Twice m)) a b t u = absurd (ok_twice text small h b.0 a b.2)
 behind_same n text small (Err (faults.BadLine l i)) (Ok g) a b t u = absurd (ok_bad text small g a.0 i b a.2)

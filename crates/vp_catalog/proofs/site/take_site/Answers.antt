@@ -12,8 +12,8 @@ loop-count-init c = (omega arith, place_starts (site_texts c.args.sites.now c.ar
 pub loop-count-preserved : goal.loop-count-preserved
 loop-count-preserved c = (omega arith, sym (place_turn (site_texts c.args.sites.now c.args.above) c.rest-bytes.result.now c.loop-count.count c.loop-count-test.true (sym c.if-some_starts.ensures)) ∙ c.loop-count.invariant.1)
 
-pub returns-in-Some : goal.returns-in-Some
-returns-in-Some c =
+pub returns-in-Some-clause-read : goal.returns-in-Some-clause-read
+returns-in-Some-clause-read c =
     let texts = site_texts c.args.sites.now c.args.above in
     let bytes = c.rest-bytes.result.now in
     let n = c.loop-count.count in
@@ -21,11 +21,11 @@ returns-in-Some c =
       | then-loop-count-test+else-some_starts w ↦ λ _. sym w.if-some_starts.ensures
       | else-loop-count-test w ↦ λ a. absurd (omega arith)
     ] in
-    let p = site_place c.args.sites.now c.args.above (take n bytes) c.in-Some.site c.in-Some.ensures in
+    let p = site_place c.args.sites.now c.args.above (take n bytes) c.in-Some.site c.in-Some.ensures.site in
     rw (c.advance.ensures, ← c.rest-bytes.ensures) (site_found c.args.sites.now c.args.above bytes p.0 c.in-Some.site (drop n bytes) (sym c.loop-count.invariant.1 ∙ place_found texts bytes n p.0 stops p.1) p.2)
 
-pub returns-in-None : goal.returns-in-None
-returns-in-None c =
+pub returns-in-None-clause-read : goal.returns-in-None-clause-read
+returns-in-None-clause-read c =
     let texts = site_texts c.args.sites.now c.args.above in
     let bytes = c.rest-bytes.result.now in
     let n = c.loop-count.count in
@@ -33,5 +33,5 @@ returns-in-None c =
       | then-loop-count-test+else-some_starts w ↦ λ _. sym w.if-some_starts.ensures
       | else-loop-count-test w ↦ λ a. absurd (omega arith)
     ] in
-    let none = no_place c.args.sites.now c.args.above (take n bytes) c.in-None.ensures in
+    let none = no_place c.args.sites.now c.args.above (take n bytes) c.in-None.ensures.site in
     rw (← c.rest-bytes.ensures) (site_lost c.args.sites.now c.args.above bytes (length bytes - n) (sym c.loop-count.invariant.1 ∙ place_lost texts bytes n stops none))

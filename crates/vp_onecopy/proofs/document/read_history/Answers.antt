@@ -1,7 +1,8 @@
 use Rattle.std.proofs.Common.{rules, ◌<◌, ◌+◌, ◌^◌, ℕ, length, refl, ap, inl, inr}
 use Rattle.vp_onecopy.specs.Passing.{AnsweredAll}
 use Rattle.vp_onecopy.proofs.Only.{answer_is_only, bad_line}
-use Rattle.vp_onecopy.proofs.Prints.{behind_printed, behind_whole}
+use Rattle.vp_onecopy.proofs.Prints.{behind_printed}
+use Rattle.vp_onecopy.proofs.Whole.{behind_whole, only_taken}
 use Rattle.vp_onecopy.proofs.document.read_history.Goals as goal
 
 pub returns-in-Ok-clause-only : goal.returns-in-Ok-clause-only
@@ -26,3 +27,9 @@ returns-in-Ok-clause-printed c =
 
 pub returns-in-Ok-clause-whole : goal.returns-in-Ok-clause-whole
 returns-in-Ok-clause-whole c = behind_whole c.in-Ok.passed c.rest.result.now c.read_behind.result c.read_behind.ensures
+
+pub returns-in-Ok-clause-taken : goal.returns-in-Ok-clause-taken
+returns-in-Ok-clause-taken c = only_taken c.args.text.now c.read_behind.result (returns-in-Ok-clause-only c)
+
+pub returns-in-Err-clause-taken : goal.returns-in-Err-clause-taken
+returns-in-Err-clause-taken c = only_taken c.args.text.now (bad_line (c.in-Err.passed + 1) (c.left.result + 1)) (returns-in-Err-clause-only c)
