@@ -317,7 +317,7 @@ some_site c b some = first c.sites b.sites_are some
     first [] all some = absurd (omega arith)
     first (s ∷ sites) all some = (s.0, has_here s.0 s.0 (words.keys sites) refl, omega (arith, all.0.0))
 
-held_at : (sites ws : List (ℕ × ℕ)) → 0 < length ws → AreWeights (words.keys sites) 0 ws → 0 < length sites
+pub held_at : (sites ws : List (ℕ × ℕ)) → 0 < length ws → AreWeights (words.keys sites) 0 ws → 0 < length sites
 held_at sites [] some h = absurd (omega arith)
 held_at [] (w ∷ ws) some h = absurd (false≢true h.0.stands)
 held_at (s ∷ sites) (w ∷ ws) some h = omega arith

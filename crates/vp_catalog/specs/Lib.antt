@@ -1,4 +1,5 @@
 pub mod Adding
+pub mod Document
 pub mod Entries
 pub mod EntryReading
 pub mod Sites

@@ -3,6 +3,7 @@
 #![tactic(auto)]
 
 mod catalog;
+mod document;
 mod entry;
 mod fault;
 mod placed;
