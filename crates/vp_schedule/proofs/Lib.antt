@@ -2,3 +2,10 @@ mod Exact
 mod KindWords
 mod OtherSites
 mod EventTexts
+mod Newlines
+mod LineTexts
+mod Catalogues
+mod Steps
+mod Spelled
+mod Answering
+mod Only
