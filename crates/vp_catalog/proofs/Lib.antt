@@ -1,6 +1,7 @@
 pub mod Entries
 pub mod EntriesExact
 pub mod Holders
+pub mod Majorities
 pub mod Newlines
 pub mod Only
 pub mod Sites

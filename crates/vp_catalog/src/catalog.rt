@@ -124,6 +124,20 @@ impl Catalog {
         }
     }
 
+    /// The sites with their ports, ascending by site.
+    pub fn ports(&self) -> &[(SiteId, u16)]
+        ensures { result.now ≡ self.now.sites }
+    {
+        &self.ports
+    }
+
+    /// The records, in their order.
+    pub fn records(&self) -> &[Placed]
+        ensures { result.now ≡ self.now.records }
+    {
+        &self.records
+    }
+
     /// The port of a site; none where the catalogue lacks the site.
     pub fn port(&self, site: SiteId) -> Option<u16>
         ensures { result ≡ value_at site self.now.sites }

@@ -6,13 +6,16 @@ mod catalog;
 mod document;
 mod entry;
 mod fault;
+mod majority;
 mod placed;
+mod printing;
 mod reading;
 mod site;
 
 pub use catalog::Catalog;
 pub use entry::Entry;
 pub use fault::CatalogFault;
+pub use majority::majorities_share_a_holder;
 pub use placed::Placed;
 pub use reading::take_entry;
 pub use site::take_site;
