@@ -11,7 +11,7 @@ use Rattle.vp_schedule.specs.declared.draft.Draft.{Draft}
 use Rattle.vp_schedule.specs.declared.fault.ScheduleFault.{ScheduleFault}
 use Rattle.vp_schedule.specs.declared.fault.ScheduleFault.TheVariants as faults
 use Rattle.vp_schedule.specs.Drafts.{LineText, blank, after, Onward, Repeats, Exceeds}
-use Rattle.vp_schedule.specs.Document.{IsScheduleText, Answered, IsOnly}
+use Rattle.vp_schedule.specs.Document.{IsScheduleText, Answered, IsOnly, IsTaken}
 use Rattle.vp_schedule.proofs.Steps.{said}
 use Rattle.vp_schedule.proofs.Answering.{lines_plain, spelled_lines}
 
@@ -109,3 +109,6 @@ answers_same text r (Err faults.NoMemory) a b t u = absurd (u refl)
 
 pub only : (text : List ℕ) (r : Result Schedule ScheduleFault) → Answered text r → IsOnly text r
 only text r a = λ other b t u. answers_same text r other a b t u
+
+pub taken : (text : List ℕ) (r : Result Schedule ScheduleFault) → Answered text r → IsTaken text r
+taken text r a = λ s h t. sym (answers_same text r (Ok s) a h t (λ e. cc))

@@ -35,6 +35,10 @@ Answered text (Err faults.NoMemory) = ⊤
 abbrev pub IsOnly : List ℕ → Result Schedule ScheduleFault → Type 0
 IsOnly text result = (other : Result Schedule ScheduleFault) → Answered text other → result ≢ Err faults.NoMemory → other ≢ Err faults.NoMemory → other ≡ result
 
+-- Where memory is found, the text of a schedule is read as this schedule.
+abbrev pub IsTaken : List ℕ → Result Schedule ScheduleFault → Type 0
+IsTaken text result = (s : Schedule) → IsScheduleText s text → result ≢ Err faults.NoMemory → result ≡ Ok s
+
 -- ---- a step of the reader: the next line was read, or this is its place in the text
 
 abbrev pub NextLine : Draft → ℕ → List ℕ → List ℕ → Result Line ScheduleFault → Type 0

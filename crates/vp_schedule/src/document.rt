@@ -1,20 +1,17 @@
-//! Reading and printing schedules.
+//! Reading schedules.
 
-ghost use Rattle.std.specs.Prelude.{◌≡◌, ◌≤◌, ◌<◌, ◌^◌, ◌++◌, ℕ, length, flat_map, Err, OnOk};
-ghost use Rattle.vp_model.specs.Texts.Schedule.{event_line, schedule_text};
+ghost use Rattle.std.specs.Prelude.{◌≡◌, ◌≤◌, ◌<◌, ◌^◌, ℕ, length, Err};
 ghost use Rattle.vp_schedule.specs.Drafts.{sites_said};
 ghost use Rattle.vp_schedule.specs.LineReading.{line_at};
-ghost use Rattle.vp_schedule.specs.Document.{Answered, IsOnly, NextLine};
+ghost use Rattle.vp_schedule.specs.Document.{Answered, IsOnly, IsTaken, NextLine};
 
-use crate::calls::print_event;
 use crate::draft::Draft;
 use crate::fault::ScheduleFault;
-use crate::fields::print_word;
 use crate::line::Line;
 use crate::line_reading::take_line;
 use crate::schedule::Schedule;
 use std::alloc::Global;
-use vp_base::{Event, LineFault, NoMemory};
+use vp_base::LineFault;
 use vp_text::Cursor;
 
 /// The next line, which is allowed behind what the lines say so far.
@@ -45,6 +42,7 @@ fn next_line(
 pub fn read(alloc: Global, text: &[u8]) -> Result<Schedule, ScheduleFault>
     ensures answer { Answered text.now result }
     ensures only { IsOnly text.now result }
+    ensures taken { IsTaken text.now result }
 {
     let mut draft = Draft::new(alloc);
     let mut cursor = Cursor::new(text);
@@ -55,21 +53,4 @@ pub fn read(alloc: Global, text: &[u8]) -> Result<Schedule, ScheduleFault>
         line += 1;
     }
     Ok(draft.schedule)
-}
-
-fn print_event_line(event: &Event, out: &mut Vec<u8>) -> Result<(), NoMemory>
-    ensures { OnOk result (out.new.items ≡ out.old.items ++ event_line event.now) }
-{
-    print_event(event, out)?;
-    out.push(b'\n')?;
-    Ok(())
-}
-
-fn print_event_lines(events: &[Event], out: &mut Vec<u8>) -> Result<(), NoMemory>
-    ensures { OnOk result (out.new.items ≡ out.old.items ++ flat_map event_line events.now) }
-{
-    for event in events {
-        print_event_line(event, out)?;
-    }
-    Ok(())
 }

@@ -12,6 +12,7 @@ mod kind;
 mod line;
 mod line_reading;
 mod messages;
+mod printing;
 mod reading;
 mod schedule;
 #[cfg(test)]
@@ -24,6 +25,7 @@ pub use document::read;
 pub use event_reading::take_event;
 pub use fault::ScheduleFault;
 pub use messages::print_message;
+pub use printing::print;
 pub use reading::{read_call, take_call};
 pub use schedule::Schedule;
 pub use trace::print_line;

@@ -1,4 +1,4 @@
-use crate::{ScheduleFault, print_call, read, read_call};
+use crate::{ScheduleFault, print, print_call, read, read_call};
 use std::alloc::Global;
 use vp_base::{Call, NameFault, NoMemory};
 
@@ -80,6 +80,27 @@ fn schedules_are_read_to_the_end(rt: HostRuntime) {
     for (text, events) in cases {
         assert_eq!(rt; count(rt.alloc(), text), Ok(events));
     }
+}
+
+fn again(alloc: Global, text: &[u8]) -> Result<Vec<u8>, NoMemory> {
+    let mut out = Vec::new(alloc);
+    if let Ok(schedule) = read(alloc, text) {
+        print(&schedule, &mut out)?;
+    }
+    Ok(out)
+}
+
+#[test]
+fn schedules_are_printed_as_they_were_read(rt: HostRuntime) -> Result<(), NoMemory> {
+    let cases: [&[u8]; 3] = [
+        b"site 1 7001\nevents\n",
+        b"site 1 7001\nsite 16 7016\nrecord x 10 1:1 16:65535\nrecord y ~ 16:2\nevents\ncall 16 regroup\n",
+        b"site 1 1\nsite 2 2\nevents\ncall 1 1.1.1 1 write x ~A!\ndeliver 7\nflow 9\ntick 1\nprobe 2\ncut 1 2\nheal 2 1\ncrash 1\nrestart 1\n",
+    ];
+    for text in cases {
+        assert_eq!(rt; again(rt.alloc(), text)?.as_slice(), text);
+    }
+    Ok(())
 }
 
 #[test]

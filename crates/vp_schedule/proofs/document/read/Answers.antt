@@ -3,7 +3,7 @@ use Rattle.std.proofs.lemmas.Result.{err_from_is_err_and}
 use Rattle.vp_schedule.specs.Document.{Answered}
 use Rattle.vp_schedule.proofs.Steps.{stands_few, stands_room, stands_shorter}
 use Rattle.vp_schedule.proofs.Answering.{answered_next, answered_add, answered_end, stands_more}
-use Rattle.vp_schedule.proofs.Only.{only}
+use Rattle.vp_schedule.proofs.Only.{only, taken}
 use Rattle.vp_schedule.proofs.document.read.Goals as goal
 use Rattle.vp_schedule.proofs.document.read.Goals.{After-drop-draft-in_err-next-3, After-drop-draft-in_err-add-4, then-left-gt0, else-left-gt0+then-not-draft}
 
@@ -34,6 +34,11 @@ returns-in_err-next-clause-only c =
     let p = err_from_is_err_and c.from_residual.result c.from_residual.ensures.1 in
     rw (p.1, p.2) (only c.args.text.now (Err c.in_err-next.field-0.0) (answer_next c))
 
+pub returns-in_err-next-clause-taken : goal.returns-in_err-next-clause-taken
+returns-in_err-next-clause-taken c =
+    let p = err_from_is_err_and c.from_residual.result c.from_residual.ensures.1 in
+    rw (p.1, p.2) (taken c.args.text.now (Err c.in_err-next.field-0.0) (answer_next c))
+
 pub returns-in_err-add-clause-answer : goal.returns-in_err-add-clause-answer
 returns-in_err-add-clause-answer c =
     let p = err_from_is_err_and c.from_residual-in_err-add.result c.from_residual-in_err-add.ensures.1 in
@@ -43,6 +48,11 @@ pub returns-in_err-add-clause-only : goal.returns-in_err-add-clause-only
 returns-in_err-add-clause-only c =
     let p = err_from_is_err_and c.from_residual-in_err-add.result c.from_residual-in_err-add.ensures.1 in
     rw (p.1, p.2) (only c.args.text.now (Err c.in_err-add.field-0.0) (answer_add c))
+
+pub returns-in_err-add-clause-taken : goal.returns-in_err-add-clause-taken
+returns-in_err-add-clause-taken c =
+    let p = err_from_is_err_and c.from_residual-in_err-add.result c.from_residual-in_err-add.ensures.1 in
+    rw (p.1, p.2) (taken c.args.text.now (Err c.in_err-add.field-0.0) (answer_add c))
 
 pub loop-cursor-smaller : goal.loop-cursor-smaller
 loop-cursor-smaller c = stands_shorter c.args.text.now c.loop-cursor.cursor c.next_line.new.cursor c.loop-cursor.draft c.loop-cursor.line c.in_ok-next.next c.loop-cursor.invariant c.in_ok-next.ensures
@@ -55,3 +65,6 @@ returns-clause-answer c = answered_end c.args.text.now c.loop-cursor.cursor c.lo
 
 pub returns-clause-only : goal.returns-clause-only
 returns-clause-only c = only c.args.text.now (Ok c.loop-cursor.draft.schedule) (answered_end c.args.text.now c.loop-cursor.cursor c.loop-cursor.draft c.loop-cursor.line c.loop-cursor.invariant (omega (arith, c.left.ensures, c.if-left-gt0.false)) c.if-not-draft.false)
+
+pub returns-clause-taken : goal.returns-clause-taken
+returns-clause-taken c = taken c.args.text.now (Ok c.loop-cursor.draft.schedule) (answered_end c.args.text.now c.loop-cursor.cursor c.loop-cursor.draft c.loop-cursor.line c.loop-cursor.invariant (omega (arith, c.left.ensures, c.if-left-gt0.false)) c.if-not-draft.false)
