@@ -1,5 +1,6 @@
 mod Exact
 mod Newlines
+mod Only
 mod Ordered
 mod Passes
 mod Places
@@ -8,3 +9,4 @@ mod Plays
 mod Serial
 mod Starts
 mod Steps
+mod Whole

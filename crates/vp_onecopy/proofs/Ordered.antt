@@ -16,10 +16,10 @@ use Rattle.vp_model.specs.OneCopy.{views_of, in_view, order}
 one_way : (a b : ViewId) → view_before a b ≡ true → view_before b a ≡ false
 one_way a b e = grind (arith, nat_tests)
 
-not_itself : (a : ViewId) → view_before a a ≡ false
+pub not_itself : (a : ViewId) → view_before a a ≡ false
 not_itself a = grind (arith, nat_tests)
 
-chain : (a b c : ViewId) → view_before a b ≡ false → view_before b c ≡ false → view_before a c ≡ false
+pub chain : (a b c : ViewId) → view_before a b ≡ false → view_before b c ≡ false → view_before a c ≡ false
 chain a b c p q = grind (arith, nat_tests)
 
 further : (a b c : ViewId) → view_before a b ≡ true → view_before b c ≡ true → view_before a c ≡ true

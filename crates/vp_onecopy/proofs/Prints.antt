@@ -1,11 +1,9 @@
--- What is printed is the text that was read, and what was read is whole.
-use Rattle.std.proofs.Common.{◌≡◌, ℕ, true, zero, suc, ◌<◌, List, [], ◌∷◌, ◌++◌, length, get_or, refl, sym, ap, subst, ◌∙◌, arith, append_assoc, eqb, ltb}
+-- What is printed is the text that was read.
+use Rattle.std.proofs.Common.{◌≡◌, ℕ, true, zero, suc, List, [], ◌∷◌, ◌++◌, length, get_or, refl, sym, ap, ◌∙◌, arith, append_assoc, eqb, ltb}
 use Rattle.std.specs.Prelude.{codes, flat_map, Result, Ok, Err, IfOk}
-use Rattle.std.specs.List.{All}
 use Rattle.std.specs.Fmt.{decimal}
 use Rattle.std.proofs.lemmas.List.{length-append, append-nil, nil_from_length}
 use Rattle.std.proofs.lemmas.List.Concat.{flat_map-cons}
-use Rattle.std.proofs.lemmas.List.Elements.{All-nil, All-cons, All-push}
 use Rattle.std.proofs.lemmas.Bool.{eqb-true, and_parts}
 use Rattle.vp_base.specs.Words.{IsPlace}
 use Rattle.vp_base.specs.Identifiers.{txn_text, view_text}
@@ -16,11 +14,9 @@ use Rattle.vp_onecopy.specs.declared.line.Line.{Line}
 use Rattle.vp_onecopy.specs.declared.line.Line.TheVariants as kind
 use Rattle.vp_onecopy.specs.declared.map.History.{History}
 use Rattle.vp_onecopy.specs.declared.fault.HistoryFault.{HistoryFault}
-use Rattle.vp_onecopy.specs.Playing.{op_record, CommitsWithin}
 use Rattle.vp_onecopy.specs.Lines.{Before, OpText, OpsText, CommitText, may_start}
 use Rattle.vp_onecopy.specs.History.{before, IsHistory}
-use Rattle.vp_onecopy.specs.Passing.{history_line, Passed, Behind, IsPrintedIn, IsWhole}
-use Rattle.vp_onecopy.proofs.Places.{place_below}
+use Rattle.vp_onecopy.specs.Passing.{history_line, Passed, Behind, IsPrintedIn}
 use Rattle.vp_onecopy.proofs.Steps.{Lines, all_said}
 
 starts-push : (names values : List (List ℕ)) (n v : List ℕ) → length names ≡ length values → starts_text (names ++ n ∷ []) (values ++ v ∷ []) ≡ starts_text names values ++ start_text n v
@@ -31,7 +27,7 @@ starts-push (m ∷ names) (w ∷ values) n v e = ap (λ (x : List ℕ). start_te
 
 -- ---- the text of a line is a function of it
 
-place_is : (names : List (List ℕ)) (i : ℕ) (name : List ℕ) → IsPlace names i name → name ≡ get_or names i []
+pub place_is : (names : List (List ℕ)) (i : ℕ) (name : List ℕ) → IsPlace names i name → name ≡ get_or names i []
 place_is [] i name h = absurd h
 place_is (n ∷ names) zero name h = h
 place_is (n ∷ names) (suc i) name h = place_is names i name h.1
@@ -54,13 +50,13 @@ commit_is b commit t h =
 
 -- ---- the text of lines
 
-same_count : (es : List Line) (t : List ℕ) → Lines es t → length (all_said es).names ≡ length (all_said es).start
+pub same_count : (es : List Line) (t : List ℕ) → Lines es t → length (all_said es).names ≡ length (all_said es).start
 same_count [] t h = refl
 same_count (kind.Start name value ∷ es) t h = omega (arith, same_count es h.0 h.2, length-append (all_said es).names (name ∷ []), length-append (all_said es).start (value ∷ []))
 same_count (kind.Commit commit ∷ es) t h = same_count es h.0 h.2
 same_count (kind.End ∷ es) t h = absurd h.4
 
-no_commits : (h : History) → may_start (before h) ≡ true → h.commits ≡ []
+pub no_commits : (h : History) → may_start (before h) ≡ true → h.commits ≡ []
 no_commits h e = nil_from_length h.commits (eqb-true (length h.commits) 0 (and_parts (eqb (length h.commits) 0) (ltb (length h.names) 256) e).0)
 
 flat_map_push : (f : Commit → List ℕ) (xs : List Commit) (x : Commit) → flat_map f (xs ++ x ∷ []) ≡ flat_map f xs ++ f x
@@ -86,42 +82,13 @@ lines_are (kind.Commit commit ∷ es) t h =
     ∙ ap (λ (x : List ℕ). starts ++ x) (sym (flat_map_push (commit_text b.names) b.commits commit))
 lines_are (kind.End ∷ es) t h = absurd h.4
 
-history_is : (h : History) (text : List ℕ) → IsHistory h text → history_line ++ text ≡ history_lines h.names h.start h.commits
+pub history_is : (h : History) (text : List ℕ) → IsHistory h text → history_line ++ text ≡ history_lines h.names h.start h.commits
 history_is h text s =
     let starts = starts_text h.names h.start in
     let commits = flat_map (commit_text h.names) h.commits in
     let last = codes "end " ++ (decimal (length h.commits) ++ 10 ∷ []) in
     let front : s.front ≡ starts ++ commits = lines_are s.lines s.front s.lines_are ∙ ap said_text s.says in
     ap (λ (x : List ℕ). codes "history\n" ++ x) (s.parts ∙ ap (λ (x : List ℕ). x ++ s.last) front ∙ ap (λ (x : List ℕ). (starts ++ commits) ++ x) s.last_is ∙ append_assoc starts commits last)
-
--- ---- what was read is whole
-
-op_below : (names : List (List ℕ)) (operation : Op) (t : List ℕ) → OpText names operation t → op_record operation < length names
-op_below names (op.Read rec value) t h = place_below names rec h.0 h.1
-op_below names (op.Write rec value) t h = place_below names rec h.0 h.1
-
-ops_below : (names : List (List ℕ)) (ops : List Op) (t : List ℕ) → OpsText names ops t → All (λ operation. op_record operation < length names) ops
-ops_below names [] t h = All-nil (λ operation. op_record operation < length names)
-ops_below names (operation ∷ ops) t h = All-cons (λ operation. op_record operation < length names) operation ops (op_below names operation h.0 h.3) (ops_below names ops h.1 h.4)
-
-on_names : (es : List Line) (t : List ℕ) → Lines es t → CommitsWithin (length (all_said es).names) (all_said es).commits
-on_names [] t h = All-nil (λ (commit : Commit). All (λ operation. op_record operation < 0) commit.ops)
-on_names (kind.Start name value ∷ es) t h =
-    let b = all_said es in
-    subst (CommitsWithin (length (b.names ++ name ∷ []))) (sym (no_commits b h.3.allowed)) (All-nil (λ (commit : Commit). All (λ operation. op_record operation < length (b.names ++ name ∷ [])) commit.ops))
-on_names (kind.Commit commit ∷ es) t h =
-    let b = all_said es in
-    All-push (λ (commit : Commit). All (λ operation. op_record operation < length b.names) commit.ops) b.commits commit (on_names es h.0 h.2) (ops_below b.names commit.ops h.3.ops h.3.ops_are)
-on_names (kind.End ∷ es) t h = absurd h.4
-
-history_whole : (h : History) (text : List ℕ) → IsHistory h text → IsWhole h
-history_whole h text s =
-    let same = same_count s.lines s.front s.lines_are in
-    subst IsWhole s.says (record { values = sym same; places = subst (λ (n : ℕ). CommitsWithin n (all_said s.lines).commits) same (on_names s.lines s.front s.lines_are) })
-
-pub behind_whole : (n : ℕ) (rest : List ℕ) (result : Result History HistoryFault) → Behind n rest result → IfOk result IsWhole
-behind_whole n rest (Ok h) s = history_whole h rest s
-behind_whole n rest (Err e) s = tt
 
 pub behind_printed : (n : ℕ) (text front rest : List ℕ) (result : Result History HistoryFault) → Passed n front → text ≡ front ++ (history_line ++ rest) → Behind n rest result → IfOk result (IsPrintedIn text)
 behind_printed n text front rest (Ok h) passed parts s = (n, front, passed, parts ∙ ap (λ (x : List ℕ). front ++ x) (history_is h rest s))

@@ -90,7 +90,7 @@ commits_le (kind.Start name value ∷ es) t h = omega (arith, commits_le es h.0 
 commits_le (kind.Commit commit ∷ es) t h = omega (arith, commits_le es h.0 h.2, length-append (all_said es).commits (commit ∷ []))
 commits_le (kind.End ∷ es) t h = absurd h.4
 
-readable : (most : ℕ) → most < 2 ^ 63 → Readable empty after Allowed Onward reads most
+pub readable : (most : ℕ) → most < 2 ^ 63 → Readable empty after Allowed Onward reads most
 readable most small = record {
   exact = λ es t le h. line_exact (before (all_said es)) (names_ok es t h) (view_ok es t h) (omega (arith, commits_le es t h, lines_le es t h));
   lines = λ es t le h. line_is (before (all_said es)) (names_ok es t h) (omega (arith, commits_le es t h, lines_le es t h));

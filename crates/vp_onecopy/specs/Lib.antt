@@ -4,3 +4,4 @@ pub mod Lines
 pub mod Passing
 pub mod Playing
 pub mod Reading
+pub mod Whole

@@ -1,9 +1,9 @@
 -- The lines before the line `history`.
-use Rattle.std.specs.Prelude.{◌≡◌, ◌+◌, ⊤, ℕ, zero, suc, List, [], ◌∷◌, ◌++◌, length, codes, Result, Ok, Err, ◌⊎◌}
+use Rattle.std.specs.Prelude.{◌≡◌, ◌≢◌, ◌+◌, ⊤, ℕ, zero, suc, List, [], ◌∷◌, ◌++◌, length, codes, Result, Ok, Err, ◌⊎◌}
 use Rattle.std.specs.List.{AllByRecursion}
 use Rattle.vp_text.specs.Documents.{IsBadLine, IsFaultyLine}
 use Rattle.vp_model.specs.Texts.History.{history_lines}
-use Rattle.vp_onecopy.specs.Playing.{CommitsWithin}
+pub use Rattle.vp_onecopy.specs.Whole.{IsWhole}
 use Rattle.vp_onecopy.specs.declared.map.History.{History}
 use Rattle.vp_onecopy.specs.declared.fault.HistoryFault.{HistoryFault}
 use Rattle.vp_onecopy.specs.declared.fault.HistoryFault.TheVariants as faults
@@ -48,11 +48,19 @@ abbrev pub AnsweredAll : List ℕ → Result History HistoryFault → Type 0
 AnsweredAll text result = (n : ℕ) × (front : List ℕ) × (rest : List ℕ) × Passed n front
     × (((text ≡ front ++ (history_line ++ rest)) × Behind n rest result) ⊎ ((text ≡ front ++ rest) × IsMissing n rest result))
 
+-- Nothing else can be answered of the text, but for want of memory.
+abbrev pub IsOnly : List ℕ → Result History HistoryFault → Type 0
+IsOnly text result =
+    (other : Result History HistoryFault) → AnsweredAll text other → result ≢ Err faults.NoMemory → other ≢ Err faults.NoMemory → other ≡ result
+
 -- Behind lines that are not the line `history` the text is that of the history, and it ends with it.
 abbrev pub IsPrintedIn : List ℕ → History → Type 0
 IsPrintedIn text h = (n : ℕ) × (front : List ℕ) × Passed n front × (text ≡ front ++ history_lines h.names h.start h.commits)
 
--- Each record has a name and a value, and each operation is on one of them.
-pub record IsWhole (h : History) : Type 0 where
-  pub values : length h.start ≡ length h.names
-  pub places : CommitsWithin (length h.start) h.commits
+-- Where memory is found, such a text of a whole history is read as this history.
+abbrev pub IsTaken : List ℕ → Result History HistoryFault → Type 0
+IsTaken text result = (h : History) → IsWhole h → IsPrintedIn text h → result ≢ Err faults.NoMemory → result ≡ Ok h
+
+-- The text that is printed of the history is that of this very history.
+abbrev pub IsReadBack : History → Type 0
+IsReadBack h = AnsweredAll (history_lines h.names h.start h.commits) (Ok h)

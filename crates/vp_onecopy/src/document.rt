@@ -5,7 +5,8 @@ ghost use Rattle.vp_model.specs.Words.{opening};
 ghost use Rattle.vp_onecopy.specs.Lines.{AllNames};
 ghost use Rattle.vp_onecopy.specs.declared.map.History.{History};
 ghost use Rattle.vp_onecopy.specs.Reading.{line_at};
-ghost use Rattle.vp_onecopy.specs.Passing.{Behind, AnsweredAll, IsPrintedIn, IsWhole};
+ghost use Rattle.vp_onecopy.specs.Passing.{Behind, AnsweredAll, IsOnly, IsPrintedIn, IsTaken};
+ghost use Rattle.vp_onecopy.specs.Whole.{IsWhole};
 ghost use Rattle.vp_onecopy.specs.History.{before, last_from, Answered, NextLine, Adds, Finishes};
 
 use crate::fault::HistoryFault;
@@ -132,7 +133,9 @@ fn read_behind(alloc: Global, rest: &[u8], passed: usize) -> Result<History, His
 /// The history that the text spells, behind the lines before the first line `history`.
 pub fn read_history(alloc: Global, text: &[u8]) -> Result<History, HistoryFault>
     ensures answer { AnsweredAll text.now result }
+    ensures only { IsOnly text.now result }
     ensures printed { IfOk result (IsPrintedIn text.now) }
+    ensures taken { IsTaken text.now result }
     ensures whole { IfOk result IsWhole }
 {
     let mut cursor = Cursor::new(text);

@@ -2,6 +2,8 @@
 
 ghost use Rattle.std.specs.Prelude.{◌≡◌, ◌++◌, ◌∷◌, OnOk, flat_map, slice_index_or, []};
 ghost use Rattle.vp_model.specs.Texts.History.{op_text, commit_text, start_text, starts_text, history_lines};
+ghost use Rattle.vp_onecopy.specs.Passing.{IsReadBack};
+ghost use Rattle.vp_onecopy.specs.Whole.{IsWhole};
 
 use crate::map::History;
 use vp_base::{Commit, Name, NoMemory, Op, RecId, Value};
@@ -92,8 +94,10 @@ fn print_commits(names: &[Name], commits: &[Commit], out: &mut Vec<u8>) -> Resul
 }
 
 /// Appends the line `history` and the lines of the history. Without memory a beginning of them may have been appended.
+#[tactic(auto, using(crate::proofs::Whole::read_back))]
 pub fn print_history(history: &History, out: &mut Vec<u8>) -> Result<(), NoMemory>
-    ensures { OnOk result (out.new.items ≡ out.old.items ++ history_lines history.now.names history.now.start history.now.commits) }
+    ensures read_back { IsWhole history.now → IsReadBack history.now }
+    ensures text { OnOk result (out.new.items ≡ out.old.items ++ history_lines history.now.names history.now.start history.now.commits) }
 {
     let names = history.names.as_slice();
     let commits = history.commits.as_slice();
