@@ -1,21 +1,54 @@
 -- A schedule that is served is one of one site, and so is each beginning of it.
-use Rattle.std.proofs.Common.{◌≡◌, ℕ, true, false, List, [], ◌∷◌, length, get_or, take, refl, sym, ap, subst, ◌∙◌, arith}
-use Rattle.std.specs.Prelude.{◌==◌, All}
-use Rattle.std.specs.List.{list_all}
+use Rattle.std.proofs.Common.{◌≡◌, ℕ, ◌≤◌, ◌<◌, Bool, true, false, List, [], ◌∷◌, length, get_or, take, refl, sym, ap, subst, ◌∙◌, arith}
+use Rattle.std.specs.Prelude.{◌==◌, ◌||◌, All}
+use Rattle.std.specs.List.{AllByRecursion, list_all}
 use Rattle.std.proofs.lemmas.Bool.{eqb-true}
-use Rattle.std.proofs.lemmas.List.Elements.{All-take}
+use Rattle.std.proofs.lemmas.List.Elements.{All-take, All-from_recursion}
 use Rattle.std.proofs.lemmas.List.Sums.{AllPass-from_list_all, list_all-from_AllPass}
 use Rattle.vp_model.specs.Types.{Call, Event}
 use Rattle.vp_model.specs.Types.call
 use Rattle.vp_model.specs.Types.event
-use Rattle.vp_model.specs.Words.{keys}
-use Rattle.vp_model.specs.Catalogue.{Catalogue, sites_of}
+use Rattle.vp_model.specs.Words.{has, keys}
+use Rattle.vp_model.specs.Catalogue.{Catalogue, RecordEntry, sites_of}
 use Rattle.vp_model.specs.World.{Schedule}
 use Rattle.vp_one_site.specs.OneSite.{IsOnlyAt, is_call_at, IsOneSite}
+use Rattle.vp_catalog.specs.Entries.{AreWeights, IsRecord}
+use Rattle.vp_schedule.specs.Document.{IsSchedule}
 use Rattle.vp_top.specs.Alone.{IsServedAt, IsServed, schedule_with}
 
 pub one_site : (id : ℕ) (s : Schedule) → IsServedAt id s → All (IsOnlyAt id) s.catalogue.records → IsOneSite s
 one_site id s h alone = record { site = id; port = h.port; sites = h.sites; records = alone; events = h.events }
+
+-- ---- a record of a schedule of one site has its only copy there
+
+either_false : (b : Bool) → (b || false) ≡ true → b ≡ true
+either_false true e = refl
+either_false false e = cc
+
+listed_is : (site n : ℕ) → has (site ∷ []) n ≡ true → n ≡ site
+listed_is site n e = sym (eqb-true site n (either_false (site == n) e))
+
+only_holder : (site : ℕ) (weights : List (ℕ × ℕ)) → 0 < length weights → AreWeights (site ∷ []) 0 weights → (weight : ℕ) × (1 ≤ weight) × (weights ≡ (site, weight) ∷ [])
+only_holder site [] some h = absurd (omega arith)
+only_holder site (w ∷ []) some h =
+    let same : w.0 ≡ site = listed_is site w.0 h.0.stands in
+    (w.1, h.0.some, ap (λ (n : ℕ). (n, w.1) ∷ []) same)
+only_holder site (w ∷ v ∷ weights) some h =
+    let first : w.0 ≡ site = listed_is site w.0 h.0.stands in
+    let second : v.0 ≡ site = listed_is site v.0 h.1.0.stands in
+    let higher : w.0 < v.0 = h.1.0.higher in
+    absurd (omega arith)
+
+only_at : (site : ℕ) (records : List RecordEntry) → AllByRecursion (IsRecord (site ∷ [])) records → AllByRecursion (IsOnlyAt site) records
+only_at site [] h = tt
+only_at site (entry ∷ records) h =
+    let o = only_holder site entry.weights h.0.held h.0.weights_are in
+    (record { weight = o.0; weighs = o.1; only = o.2 }, only_at site records h.1)
+
+pub alone : (site : ℕ) (s : Schedule) → IsSchedule s → IsServedAt site s → All (IsOnlyAt site) s.catalogue.records
+alone site s h served =
+    All-from_recursion (IsOnlyAt site) s.catalogue.records
+    (only_at site s.catalogue.records (subst (λ (sites : List ℕ). AllByRecursion (IsRecord sites) s.catalogue.records) (ap keys served.sites) h.catalogue_is.records_are))
 
 -- the first events are a schedule of one site too
 pub first_served : (id : ℕ) (catalogue : Catalogue) (events : List Event) (n : ℕ) → IsServedAt id (schedule_with catalogue events) → IsServedAt id (schedule_with catalogue (take n events))

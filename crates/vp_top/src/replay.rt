@@ -7,62 +7,79 @@ ghost use Rattle.vp_model.specs.World.{journal_of};
 ghost use Rattle.vp_model.specs.Headline.{commits_in};
 ghost use Rattle.vp_model.specs.Texts.Trace.{line_text, trace_text};
 ghost use Rattle.vp_model.specs.Texts.History.{history_lines, history_text};
-ghost use Rattle.vp_model.specs.Types.event;
 ghost use Rattle.vp_one_site.specs.OneSite.{IsOnlyAt};
-ghost use Rattle.vp_form.specs.Form.{schedule_of};
+ghost use Rattle.vp_schedule.specs.Document.{IsSchedule};
+ghost use Rattle.vp_top.specs.Replayed.{Gives, Tells};
 ghost use Rattle.vp_top.specs.Program.{IsAnswer};
 ghost use Rattle.vp_top.specs.declared.words.Command.TheVariants as commands;
 ghost use Rattle.vp_top.specs.Alone.{IsServedAt, schedule_with, called, line_of};
 
 use crate::only_site::OnlySite;
+use crate::refusal::{print_bad_line, print_limit, print_twice};
+use crate::served::served_site;
 use crate::status::{Defined, Status, unbuilt_line};
 use std::alloc::Global;
 use vp_base::{Commit, Commits, Effects, Event, Events, Line, NoMemory, Shown, SiteId};
 use vp_catalog::Catalog;
-use vp_form::{Calls, Form, FormFault, read_form};
 use vp_onecopy::{History, Map, order, print_history};
-use vp_schedule::{Schedule, print_line};
+use vp_schedule::{Schedule, ScheduleFault, print_line, read};
 
 /// The status and the text that are defined for an input of `replay`.
 pub fn answer(alloc: Global, input: &[u8]) -> Result<Defined, NoMemory>
     ensures { IfOk result (λ defined. IsAnswer commands.Replay input.now defined.status defined.text.items) }
 {
-    match read_form(alloc, input) {
-        Ok(form) => {
-            let schedule = schedule_of(alloc, form)?;
-            Ok(Defined {
-                status: Status::Done,
-                text: print_replay(alloc, SiteId::of(1), schedule)?,
-            })
-        }
-        Err(FormFault::Unbuilt) => Ok(Defined {
+    match read(alloc, input) {
+        Ok(schedule) => serve(alloc, schedule),
+        Err(fault) => refuse(alloc, fault),
+    }
+}
+
+/// What a schedule gives: its trace and its history, where it is served.
+fn serve(alloc: Global, schedule: Schedule) -> Result<Defined, NoMemory>
+    requires { IsSchedule schedule }
+    ensures { IfOk result (λ defined. Gives schedule defined.status defined.text.items) }
+{
+    match served_site(&schedule) {
+        Some(site) => Ok(Defined {
+            status: Status::Done,
+            text: print_replay(alloc, site, schedule)?,
+        }),
+        None => Ok(Defined {
             status: Status::Unbuilt,
             text: unbuilt_line(alloc)?,
         }),
-        Err(FormFault::NoMemory) => Err(NoMemory),
     }
 }
 
-/// The schedule of the form.
-fn schedule_of(alloc: Global, form: Form) -> Result<Schedule, NoMemory>
-    ensures { IfOk result (λ schedule. schedule ≡ schedule_of form) }
+/// What is told of an input that is no schedule.
+fn refuse(alloc: Global, fault: ScheduleFault) -> Result<Defined, NoMemory>
+    ensures { IfOk result (λ defined. Tells fault defined.status defined.text.items) }
 {
-    let Form { catalog, calls } = form;
-    Ok(Schedule {
-        catalog,
-        events: events_of(alloc, calls)?,
-    })
-}
-
-fn events_of(alloc: Global, calls: Calls) -> Result<Events, NoMemory>
-    ensures { IfOk result (λ events. events ≡ map (λ words. event.Call 1 words) calls) }
-{
-    let mut events = Events::new(alloc);
-    for call in calls.into_vec() {
-        let site = SiteId::of(1);
-        events.push(Event::Call { site, call })?;
+    let mut text = Vec::new(alloc);
+    match fault {
+        ScheduleFault::BadLine { line, at } => {
+            print_bad_line(line, at, &mut text)?;
+            Ok(Defined {
+                status: Status::BadLine,
+                text,
+            })
+        }
+        ScheduleFault::Twice { line } => {
+            print_twice(line, &mut text)?;
+            Ok(Defined {
+                status: Status::BadLine,
+                text,
+            })
+        }
+        ScheduleFault::TooMany { limit, .. } => {
+            print_limit(limit, &mut text)?;
+            Ok(Defined {
+                status: Status::Limit,
+                text,
+            })
+        }
+        ScheduleFault::NoMemory => Err(NoMemory),
     }
-    Ok(events)
 }
 
 /// The trace of a schedule of this site alone, and then its history.
