@@ -10,11 +10,11 @@ def run(program, command, text):
     return done.returncode, done.stdout
 
 
-def compare(command, made, unserved=lambda text: None):
+def compare(command, made, wanted=lambda text, answer: answer):
     """Compares the programs of the command line on `made(draw)` for each seed, and tells the statuses that were met.
 
-    `unserved` gives what the first program has to answer to an input that it does not serve, and None to any other, where
-    the second program's answer is wanted. The answer is the exit status of the comparison: 1 where an input tells them apart.
+    `wanted` gives what the first program has to answer to an input, from the second program's answer. The answer is the
+    exit status of the comparison: 1 where an input tells them apart.
     """
     program, other = sys.argv[1:3]
     seed = int(sys.argv[3]) if len(sys.argv) > 3 else 1
@@ -23,12 +23,12 @@ def compare(command, made, unserved=lambda text: None):
     for k in range(seed, seed + count):
         text = made(random.Random(k))
         mine = run(program, command, text)
-        wanted = unserved(text) or run(other, command, text)
+        other_answer = wanted(text, run(other, command, text))
         ends[mine[0]] = ends.get(mine[0], 0) + 1
-        if mine != wanted:
+        if mine != other_answer:
             print("differs at seed", k)
-            sys.stdout.buffer.write(text + b"\n----\n" + mine[1] + b"----\n" + wanted[1])
-            print(mine[0], wanted[0])
+            sys.stdout.buffer.write(text + b"\n----\n" + mine[1] + b"----\n" + other_answer[1])
+            print(mine[0], other_answer[0])
             return 1
     print(f"{count} inputs from seed {seed} agree; by status: {dict(sorted(ends.items()))}")
     return 0

@@ -4,8 +4,12 @@ ghost use Rattle.std.specs.Prelude.{◌≡◌, ◌≤◌, ◌<◌, ◌++◌, ◌
 ghost use Rattle.std.specs.List.{position_from};
 ghost use Rattle.std.specs.Str.{bytes_eq};
 ghost use Rattle.vp_model.specs.Words.{keys, value_at};
+ghost use Rattle.vp_catalog.specs.Entries.{last_site, has_port, has_name};
+ghost use Rattle.vp_catalog.specs.Adding.{Adds};
 ghost use Rattle.vp_model.specs.Catalogue.{sites_of, find_record, weights_of, holders, inside, total, accessible, weight, start_values, start_copies, copies_from};
 
+use crate::entry::Entry;
+use crate::fault::CatalogFault;
 use crate::placed::Placed;
 use std::alloc::Global;
 use std::marker::Model;
@@ -62,11 +66,76 @@ impl Catalog {
         Ok(())
     }
 
+    /// Adds what the line of this number says. A record line behind 256 records is too many, and a port or a name that stands
+    /// already is there twice. After an `Err` the catalogue is as it was.
+    pub fn add(&mut self, entry: Entry, line: usize) -> Result<(), CatalogFault>
+        ensures { Adds self.old entry line self.new result }
+    {
+        match entry {
+            Entry::Site { site, port } => {
+                if self.has_port(port) {
+                    return Err(CatalogFault::Twice { line });
+                }
+                self.add_site(site, port)?;
+                Ok(())
+            }
+            Entry::Record(placed) => {
+                if self.records.len() >= 256 {
+                    return Err(CatalogFault::TooMany { line, limit: 256 });
+                }
+                if self.has_name(placed.name().as_bytes()) {
+                    return Err(CatalogFault::Twice { line });
+                }
+                self.add_record(placed)?;
+                Ok(())
+            }
+        }
+    }
+
+    fn has_port(&self, port: u16) -> bool
+        ensures { result ≡ has_port self.now port }
+    {
+        self.ports.iter().any(|entry| entry.1 == port)
+    }
+
+    fn has_name(&self, name: &[u8]) -> bool
+        ensures { result ≡ has_name self.now name.now }
+    {
+        self.records
+            .iter()
+            .any(|placed| placed.name().as_bytes() == name)
+    }
+
     /// The sites, ascending.
     pub fn sites(&self) -> &Sites
         ensures { result.now ≡ sites_of self.now }
     {
         &self.sites
+    }
+
+    /// The last site, by its number; 0 where there is none.
+    pub fn last_site(&self) -> u8
+        ensures last { result ≡ last_site self.now }
+        ensures fits { result ≤ 16 }
+    {
+        match self.ports.last() {
+            Some(entry) => entry.0.get(),
+            None => 0,
+        }
+    }
+
+    /// The sites with their ports, ascending by site.
+    pub fn ports(&self) -> &[(SiteId, u16)]
+        ensures { result.now ≡ self.now.sites }
+    {
+        &self.ports
+    }
+
+    /// The records, in their order.
+    pub fn records(&self) -> &[Placed]
+        ensures { result.now ≡ self.now.records }
+    {
+        &self.records
     }
 
     /// The port of a site; none where the catalogue lacks the site.

@@ -3,10 +3,22 @@
 #![tactic(auto)]
 
 mod catalog;
+mod document;
+mod entry;
+mod fault;
+mod majority;
 mod placed;
+mod printing;
+mod reading;
+mod site;
 
 pub use catalog::Catalog;
+pub use entry::Entry;
+pub use fault::CatalogFault;
+pub use majority::majorities_share_a_holder;
 pub use placed::Placed;
+pub use reading::take_entry;
+pub use site::take_site;
 
 #[cfg(test)]
 mod tests;

@@ -68,6 +68,13 @@ impl Placed {
         &self.start
     }
 
+    /// The weights of the copies, ascending by holder.
+    pub fn weights(&self) -> &[(SiteId, u16)]
+        ensures { result.now ≡ self.now.weights }
+    {
+        &self.weights
+    }
+
     /// The weight of the copy at a site, 0 where it has none.
     pub fn weight(&self, site: SiteId) -> u32
         ensures { result ≡ option_map_or (λ w. w) (value_at site self.now.weights) 0 }

@@ -1,1 +1,11 @@
-pub mod Exact
+mod Exact
+mod KindWords
+mod OtherSites
+mod EventTexts
+mod Newlines
+mod LineTexts
+mod Catalogues
+mod Steps
+mod Spelled
+mod Answering
+mod Only

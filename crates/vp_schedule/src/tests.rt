@@ -1,9 +1,9 @@
-use crate::{print_call, read_call};
+use crate::{ScheduleFault, print, print_call, read, read_call};
 use std::alloc::Global;
 use vp_base::{Call, NameFault, NoMemory};
 
 /// The place of the fault, where there is one. Want of memory is no case of these tests.
-fn fault_of(read: Result<Call, NameFault>) -> Option<usize> {
+fn place_of(read: Result<Call, NameFault>) -> Option<usize> {
     match read {
         Ok(_call) => None,
         Err(NameFault::BadName { at }) => Some(at),
@@ -52,6 +52,165 @@ fn calls_are_refused_at_their_places(rt: HostRuntime) {
         (b"1.1.1  1 abort", 6),
     ];
     for (text, at) in cases {
-        assert_eq!(rt; fault_of(read_call(rt.alloc(), text)), Some(at));
+        assert_eq!(rt; place_of(read_call(rt.alloc(), text)), Some(at));
     }
+}
+
+/// How many events the schedule has, or why there is none.
+fn count(alloc: Global, text: &[u8]) -> Result<usize, ScheduleFault> {
+    let schedule = read(alloc, text)?;
+    Ok(schedule.events.as_slice().len())
+}
+
+#[test]
+fn schedules_are_read_to_the_end(rt: HostRuntime) {
+    let cases: [(&[u8], usize); 5] = [
+        (b"site 1 7001\nevents\n", 0),
+        (b"site 1 7001\nrecord x 10 1:1\nevents\n", 0),
+        (b"site 16 65535\nevents\ntick 16\n", 1),
+        (
+            b"site 1 1\nsite 12 2\nevents\ncut 1 12\ncut 12 1\nheal 1 12\n",
+            3,
+        ),
+        (
+            b"site 2 7002\nsite 3 7003\nrecord x 10 2:1 3:1\nevents\ncall 2 begin\ncall 3 1.1.1 1 read y\nflow 100000\ndeliver 2000000\nprobe 2\ncrash 3\nrestart 3\n",
+            7,
+        ),
+    ];
+    for (text, events) in cases {
+        assert_eq!(rt; count(rt.alloc(), text), Ok(events));
+    }
+}
+
+fn again(alloc: Global, text: &[u8]) -> Result<Vec<u8>, NoMemory> {
+    let mut out = Vec::new(alloc);
+    if let Ok(schedule) = read(alloc, text) {
+        print(&schedule, &mut out)?;
+    }
+    Ok(out)
+}
+
+#[test]
+fn schedules_are_printed_as_they_were_read(rt: HostRuntime) -> Result<(), NoMemory> {
+    let cases: [&[u8]; 3] = [
+        b"site 1 7001\nevents\n",
+        b"site 1 7001\nsite 16 7016\nrecord x 10 1:1 16:65535\nrecord y ~ 16:2\nevents\ncall 16 regroup\n",
+        b"site 1 1\nsite 2 2\nevents\ncall 1 1.1.1 1 write x ~A!\ndeliver 7\nflow 9\ntick 1\nprobe 2\ncut 1 2\nheal 2 1\ncrash 1\nrestart 1\n",
+    ];
+    for text in cases {
+        assert_eq!(rt; again(rt.alloc(), text)?.as_slice(), text);
+    }
+    Ok(())
+}
+
+#[test]
+fn bad_lines_are_refused_at_their_places(rt: HostRuntime) {
+    let cases: [(&[u8], usize, usize); 13] = [
+        (b"", 1, 1),
+        (b"events\n", 1, 1),
+        (b"site 1 7001\nrecord x 10 1:1\n", 3, 1),
+        (b"site 1 7001\nevents", 2, 7),
+        (b"site 1 7001\nsite 1 7002\nevents\n", 2, 7),
+        (b"site 1 7001\nrecord x 10 1:1\nsite 2 7002\nevents\n", 3, 1),
+        (b"site 1 7001\nevents\nrecord x 10 1:1\n", 3, 3),
+        (b"site 1 7001\nevents\nevents\n", 3, 1),
+        (b"site 1 7001\nevents\ntick 1", 3, 7),
+        (b"site 1 7001\nevents\ntick 1 \n", 3, 7),
+        (b"site 1 7001\nevents\n\n", 3, 1),
+        (b"site 1 7001\nevents\ndeliver 2000001\n", 3, 15),
+        (b"site 1 7001\nevents\nflow 0\n", 3, 6),
+    ];
+    for (text, line, at) in cases {
+        assert_eq!(rt;
+            count(rt.alloc(), text),
+            Err(ScheduleFault::BadLine { line, at })
+        );
+    }
+}
+
+#[test]
+fn worked_lines_behind_three_sites_are_refused(rt: HostRuntime) -> Result<(), NoMemory> {
+    let head = b"site 1 7001\nsite 2 7002\nsite 3 7003\nrecord x 10 1:1 2:1 3:1\nevents\n";
+    let cases: [(&[u8], usize); 6] = [
+        (b"call 9 begin\n", 6),
+        (b"call 1 1.1.1 1 read aaaaaaaaaaaaaaaaa\n", 37),
+        (b"call 1 beg", 11),
+        (b"flew 1\n", 3),
+        (b"cut 2 2\n", 7),
+        (b"heal 4 1\n", 6),
+    ];
+    for (line, at) in cases {
+        let mut text = Vec::from_slice(rt.alloc(), head)?;
+        text.extend_from_slice(line)?;
+        assert_eq!(rt;
+            count(rt.alloc(), text.as_slice()),
+            Err(ScheduleFault::BadLine { line: 6, at })
+        );
+    }
+    Ok(())
+}
+
+#[test]
+fn a_pair_is_refused_where_no_other_site_begins_so(rt: HostRuntime) {
+    let cases: [(&[u8], usize, usize); 6] = [
+        (b"site 1 7001\nevents\ncut 1 1\n", 3, 2),
+        (b"site 1 7001\nevents\nheal 1 1\n", 3, 1),
+        (b"site 1 7001\nsite 2 7002\nevents\ncut 1 1\n", 4, 7),
+        (b"site 1 7001\nsite 12 7002\nevents\ncut 1 1\n", 4, 8),
+        (b"site 1 7001\nsite 12 7002\nevents\ncut 12 12\n", 4, 9),
+        (b"site 2 7001\nsite 12 7002\nevents\ncut 12 12\n", 4, 8),
+    ];
+    for (text, line, at) in cases {
+        assert_eq!(rt;
+            count(rt.alloc(), text),
+            Err(ScheduleFault::BadLine { line, at })
+        );
+    }
+}
+
+#[test]
+fn a_port_and_a_name_stand_once(rt: HostRuntime) {
+    let cases: [(&[u8], usize); 3] = [
+        (b"site 1 7001\nrecord x 10 1:1\nrecord x 1 1:1\n", 3),
+        (b"site 1 7001\nsite 2 7001\nevents\n", 2),
+        (b"site 1 7001\nrecord x 10 1:1\nrecord x 10 1:1\nflew\n", 3),
+    ];
+    for (text, line) in cases {
+        assert_eq!(rt; count(rt.alloc(), text), Err(ScheduleFault::Twice { line }));
+    }
+}
+
+#[test]
+fn a_record_line_too_many_is_named_before_its_name(rt: HostRuntime) -> Result<(), NoMemory> {
+    let mut text = Vec::from_slice(rt.alloc(), b"site 1 7001\n")?;
+    for k in 0..256 {
+        text.extend_from_slice(format!(in rt.alloc(); "record r{k} 0 1:1\n")?.as_bytes())?;
+    }
+    text.extend_from_slice(b"record r7 0 1:1\nevents\n")?;
+    assert_eq!(rt;
+        count(rt.alloc(), text.as_slice()),
+        Err(ScheduleFault::TooMany {
+            line: 258,
+            limit: 256
+        })
+    );
+    Ok(())
+}
+
+#[test]
+fn a_hundred_thousand_events_are_read_and_no_more(rt: HostRuntime) -> Result<(), NoMemory> {
+    let mut text = Vec::from_slice(rt.alloc(), b"site 1 7001\nevents\n")?;
+    for _ in 0..100_000 {
+        text.extend_from_slice(b"tick 1\n")?;
+    }
+    assert_eq!(rt; count(rt.alloc(), text.as_slice()), Ok(100_000));
+    text.extend_from_slice(b"tick 1\n")?;
+    assert_eq!(rt;
+        count(rt.alloc(), text.as_slice()),
+        Err(ScheduleFault::TooMany {
+            line: 100_003,
+            limit: 100_000
+        })
+    );
+    Ok(())
 }

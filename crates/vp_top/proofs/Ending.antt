@@ -1,5 +1,5 @@
 -- What a run comes to at its ends.
-use Rattle.std.proofs.Common.{◌≡◌, ◌<◌, ℕ, List, [], length, Option, Some, None, IsSome, codes, refl, sym, subst, arith}
+use Rattle.std.proofs.Common.{◌≡◌, ◌<◌, ℕ, List, [], length, Option, Some, None, IsSome, codes, refl, sym, subst, arith, inl, inr}
 use Rattle.std.specs.Io.KnownBytes.{Appends, Consumes}
 use Rattle.vp_outside.specs.Input.{Takes}
 use Rattle.vp_top.specs.declared.status.Status.{Status}
@@ -25,17 +25,13 @@ pub defines_too_long : (words : List (List ℕ)) (s : Sourced) (end : Status) (t
 defines_too_long words s end text replay h e t = record {
   bytes = h.0;
   takes = h.2;
-  defined = subst (λ x. IsDefined words h.0 (IsEnded s) x text) (sym e) (replay, h.1, t);
+  defined = subst (λ x. IsDefined words h.0 (IsEnded s) x text) (sym e) (inl (replay, h.1, t));
 }
 
 -- no command has these statuses
 no_usage : (command : Command) (bytes text : List ℕ) → IsAnswer command bytes status.Usage text → ⊥
 no_usage commands.Replay bytes text a = a
 no_usage commands.Check bytes text a = a
-
-no_limit : (command : Command) (bytes text : List ℕ) → IsAnswer command bytes status.Limit text → ⊥
-no_limit commands.Replay bytes text a = a
-no_limit commands.Check bytes text a = a
 
 no_memory : (command : Command) (bytes text : List ℕ) → IsAnswer command bytes status.NoMemory text → ⊥
 no_memory commands.Replay bytes text a = a
@@ -51,7 +47,7 @@ no_sink commands.Check bytes text a = a
 
 answered_is : (words : List (List ℕ)) (bytes : List ℕ) (ended : Type 0) (end : Status) (text : List ℕ) → IsAnswered words bytes ended end text → IsDefined words bytes ended end text
 answered_is words bytes ended status.Usage text a = absurd (no_usage a.command bytes text a.answer)
-answered_is words bytes ended status.Limit text a = absurd (no_limit a.command bytes text a.answer)
+answered_is words bytes ended status.Limit text a = inr a
 answered_is words bytes ended _ text a = a
 
 pub defines_answer : (words : List (List ℕ)) (s : Sourced) (end : Status) (text bytes : List ℕ) → Takes bytes s.left s.left_after s.taken s.taken_after → IsAnswered words bytes (IsEnded s) end text → Defines words s end text

@@ -1,4 +1,4 @@
 pub mod Ending
-pub mod Served
+pub mod OneSite
 pub mod Replaying
 pub mod Values

@@ -1,15 +1,14 @@
--- A site that is alone, and the lines of its steps.
-use Rattle.std.specs.Prelude.{◌≡◌, ℕ, Bool, true, false, List, [], ◌∷◌, Some, None, All}
-use Rattle.std.specs.List.{AllByRecursion}
-use Rattle.vp_model.specs.Types.{View, Call, Effects, Line}
-use Rattle.vp_model.specs.Types.call
+-- A site that is alone, the lines of its steps, and the schedules that it serves.
+use Rattle.std.specs.Prelude.{◌≡◌, ℕ, true, List, [], ◌∷◌, Some, None, All}
+use Rattle.vp_model.specs.Types.{View, Event, Effects, Line}
 use Rattle.vp_model.specs.Types.event
 use Rattle.vp_model.specs.Types.shown
 use Rattle.vp_model.specs.Words.{opening}
 use Rattle.vp_model.specs.Catalogue.{Catalogue}
 use Rattle.vp_model.specs.Site.{Here, SiteState, Stepped, begin_step, by_coordinator}
 use Rattle.vp_model.specs.Calls.{own_call}
-use Rattle.vp_one_site.specs.OneSite.{IsOnlyAt}
+use Rattle.vp_model.specs.World.{Schedule}
+use Rattle.vp_one_site.specs.OneSite.{is_call_at}
 use Rattle.vp_coordinator.specs.Lent.{Coordinating}
 
 -- a site in the view that it opened, which knows of its own transactions alone
@@ -24,22 +23,23 @@ site_with held here c = record {
   coordinator = c.coordinator;
 }
 
--- what a call does that its coordinator takes, in a replay
-abbrev pub called : Catalogue → Call → SiteState → Stepped
-called catalogue words site = by_coordinator (own_call catalogue 0 words) (begin_step site)
+-- what an event does at the site where it is a call that its coordinator takes, in a replay
+abbrev pub called : Catalogue → Event → SiteState → Stepped
+called catalogue (event.Call at words) site = by_coordinator (own_call catalogue 0 words) (begin_step site)
+called catalogue _ site = begin_step site
 
 -- the line of a step that no message was sent before
-abbrev pub line_of : ℕ → Call → Effects → Line
-line_of id words e = record { event = event.Call id words; shown = shown.Step e.commits 1 e.messages e.replies }
+abbrev pub line_of : Event → Effects → Line
+line_of event e = record { event = event; shown = shown.Step e.commits 1 e.messages e.replies }
 
--- a call that the coordinator takes
-abbrev pub is_own : Call → Bool
-is_own call.Regroup = false
-is_own _ = true
+abbrev pub schedule_with : Catalogue → List Event → Schedule
+schedule_with catalogue events = record { catalogue = catalogue; events = events }
 
--- the catalogue has site 1 alone, with the only copy of each record, and its coordinator takes each of the calls
-pub record IsAlone (catalogue : Catalogue) (calls : List Call) : Type 0 where
+-- the catalogue has this site alone, and each event is a call there that its coordinator takes
+pub record IsServedAt (site : ℕ) (s : Schedule) : Type 0 where
   pub port : ℕ
-  pub sites : catalogue.sites ≡ (1, port) ∷ []
-  pub records : All (IsOnlyAt 1) catalogue.records
-  pub own : AllByRecursion (λ (words : Call). is_own words ≡ true) calls
+  pub sites : s.catalogue.sites ≡ (site, port) ∷ []
+  pub events : All (λ (e : Event). is_call_at site e ≡ true) s.events
+
+abbrev pub IsServed : Schedule → Type 0
+IsServed s = (site : ℕ) × IsServedAt site s

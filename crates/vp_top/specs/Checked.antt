@@ -8,6 +8,7 @@ use Rattle.vp_onecopy.specs.Checking.{IsFirstDifference}
 use Rattle.vp_onecopy.specs.Passing.{AnsweredAll}
 use Rattle.vp_onecopy.specs.declared.map.History.{History}
 use Rattle.vp_onecopy.specs.declared.fault.HistoryFault.TheVariants as faults
+use Rattle.vp_top.specs.Refused.{bad_line_text, twice_text}
 use Rattle.vp_top.specs.declared.status.Status.{Status}
 use Rattle.vp_top.specs.declared.status.Status.TheVariants as status
 
@@ -47,12 +48,6 @@ pub record IsChecked (bytes : List ℕ) (end : Status) (text : List ℕ) : Type 
   pub history : History
   pub spelled : AnsweredAll bytes (Ok history)
   pub verdict : IsVerdict history end text
-
-abbrev pub bad_line_text : ℕ → ℕ → List ℕ
-bad_line_text line at = codes "bad line " ++ (decimal line ++ (codes " at " ++ (decimal at ++ 10 ∷ [])))
-
-abbrev pub twice_text : ℕ → List ℕ
-twice_text line = codes "twice line " ++ (decimal line ++ 10 ∷ [])
 
 -- the bytes are no such text: this is the first line at fault, and its place
 abbrev pub IsMisspelled : List ℕ → List ℕ → Type 0

@@ -1,13 +1,8 @@
 -- What the program defines for its words and for the bytes that it takes of its source.
-use Rattle.std.specs.Prelude.{◌≡◌, ◌<◌, ◌≤◌, ◌++◌, ℕ, List, [], length, codes, Some, None, IsSome}
-use Rattle.vp_model.specs.World.{Schedule}
-use Rattle.vp_model.specs.Headline.{IsOneCopy}
-use Rattle.vp_model.specs.Texts.Schedule.{schedule_text}
-use Rattle.vp_model.specs.Texts.Trace.{trace_text}
-use Rattle.vp_model.specs.Texts.History.{history_text}
-use Rattle.vp_form.specs.Form.{IsFirstForm}
+use Rattle.std.specs.Prelude.{◌≡◌, ◌<◌, ◌≤◌, ◌⊎◌, ℕ, List, [], length, codes, Some, None, IsSome}
 use Rattle.vp_top.specs.Checked.{IsChecked, IsMisspelled}
 use Rattle.vp_top.specs.Commands.{command_of}
+use Rattle.vp_top.specs.Replayed.{IsReplayed, IsRefused}
 use Rattle.vp_top.specs.declared.status.Status.{Status}
 use Rattle.vp_top.specs.declared.status.Status.TheVariants as status
 use Rattle.vp_top.specs.declared.words.Command.{Command}
@@ -17,22 +12,12 @@ use Rattle.vp_top.specs.declared.words.Command.TheVariants as commands
 abbrev pub most_bytes : ℕ
 most_bytes = 16777216
 
--- The bytes are the text of one schedule that is served, what is printed is its trace and then its history, and the schedule is one copy.
-pub record IsReplayed (bytes text : List ℕ) : Type 0 where
-  pub schedule : Schedule
-  pub served : IsFirstForm schedule
-  pub spelled : schedule_text schedule ≡ bytes
-  pub printed : text ≡ trace_text schedule ++ history_text schedule
-  pub one_copy : IsOneCopy schedule
-
--- no schedule that is served has the bytes as its text
-abbrev pub IsUnserved : List ℕ → Type 0
-IsUnserved bytes = (s : Schedule) → IsFirstForm s → schedule_text s ≡ bytes → ⊥
-
 -- The text that a command defines for its input at each status; other statuses are none of the command's.
 abbrev pub IsAnswer : Command → List ℕ → Status → List ℕ → Type 0
-IsAnswer commands.Replay bytes status.Done text = IsReplayed bytes text
-IsAnswer commands.Replay bytes status.Unbuilt text = IsUnserved bytes × (text ≡ codes "unbuilt\n")
+IsAnswer commands.Replay bytes status.Done text = IsReplayed bytes status.Done text
+IsAnswer commands.Replay bytes status.Unbuilt text = IsReplayed bytes status.Unbuilt text
+IsAnswer commands.Replay bytes status.BadLine text = IsRefused bytes status.BadLine text
+IsAnswer commands.Replay bytes status.Limit text = IsRefused bytes status.Limit text
 IsAnswer commands.Replay bytes _ text = ⊥
 IsAnswer commands.Check bytes status.Done text = IsChecked bytes status.Done text
 IsAnswer commands.Check bytes status.Differs text = IsChecked bytes status.Differs text
@@ -47,12 +32,15 @@ pub record IsAnswered (words : List (List ℕ)) (bytes : List ℕ) (ended : Type
   pub whole : ended
   pub answer : IsAnswer command bytes end text
 
+-- The words are a command's, and its input is too long.
+abbrev pub IsTooLong : List (List ℕ) → List ℕ → List ℕ → Type 0
+IsTooLong words bytes text = IsSome (command_of words) × (most_bytes < length bytes) × (text ≡ codes "limit bytes 16777216\n")
+
 -- The text that the program defines for its words at each status, where it took these bytes of its source, and found its end or didn't.
 abbrev pub IsDefined : List (List ℕ) → List ℕ → Type 0 → Status → List ℕ → Type 0
 IsDefined words bytes ended status.Usage text =
     (command_of words ≡ None)
     × (bytes ≡ [])
     × (text ≡ codes "usage: vpdb replay|check|node|client|tick|probe|stop|generate|soak\n")
-IsDefined words bytes ended status.Limit text =
-    IsSome (command_of words) × (most_bytes < length bytes) × (text ≡ codes "limit bytes 16777216\n")
+IsDefined words bytes ended status.Limit text = IsTooLong words bytes text ⊎ IsAnswered words bytes ended status.Limit text
 IsDefined words bytes ended end text = IsAnswered words bytes ended end text

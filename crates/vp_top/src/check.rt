@@ -4,10 +4,11 @@ ghost use Rattle.std.specs.Prelude.{◌≡◌, ◌++◌, ◌∷◌, [], IfOk, On
 ghost use Rattle.std.specs.Fmt.{decimal};
 ghost use Rattle.vp_base.specs.Identifiers.{txn_text};
 ghost use Rattle.vp_onecopy.specs.Passing.{IsWhole};
-ghost use Rattle.vp_top.specs.Checked.{value_text, values_text, serial_text, difference_text, bad_line_text, twice_text, IsVerdict};
+ghost use Rattle.vp_top.specs.Checked.{value_text, values_text, serial_text, difference_text, IsVerdict};
 ghost use Rattle.vp_top.specs.Program.{IsAnswer};
 ghost use Rattle.vp_top.specs.declared.words.Command.TheVariants as commands;
 
+use crate::refusal::{print_bad_line, print_twice};
 use crate::status::{Defined, Status};
 use std::alloc::Global;
 use vp_base::{Name, NoMemory, RecId, TxnId, Value};
@@ -150,26 +151,6 @@ fn print_kept(kept: &Value, read: &Value, out: &mut Vec<u8>) -> Result<(), NoMem
     kept.print(out)?;
     out.extend_from_slice(b" read ")?;
     read.print(out)?;
-    out.push(b'\n')?;
-    Ok(())
-}
-
-fn print_bad_line(line: usize, at: usize, out: &mut Vec<u8>) -> Result<(), NoMemory>
-    ensures { OnOk result (out.new.items ≡ out.old.items ++ bad_line_text line at) }
-{
-    out.extend_from_slice(b"bad line ")?;
-    print_number(out, line as u64)?;
-    out.extend_from_slice(b" at ")?;
-    print_number(out, at as u64)?;
-    out.push(b'\n')?;
-    Ok(())
-}
-
-fn print_twice(line: usize, out: &mut Vec<u8>) -> Result<(), NoMemory>
-    ensures { OnOk result (out.new.items ≡ out.old.items ++ twice_text line) }
-{
-    out.extend_from_slice(b"twice line ")?;
-    print_number(out, line as u64)?;
     out.push(b'\n')?;
     Ok(())
 }

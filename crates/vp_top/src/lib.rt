@@ -4,7 +4,9 @@
 mod check;
 mod only_site;
 mod program;
+mod refusal;
 mod replay;
+mod served;
 mod status;
 mod words;
 

@@ -1,15 +1,14 @@
 //! A site that is alone: it holds the opening view with itself as its member, and has all copies.
 
-ghost use Rattle.std.specs.Prelude.{◌≡◌, OnOk, IfOk};
+ghost use Rattle.std.specs.Prelude.{◌≡◌, IfOk};
 ghost use Rattle.vp_model.specs.Catalogue.{start_copies};
 ghost use Rattle.vp_model.specs.Durable.{empty_durable};
-ghost use Rattle.vp_model.specs.Site.{by_coordinator};
-ghost use Rattle.vp_model.specs.Calls.{own_call};
 ghost use Rattle.vp_model.specs.Step.{start};
+ghost use Rattle.vp_top.specs.Alone.{called};
 
 use std::alloc::Global;
 use std::marker::Model;
-use vp_base::{Call, CopyOf, Effects, NoMemory, SiteId, View, ViewId};
+use vp_base::{CopyOf, Effects, Event, NoMemory, SiteId, View, ViewId};
 use vp_catalog::Catalog;
 use vp_coordinator::{Coordinator, Here};
 use vp_locks::Locks;
@@ -53,24 +52,27 @@ impl OnlySite {
         })
     }
 
-    /// Does what a client's call asks. Without memory the site and the effects may only be dropped.
-    pub fn call(
+    /// What a client's call gives; another event gives nothing here. Without memory the site may only be dropped.
+    pub fn step(
         &mut self,
+        alloc: Global,
         catalog: &Catalog,
-        call: &Call,
-        effects: &mut Effects,
-    ) -> Result<(), NoMemory>
-        ensures { OnOk result (record { site = self.new; effects = effects.new } ≡
-            by_coordinator (own_call catalog.now 0 call.now) (record { site = self.old; effects = effects.old })) }
+        event: &Event,
+    ) -> Result<Effects, NoMemory>
+        ensures { IfOk result (λ effects. record { site = self.new; effects = effects } ≡ called catalog.now event.now self.old) }
     {
-        self.coordinator.call(
-            catalog,
-            Some(&self.held),
-            OPENING,
-            &mut self.here,
-            0,
-            call,
-            effects,
-        )
+        let mut effects = Effects::none(alloc);
+        if let Event::Call { call, .. } = event {
+            self.coordinator.call(
+                catalog,
+                Some(&self.held),
+                OPENING,
+                &mut self.here,
+                0,
+                call,
+                &mut effects,
+            )?;
+        }
+        Ok(effects)
     }
 }

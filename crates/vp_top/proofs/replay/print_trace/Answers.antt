@@ -1,36 +1,40 @@
-use Rattle.std.proofs.Common.{◌≡◌, ◌+◌, ◌++◌, ◌∷◌, [], take, refl, sym, ap, ◌∙◌, append-nil, append_assoc, arith}
-use Rattle.std.proofs.lemmas.List.{take_more}
-use Rattle.vp_model.specs.Types.{Call}
+use Rattle.std.proofs.Common.{rules, ◌≡◌, ◌+◌, ◌++◌, ◌∷◌, [], List, take, length, refl, sym, ap, ◌∙◌, append-nil, append_assoc, arith}
+use Rattle.std.proofs.lemmas.List.{take_more, map-id, length_push}
+use Rattle.std.proofs.lemmas.Iterator.Adapters.{YieldsList-from_vec}
+use Rattle.std.proofs.lemmas.Iterator.Consumers.{YieldsList-so_far, YieldsList-turn}
+use Rattle.vp_model.specs.Types.{Event}
 use Rattle.vp_model.specs.Texts.Trace.{line_text, trace_text}
-use Rattle.vp_form.specs.Form.{schedule_with}
-use Rattle.vp_top.specs.Alone.{called, line_of}
-use Rattle.vp_top.proofs.Replaying.{start_after, start_trace, turn_after, turn_trace}
+use Rattle.vp_top.specs.Alone.{schedule_with, called, line_of}
+use Rattle.vp_top.proofs.Replaying.{start_after, start_trace, turn}
 use Rattle.vp_top.proofs.replay.print_trace.Goals as goal
 
-pub loop-call-init : goal.loop-call-init
-loop-call-init c = record {
+pub loop-event-init : goal.loop-event-init
+loop-event-init c = record {
   count = refl;
-  after = rw (c.in_ok-site.ensures, c.of.ensures, c.new-journal.ensures) (start_after c.args.catalog.now c.requires.alone.port c.requires.alone.sites);
+  after = rw (c.in_ok-site.ensures, c.new-journal.ensures) (start_after c.args.catalog.now c.args.id c.requires.served.port c.requires.served.sites);
   trace = sym (ap (λ text. c.args.out.now.items ++ text) (start_trace c.args.catalog.now) ∙ append-nil c.args.out.now.items);
 }
 
-pub loop-call-preserved : goal.loop-call-preserved
-loop-call-preserved c =
-    let i = c.loop-call.call-index in
-    let calls = c.args.calls.now in
-    let words = c.in_ok-call.call in
-    let more : take (i + 1) calls ≡ take i calls ++ words ∷ [] =
-    take_more calls i c.call-item.result c.loop-call-test.true
-    ∙ ap (λ (w : Call). take i calls ++ w ∷ []) (sym c.call-item.is ∙ sym c.in_ok-call.ensures) in
-    let before = c.loop-call.invariant.after in
-    let line = line_of 1 words (called c.args.catalog.now words c.loop-call.site).effects in
+pub loop-event-preserved : goal.loop-event-preserved
+loop-event-preserved c =
+    let before = c.loop-event.yielded in
+    let event = c.in-Some.event in
+    let yields = YieldsList-from_vec {s = c.into_iter-event-iterator.result} c.args.events (search rules) (search rules) in
+    let this = YieldsList-turn yields before c.loop-event.event-iterator c.loop-event.yielded_by c.next.result c.next.new.self event c.in-Some.is c.next.ensures.steps in
+    let so_far : before ≡ take (length before) c.args.events = sym (map-id before) ∙ YieldsList-so_far yields before c.loop-event.event-iterator c.loop-event.yielded_by in
+    let more : before ++ event ∷ [] ≡ take (length before + 1) c.args.events =
+    ap (λ (es : List Event). es ++ event ∷ []) so_far
+    ∙ ap (λ (e : Event). take (length before) c.args.events ++ e ∷ []) this.1
+    ∙ sym (take_more c.args.events (length before) event this.0) in
+    let t = turn c.args.id c.args.catalog.now c.args.events before event c.loop-event.site c.loop-event.journal c.requires.served c.requires.alone more c.loop-event.invariant.after in
+    let line = line_of event (called c.args.catalog.now event c.loop-event.site).effects in
     record {
-      count = omega arith;
-      after = rw (c.in_ok-print_step.ensures.site, c.in_ok-print_step.ensures.journal) (turn_after c.args.catalog.now calls i words c.loop-call.site c.loop-call.journal c.requires.alone more before);
+      count = omega (arith, length_push before event, c.loop-event.invariant.count);
+      after = rw (c.in_ok-print_step.ensures.site, c.in_ok-print_step.ensures.journal) t.after;
       trace =
           c.in_ok-print_step.ensures.trace
-          ∙ ap (λ n. c.loop-call.out.items ++ line_text c.args.catalog.now (n + 1, line)) c.loop-call.invariant.count
-          ∙ ap (λ text. text ++ line_text c.args.catalog.now (i + 1, line)) c.loop-call.invariant.trace
-          ∙ append_assoc c.args.out.now.items (trace_text (schedule_with c.args.catalog.now (take i calls))) (line_text c.args.catalog.now (i + 1, line))
-          ∙ ap (λ text. c.args.out.now.items ++ text) (sym (turn_trace c.args.catalog.now calls i words c.loop-call.site c.loop-call.journal c.requires.alone more before (omega arith)));
+          ∙ ap (λ n. c.loop-event.out.items ++ line_text c.args.catalog.now (n, line)) (omega (arith, c.loop-event.invariant.count))
+          ∙ ap (λ text. text ++ line_text c.args.catalog.now (1 + length before, line)) c.loop-event.invariant.trace
+          ∙ append_assoc c.args.out.now.items (trace_text (schedule_with c.args.catalog.now before)) (line_text c.args.catalog.now (1 + length before, line))
+          ∙ ap (λ text. c.args.out.now.items ++ text) (sym t.trace);
     }

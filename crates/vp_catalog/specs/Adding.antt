@@ -1,0 +1,15 @@
+-- What comes of adding a line to a catalogue.
+use Rattle.std.specs.Prelude.{◌≡◌, ⊤, ℕ, Result, Ok, Err}
+use Rattle.vp_model.specs.Catalogue.{Catalogue}
+use Rattle.vp_catalog.specs.declared.entry.Entry.{Entry}
+use Rattle.vp_catalog.specs.declared.fault.CatalogFault.{CatalogFault}
+use Rattle.vp_catalog.specs.declared.fault.CatalogFault.TheVariants as faults
+use Rattle.vp_catalog.specs.Entries.{after, Onward, Repeats, Overfills}
+
+-- The line of this number was added, or the catalogue is as it was.
+abbrev pub Adds : Catalogue → Entry → ℕ → Catalogue → Result ⊤ CatalogFault → Type 0
+Adds old entry line new (Ok done) = (new ≡ after old entry) × Onward old entry
+Adds old entry line new (Err (faults.BadLine l at)) = ⊥
+Adds old entry line new (Err (faults.Twice l)) = (new ≡ old) × (l ≡ line) × Repeats old entry
+Adds old entry line new (Err (faults.TooMany l limit)) = (new ≡ old) × (l ≡ line) × (limit ≡ 256) × Overfills old entry
+Adds old entry line new (Err faults.NoMemory) = new ≡ old

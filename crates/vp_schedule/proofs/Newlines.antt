@@ -1,0 +1,74 @@
+-- An event has no newline.
+use Rattle.std.proofs.Common.{◌≡◌, ℕ, List, [], ◌∷◌, ◌++◌, true, refl, sym, subst, arith}
+use Rattle.std.specs.Prelude.{codes}
+use Rattle.std.specs.Fmt.{decimal}
+use Rattle.std.proofs.lemmas.Bool.{ne_eqb}
+use Rattle.vp_text.proofs.Choices.{GoesOn}
+use Rattle.vp_text.proofs.Lists.{IsLine}
+use Rattle.vp_text.proofs.Words.{all_at}
+use Rattle.vp_base.specs.Identifiers.{IsTxn, txn_text}
+use Rattle.vp_model.specs.Types.{TxnId, Call, Event}
+use Rattle.vp_model.specs.Types.call
+use Rattle.vp_model.specs.Types.event
+use Rattle.vp_model.specs.Texts.Calls.{call_text, event_text}
+use Rattle.vp_model.specs.Texts.Fields.{call_name_text}
+use Rattle.vp_catalog.specs.Sites.{AllSites}
+use Rattle.vp_catalog.proofs.Sites.{site_range}
+use Rattle.vp_catalog.proofs.Newlines.{HasNoNewline, both, line_push, last_line, name_clean, value_clean, decimal_clean, clean, key_clean}
+use Rattle.vp_schedule.specs.Grammar.{IsNumbered, IsCall}
+use Rattle.vp_schedule.specs.Events.{IsListed, IsEvent, IsEventText}
+use Rattle.vp_schedule.proofs.Exact.{in_line}
+
+pub key_line : (key : List ℕ) → clean key ≡ true → IsLine (key ++ 10 ∷ [])
+key_line key e = line_push key (10 ∷ []) (key_clean key e) last_line
+
+-- ---- calls
+
+txn_clean : (v : TxnId) → IsTxn v → HasNoNewline (txn_text v)
+txn_clean v a =
+    both (decimal v.site) (46 ∷ (decimal v.life ++ 46 ∷ decimal v.seq)) (decimal_clean v.site (omega (arith, a.site_fits)))
+    (λ e. omega arith, both (decimal v.life) (46 ∷ decimal v.seq) (decimal_clean v.life (omega (arith, a.life_fits))) (λ e. omega arith, decimal_clean v.seq (omega (arith, a.seq_fits))))
+
+numbered_clean : (txn : TxnId) (number : ℕ) → IsNumbered txn number → (deed : List ℕ) → HasNoNewline deed → HasNoNewline (call_name_text txn number ++ deed)
+numbered_clean txn number h deed d =
+    both (call_name_text txn number) deed (both (txn_text txn) (32 ∷ decimal number) (txn_clean txn h.txn_is) (λ e. omega arith, decimal_clean number (omega (arith, h.fits)))) d
+
+call_clean : (words : Call) → IsCall words → HasNoNewline (call_text words)
+call_clean call.Begin h = key_clean (codes "begin") refl
+call_clean call.Regroup h = key_clean (codes "regroup") refl
+call_clean (call.Read txn number name) h = numbered_clean txn number h.0 (codes " read " ++ name) (both (codes " read ") name (key_clean (codes " read ") refl) (name_clean name h.1))
+call_clean (call.Write txn number name value) h =
+    numbered_clean txn number h.0 (codes " write " ++ (name ++ 32 ∷ value)) (both (codes " write ") (name ++ 32 ∷ value) (key_clean (codes " write ") refl) (both name (32 ∷ value) (name_clean name h.1) (λ e. omega arith, value_clean value h.2)))
+call_clean (call.Commit txn number) h = numbered_clean txn number h (codes " commit") (key_clean (codes " commit") refl)
+call_clean (call.Abort txn number) h = numbered_clean txn number h (codes " abort") (key_clean (codes " abort") refl)
+
+-- ---- events
+
+site_clean : (sites : List ℕ) → AllSites sites → (site : ℕ) → IsListed sites site → HasNoNewline (decimal site)
+site_clean sites all site h = decimal_clean site (omega (arith, (site_range sites site all h).1))
+
+word_site_clean : (sites : List ℕ) → AllSites sites → (word : List ℕ) → clean word ≡ true → (site : ℕ) → IsListed sites site → HasNoNewline (word ++ decimal site)
+word_site_clean sites all word e site h = both word (decimal site) (key_clean word e) (site_clean sites all site h)
+
+pair_clean : (sites : List ℕ) → AllSites sites → (word : List ℕ) → clean word ≡ true → (a b : ℕ) → IsListed sites a → IsListed sites b → HasNoNewline (word ++ (decimal a ++ 32 ∷ decimal b))
+pair_clean sites all word e a b h k = both word (decimal a ++ 32 ∷ decimal b) (key_clean word e) (both (decimal a) (32 ∷ decimal b) (site_clean sites all a h) (λ same. omega arith, site_clean sites all b k))
+
+event_clean : (sites : List ℕ) → AllSites sites → (e : Event) → IsEvent sites e → HasNoNewline (event_text e)
+event_clean sites all (event.Call site words) h =
+    both (codes "call ") (decimal site ++ 32 ∷ call_text words) (key_clean (codes "call ") refl) (both (decimal site) (32 ∷ call_text words) (site_clean sites all site h.0) (λ same. omega arith, call_clean words h.1))
+event_clean sites all (event.Deliver k) h = both (codes "deliver ") (decimal k) (key_clean (codes "deliver ") refl) (decimal_clean k (omega (arith, h.1)))
+event_clean sites all (event.Flow count) h = both (codes "flow ") (decimal count) (key_clean (codes "flow ") refl) (decimal_clean count (omega (arith, h.1)))
+event_clean sites all (event.Tick site) h = word_site_clean sites all (codes "tick ") refl site h
+event_clean sites all (event.Probe site) h = word_site_clean sites all (codes "probe ") refl site h
+event_clean sites all (event.Cut a b) h = pair_clean sites all (codes "cut ") refl a b h.0 h.1
+event_clean sites all (event.Heal a b) h = pair_clean sites all (codes "heal ") refl a b h.0 h.1
+event_clean sites all (event.Crash site) h = word_site_clean sites all (codes "crash ") refl site h
+event_clean sites all (event.Restart site) h = word_site_clean sites all (codes "restart ") refl site h
+
+pub event_is_line : (sites : List ℕ) → AllSites sites → (e : Event) → IsEvent sites e → IsLine (event_text e ++ 10 ∷ [])
+event_is_line sites all e h = line_push (event_text e) (10 ∷ []) (event_clean sites all e h) last_line
+
+pub event_goes : (sites : List ℕ) → AllSites sites → GoesOn in_line (IsEventText sites)
+event_goes sites all = λ a a2 text x r before longer.
+    let other = all_at (λ c. c ≡ 10 → ⊥) text x r (subst HasNoNewline (sym longer.is) (event_clean sites all a2 longer.allowed)) in
+    rw (ne_eqb x 10 other) refl

@@ -1,0 +1,56 @@
+//! Reading schedules.
+
+ghost use Rattle.std.specs.Prelude.{◌≡◌, ◌≤◌, ◌<◌, ◌^◌, ℕ, length, Err};
+ghost use Rattle.vp_schedule.specs.Drafts.{sites_said};
+ghost use Rattle.vp_schedule.specs.LineReading.{line_at};
+ghost use Rattle.vp_schedule.specs.Document.{Answered, IsOnly, IsTaken, NextLine};
+
+use crate::draft::Draft;
+use crate::fault::ScheduleFault;
+use crate::line::Line;
+use crate::line_reading::take_line;
+use crate::schedule::Schedule;
+use std::alloc::Global;
+use vp_base::LineFault;
+use vp_text::Cursor;
+
+/// The next line, which is allowed behind what the lines say so far.
+fn next_line(
+    alloc: Global,
+    cursor: &mut Cursor,
+    draft: &Draft,
+    line: usize,
+) -> Result<Line, ScheduleFault>
+    requires few { length (sites_said draft.now) ≤ 16 }
+    requires room { (left : ℕ) → line_at draft.now cursor.old ≡ Err left → left ≤ length cursor.old }
+    requires small { length cursor.old < 2 ^ 63 }
+    ensures { NextLine draft.now line cursor.old cursor.new result }
+{
+    let here = cursor.left();
+    match take_line(alloc, cursor, draft) {
+        Ok(next) => Ok(next),
+        Err(LineFault::NoMemory) => Err(ScheduleFault::NoMemory),
+        Err(LineFault::Unexpected(e)) => Err(ScheduleFault::BadLine {
+            line,
+            at: here - e.left + 1,
+        }),
+    }
+}
+
+/// The schedule that the whole text spells: the lines of a catalogue, the line `events`, and event lines to the end. The fault
+/// is that of the first line at fault. A text that ends before the line `events` has a bad line there.
+pub fn read(alloc: Global, text: &[u8]) -> Result<Schedule, ScheduleFault>
+    ensures answer { Answered text.now result }
+    ensures only { IsOnly text.now result }
+    ensures taken { IsTaken text.now result }
+{
+    let mut draft = Draft::new(alloc);
+    let mut cursor = Cursor::new(text);
+    let mut line = 1;
+    while cursor.left() > 0 || !draft.opened {
+        let next = next_line(alloc, &mut cursor, &draft, line)?;
+        draft.add(next, line)?;
+        line += 1;
+    }
+    Ok(draft.schedule)
+}

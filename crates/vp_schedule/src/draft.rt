@@ -1,0 +1,56 @@
+//! What the lines of a schedule say so far.
+
+ghost use Rattle.std.specs.Prelude.{◌≡◌};
+ghost use Rattle.vp_schedule.specs.Drafts.{blank, Adds};
+
+use crate::fault::ScheduleFault;
+use crate::line::Line;
+use crate::schedule::Schedule;
+use std::alloc::Global;
+use vp_base::Events;
+use vp_catalog::Catalog;
+
+/// How many events a schedule has at most.
+const MOST_EVENTS: usize = 100_000;
+
+/// A schedule that is being read, and whether the line `events` has come.
+#[derive(Drop)]
+pub struct Draft {
+    pub schedule: Schedule,
+    pub opened: bool,
+}
+
+impl Draft {
+    /// What no lines say, which takes no memory.
+    pub fn new(alloc: Global) -> Draft
+        ensures { result ≡ blank }
+    {
+        Draft {
+            schedule: Schedule {
+                catalog: Catalog::new(alloc),
+                events: Events::new(alloc),
+            },
+            opened: false,
+        }
+    }
+
+    /// Adds what the line of this number says. Without memory nothing is added.
+    pub fn add(&mut self, line: Line, number: usize) -> Result<(), ScheduleFault>
+        ensures { Adds self.old line number self.new result }
+    {
+        match line {
+            Line::Entry(entry) => self.schedule.catalog.add(entry, number)?,
+            Line::Events => self.opened = true,
+            Line::Event(event) => {
+                if self.schedule.events.as_slice().len() >= MOST_EVENTS {
+                    return Err(ScheduleFault::TooMany {
+                        line: number,
+                        limit: MOST_EVENTS as u32,
+                    });
+                }
+                self.schedule.events.push(event)?;
+            }
+        }
+        Ok(())
+    }
+}

@@ -1,0 +1,13 @@
+//! A line of a schedule.
+
+use vp_base::Event;
+use vp_catalog::Entry;
+
+#[derive(Drop)]
+pub enum Line {
+    /// A line of the catalogue.
+    Entry(Entry),
+    /// The line `events`.
+    Events,
+    Event(Event),
+}

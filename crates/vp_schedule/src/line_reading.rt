@@ -1,0 +1,82 @@
+//! Reading the lines of a schedule.
+
+ghost use Rattle.std.specs.Prelude.{◌≡◌, ◌≤◌, length};
+ghost use Rattle.vp_text.specs.Reading.{Reads, Tries};
+ghost use Rattle.vp_base.specs.Faults.{line_left};
+ghost use Rattle.vp_schedule.specs.Drafts.{sites_said};
+ghost use Rattle.vp_schedule.specs.LineReading.{catalogue_line_at, opening_at, head_at, event_line_at, line_at};
+
+use crate::draft::Draft;
+use crate::event_reading::take_event;
+use crate::line::Line;
+use std::alloc::Global;
+use vp_base::{LineFault, SiteId};
+use vp_catalog::{Catalog, take_entry};
+use vp_text::{Cursor, Unexpected};
+
+#[tactic(auto, unfolding(crate::specs::LineReading::catalogue_line_at))]
+fn take_catalogue_line(
+    alloc: Global,
+    cursor: &mut Cursor,
+    catalog: &Catalog,
+) -> Result<Line, LineFault>
+    ensures { Tries (λ line. line) line_left result cursor.new (catalogue_line_at catalog.now cursor.old) }
+{
+    let entry = take_entry(alloc, cursor, catalog)?;
+    Ok(Line::Entry(entry))
+}
+
+/// The line `events`.
+#[tactic(auto, unfolding(crate::specs::LineReading::opening_at))]
+fn take_opening(cursor: &mut Cursor) -> Result<Line, Unexpected>
+    ensures { Reads (λ line. line) (λ e. e.left) result cursor.new (opening_at cursor.old) }
+{
+    cursor.literal(b"events\n")?;
+    Ok(Line::Events)
+}
+
+/// A line of the catalogue or, where there is a site, the line `events`.
+#[tactic(auto, unfolding(crate::specs::LineReading::head_at))]
+fn take_head(alloc: Global, cursor: &mut Cursor, catalog: &Catalog) -> Result<Line, LineFault>
+    ensures { Tries (λ line. line) line_left result cursor.new (head_at catalog.now cursor.old) }
+{
+    if catalog.sites().as_slice().is_empty() {
+        return take_catalogue_line(alloc, cursor, catalog);
+    }
+    let mut other = cursor.fork();
+    match take_catalogue_line(alloc, cursor, catalog) {
+        Ok(line) => Ok(line),
+        Err(LineFault::NoMemory) => Err(LineFault::NoMemory),
+        Err(LineFault::Unexpected(first)) => match take_opening(&mut other) {
+            Ok(line) => {
+                *cursor = other;
+                Ok(line)
+            }
+            Err(second) => Err(LineFault::Unexpected(first.farther(second))),
+        },
+    }
+}
+
+#[tactic(auto, unfolding(crate::specs::LineReading::event_line_at))]
+fn take_event_line(alloc: Global, cursor: &mut Cursor, sites: &[SiteId]) -> Result<Line, LineFault>
+    requires { length sites.now ≤ 16 }
+    ensures { Tries (λ line. line) line_left result cursor.new (event_line_at sites.now cursor.old) }
+{
+    let event = take_event(alloc, cursor, sites)?;
+    cursor.literal(b"\n")?;
+    Ok(Line::Event(event))
+}
+
+/// Takes a line that is allowed where the lines before it say so much.
+#[tactic(auto, unfolding(crate::specs::LineReading::line_at))]
+pub fn take_line(alloc: Global, cursor: &mut Cursor, draft: &Draft) -> Result<Line, LineFault>
+    requires { length (sites_said draft.now) ≤ 16 }
+    ensures { Tries (λ line. line) line_left result cursor.new (line_at draft.now cursor.old) }
+{
+    let catalog = &draft.schedule.catalog;
+    if draft.opened {
+        take_event_line(alloc, cursor, catalog.sites().as_slice())
+    } else {
+        take_head(alloc, cursor, catalog)
+    }
+}

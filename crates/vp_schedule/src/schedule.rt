@@ -1,0 +1,20 @@
+//! A schedule: a catalogue and the events of a run over it.
+
+use std::marker::Model;
+use vp_base::Events;
+use vp_catalog::Catalog;
+
+/// What a run is given. A contract sees it as the definitions' schedule.
+#[derive(Drop)]
+pub struct Schedule {
+    pub catalog: Catalog,
+    pub events: Events,
+}
+
+impl Model for Schedule {
+    ghost use Rattle.vp_model.specs.World.{Schedule};
+
+    ghost Value = { Schedule };
+
+    ghost view = { λ s. record { catalogue = s.catalog; events = s.events } };
+}

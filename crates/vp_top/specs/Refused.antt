@@ -1,0 +1,18 @@
+-- The lines that refuse an input.
+use Rattle.std.specs.Prelude.{ℕ, List, [], ◌∷◌, ◌++◌, ◌==◌, if◌then◌else◌, codes}
+use Rattle.std.specs.Fmt.{decimal}
+
+-- the first line at fault, and its place
+abbrev pub bad_line_text : ℕ → ℕ → List ℕ
+bad_line_text line at = codes "bad line " ++ (decimal line ++ (codes " at " ++ (decimal at ++ 10 ∷ [])))
+
+-- the line that gives what an earlier one gave
+abbrev pub twice_text : ℕ → List ℕ
+twice_text line = codes "twice line " ++ (decimal line ++ 10 ∷ [])
+
+-- what there may be so many of
+abbrev pub limited : ℕ → List ℕ
+limited limit = if limit == 256 then codes "records " else codes "events "
+
+abbrev pub limit_text : ℕ → List ℕ
+limit_text limit = codes "limit " ++ (limited limit ++ (decimal limit ++ 10 ∷ []))
