@@ -1,5 +1,5 @@
 -- The texts of schedules, and the places of their faults.
-use Rattle.std.specs.Prelude.{◌≡◌, ◌≢◌, ⊤, ℕ, ◌+◌, ◌-◌, ◌≤◌, List, length, Result, Ok, Err}
+use Rattle.std.specs.Prelude.{◌≡◌, ◌≢◌, ⊤, ℕ, ◌+◌, ◌-◌, ◌≤◌, List, length, Bool, ◌||◌, not, nat_lt, Result, Ok, Err}
 use Rattle.std.specs.List.{AllByRecursion}
 use Rattle.vp_text.specs.Documents.{IsBadLine, IsFaultyLine}
 use Rattle.vp_model.specs.Catalogue.{sites_of}
@@ -39,7 +39,9 @@ IsOnly text result = (other : Result Schedule ScheduleFault) → Answered text o
 abbrev pub IsTaken : List ℕ → Result Schedule ScheduleFault → Type 0
 IsTaken text result = (s : Schedule) → IsScheduleText s text → result ≢ Err faults.NoMemory → result ≡ Ok s
 
--- ---- a step of the reader: the next line was read, or this is its place in the text
+-- ---- the steps of the reader
+
+-- the next line was read, or this is its place in the text
 
 abbrev pub NextLine : Draft → ℕ → List ℕ → List ℕ → Result Line ScheduleFault → Type 0
 NextLine draft number old new (Ok line) = line_at draft old ≡ Ok (line, new)
@@ -47,3 +49,7 @@ NextLine draft number old new (Err (faults.BadLine line at)) = (line ≡ number)
 NextLine draft number old new (Err (faults.Twice line)) = ⊥
 NextLine draft number old new (Err (faults.TooMany line limit)) = ⊥
 NextLine draft number old new (Err faults.NoMemory) = ⊤
+
+-- another line has to come
+abbrev pub is_owed : List ℕ → Draft → Bool
+is_owed rest draft = nat_lt 0 (length rest) || not draft.opened

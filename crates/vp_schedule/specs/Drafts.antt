@@ -57,10 +57,10 @@ fault_of (catalog_faults.Twice line) = faults.Twice line
 fault_of (catalog_faults.TooMany line limit) = faults.TooMany line limit
 fault_of catalog_faults.NoMemory = faults.NoMemory
 
--- The line was added, or it is at fault.
+-- The line of this number was added, or the draft is as it was.
 abbrev pub Adds : Draft → Line → ℕ → Draft → Result (Unit {0}) ScheduleFault → Type 0
 Adds old line number new (Ok u) = (new ≡ after old line) × Onward old line
 Adds old line number new (Err (faults.BadLine l at)) = ⊥
-Adds old line number new (Err (faults.Twice l)) = (l ≡ number) × Repeats old line
-Adds old line number new (Err (faults.TooMany l limit)) = (l ≡ number) × Exceeds limit old line
+Adds old line number new (Err (faults.Twice l)) = (new ≡ old) × (l ≡ number) × Repeats old line
+Adds old line number new (Err (faults.TooMany l limit)) = (new ≡ old) × (l ≡ number) × Exceeds limit old line
 Adds old line number new (Err faults.NoMemory) = new ≡ old

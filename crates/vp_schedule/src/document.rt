@@ -3,7 +3,7 @@
 ghost use Rattle.std.specs.Prelude.{◌≡◌, ◌≤◌, ◌<◌, ◌^◌, ℕ, length, Err};
 ghost use Rattle.vp_schedule.specs.Drafts.{sites_said};
 ghost use Rattle.vp_schedule.specs.LineReading.{line_at};
-ghost use Rattle.vp_schedule.specs.Document.{Answered, IsOnly, IsTaken, NextLine};
+ghost use Rattle.vp_schedule.specs.Document.{Answered, IsOnly, IsTaken, NextLine, is_owed};
 
 use crate::draft::Draft;
 use crate::fault::ScheduleFault;
@@ -37,6 +37,13 @@ fn next_line(
     }
 }
 
+/// Whether another line has to come: there are more bytes, or the line `events` has not come yet.
+fn owes_line(cursor: &Cursor, draft: &Draft) -> bool
+    ensures { result ≡ is_owed cursor.now draft.now }
+{
+    cursor.left() > 0 || !draft.opened
+}
+
 /// The schedule that the whole text spells: the lines of a catalogue, the line `events`, and event lines to the end. The fault
 /// is that of the first line at fault. A text that ends before the line `events` has a bad line there.
 pub fn read(alloc: Global, text: &[u8]) -> Result<Schedule, ScheduleFault>
@@ -47,7 +54,7 @@ pub fn read(alloc: Global, text: &[u8]) -> Result<Schedule, ScheduleFault>
     let mut draft = Draft::new(alloc);
     let mut cursor = Cursor::new(text);
     let mut line = 1;
-    while cursor.left() > 0 || !draft.opened {
+    while owes_line(&cursor, &draft) {
         let next = next_line(alloc, &mut cursor, &draft, line)?;
         draft.add(next, line)?;
         line += 1;

@@ -34,7 +34,7 @@ impl Draft {
         }
     }
 
-    /// Adds what the line of this number says. Without memory nothing is added.
+    /// Adds what the line of this number says. After an `Err` nothing is added.
     pub fn add(&mut self, line: Line, number: usize) -> Result<(), ScheduleFault>
         ensures { Adds self.old line number self.new result }
     {

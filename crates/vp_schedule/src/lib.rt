@@ -22,7 +22,6 @@ mod trace;
 pub use answers::print_answer;
 pub use calls::{print_call, print_event};
 pub use document::read;
-pub use event_reading::take_event;
 pub use fault::ScheduleFault;
 pub use messages::print_message;
 pub use printing::print;

@@ -1,11 +1,11 @@
-use Rattle.std.proofs.Common.{◌≡◌, false, length, arith, Ok, Err}
+use Rattle.std.proofs.Common.{Ok, Err, sym, ◌∙◌}
 use Rattle.std.proofs.lemmas.Result.{err_from_is_err_and}
 use Rattle.vp_schedule.specs.Document.{Answered}
 use Rattle.vp_schedule.proofs.Steps.{stands_few, stands_room, stands_shorter}
 use Rattle.vp_schedule.proofs.Answering.{answered_next, answered_add, answered_end, stands_more}
 use Rattle.vp_schedule.proofs.Only.{only, taken}
 use Rattle.vp_schedule.proofs.document.read.Goals as goal
-use Rattle.vp_schedule.proofs.document.read.Goals.{After-drop-draft-in_err-next-3, After-drop-draft-in_err-add-4, then-left-gt0, else-left-gt0+then-not-draft}
+use Rattle.vp_schedule.proofs.document.read.Goals.{After-drop-draft-in_err-next-3, After-drop-draft-in_err-add-4}
 
 pub next_line-requires-clause-few : goal.next_line-requires-clause-few
 next_line-requires-clause-few c = stands_few c.args.text.now c.loop-cursor.cursor c.loop-cursor.draft c.loop-cursor.line c.loop-cursor.invariant
@@ -14,12 +14,7 @@ pub next_line-requires-clause-room : goal.next_line-requires-clause-room
 next_line-requires-clause-room c = stands_room c.args.text.now c.loop-cursor.cursor c.loop-cursor.draft c.loop-cursor.line c.loop-cursor.invariant
 
 answer_next : (c : After-drop-draft-in_err-next-3) → Answered c.args.text.now (Err c.in_err-next.field-0.0)
-answer_next c =
-    let unfinished : length c.loop-cursor.cursor ≡ 0 → c.loop-cursor.draft.opened ≡ false = elim c.if-left-gt0.branch [
-      | then-left-gt0 w ↦ λ none. absurd (omega (arith, none, w.if-left-gt0.true, c.left.ensures))
-      | else-left-gt0+then-not-draft w ↦ λ none. w.if-not-draft.true
-    ] in
-    answered_next c.args.text.now c.loop-cursor.cursor c.next_line.new.cursor c.loop-cursor.draft c.loop-cursor.line c.in_err-next.field-0.0 c.loop-cursor.invariant unfinished c.in_err-next.ensures
+answer_next c = answered_next c.args.text.now c.loop-cursor.cursor c.next_line.new.cursor c.loop-cursor.draft c.loop-cursor.line c.in_err-next.field-0.0 c.loop-cursor.invariant (sym c.owes_line.ensures ∙ c.loop-cursor-test.true) c.in_err-next.ensures
 
 answer_add : (c : After-drop-draft-in_err-add-4) → Answered c.args.text.now (Err c.in_err-add.field-0.0)
 answer_add c = answered_add c.args.text.now c.loop-cursor.cursor c.next_line.new.cursor c.loop-cursor.draft c.add.new.self c.in_ok-next.next c.loop-cursor.line c.in_err-add.field-0.0 c.loop-cursor.invariant c.in_ok-next.ensures c.in_err-add.ensures
@@ -61,10 +56,10 @@ pub loop-cursor-preserved : goal.loop-cursor-preserved
 loop-cursor-preserved c = stands_more c.args.text.now c.loop-cursor.cursor c.next_line.new.cursor c.loop-cursor.draft c.add.new.self c.in_ok-next.next c.loop-cursor.line c.in_ok-add.field-0 c.loop-cursor.invariant c.in_ok-next.ensures c.in_ok-add.ensures
 
 pub returns-clause-answer : goal.returns-clause-answer
-returns-clause-answer c = answered_end c.args.text.now c.loop-cursor.cursor c.loop-cursor.draft c.loop-cursor.line c.loop-cursor.invariant (omega (arith, c.left.ensures, c.if-left-gt0.false)) c.if-not-draft.false
+returns-clause-answer c = answered_end c.args.text.now c.loop-cursor.cursor c.loop-cursor.draft c.loop-cursor.line c.loop-cursor.invariant (sym c.owes_line.ensures ∙ c.loop-cursor-test.false)
 
 pub returns-clause-only : goal.returns-clause-only
-returns-clause-only c = only c.args.text.now (Ok c.loop-cursor.draft.schedule) (answered_end c.args.text.now c.loop-cursor.cursor c.loop-cursor.draft c.loop-cursor.line c.loop-cursor.invariant (omega (arith, c.left.ensures, c.if-left-gt0.false)) c.if-not-draft.false)
+returns-clause-only c = only c.args.text.now (Ok c.loop-cursor.draft.schedule) (answered_end c.args.text.now c.loop-cursor.cursor c.loop-cursor.draft c.loop-cursor.line c.loop-cursor.invariant (sym c.owes_line.ensures ∙ c.loop-cursor-test.false))
 
 pub returns-clause-taken : goal.returns-clause-taken
-returns-clause-taken c = taken c.args.text.now (Ok c.loop-cursor.draft.schedule) (answered_end c.args.text.now c.loop-cursor.cursor c.loop-cursor.draft c.loop-cursor.line c.loop-cursor.invariant (omega (arith, c.left.ensures, c.if-left-gt0.false)) c.if-not-draft.false)
+returns-clause-taken c = taken c.args.text.now (Ok c.loop-cursor.draft.schedule) (answered_end c.args.text.now c.loop-cursor.cursor c.loop-cursor.draft c.loop-cursor.line c.loop-cursor.invariant (sym c.owes_line.ensures ∙ c.loop-cursor-test.false))
