@@ -27,7 +27,7 @@ use Rattle.vp_laws.proofs.Frames.{close-commits, close-ends}
 use Rattle.vp_laws.proofs.Lists.{without_first_has}
 use Rattle.vp_laws.proofs.LocalViews.{letter}
 use Rattle.vp_laws.specs.Votes.{is_commit}
-use Rattle.vp_laws.proofs.Table.{Closed, Comes, Handled, IsNext, Reads, Writes, Counts, remaining, IsLast, Locked, Completes, Decides, is_abort, lent_at, OfCoordinator}
+use Rattle.vp_laws.proofs.Table.{Closed, Comes, Handled, IsCall, IsNext, Reads, Writes, Counts, remaining, IsLast, Locked, Completes, Decides, is_abort, lent_at, OfCoordinator}
 
 first_has : (xs : List ℕ) (q : ℕ) → first xs ≡ Some q → Has xs q
 first_has [] q e = cc
@@ -111,7 +111,7 @@ module _ (catalogue : Catalogue) (x : SiteState) (given : Input) (Q : Lent → T
   handled_as t e = record { was = t; live = e; same = refl }
 
   -- the next call of a live transaction t
-  module _ (t : Live) (p : Pending) (here : Has x.live t) (next : IsNext t p) where
+  module _ (called : IsCall given) (t : Live) (p : Pending) (here : Has x.live t) (next : IsNext t p) where
     closing-kept : (why : Ending) → is_abort why ≡ true → Q (close x.id (handling t p) why (lent_at x))
     closing-kept why a = k.close (handling t p) why (lent_at x) (handled_by t p here) a refl h
 
@@ -150,7 +150,7 @@ module _ (catalogue : Catalogue) (x : SiteState) (given : Input) (Q : Lent → T
 
     commit-kept : is_commit p.call ≡ true → Q (commit catalogue x.id t p (lent_at x))
     unfolding commit
-    commit-kept c = by_test Q (is_empty t.parts) _ _ (λ e. k.decide (handling t p) (handled_by t p here) (Decides.alone t p here next c e refl)) (λ e. k.prepare_parts t p here next c e)
+    commit-kept c = by_test Q (is_empty t.parts) _ _ (λ e. k.decide (handling t p) (handled_by t p here) (Decides.alone called t p here next c e refl)) (λ e. k.prepare_parts t p here next c e)
 
     new_call-kept : (words : Call) → p.call ≡ words → Q (new_call catalogue x.id x.held t p words (lent_at x))
     unfolding new_call
@@ -161,30 +161,30 @@ module _ (catalogue : Catalogue) (x : SiteState) (given : Input) (Q : Lent → T
     new_call-kept call.Begin e = h
     new_call-kept call.Regroup e = h
 
-  live_call-kept : (t : Live) (p : Pending) → Has x.live t → Q (live_call catalogue x.id x.held t p (lent_at x))
+  live_call-kept : IsCall given → (t : Live) (p : Pending) → Has x.live t → Q (live_call catalogue x.id x.held t p (lent_at x))
   unfolding live_call
-  live_call-kept t p here =
+  live_call-kept called t p here =
       by_test Q (nat_le p.number (length t.answers)) _ _ (λ old. by_some Q _ (λ answer. lent_reply answer p.port) (lent_at x) (λ answer e. k.answers answer p.port) h)
       (λ fresh. by_test Q (nat_lt (length t.answers + 1) p.number) _ _ (λ skipped. k.answers _ _)
-      (λ fits. by_test Q (is_some t.pending) _ _ (λ busy. k.answers _ _) (λ idle. new_call-kept t p here (record { idle = idle; number = next_number p.number (length t.answers) fresh fits }) p.call refl)))
+      (λ fits. by_test Q (is_some t.pending) _ _ (λ busy. k.answers _ _) (λ idle. new_call-kept called t p here (record { idle = idle; number = next_number p.number (length t.answers) fresh fits }) p.call refl)))
 
   finished_call-kept : (port number : ℕ) (f : Finished) → Q (finished_call port number f (lent_at x))
   unfolding finished_call
   finished_call-kept port number f = grind (arith, k.answers, h)
 
-  on_txn_call-kept : (port : ℕ) (txn : TxnId) (number : ℕ) (words : Call) → Q (on_txn_call catalogue x.id x.held port txn number words (lent_at x))
+  on_txn_call-kept : IsCall given → (port : ℕ) (txn : TxnId) (number : ℕ) (words : Call) → Q (on_txn_call catalogue x.id x.held port txn number words (lent_at x))
   unfolding on_txn_call
-  on_txn_call-kept port txn number words =
-      by_option Q _ _ _ (λ t e. live_call-kept t (handled port number words) (live_of-has txn x.live t e)) (λ none. by_option Q (λ f. finished_call port number f (lent_at x)) (finished_of txn x.finished) (lent_reply (answer.Unknown txn) port (lent_at x)) (λ f e. finished_call-kept port number f) (λ unknown. k.answers (answer.Unknown txn) port))
+  on_txn_call-kept called port txn number words =
+      by_option Q _ _ _ (λ t e. live_call-kept called t (handled port number words) (live_of-has txn x.live t e)) (λ none. by_option Q (λ f. finished_call port number f (lent_at x)) (finished_of txn x.finished) (lent_reply (answer.Unknown txn) port (lent_at x)) (λ f e. finished_call-kept port number f) (λ unknown. k.answers (answer.Unknown txn) port))
 
-  pub own_call-kept : (port : ℕ) (words : Call) → Q (own_call catalogue port words (surroundings x) (lent_at x))
+  pub own_call-kept : IsCall given → (port : ℕ) (words : Call) → Q (own_call catalogue port words (surroundings x) (lent_at x))
   unfolding own_call
-  own_call-kept port call.Begin = on_begin-kept port
-  own_call-kept port call.Regroup = h
-  own_call-kept port (call.Read txn number name) = on_txn_call-kept port txn number (call.Read txn number name)
-  own_call-kept port (call.Write txn number name value) = on_txn_call-kept port txn number (call.Write txn number name value)
-  own_call-kept port (call.Commit txn number) = on_txn_call-kept port txn number (call.Commit txn number)
-  own_call-kept port (call.Abort txn number) = on_txn_call-kept port txn number (call.Abort txn number)
+  own_call-kept called port call.Begin = on_begin-kept port
+  own_call-kept called port call.Regroup = h
+  own_call-kept called port (call.Read txn number name) = on_txn_call-kept called port txn number (call.Read txn number name)
+  own_call-kept called port (call.Write txn number name value) = on_txn_call-kept called port txn number (call.Write txn number name value)
+  own_call-kept called port (call.Commit txn number) = on_txn_call-kept called port txn number (call.Commit txn number)
+  own_call-kept called port (call.Abort txn number) = on_txn_call-kept called port txn number (call.Abort txn number)
 
   -- answers to this site's transactions
   with_missing-kept : (txn : TxnId) (from : ℕ) (f : Live → Pending → Lent → Lent) → ((t : Live) (p : Pending) → Has x.live t → t.txn ≡ txn → t.pending ≡ Some p → has p.missing from ≡ true → Q (f t p (lent_at x))) → Q (with_missing txn from f (lent_at x))

@@ -67,6 +67,7 @@ pub mod SiteWords
 -- what is stated and not proved yet
 pub mod ValuesAfter
 pub mod TableUnlisted
+pub mod TableCovered
 pub mod Playing
 pub mod Remaining
 pub mod UsableCopies

@@ -1,7 +1,7 @@
 -- The table in small moves: what a property of a step's state has to survive, so that the whole step keeps it.
 use Rattle.std.proofs.Common.{◌≡◌, ◌⊎◌, ℕ, ◌+◌, Bool, true, false, List, [], map, length}
 use Rattle.std.specs.Prelude.{Some, None, is_some, filter, ◌==◌, ◌&&◌, not}
-use Rattle.vp_model.specs.Types.{ViewId, TxnId, View, Stored, Op, Owner, Answer, Message, Sent, Input, Part, Refreshing, Pending, Live, Ending}
+use Rattle.vp_model.specs.Types.{ViewId, TxnId, View, Stored, Op, Owner, Call, Answer, Message, Sent, Input, Part, Refreshing, Pending, Live, Ending}
 use Rattle.vp_base.specs.declared.site.Ending.TheVariants.{Committed, Aborted, LockHeld, ViewChanged, TimedOut}
 use Rattle.vp_model.specs.Types.answer
 use Rattle.vp_model.specs.Types.call
@@ -128,9 +128,12 @@ pub data Completes (catalogue : Catalogue) (x : SiteState) (given : Input) (t : 
   read_answered : (from rec : ℕ) (value : List ℕ) → Comes given from (message.ReadAnswer t.txn p.number value) → IsLast t p from → Reads catalogue p rec → operation ≡ op.Read rec value → words ≡ answer.Value t.txn p.number value → l ≡ lent_at x → Completes catalogue x given t p operation words l
   write_answered : (from rec : ℕ) (value : List ℕ) → Comes given from (message.WriteAnswer t.txn p.number) → IsLast t p from → Writes catalogue p rec value → operation ≡ op.Write rec value → words ≡ answer.Written t.txn p.number → l ≡ lent_at x → Completes catalogue x given t p operation words l
 
+abbrev pub IsCall : Input → Type 0
+IsCall given = (port : ℕ) × (words : Call) × (given ≡ input.Call port words)
+
 -- why a transaction commits: its commit is called and it has no part, or the last vote comes. Which transaction is decided is the last argument
 pub data Decides (catalogue : Catalogue) (x : SiteState) (given : Input) (t : Live) : Type 0 where
-  alone : (was : Live) (p : Pending) → Has x.live was → IsNext was p → is_commit p.call ≡ true → is_empty was.parts ≡ true → t ≡ handling was p → Decides catalogue x given t
+  alone : IsCall given → (was : Live) (p : Pending) → Has x.live was → IsNext was p → is_commit p.call ≡ true → is_empty was.parts ≡ true → t ≡ handling was p → Decides catalogue x given t
   voted : (p : Pending) (from : ℕ) → Has x.live t → IsLast t p from → Comes given from (message.Vote t.txn) → is_commit p.call ≡ true → Decides catalogue x given t
 
 abbrev pub is_abort : Ending → Bool
