@@ -148,13 +148,13 @@ module _ (catalogue : Catalogue) (w new : Scene) (s : ℕ) (x : SiteState) (give
   not_new txn u n = fresh w s x up id txn u n
 
   -- what a live transaction of a name that was used was before
-  record Was (k : ℕ) (t : Live) : Type 0 where
-    site : SiteState
-    up_then : plain_at w k ≡ Some site
-    u : Live
-    here : Has site.live u
-    named : u.txn ≡ t.txn
-    viewed : u.view ≡ t.view
+  pub record Was (k : ℕ) (t : Live) : Type 0 where
+    pub site : SiteState
+    pub up_then : plain_at w k ≡ Some site
+    pub u : Live
+    pub here : Has site.live u
+    pub named : u.txn ≡ t.txn
+    pub viewed : u.view ≡ t.view
 
   was : (k : ℕ) (y : SiteState) (t : Live) → UsedTxn w t.txn → Has y.live t → NowIs w s (step catalogue x given).site k y → Was k t
   was k y t used h (NowIs.other n old) = record { site = y; up_then = old; u = t; here = h; named = refl; viewed = refl }
@@ -325,9 +325,9 @@ module _ (catalogue : Catalogue) (w new : Scene) (s : ℕ) (x : SiteState) (give
       (st.sent (letter q r.0 (message.WriteAnswer t.txn r.1)) r.3)
 
   -- an answer was there before, or is given now in the view that is held
-  data Split (k : ℕ) (t : Live) (q rec : ℕ) (exclusive : Bool) : Type 0 where
+  pub data Split (k : ℕ) (t : Live) (q rec : ℕ) (exclusive : Bool) : Type 0 where
     before : Was k t → HasAnswered w q t.txn rec exclusive → Split k t q rec exclusive
-    now : q ≡ s → Uses o.site t.view → Split k t q rec exclusive
+    now : q ≡ s → Uses o.site t.view → (to number : ℕ) (stored : Stored) → Granted x given to t.txn number rec exclusive stored → Split k t q rec exclusive
 
   in_use : (k : ℕ) (t : Live) (to : ℕ) (number : ℕ) (exclusive : Bool) → Was k t → (q : ℕ) (a : NewAnswer q to t.txn number exclusive) → Uses o.site t.view
   in_use k t to number exclusive old q a =
@@ -345,14 +345,17 @@ module _ (catalogue : Catalogue) (w new : Scene) (s : ℕ) (x : SiteState) (give
   used_name a b number rec txn view false (HasRequest.to_read h) = named_read a b number rec txn view h
   used_name a b number rec txn view true (HasRequest.to_write h) = named_write a b number rec txn view h
 
-  split : (k : ℕ) (y : SiteState) (t : Live) → NowIs w s o.site k y → Has y.live t → (q rec : ℕ) (exclusive : Bool) → HasAnswered new q t.txn rec exclusive → Split k t q rec exclusive
+  pub split : (k : ℕ) (y : SiteState) (t : Live) → NowIs w s o.site k y → Has y.live t → (q rec : ℕ) (exclusive : Bool) → HasAnswered new q t.txn rec exclusive → Split k t q rec exclusive
   split k y t n h q rec false (HasAnswered.read r) = ⊎_elim
       (λ old. let a = shares.says _ old in
       let same : a.1 ≡ rec = one_now k y t r.0 q r.0 q r.1 a.1 rec a.0 r.2 false n h (HasRequest.to_read (st.moved.sent _ a.2)) (HasRequest.to_read r.5) in
       Split.before (was k y t (named_read r.0 q r.1 a.1 t.txn a.0 a.2) h n) (HasAnswered.read (rw (← same) (r.0, r.1, a.0, r.3, old, a.2))))
       (λ more. let a = read_answered _ (p.replies (letter q r.0 (message.ReadAnswer t.txn r.1 r.3)) more) q t.txn r.1 r.3 refl in
       let old = was k y t (used_name r.0 s r.1 a.rec t.txn a.granted.view false (request_came r.0 t.txn a.granted.view r.1 a.rec false a.granted.comes)) h n in
-      Split.now (p.from (letter q r.0 (message.ReadAnswer t.txn r.1 r.3)) more ∙ id) (in_use k t r.0 r.1 false old q a))
+      let request = request_stays r.0 s t.txn a.granted.view r.1 a.rec false (request_came r.0 t.txn a.granted.view r.1 a.rec false a.granted.comes) in
+      let at = p.from (letter q r.0 (message.ReadAnswer t.txn r.1 r.3)) more ∙ id in
+      let same : a.rec ≡ rec = one_now k y t r.0 s r.0 q r.1 a.rec rec a.granted.view r.2 false n h request (HasRequest.to_read r.5) in
+      Split.now at (in_use k t r.0 r.1 false old q a) r.0 r.1 a.stored (subst (λ (rec : ℕ). Granted x given r.0 t.txn r.1 rec false a.stored) same a.granted))
       (st.sent (letter q r.0 (message.ReadAnswer t.txn r.1 r.3)) r.4)
   split k y t n h q rec true (HasAnswered.wrote r) = ⊎_elim
       (λ old. let a = shares.says _ old in
@@ -360,7 +363,10 @@ module _ (catalogue : Catalogue) (w new : Scene) (s : ℕ) (x : SiteState) (give
       Split.before (was k y t (named_write r.0 q r.1 a.1 t.txn a.0 a.2) h n) (HasAnswered.wrote (rw (← same) (r.0, r.1, a.0, old, a.2))))
       (λ more. let a = write_answered _ (p.replies (letter q r.0 (message.WriteAnswer t.txn r.1)) more) q t.txn r.1 refl in
       let old = was k y t (used_name r.0 s r.1 a.rec t.txn a.granted.view true (request_came r.0 t.txn a.granted.view r.1 a.rec true a.granted.comes)) h n in
-      Split.now (p.from (letter q r.0 (message.WriteAnswer t.txn r.1)) more ∙ id) (in_use k t r.0 r.1 true old q a))
+      let request = request_stays r.0 s t.txn a.granted.view r.1 a.rec true (request_came r.0 t.txn a.granted.view r.1 a.rec true a.granted.comes) in
+      let at = p.from (letter q r.0 (message.WriteAnswer t.txn r.1)) more ∙ id in
+      let same : a.rec ≡ rec = one_now k y t r.0 s r.0 q r.1 a.rec rec a.granted.view r.2 true n h request (HasRequest.to_write r.4) in
+      Split.now at (in_use k t r.0 r.1 true old q a) r.0 r.1 a.stored (subst (λ (rec : ℕ). Granted x given r.0 t.txn r.1 rec true a.stored) same a.granted))
       (st.sent (letter q r.0 (message.WriteAnswer t.txn r.1)) r.3)
 
   -- a site that uses the view has one lock
@@ -381,8 +387,8 @@ module _ (catalogue : Catalogue) (w new : Scene) (s : ℕ) (x : SiteState) (give
       both at uses = at_once q rec exclusive t.view t.txn u.txn at uses (used_now k y t n h q rec true a) (subst (λ (i : ViewId). HasLeft new q i ⊎ LockedAt new q u.txn rec exclusive) (sym e) (used_now j z u m i q rec exclusive b))
 
       go : Split k t q rec true → Split j u q rec exclusive → t.txn ≡ u.txn
-      go (Split.now at uses) other = both at uses
-      go (Split.before old was) (Split.now at uses) = both at (subst (Uses o.site) (sym e) uses)
+      go (Split.now at uses to number stored granted) other = both at uses
+      go (Split.before old was) (Split.now at uses to number stored granted) = both at (subst (Uses o.site) (sym e) uses)
       go (Split.before old had) (Split.before other has) =
           sym old.named ∙ inv.conflict k j q rec exclusive old.site other.site old.u other.u old.up_then old.here other.up_then other.here (old.viewed ∙ e ∙ sym other.viewed)
           (subst (λ (txn : TxnId). HasAnswered w q txn rec true) (sym old.named) had) (subst (λ (txn : TxnId). HasAnswered w q txn rec exclusive) (sym other.named) has) ∙ other.named

@@ -70,4 +70,5 @@ pub mod TableUnlisted
 pub mod TableCovered
 pub mod Playing
 pub mod Remaining
+pub mod Tower
 pub mod UsableCopies

@@ -78,7 +78,7 @@ module _ (catalogue : Catalogue) (x : SiteState) (given : Input) (view : View) w
   P = Covers catalogue x given view
 
   ended_on : (o e : Stepped) (rec : ℕ) → e.site.id ≡ o.site.id → e.site.held ≡ o.site.held → e.site.doubts ≡ o.site.doubts → value_at rec e.site.copies ≡ value_at rec o.site.copies → Ended catalogue x given o rec → Ended catalogue x given e rec
-  ended_on o e rec i v d c q = record { r = q.r; on = q.on; answers = q.answers; all = rw (i, v) q.all; certain = rw d q.certain; newest = λ k a f h. q.newest k a (sym c ∙ f) h }
+  ended_on o e rec i v d c q = record { r = q.r; on = q.on; answers = λ k h. let z = q.answers k h in (z.0, v ∙ z.1); all = rw (i, v) q.all; certain = rw d q.certain; newest = λ k a f h. q.newest k a (sym c ∙ f) h }
 
   same : (o e : Stepped) → e.site ≡ o.site → P o → P e
   same o e z p = record {

@@ -35,7 +35,7 @@ IsUnlisted refresh rec = (r : Refreshing) → Has refresh r → r.rec ≢ rec
 pub record Ended (catalogue : Catalogue) (x : SiteState) (given : Input) (o : Stepped) (rec : ℕ) : Type 0 where
   pub r : Refreshing
   pub on : r.rec ≡ rec
-  pub answers : (k : ℕ × Stored) → Has r.answers k → AnswerNow catalogue x given rec k
+  pub answers : (k : ℕ × Stored) → Has r.answers k → AnswerNow catalogue x given rec k × (o.site.held ≡ x.held)
   pub all : is_empty (unanswered catalogue o.site r) ≡ true
   pub certain : is_doubtful o.site rec ≡ false
   pub newest : (c : Stored) (k : ℕ × Stored) → value_at rec o.site.copies ≡ Some c → Has r.answers k → AtMost k.1.date c.date
@@ -122,7 +122,7 @@ module _ (catalogue : Catalogue) (x : SiteState) (given : Input) (tidy : Tidy x)
   on : (o e : Stepped) (rec : ℕ) → e.site.id ≡ o.site.id → e.site.held ≡ o.site.held → e.site.doubts ≡ o.site.doubts → value_at rec e.site.copies ≡ value_at rec o.site.copies → Unlisted catalogue x given o rec → Unlisted catalogue x given e rec
   on o e rec i v d c (Unlisted.still none same) = Unlisted.still none (v ∙ same)
   on o e rec i v d c (Unlisted.joined view now origin) = Unlisted.joined view (v ∙ now) origin
-  on o e rec i v d c (Unlisted.ended q) = Unlisted.ended (record { r = q.r; on = q.on; answers = q.answers; all = rw (i, v) q.all; certain = rw d q.certain; newest = λ k a f h. q.newest k a (sym c ∙ f) h })
+  on o e rec i v d c (Unlisted.ended q) = Unlisted.ended (record { r = q.r; on = q.on; answers = λ k h. let z = q.answers k h in (z.0, v ∙ z.1); all = rw (i, v) q.all; certain = rw d q.certain; newest = λ k a f h. q.newest k a (sym c ∙ f) h })
 
   same : (o e : Stepped) → e.site.id ≡ o.site.id → e.site.held ≡ o.site.held → e.site.doubts ≡ o.site.doubts → e.site.copies ≡ o.site.copies → ((r : Refreshing) → Has o.site.refresh r → (q : Refreshing) × Has e.site.refresh q × (q.rec ≡ r.rec)) → CopiesAt catalogue x given e → P o → P e
   same o e i v d c sub base p = record { base = base; unlisted = λ rec u h none. on o e rec i v d (ap (value_at rec) c) (p.unlisted rec u (sym v ∙ h) (λ r g is. let q = sub r g in none q.0 q.1 (q.2 ∙ is))) }
@@ -143,7 +143,7 @@ module _ (catalogue : Catalogue) (x : SiteState) (given : Input) (tidy : Tidy x)
       go k u h none (inl z) = Unlisted.ended (record {
         r = r;
         on = z;
-        answers = λ q g. subst (λ (n : ℕ). AnswerNow catalogue x given n q) z (p.base.answers r q there g).0;
+        answers = λ q g. let b = p.base.answers r q there g in (subst (λ (n : ℕ). AnswerNow catalogue x given n q) z b.0, t.held ∙ b.1);
         all = rw (t.id, t.held) a;
         certain = subst (λ (k : ℕ). is_doubtful n.site k ≡ false) z (rw t.doubts d);
         newest = λ c q f g. AtMost-trans _ _ _ (newest_each own r.answers q g) (t.here c (subst (λ (k : ℕ). value_at k n.site.copies ≡ Some c) (sym z) f));

@@ -1,0 +1,150 @@
+-- All that is proved of a world so far, by name, and all that is known of one step of it.
+use Rattle.std.proofs.Common.{◌≡◌, ◌≢◌, ◌∙◌, ap, sym, ℕ, List, []}
+use Rattle.std.specs.Prelude.{Some, None}
+use Rattle.vp_model.specs.Types.{Input, Sent, Message, Live, Refreshing}
+use Rattle.vp_model.specs.Catalogue.{Catalogue}
+use Rattle.vp_model.specs.Durable.{DurableState}
+use Rattle.vp_model.specs.Site.{SiteState, Stepped}
+use Rattle.vp_model.specs.Step.{step, durable_of}
+use Rattle.vp_laws.proofs.Members.{Has}
+use Rattle.vp_laws.proofs.LocalViews.{letter, Tidy, Local}
+use Rattle.vp_laws.proofs.Table.{Comes}
+use Rattle.vp_laws.proofs.TableViews.{local-step}
+use Rattle.vp_laws.proofs.TableLed.{Led}
+use Rattle.vp_laws.proofs.TableBelow.{Below}
+use Rattle.vp_laws.proofs.TableEndings.{Endings, endings-step}
+use Rattle.vp_laws.proofs.TableSteps.{Steps, steps-step}
+use Rattle.vp_laws.proofs.TableShares.{Shares, shares-step}
+use Rattle.vp_laws.proofs.TableWaits.{Waits, waits-step}
+use Rattle.vp_laws.proofs.TableLeaves.{Leaves, leaves-step}
+use Rattle.vp_laws.proofs.TableLocks.{Guards, guards-step}
+use Rattle.vp_laws.proofs.TableUnlisted.{Unlisting, unlisting-step}
+use Rattle.vp_laws.proofs.Scenes.{Scene, plain_at, kept_at, promise_at, Acted, acted, stepping}
+use Rattle.vp_laws.proofs.Events.{Arrives}
+use Rattle.vp_laws.proofs.InvViews.{InvViews, SiteOk}
+use Rattle.vp_laws.proofs.InvLed.{InvLed}
+use Rattle.vp_laws.proofs.InvBelow.{InvBelow}
+use Rattle.vp_laws.proofs.InvNames.{InvNames}
+use Rattle.vp_laws.proofs.InvVotes.{InvVotes}
+use Rattle.vp_laws.proofs.InvEndings.{InvEndings, fresh}
+use Rattle.vp_laws.proofs.InvShares.{InvShares}
+use Rattle.vp_laws.proofs.InvOps.{InvOps}
+use Rattle.vp_laws.proofs.InvAnswers.{InvAnswers}
+use Rattle.vp_laws.proofs.InvEntered.{InvEntered}
+use Rattle.vp_laws.proofs.InvLived.{InvLived}
+use Rattle.vp_laws.proofs.InvSettled.{InvSettled}
+use Rattle.vp_laws.proofs.InvGuards.{InvGuards, outcomes, awaited, invited}
+use Rattle.vp_laws.proofs.InvUsed.{InvUsed}
+use Rattle.vp_laws.proofs.InvDated.{InvDated}
+use Rattle.vp_laws.proofs.InvReads.{InvReads}
+use Rattle.vp_laws.proofs.InvHeld.{InvHeld}
+use Rattle.vp_laws.proofs.InvListed.{InvListed, Seventeenth}
+
+pub record Known (catalogue : Catalogue) (w : Scene) : Type 0 where
+  pub views : InvViews catalogue w
+  pub led : InvLed w
+  pub below : InvBelow w
+  pub names : InvNames w
+  pub votes : InvVotes catalogue w
+  pub ends : InvEndings w
+  pub shares : InvShares catalogue w
+  pub ops : InvOps catalogue w
+  pub answers : InvAnswers catalogue w
+  pub entered : InvEntered catalogue w
+  pub lived : InvLived w
+  pub settled : InvSettled catalogue w
+  pub guards : InvGuards catalogue w
+  pub used : InvUsed catalogue w
+  pub dated : InvDated catalogue w
+  pub reads : InvReads catalogue w
+  pub held : InvHeld catalogue w
+  pub listed : InvListed catalogue w
+
+pub known : (catalogue : Catalogue) (w : Scene) → Seventeenth catalogue w → Known catalogue w
+known catalogue w inv =
+    let sixteenth = inv.lower in
+    let fifteenth = sixteenth.lower in
+    let fourteenth = fifteenth.lower in
+    let thirteenth = fourteenth.lower in
+    let twelfth = thirteenth.lower in
+    let eleventh = twelfth.lower in
+    let tenth = eleventh.lower in
+    let ninth = tenth.lower in
+    let eighth = ninth.lower in
+    let seventh = eighth.lower in
+    let sixth = seventh.lower in
+    let fifth = sixth.lower in
+    let fourth = fifth.lower in
+    let second = fourth.third.second in
+    record {
+      views = second.first.views;
+      led = second.first.led;
+      below = second.below;
+      names = fourth.third.names;
+      votes = fourth.votes;
+      ends = fifth.upper;
+      shares = sixth.upper;
+      ops = seventh.upper;
+      answers = eighth.upper;
+      entered = ninth.upper;
+      lived = tenth.upper;
+      settled = eleventh.upper;
+      guards = twelfth.upper;
+      used = thirteenth.upper;
+      dated = fourteenth.upper;
+      reads = fifteenth.upper;
+      held = sixteenth.upper;
+      listed = inv.upper;
+    }
+
+-- one step of the site s, which was x and has done o, from w to new
+pub record Does (catalogue : Catalogue) (w new : Scene) (s : ℕ) (x : SiteState) (given : Input) (o : Stepped) : Type 0 where
+  pub up : plain_at w s ≡ Some x
+  pub came : (from : ℕ) (m : Message) → Comes given from m → Has w.sent (letter from s m)
+  pub here : SiteOk w s x
+  pub here_now : SiteOk new s o.site
+  pub led : Led x
+  pub below : Below x
+  pub local : Local x given o
+  pub endings : Endings x given o.site.coordinator o.effects.messages o.effects.commits
+  pub steps : Steps catalogue x given o.site.coordinator o.effects.messages o.effects.commits
+  pub shares : Shares x given o
+  pub waits : Waits catalogue x given o.site.coordinator o.effects.messages o.effects.commits
+  pub leaves : Leaves x given o
+  pub guards : Guards catalogue x given o
+  pub unlisting : Unlisting catalogue x given o
+  pub st : Acted w new s x o
+
+came_in : (w : Scene) (s : ℕ) (given : Input) → Arrives w s given → (from : ℕ) (m : Message) → Comes given from m → Has w.sent (letter from s m)
+came_in w s given r from m e = rw e at r
+
+pub does : (catalogue : Catalogue) (w : Scene) (s : ℕ) (x : SiteState) (given : Input) → plain_at w s ≡ Some x → Arrives w s given → Known catalogue w → Known catalogue (acted w s x (step catalogue x given)) → Does catalogue w (acted w s x (step catalogue x given)) s x given (step catalogue x given)
+does catalogue w s x given up r k n =
+    let o = step catalogue x given in
+    let ok = k.views.site s x up in
+    let led = k.led.site s x up in
+    let below = k.below.site s x up in
+    let apart = k.votes.site s x up in
+    let settled = k.ends.settled s x up in
+    let locks = k.guards.site s x up in
+    let st = stepping catalogue w s x given up ok.kept (local-step catalogue x given ok.tidy) in
+    record {
+      up = up;
+      came = came_in w s given r;
+      here = ok;
+      here_now = n.views.site s o.site st.now;
+      led = led;
+      below = below;
+      local = local-step catalogue x given ok.tidy;
+      endings = (endings-step catalogue x given led apart settled (λ d h. fresh w s x up ok.id d.0 ((k.names.site s x up).decisions d h))).kept;
+      steps = (steps-step catalogue x given led apart).kept;
+      shares = shares-step catalogue x given;
+      waits = (waits-step catalogue x given settled.decisions).kept;
+      leaves = leaves-step catalogue x given;
+      guards = guards-step catalogue x given ok.tidy led below apart locks
+          (outcomes catalogue w s x given up r k.views led k.led below k.ends k.shares k.entered)
+          (awaited catalogue w s x given up r k.views led k.led below k.ends k.shares k.entered)
+          (invited catalogue w s x given up r k.views led k.led below k.ends k.shares k.entered);
+      unlisting = unlisting-step catalogue x given ok.tidy (λ r h. let q = locks.lower r h in (q.0, q.1));
+      st = st;
+    }
