@@ -69,6 +69,10 @@ pub mod ValuesAfter
 pub mod TableUnlisted
 pub mod TableCovered
 pub mod Playing
+pub mod CopyInvariants
 pub mod Remaining
 pub mod Tower
+pub mod NewEntries
+pub mod JournalPlaces
+pub mod CopyFacts
 pub mod UsableCopies

@@ -100,6 +100,7 @@ known catalogue w inv =
 -- one step of the site s, which was x and has done o, from w to new
 pub record Does (catalogue : Catalogue) (w new : Scene) (s : ℕ) (x : SiteState) (given : Input) (o : Stepped) : Type 0 where
   pub up : plain_at w s ≡ Some x
+  pub arrives : Arrives w s given
   pub came : (from : ℕ) (m : Message) → Comes given from m → Has w.sent (letter from s m)
   pub here : SiteOk w s x
   pub here_now : SiteOk new s o.site
@@ -130,6 +131,7 @@ does catalogue w s x given up r k n =
     let st = stepping catalogue w s x given up ok.kept (local-step catalogue x given ok.tidy) in
     record {
       up = up;
+      arrives = r;
       came = came_in w s given r;
       here = ok;
       here_now = n.views.site s o.site st.now;

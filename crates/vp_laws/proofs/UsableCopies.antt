@@ -19,7 +19,7 @@ use Rattle.vp_laws.proofs.InvEntered.{Wrote}
 use Rattle.vp_laws.proofs.InvGuards.{strictly}
 use Rattle.vp_laws.proofs.InvListed.{wrote_here}
 use Rattle.vp_laws.proofs.ValuesAfter.{value_after, value_up_to, value_between}
-use Rattle.vp_laws.proofs.Remaining.{InvCopies}
+use Rattle.vp_laws.proofs.CopyInvariants.{InvCopies}
 
 -- where no entry between two views wrote the record, its value after both is the same
 pub after_between : (catalogue : Catalogue) (journal : List Commit) (c d : ViewId) (rec : ℕ) → AtMost c d → ((f : Commit) → Has journal f → Precedes c f.view → AtMost f.view d → Wrote f rec → ⊥) → value_after catalogue journal d rec ≡ value_after catalogue journal c rec
