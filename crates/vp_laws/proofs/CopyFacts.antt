@@ -28,6 +28,13 @@ pub record ClosedAbove (catalogue : Catalogue) (w : Scene) (s rec : ℕ) (j : Vi
   pub usable : accessible catalogue rec view.members ≡ true
   pub closed : Closed catalogue w rec view
 
+module _ (catalogue : Catalogue) (w : Scene) (k : Known catalogue w) where
+  pub copy_dated : (s rec : ℕ) (c : Stored) → value_at rec (kept_at w s).copies ≡ Some c → IsDated w rec c.date
+  copy_dated s rec c e = k.dated.copies s (rec, c) (value_pair rec (kept_at w s).copies c e)
+
+  pub copy_holder : (s rec : ℕ) (c : Stored) → value_at rec (kept_at w s).copies ≡ Some c → Has (holders catalogue rec) s
+  copy_holder s rec c e = holder_kept catalogue w s rec k.held (mapped_has (λ (p : ℕ × Stored). p.0) (kept_at w s).copies (rec, c) (value_pair rec (kept_at w s).copies c e))
+
 module _ (catalogue : Catalogue) (w : Scene) (k : Known catalogue w) (refresh : InvRefresh catalogue w) where
   -- the view of an entry
   pub entry_closes : (e : Commit) (rec : ℕ) (v : View) → Has w.journal e → Wrote e rec → AgreedAs w e.view v → Closed catalogue w rec v × (accessible catalogue rec v.members ≡ true)
@@ -45,17 +52,11 @@ module _ (catalogue : Catalogue) (w : Scene) (k : Known catalogue w) (refresh : 
       dated
 
 module _ (catalogue : Catalogue) (w : Scene) (k : Known catalogue w) (copies : InvCopies catalogue w) (refresh : InvRefresh catalogue w) where
-  pub copy_dated : (s rec : ℕ) (c : Stored) → value_at rec (kept_at w s).copies ≡ Some c → IsDated w rec c.date
-  copy_dated s rec c e = k.dated.copies s (rec, c) (value_pair rec (kept_at w s).copies c e)
-
-  pub copy_holder : (s rec : ℕ) (c : Stored) → value_at rec (kept_at w s).copies ≡ Some c → Has (holders catalogue rec) s
-  copy_holder s rec c e = holder_kept catalogue w s rec k.held (mapped_has (λ (p : ℕ × Stored). p.0) (kept_at w s).copies (rec, c) (value_pair rec (kept_at w s).copies c e))
-
   pub copy_closed : (s rec : ℕ) (c : Stored) (j : ViewId) → value_at rec (kept_at w s).copies ≡ Some c → Precedes j c.date → ClosedAbove catalogue w s rec j
-  copy_closed s rec c j e below = closed_above catalogue w k refresh s rec c.date j (copies.from s rec c e) (copy_dated s rec c e) below
+  copy_closed s rec c j e below = closed_above catalogue w k refresh s rec c.date j (copies.from s rec c e) (copy_dated catalogue w k s rec c e) below
 
   -- no doubt on the record is of a view below the date of the copy
   pub no_doubt_below : (s rec : ℕ) (c : Stored) (u : Doubt) → value_at rec (kept_at w s).copies ≡ Some c → Has (kept_at w s).doubts u → Has (keys u.2) rec → Precedes u.1 c.date → ⊥
   no_doubt_below s rec c u e there on below =
       let a = copy_closed s rec c u.1 e below in
-      (a.closed s (copy_holder s rec c e) a.member).certain u there on a.above
+      (a.closed s (copy_holder catalogue w k s rec c e) a.member).certain u there on a.above

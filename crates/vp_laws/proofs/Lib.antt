@@ -75,4 +75,6 @@ pub mod Tower
 pub mod NewEntries
 pub mod JournalPlaces
 pub mod CopyFacts
+pub mod ValuesGrow
+pub mod CopyOrigins
 pub mod UsableCopies
