@@ -1,6 +1,6 @@
 -- Where each copy in the world after a step is from: it is untouched, or of a doubt that commits, or of an entry of the step, or a
 -- refresh brought it.
-use Rattle.std.proofs.Common.{◌≡◌, ◌≢◌, ◌⊎◌, ◌∙◌, ap, sym, subst, ℕ, true, false, List, ◌∷◌, ◌++◌, refl, inl, inr, ⊎_elim}
+use Rattle.std.proofs.Common.{◌≡◌, ◌≢◌, ◌⊎◌, ◌∙◌, ap, sym, subst, ℕ, Bool, true, false, List, ◌∷◌, ◌++◌, refl, inl, inr, ⊎_elim}
 use Rattle.std.specs.Prelude.{Some}
 use Rattle.vp_model.specs.Types.{ViewId, TxnId, View, Commit, Input, Stored}
 use Rattle.vp_model.specs.Types.message
@@ -123,7 +123,7 @@ module _ (catalogue : Catalogue) (w new : Scene) (s : ℕ) (x : SiteState) (give
   pub gone_aborted : (j rec : ℕ) (c : Stored) (u : Doubt) → Untouched j rec c → Has (kept_at w j).doubts u → Has (keys u.2) rec → Has (kept_at new j).doubts u ⊎ ((e : Commit) → Has w.journal e → e.txn ≢ u.0)
   gone_aborted j rec c u t there on = ⊎_elim (λ still. inl still) (λ (over : (j ≡ s) × OutcomeComes given u.0). ended over.0 over.1.0 over.1.1 over.1.2) (doubt_stays catalogue w new s x given o k n d j u there)
     where
-      ended : j ≡ s → (from : ℕ) → (commit : _) → Comes given from (message.Outcome u.0 commit) → Has (kept_at new j).doubts u ⊎ ((e : Commit) → Has w.journal e → e.txn ≢ u.0)
+      ended : j ≡ s → (from : ℕ) (commit : Bool) → Comes given from (message.Outcome u.0 commit) → Has (kept_at new j).doubts u ⊎ ((e : Commit) → Has w.journal e → e.txn ≢ u.0)
       ended z from true comes =
           let e = (k.ends.told (letter from s (message.Outcome u.0 true)) (d.came from _ comes)).1 in
           let found = doubt_found catalogue w k.shares e.0 e.1 j u there (sym e.2) in
@@ -131,7 +131,7 @@ module _ (catalogue : Catalogue) (w new : Scene) (s : ℕ) (x : SiteState) (give
       ended z from false comes = inr (λ e h named. k.settled.aborted e from s h (subst (λ (t : TxnId). Has w.sent (letter from s (message.Outcome t false))) (sym named) (d.came from _ comes)) (u, subst (λ (j : ℕ). Has (kept_at w j).doubts u) z there, sym named))
 
   -- a new entry that wrote an untouched copy is of its date's view, and is in doubt there
-  pub meets : (j rec : ℕ) (c : Stored) → Untouched j rec c → FromView catalogue w j rec c.date → InvRefresh catalogue w → (e : Commit) → Has o.effects.commits e → Wrote e rec → AtMost e.view c.date → Doubted catalogue w new s x given o k n d e j rec
+  pub meets : (j rec : ℕ) (c : Stored) → Untouched j rec c → FromView catalogue w j rec c.date → InvRefresh catalogue w → (e : Commit) → Has o.effects.commits e → Wrote e rec → AtMost e.view c.date → Doubted catalogue w new s x given o k n d e j rec × (e.view ≡ c.date)
   meets j rec c t from refresh e h wrote le = go (same_view e.view c.date) refl
     where
       dated : IsDated w rec c.date
@@ -147,8 +147,8 @@ module _ (catalogue : Catalogue) (w new : Scene) (s : ℕ) (x : SiteState) (give
           (λ other. doubted catalogue w new s x given o k n d e j rec v h (d.st.moved.agreed v agreed.0, agreed.1 ∙ sym is) m holder wrote other)
           (same_site j s)
 
-      go : (b : _) → same_view e.view c.date ≡ b → Doubted catalogue w new s x given o k n d e j rec
-      go true q = member from (same_is e.view c.date q)
+      go : (b : Bool) → same_view e.view c.date ≡ b → Doubted catalogue w new s x given o k n d e j rec × (e.view ≡ c.date)
+      go true q = let is = same_is e.view c.date q in (member from is, is)
       go false q =
           let a = closed_above catalogue w k refresh j rec c.date e.view from dated (strictly e.view c.date le (λ is. unlike q is)) in
           absurd (stops catalogue w new s x given o k n d e a.view rec h wrote a.above a.usable a.closed)

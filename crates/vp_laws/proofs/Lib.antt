@@ -77,4 +77,5 @@ pub mod JournalPlaces
 pub mod CopyFacts
 pub mod ValuesGrow
 pub mod CopyOrigins
+pub mod CopyValues
 pub mod UsableCopies

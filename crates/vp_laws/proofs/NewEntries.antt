@@ -1,6 +1,6 @@
 -- What an entry of a step means for others: it is of a live transaction here, each other holder of what it wrote is in doubt about it,
 -- nothing here is in doubt on that or under refresh, and no record that is closed for a higher view was written.
-use Rattle.std.proofs.Common.{◌≡◌, ◌≢◌, ◌⊎◌, ◌∙◌, ap, sym, subst, ℕ, true, false, List, [], ◌∷◌, ◌++◌, refl, inl, inr, ⊎_elim, append-nil}
+use Rattle.std.proofs.Common.{◌≡◌, ◌≢◌, ◌⊎◌, ◌∙◌, ap, sym, subst, ℕ, Bool, true, false, List, [], ◌∷◌, ◌++◌, refl, inl, inr, ⊎_elim, append-nil}
 use Rattle.std.specs.Prelude.{Some}
 use Rattle.vp_model.specs.Types.{ViewId, TxnId, View, Message, Commit, Input, Part, Live, Refreshing}
 use Rattle.vp_model.specs.Types.message
@@ -211,10 +211,19 @@ module _ (catalogue : Catalogue) (w new : Scene) (s : ℕ) (x : SiteState) (give
       go (KeptIs.other m same) = inl (subst (λ (k : DurableState). Has k.doubts u) same h)
       go (KeptIs.here z same) = made z (d.shares.doubts u (subst (λ (k : DurableState). Has k.doubts u) same h))
 
+  -- no other doubt here was of its transaction
+  pub fresh_name : (j : ℕ) (u : Doubt) → Fresh j u → (v : Doubt) → Has (kept_at w j).doubts v → v.0 ≢ u.0
+  fresh_name j u f v there named = same_txn-not v.0 f.part.txn (any_false (λ (u : Doubt). same_txn u.0 f.part.txn) x.doubts f.prepared.certain v (subst (λ (k : DurableState). Has k.doubts v) (ap (kept_at w) f.here ∙ sym d.here.kept) there)) (named ∙ ap (λ (u : Doubt). u.0) (sym f.is))
+
+  -- the journal stays, and no outcome came
+  pub fresh_same : (j : ℕ) (u : Doubt) → Fresh j u → new.journal ≡ w.journal
+  fresh_same j u f = journal_same f.from (message.Prepare f.part.txn f.prepared.view f.prepared.number f.reads f.writes) f.prepared.comes (λ q. let z = q.1 in cc)
+
+  pub fresh_no_outcome : (j : ℕ) (u : Doubt) → Fresh j u → (from : ℕ) (txn : TxnId) (commit : Bool) → Comes given from (message.Outcome txn commit) → ⊥
+  fresh_no_outcome j u f from txn commit c = let z = sym f.prepared.comes ∙ c in cc
+
   -- a new doubt is of no transaction with an entry
   pub fresh_not_entered : (j : ℕ) (u : Doubt) → Fresh j u → Has (kept_at new j).doubts u → (e : Commit) → Has new.journal e → e.txn ≢ u.0
   fresh_not_entered j u f there e h named =
-      let quiet = journal_same f.from (message.Prepare f.part.txn f.prepared.view f.prepared.number f.reads f.writes) f.prepared.comes (λ q. let z = q.1 in cc) in
-      let was = doubt_was catalogue w new s x given o d.up d.arrives d.here.id d.here.kept k.views n.views d.led k.led k.ends k.shares (λ t q. k.ops.live s x t d.up q) k.entered n.entered n.below k.settled d.waits d.endings d.steps d.shares d.leaves d.st e j (rw (← quiet) h) (u, there, sym named) in
-      let name : was.0.0 ≡ f.part.txn = was.2 ∙ named ∙ ap (λ (u : Doubt). u.0) (sym f.is) in
-      same_txn-not was.0.0 f.part.txn (any_false (λ (u : Doubt). same_txn u.0 f.part.txn) x.doubts f.prepared.certain was.0 (subst (λ (k : DurableState). Has k.doubts was.0) (ap (kept_at w) f.here ∙ sym d.here.kept) was.1)) name
+      let was = doubt_was catalogue w new s x given o d.up d.arrives d.here.id d.here.kept k.views n.views d.led k.led k.ends k.shares (λ t q. k.ops.live s x t d.up q) k.entered n.entered n.below k.settled d.waits d.endings d.steps d.shares d.leaves d.st e j (rw (← (fresh_same j u f)) h) (u, there, sym named) in
+      fresh_name j u f was.0 was.1 (was.2 ∙ named)

@@ -18,6 +18,7 @@ use Rattle.vp_laws.proofs.TableShares.{Shares, shares-step}
 use Rattle.vp_laws.proofs.TableWaits.{Waits, waits-step}
 use Rattle.vp_laws.proofs.TableLeaves.{Leaves, leaves-step}
 use Rattle.vp_laws.proofs.TableLocks.{Guards, guards-step}
+use Rattle.vp_laws.proofs.TableCopies.{Copies, copies-step}
 use Rattle.vp_laws.proofs.TableUnlisted.{Unlisting, unlisting-step}
 use Rattle.vp_laws.proofs.Scenes.{Scene, plain_at, kept_at, promise_at, Acted, acted, stepping}
 use Rattle.vp_laws.proofs.Events.{Arrives}
@@ -113,6 +114,7 @@ pub record Does (catalogue : Catalogue) (w new : Scene) (s : ℕ) (x : SiteState
   pub waits : Waits catalogue x given o.site.coordinator o.effects.messages o.effects.commits
   pub leaves : Leaves x given o
   pub guards : Guards catalogue x given o
+  pub copies : Copies catalogue x given o
   pub unlisting : Unlisting catalogue x given o
   pub st : Acted w new s x o
 
@@ -147,6 +149,7 @@ does catalogue w s x given up r k n =
           (outcomes catalogue w s x given up r k.views led k.led below k.ends k.shares k.entered)
           (awaited catalogue w s x given up r k.views led k.led below k.ends k.shares k.entered)
           (invited catalogue w s x given up r k.views led k.led below k.ends k.shares k.entered);
+      copies = copies-step catalogue x given ok.tidy (λ r h. let q = locks.lower r h in (q.0, q.1));
       unlisting = unlisting-step catalogue x given ok.tidy (λ r h. let q = locks.lower r h in (q.0, q.1));
       st = st;
     }
