@@ -78,4 +78,5 @@ pub mod CopyFacts
 pub mod ValuesGrow
 pub mod CopyOrigins
 pub mod CopyValues
+pub mod CopyWrites
 pub mod UsableCopies

@@ -12,7 +12,7 @@ use Rattle.vp_model.specs.Transactions.{last_writes, writes_held}
 use Rattle.vp_model.specs.Site.{SiteState, Stepped}
 use Rattle.vp_model.specs.Step.{durable_of}
 use Rattle.vp_laws.proofs.Apart.{same_txn-not}
-use Rattle.vp_laws.proofs.Members.{Has, has_first, map_has, any_false}
+use Rattle.vp_laws.proofs.Members.{Has, has_none, has_one_is, has_first, map_has, any_false}
 use Rattle.vp_laws.proofs.Order.{Precedes}
 use Rattle.vp_laws.proofs.LocalViews.{letter}
 use Rattle.vp_laws.proofs.Table.{Comes, Decides}
@@ -40,6 +40,19 @@ module _ (catalogue : Catalogue) (w new : Scene) (s : ℕ) (x : SiteState) (give
   journal_now = ⊎_elim
       (λ (none : o.effects.commits ≡ []). JournalNow.stays (d.st.journal ∙ ap (λ (cs : List Commit). w.journal ++ cs) none ∙ append-nil w.journal))
       (λ (one : (e : Commit) × (o.effects.commits ≡ e ∷ [])). JournalNow.longer one.0 (rw one.1 (has_first one.0 [])) (d.st.journal ∙ ap (λ (cs : List Commit). w.journal ++ cs) one.1))
+      d.endings.once
+
+  -- a step has one entry, where it has any
+  pub journal_with : (e : Commit) → Has o.effects.commits e → new.journal ≡ w.journal ++ e ∷ []
+  journal_with e h = ⊎_elim
+      (λ (none : o.effects.commits ≡ []). absurd (has_none e (rw none at h)))
+      (λ (one : (g : Commit) × (o.effects.commits ≡ g ∷ [])). d.st.journal ∙ ap (λ (cs : List Commit). w.journal ++ cs) one.1 ∙ ap (λ (g : Commit). w.journal ++ g ∷ []) (has_one_is one.0 e (rw one.1 at h)))
+      d.endings.once
+
+  pub one_entry : (e g : Commit) → Has o.effects.commits e → Has o.effects.commits g → e ≡ g
+  one_entry e g h i = ⊎_elim
+      (λ (none : o.effects.commits ≡ []). absurd (has_none e (rw none at h)))
+      (λ (one : (c : Commit) × (o.effects.commits ≡ c ∷ [])). sym (has_one_is one.0 e (rw one.1 at h)) ∙ has_one_is one.0 g (rw one.1 at i))
       d.endings.once
 
   -- no message but a vote makes an entry
