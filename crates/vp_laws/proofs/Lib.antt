@@ -79,4 +79,5 @@ pub mod ValuesGrow
 pub mod CopyOrigins
 pub mod CopyValues
 pub mod CopyWrites
+pub mod Refreshes
 pub mod UsableCopies
