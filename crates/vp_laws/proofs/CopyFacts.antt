@@ -8,7 +8,7 @@ use Rattle.vp_model.specs.Catalogue.{Catalogue, holders, accessible}
 use Rattle.vp_model.specs.Durable.{Doubt}
 use Rattle.vp_laws.proofs.Members.{Has}
 use Rattle.vp_laws.proofs.Lists.{mapped_has}
-use Rattle.vp_laws.proofs.Order.{Precedes, not_both, opening_least, from_before, same_is}
+use Rattle.vp_laws.proofs.Order.{AtMost, Precedes, not_both, opening_least, from_before, same_is}
 use Rattle.vp_laws.proofs.Journal.{Precedes-trans, above_from}
 use Rattle.vp_laws.proofs.Scenes.{Scene, kept_at}
 use Rattle.vp_laws.proofs.TableCopies.{value_pair}
@@ -18,6 +18,9 @@ use Rattle.vp_laws.proofs.InvHeld.{holder_kept}
 use Rattle.vp_laws.proofs.Closing.{Closed}
 use Rattle.vp_laws.proofs.CopyInvariants.{FromView, InvCopies, InvRefresh}
 use Rattle.vp_laws.proofs.Tower.{Known}
+
+pub still_below : (a b c : ViewId) → AtMost a b → Precedes b c → Precedes a c
+still_below a b c p q = omega arith
 
 -- one of two identifiers is below the other, or they are the same
 pub three_ways : (a b : ViewId) → Precedes a b ⊎ ((a ≡ b) ⊎ Precedes b a)

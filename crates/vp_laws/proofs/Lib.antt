@@ -80,4 +80,5 @@ pub mod CopyOrigins
 pub mod CopyValues
 pub mod CopyWrites
 pub mod Refreshes
+pub mod CopyBrought
 pub mod UsableCopies
