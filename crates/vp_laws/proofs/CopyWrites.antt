@@ -39,11 +39,11 @@ value_along rec start value es fs a b e f h = rw (e, f) h
 module _ (catalogue : Catalogue) (w new : Scene) (s : ℕ) (x : SiteState) (given : Input) (o : Stepped) (k : Known catalogue w) (n : Known catalogue new) (d : Does catalogue w new s x given o) (copies : InvCopies catalogue w) (refresh : InvRefresh catalogue w) where
   -- for a doubt that commits
   module _ (j rec : ℕ) (c : Stored) (holder : Has (holders catalogue rec) j) (a : Applied catalogue w new s x given o k n d j rec c) where
-    date_is : a.doubt.1 ≡ c.date
-    date_is = ap (λ (p : ℕ × Stored). p.1.date) a.is
+    pub applied_date : a.doubt.1 ≡ c.date
+    applied_date = ap (λ (p : ℕ × Stored). p.1.date) a.is
 
-    on : Has (keys a.doubt.2) rec
-    on = subst (Has (keys a.doubt.2)) (ap (λ (p : ℕ × Stored). p.0) a.is) (mapped_has (λ (p : ℕ × List ℕ). p.0) a.doubt.2 a.write a.wrote)
+    pub applied_on : Has (keys a.doubt.2) rec
+    applied_on = subst (Has (keys a.doubt.2)) (ap (λ (p : ℕ × Stored). p.0) a.is) (mapped_has (λ (p : ℕ × List ℕ). p.0) a.doubt.2 a.write a.wrote)
 
     no_entry : (e : Commit) → Has o.effects.commits e → ⊥
     no_entry = none_entered catalogue w new s x given o k n d a.from (message.Outcome a.doubt.0 true) a.comes (λ q. let z = q.1 in cc)
@@ -62,7 +62,7 @@ module _ (catalogue : Catalogue) (w new : Scene) (s : ℕ) (x : SiteState) (give
 
     pub applied_sure : (v : Doubt) → Has (kept_at new j).doubts v → Has (keys v.2) rec → ⊥
     applied_sure v there also = ⊎_elim
-        (λ was. a.gone v there (k.guards.writes j v a.doubt rec was a.was also on))
+        (λ was. a.gone v there (k.guards.writes j v a.doubt rec was a.was also applied_on))
         (λ f. fresh_no_outcome catalogue w new s x given o k n d j v f a.from a.doubt.0 true a.comes)
         (doubt_from catalogue w new s x given o k n d j v there)
 
@@ -76,7 +76,7 @@ module _ (catalogue : Catalogue) (w new : Scene) (s : ℕ) (x : SiteState) (give
     same_txn_in_doubt : (f : Commit) → Has w.journal f → Wrote f rec → InDoubt w j f.txn → f.txn ≡ a.doubt.0
     same_txn_in_doubt f h wrote (u, there, named) =
         let q = doubt_says catalogue w new s x given o k n d f (d.st.moved.journal f h) j u there named in
-        sym named ∙ k.guards.writes j u a.doubt rec there a.was (subst (λ (ws : List (ℕ × List ℕ)). Has (keys ws) rec) q.1 (wrote_here catalogue f j rec holder wrote)) on
+        sym named ∙ k.guards.writes j u a.doubt rec there a.was (subst (λ (ws : List (ℕ × List ℕ)). Has (keys ws) rec) q.1 (wrote_here catalogue f j rec holder wrote)) applied_on
 
     -- it is the last one of its view that wrote it
     none_behind : (front back : List Commit) (f : Commit) → w.journal ≡ front ++ entry.0 ∷ back → Has back f → f.view ≡ entry.0.view → Wrote f rec → ⊥
@@ -92,10 +92,10 @@ module _ (catalogue : Catalogue) (w new : Scene) (s : ℕ) (x : SiteState) (give
             once_later front back entry.0 f (subst (λ (es : List Commit). Once es) is k.ends.once) behind (same_txn_in_doubt f there wrote u ∙ sym entry.2)
 
         equal : before.0.date ≡ a.doubt.1 → ⊥
-        equal e = copies.last j rec before.0 a.doubt front back entry.0 f before.1 (a.was, on, sym e) is entry.2 behind wrote same
+        equal e = copies.last j rec before.0 a.doubt front back entry.0 f before.1 (a.was, applied_on, sym e) is entry.2 behind wrote same
 
         above : Precedes a.doubt.1 before.0.date → ⊥
-        above p = no_doubt_below catalogue w k copies refresh j rec before.0 a.doubt before.1 a.was on p
+        above p = no_doubt_below catalogue w k copies refresh j rec before.0 a.doubt before.1 a.was applied_on p
 
     wrote_value : value_at rec (last_writes entry.0.ops) ≡ Some c.value
     wrote_value =
@@ -106,7 +106,7 @@ module _ (catalogue : Catalogue) (w new : Scene) (s : ℕ) (x : SiteState) (give
     pub applied_value : value_after catalogue new.journal c.date rec ≡ Some c.value
     applied_value =
         let q = has_split w.journal entry.0 entry.1 in
-        let at : c.date ≡ entry.0.view = sym date_is ∙ sym says.0 in
+        let at : c.date ≡ entry.0.view = sym applied_date ∙ sym says.0 in
         value_now catalogue w new s x given o k n d copies refresh c.date rec (λ e h. absurd (no_entry e h))
         ∙ after_is catalogue w.journal c.date rec j c.value holder (λ start. value_along rec start c.value w.journal (q.0 ++ entry.0 ∷ q.1) c.date entry.0.view q.2 at (value_of_last rec start c.value q.0 q.1 entry.0 wrote_value (λ f h same wrote. none_behind q.0 q.1 f q.2 h same wrote)))
 
@@ -117,7 +117,7 @@ module _ (catalogue : Catalogue) (w new : Scene) (s : ℕ) (x : SiteState) (give
         there = rw quiet at h
 
         below : Precedes a.doubt.1 e.view
-        below = subst (λ (i : ViewId). Precedes i e.view) (sym date_is) later
+        below = subst (λ (i : ViewId). Precedes i e.view) (sym applied_date) later
 
         earlier : Precedes before.0.date e.view → ⊥
         earlier p =
@@ -126,18 +126,18 @@ module _ (catalogue : Catalogue) (w new : Scene) (s : ℕ) (x : SiteState) (give
             not_below_itself a.doubt.1 e.view below (sym q.0)
 
         equal : before.0.date ≡ e.view → ⊥
-        equal q = no_doubt_below catalogue w k copies refresh j rec before.0 a.doubt before.1 a.was on (subst (Precedes a.doubt.1) (sym q) below)
+        equal q = no_doubt_below catalogue w k copies refresh j rec before.0 a.doubt before.1 a.was applied_on (subst (Precedes a.doubt.1) (sym q) below)
 
         above : Precedes e.view before.0.date → ⊥
-        above p = no_doubt_below catalogue w k copies refresh j rec before.0 a.doubt before.1 a.was on (Precedes-trans a.doubt.1 e.view before.0.date below p)
+        above p = no_doubt_below catalogue w k copies refresh j rec before.0 a.doubt before.1 a.was applied_on (Precedes-trans a.doubt.1 e.view before.0.date below p)
 
     pub applied_from : FromView catalogue new j rec c.date
-    applied_from = FromView.member view.0 (d.st.moved.agreed view.0 view.1.0, view.1.1 ∙ date_is) view.2
+    applied_from = FromView.member view.0 (d.st.moved.agreed view.0 view.1.0, view.1.1 ∙ applied_date) view.2
 
   -- for an entry of the step
   module _ (j rec : ℕ) (c : Stored) (holder : Has (holders catalogue rec) j) (b : Written catalogue w new s x given o k n d j rec c) where
-    entry_date : b.entry.view ≡ c.date
-    entry_date = ap (λ (p : ℕ × Stored). p.1.date) b.is
+    pub written_date : b.entry.view ≡ c.date
+    written_date = ap (λ (p : ℕ × Stored). p.1.date) b.is
 
     there_last : Has (last_writes b.entry.ops) b.write
     there_last = (filter_has (λ (w : ℕ × List ℕ). has (holders catalogue w.0) x.id) (last_writes b.entry.ops) b.write b.wrote).0
@@ -157,13 +157,13 @@ module _ (catalogue : Catalogue) (w new : Scene) (s : ℕ) (x : SiteState) (give
     written_value =
         let last : value_at rec (last_writes b.entry.ops) ≡ Some c.value = pair_at (last_writes b.entry.ops) b.write rec c.value (ap (λ (p : ℕ × Stored). p.0) b.is) (ap (λ (p : ℕ × Stored). p.1.value) b.is) (last_value b.entry.ops b.write there_last) in
         let grown = journal_with catalogue w new s x given o k n d b.entry b.entered in
-        after_is catalogue new.journal c.date rec j c.value holder (λ start. ap (λ (es : List Commit). value_up_to rec start es c.date) grown ∙ value_written rec start w.journal b.entry c.date c.value (AtMost-same b.entry.view c.date entry_date) last (λ g h above le q. not_both b.entry.view g.view above (AtMost-along le refl entry_date)))
+        after_is catalogue new.journal c.date rec j c.value holder (λ start. ap (λ (es : List Commit). value_up_to rec start es c.date) grown ∙ value_written rec start w.journal b.entry c.date c.value (AtMost-same b.entry.view c.date written_date) last (λ g h above le q. not_both b.entry.view g.view above (AtMost-along le refl written_date)))
 
     pub written_above : (e : Commit) (v : View) → Has new.journal e → Wrote e rec → Precedes c.date e.view → AgreedAs new e.view v → Has v.members j → ⊥
     written_above e v h also later agreed member = ⊎_elim old more (d.st.entered e h)
       where
         below : Precedes b.entry.view e.view
-        below = subst (λ (i : ViewId). Precedes i e.view) (sym entry_date) later
+        below = subst (λ (i : ViewId). Precedes i e.view) (sym written_date) later
 
         more : Has o.effects.commits e → ⊥
         more q = not_below_itself b.entry.view e.view below (ap (λ (e : Commit). e.view) (one_entry catalogue w new s x given o k n d b.entry e b.entered q))
@@ -178,4 +178,4 @@ module _ (catalogue : Catalogue) (w new : Scene) (s : ℕ) (x : SiteState) (give
     pub written_from : FromView catalogue new j rec c.date
     written_from =
         let agreed = entering_agreed catalogue w new s x given o k n d b.entry f in
-        FromView.member f.view (d.st.moved.agreed f.view agreed.0, f.is ∙ entry_date) (subst (Has f.view.members) (d.here.id ∙ sym b.here) (d.here.tidy.held f.view f.held).3)
+        FromView.member f.view (d.st.moved.agreed f.view agreed.0, f.is ∙ written_date) (subst (Has f.view.members) (d.here.id ∙ sym b.here) (d.here.tidy.held f.view f.held).3)

@@ -81,4 +81,5 @@ pub mod CopyValues
 pub mod CopyWrites
 pub mod Refreshes
 pub mod CopyBrought
+pub mod CopiesKept
 pub mod UsableCopies

@@ -1,8 +1,10 @@
 -- All that is proved of a world so far, by name, and all that is known of one step of it.
-use Rattle.std.proofs.Common.{◌≡◌, ◌≢◌, ◌∙◌, ap, sym, ℕ, List, []}
+use Rattle.std.proofs.Common.{◌≡◌, ℕ, true}
 use Rattle.std.specs.Prelude.{Some, None}
-use Rattle.vp_model.specs.Types.{Input, Sent, Message, Live, Refreshing}
+use Rattle.vp_model.specs.Types.{View, Input, Message}
+use Rattle.vp_model.specs.Words.{keys}
 use Rattle.vp_model.specs.Catalogue.{Catalogue}
+use Rattle.vp_model.specs.Refresh.{is_usable}
 use Rattle.vp_model.specs.Durable.{DurableState}
 use Rattle.vp_model.specs.Site.{SiteState, Stepped}
 use Rattle.vp_model.specs.Step.{step, durable_of}
@@ -19,7 +21,8 @@ use Rattle.vp_laws.proofs.TableWaits.{Waits, waits-step}
 use Rattle.vp_laws.proofs.TableLeaves.{Leaves, leaves-step}
 use Rattle.vp_laws.proofs.TableLocks.{Guards, guards-step}
 use Rattle.vp_laws.proofs.TableCopies.{Copies, copies-step}
-use Rattle.vp_laws.proofs.TableUnlisted.{Unlisting, unlisting-step}
+use Rattle.vp_laws.proofs.TableUnlisted.{IsUnlisted, Unlisting, unlisting-step}
+use Rattle.vp_laws.proofs.TableCovered.{Quits, quits}
 use Rattle.vp_laws.proofs.Scenes.{Scene, plain_at, kept_at, promise_at, Acted, acted, stepping}
 use Rattle.vp_laws.proofs.Events.{Arrives}
 use Rattle.vp_laws.proofs.InvViews.{InvViews, SiteOk}
@@ -116,6 +119,7 @@ pub record Does (catalogue : Catalogue) (w new : Scene) (s : ℕ) (x : SiteState
   pub guards : Guards catalogue x given o
   pub copies : Copies catalogue x given o
   pub unlisting : Unlisting catalogue x given o
+  pub quits : (rec : ℕ) (v : View) → o.site.held ≡ Some v → is_usable catalogue o.site rec ≡ true → Has (keys x.copies) rec → IsUnlisted o.site.refresh rec → Quits catalogue x given o rec
   pub st : Acted w new s x o
 
 came_in : (w : Scene) (s : ℕ) (given : Input) → Arrives w s given → (from : ℕ) (m : Message) → Comes given from m → Has w.sent (letter from s m)
@@ -151,5 +155,6 @@ does catalogue w s x given up r k n =
           (invited catalogue w s x given up r k.views led k.led below k.ends k.shares k.entered);
       copies = copies-step catalogue x given ok.tidy (λ r h. let q = locks.lower r h in (q.0, q.1));
       unlisting = unlisting-step catalogue x given ok.tidy (λ r h. let q = locks.lower r h in (q.0, q.1));
+      quits = quits catalogue x given (λ e. (led.idle e).1) ok.tidy (unlisting-step catalogue x given ok.tidy (λ r h. let q = locks.lower r h in (q.0, q.1)));
       st = st;
     }
