@@ -1,36 +1,23 @@
 -- What holds of copies, of answers to a refresh and of closed records, as one invariant: each part needs the others.
-use Rattle.std.proofs.Common.{◌≡◌, ◌≢◌, ℕ, Bool, true, false, List, ◌∷◌, ◌++◌}
+use Rattle.std.proofs.Common.{◌≡◌, ◌≢◌, ℕ, Bool, true, List, ◌∷◌, ◌++◌}
 use Rattle.std.specs.Prelude.{Some, None}
-use Rattle.vp_model.specs.Types.{ViewId, View, Commit, Op, Stored, Pending, Live}
+use Rattle.vp_model.specs.Types.{ViewId, TxnId, View, Commit, Op, Stored, Live}
 use Rattle.vp_model.specs.Types.message
-use Rattle.vp_model.specs.Types.op
 use Rattle.vp_model.specs.Words.{keys, value_at}
-use Rattle.vp_model.specs.Catalogue.{Catalogue, accessible}
+use Rattle.vp_model.specs.Catalogue.{Catalogue, holders, accessible}
 use Rattle.vp_model.specs.Durable.{Doubt}
 use Rattle.vp_model.specs.Site.{SiteState}
 use Rattle.vp_model.specs.Refresh.{is_usable, refreshing_of}
 use Rattle.vp_laws.proofs.Members.{Has}
 use Rattle.vp_laws.proofs.Order.{Precedes}
 use Rattle.vp_laws.proofs.LocalViews.{letter}
-use Rattle.vp_laws.proofs.Table.{Writes}
 use Rattle.vp_laws.proofs.Scenes.{Scene, plain_at, kept_at}
-use Rattle.vp_laws.proofs.InvShares.{InDoubt}
+use Rattle.vp_laws.proofs.InvShares.{HasRequest, InDoubt}
 use Rattle.vp_laws.proofs.InvOps.{record_of}
 use Rattle.vp_laws.proofs.InvEntered.{Wrote, AgreedAs}
 use Rattle.vp_laws.proofs.Closing.{ClosedAt, Closed}
-use Rattle.vp_laws.proofs.InvAnswers.{HasRead, HasWrote}
+use Rattle.vp_laws.proofs.InvUsed.{HasAnswered}
 use Rattle.vp_laws.proofs.ValuesAfter.{value_after, without_entry}
-
--- an operation of a live transaction that a site has answered, or that was done on the coordinator's own copy. A pending write has
--- its lock there already
-pub data Used (catalogue : Catalogue) (w : Scene) (x : SiteState) (t : Live) (q rec : ℕ) : Bool → Type 0 where
-  read : HasRead w q t.txn rec → Used catalogue w x t q rec false
-  wrote : HasWrote w q t.txn rec → Used catalogue w x t q rec true
-  own_read : (value : List ℕ) (stored : Stored) → q ≡ x.id → Has t.ops (op.Read rec value) → value_at rec x.copies ≡ Some stored → Used catalogue w x t q rec false
-  own_wrote : (value : List ℕ) (stored : Stored) → q ≡ x.id → Has t.ops (op.Write rec value) → value_at rec x.copies ≡ Some stored → Used catalogue w x t q rec true
-  own_asked : (p : Pending) (value : List ℕ) (stored : Stored) → q ≡ x.id → t.pending ≡ Some p → Writes catalogue p rec value → value_at rec x.copies ≡ Some stored → Used catalogue w x t q rec true
-
--- copies and their refresh
 
 -- the site holds the record in the date's view, or the record is closed for a later view of the site
 pub data FromView (catalogue : Catalogue) (w : Scene) (s rec : ℕ) (date : ViewId) : Type 0 where
@@ -56,6 +43,8 @@ pub record InvCopies (catalogue : Catalogue) (w : Scene) : Type 0 where
   pub usable : (s rec : ℕ) (x : SiteState) (v : View) (c : Stored) → plain_at w s ≡ Some x → x.held ≡ Some v → is_usable catalogue x rec ≡ true → refreshing_of rec x.refresh ≡ None → value_at rec x.copies ≡ Some c → Closed catalogue w rec v
 
 pub record InvRefresh (catalogue : Catalogue) (w : Scene) : Type 0 where
+  -- an answer to a refresh comes from a holder
+  pub holder : (p to rec : ℕ) (view date : ViewId) (value : List ℕ) → Has w.sent (letter p to (message.RefreshAnswer view rec value date)) → Has (holders catalogue rec) p
   -- an answer of a lower date comes from a site that is closed below the view, with the value of its date
   pub closed : (p to rec : ℕ) (view date : ViewId) (value : List ℕ) → Has w.sent (letter p to (message.RefreshAnswer view rec value date)) → Precedes date view → ClosedAt w p rec view
   pub value : (p to rec : ℕ) (view date : ViewId) (value : List ℕ) → Has w.sent (letter p to (message.RefreshAnswer view rec value date)) → Precedes date view → value_after catalogue w.journal date rec ≡ Some value
@@ -64,5 +53,7 @@ pub record InvRefresh (catalogue : Catalogue) (w : Scene) : Type 0 where
   pub from : (p to rec : ℕ) (view date : ViewId) (value : List ℕ) → Has w.sent (letter p to (message.RefreshAnswer view rec value date)) → Precedes date view → FromView catalogue w p rec date
   -- a record that an entry uses is closed for its view
   pub entry : (e : Commit) (v : View) (operation : Op) → Has w.journal e → AgreedAs w e.view v → Has e.ops operation → Closed catalogue w (record_of operation) v
-  -- and so is one that a live transaction has used
-  pub used : (s q rec : ℕ) (exclusive : Bool) (x : SiteState) (t : Live) (v : View) → plain_at w s ≡ Some x → Has x.live t → Used catalogue w x t q rec exclusive → AgreedAs w t.view v → Closed catalogue w rec v
+  -- and so is one that a site has answered for a live transaction
+  pub used : (s q rec : ℕ) (exclusive : Bool) (x : SiteState) (t : Live) (v : View) → plain_at w s ≡ Some x → Has x.live t → HasAnswered w q t.txn rec exclusive → AgreedAs w t.view v → Closed catalogue w rec v
+  -- each record that a site is asked for a lock on is accessible in the view
+  pub asked : (from to number rec : ℕ) (txn : TxnId) (view : ViewId) (exclusive : Bool) (v : View) → HasRequest w from to txn view number rec exclusive → AgreedAs w view v → accessible catalogue rec v.members ≡ true

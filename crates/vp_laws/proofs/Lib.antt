@@ -82,4 +82,5 @@ pub mod CopyWrites
 pub mod Refreshes
 pub mod CopyBrought
 pub mod CopiesKept
+pub mod OwnUse
 pub mod UsableCopies

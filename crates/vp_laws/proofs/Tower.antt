@@ -1,7 +1,7 @@
 -- All that is proved of a world so far, by name, and all that is known of one step of it.
-use Rattle.std.proofs.Common.{◌≡◌, ℕ, true}
+use Rattle.std.proofs.Common.{◌≡◌, ◌∙◌, ap, ℕ, Bool, true}
 use Rattle.std.specs.Prelude.{Some, None}
-use Rattle.vp_model.specs.Types.{View, Input, Message}
+use Rattle.vp_model.specs.Types.{View, Input, Message, Live}
 use Rattle.vp_model.specs.Words.{keys}
 use Rattle.vp_model.specs.Catalogue.{Catalogue}
 use Rattle.vp_model.specs.Refresh.{is_usable}
@@ -25,6 +25,7 @@ use Rattle.vp_laws.proofs.TableUnlisted.{IsUnlisted, Unlisting, unlisting-step}
 use Rattle.vp_laws.proofs.TableCovered.{Quits, quits}
 use Rattle.vp_laws.proofs.Scenes.{Scene, plain_at, kept_at, promise_at, Acted, acted, stepping}
 use Rattle.vp_laws.proofs.Events.{Arrives}
+use Rattle.vp_laws.proofs.Worlds.{NowIs}
 use Rattle.vp_laws.proofs.InvViews.{InvViews, SiteOk}
 use Rattle.vp_laws.proofs.InvLed.{InvLed}
 use Rattle.vp_laws.proofs.InvBelow.{InvBelow}
@@ -38,7 +39,7 @@ use Rattle.vp_laws.proofs.InvEntered.{InvEntered}
 use Rattle.vp_laws.proofs.InvLived.{InvLived}
 use Rattle.vp_laws.proofs.InvSettled.{InvSettled}
 use Rattle.vp_laws.proofs.InvGuards.{InvGuards, outcomes, awaited, invited}
-use Rattle.vp_laws.proofs.InvUsed.{InvUsed}
+use Rattle.vp_laws.proofs.InvUsed.{HasAnswered, Split, split, InvUsed}
 use Rattle.vp_laws.proofs.InvDated.{InvDated}
 use Rattle.vp_laws.proofs.InvReads.{InvReads}
 use Rattle.vp_laws.proofs.InvHeld.{InvHeld}
@@ -120,6 +121,7 @@ pub record Does (catalogue : Catalogue) (w new : Scene) (s : ℕ) (x : SiteState
   pub copies : Copies catalogue x given o
   pub unlisting : Unlisting catalogue x given o
   pub quits : (rec : ℕ) (v : View) → o.site.held ≡ Some v → is_usable catalogue o.site rec ≡ true → Has (keys x.copies) rec → IsUnlisted o.site.refresh rec → Quits catalogue x given o rec
+  pub split : (j : ℕ) (y : SiteState) (t : Live) → NowIs w s o.site j y → Has y.live t → (q rec : ℕ) (exclusive : Bool) → HasAnswered new q t.txn rec exclusive → Split w s x given o j t q rec exclusive
   pub st : Acted w new s x o
 
 came_in : (w : Scene) (s : ℕ) (given : Input) → Arrives w s given → (from : ℕ) (m : Message) → Comes given from m → Has w.sent (letter from s m)
@@ -134,6 +136,10 @@ does catalogue w s x given up r k n =
     let apart = k.votes.site s x up in
     let settled = k.ends.settled s x up in
     let locks = k.guards.site s x up in
+    let locks_now = guards-step catalogue x given ok.tidy led below apart locks
+        (outcomes catalogue w s x given up r k.views led k.led below k.ends k.shares k.entered)
+        (awaited catalogue w s x given up r k.views led k.led below k.ends k.shares k.entered)
+        (invited catalogue w s x given up r k.views led k.led below k.ends k.shares k.entered) in
     let st = stepping catalogue w s x given up ok.kept (local-step catalogue x given ok.tidy) in
     record {
       up = up;
@@ -149,12 +155,13 @@ does catalogue w s x given up r k n =
       shares = shares-step catalogue x given;
       waits = (waits-step catalogue x given settled.decisions).kept;
       leaves = leaves-step catalogue x given;
-      guards = guards-step catalogue x given ok.tidy led below apart locks
-          (outcomes catalogue w s x given up r k.views led k.led below k.ends k.shares k.entered)
-          (awaited catalogue w s x given up r k.views led k.led below k.ends k.shares k.entered)
-          (invited catalogue w s x given up r k.views led k.led below k.ends k.shares k.entered);
+      guards = locks_now;
       copies = copies-step catalogue x given ok.tidy (λ r h. let q = locks.lower r h in (q.0, q.1));
       unlisting = unlisting-step catalogue x given ok.tidy (λ r h. let q = locks.lower r h in (q.0, q.1));
       quits = quits catalogue x given (λ e. (led.idle e).1) ok.tidy (unlisting-step catalogue x given ok.tidy (λ r h. let q = locks.lower r h in (q.0, q.1)));
+      split = split catalogue w (acted w s x o) s x given up r ok.id (ap (λ (d : DurableState). d.promise) ok.kept) k.views k.led (owned w k) k.names k.ends k.shares k.answers k.used (steps-step catalogue x given led apart).kept (shares-step catalogue x given) (leaves-step catalogue x given) locks_now st;
       st = st;
     }
+  where
+    owned : (w : Scene) → Known catalogue w → (k : ℕ) (y : SiteState) (t : Live) → plain_at w k ≡ Some y → Has y.live t → t.txn.site ≡ k
+    owned w k j y t g h = ((k.led.site j y g).names t h).0 ∙ (k.views.site j y g).id
