@@ -83,4 +83,5 @@ pub mod Refreshes
 pub mod CopyBrought
 pub mod CopiesKept
 pub mod OwnUse
+pub mod RefreshKept
 pub mod UsableCopies
