@@ -1,23 +1,23 @@
 -- A step keeps the invariant of copies.
-use Rattle.std.proofs.Common.{◌≡◌, ◌≢◌, ◌⊎◌, ◌∙◌, ap, sym, subst, ℕ, Bool, true, false, List, [], ◌∷◌, ◌++◌, refl, arith, ⊎_elim, cond}
+use Rattle.std.proofs.Common.{◌≡◌, ◌≢◌, ◌∙◌, ap, sym, subst, ℕ, Bool, true, false, List, [], ◌∷◌, ◌++◌, refl, arith, ⊎_elim, cond}
 use Rattle.std.specs.Prelude.{Option, Some, None, find, ◌==◌}
 use Rattle.std.proofs.lemmas.Bool.{eqb-true}
 use Rattle.std.proofs.lemmas.Bool.Decides.{nat_tests}
-use Rattle.vp_model.specs.Types.{ViewId, TxnId, View, Commit, Input, Stored, Refreshing}
+use Rattle.vp_model.specs.Types.{ViewId, View, Commit, Input, Stored, Refreshing}
 use Rattle.vp_model.specs.Types.op
-use Rattle.vp_model.specs.Words.{keys, value_at}
+use Rattle.vp_model.specs.Words.{value_at}
 use Rattle.vp_model.specs.Catalogue.{Catalogue, holders, accessible}
 use Rattle.vp_model.specs.Durable.{DurableState, Doubt}
 use Rattle.vp_model.specs.Refresh.{is_usable, is_usable_in, refreshing_of}
 use Rattle.vp_model.specs.Site.{SiteState, Stepped}
 use Rattle.vp_laws.proofs.Members.{Has, has_none, has_first, has_more, has_cons}
-use Rattle.vp_laws.proofs.Order.{AtMost, Precedes, AtMost-same, AtMost-along, not_both, same_site}
+use Rattle.vp_laws.proofs.Order.{Precedes, same_site}
 use Rattle.vp_laws.proofs.Journal.{Precedes-trans}
 use Rattle.vp_laws.proofs.TableCopies.{AnswerNow}
 use Rattle.vp_laws.proofs.TableCopyAt.{Certain}
 use Rattle.vp_laws.proofs.TableUnlisted.{IsUnlisted, Ended}
 use Rattle.vp_laws.proofs.TableCovered.{Quits}
-use Rattle.vp_laws.proofs.Scenes.{Scene, plain_at, kept_at}
+use Rattle.vp_laws.proofs.Scenes.{Scene, kept_at}
 use Rattle.vp_laws.proofs.InvShares.{InDoubt}
 use Rattle.vp_laws.proofs.InvEntered.{Wrote, AgreedAs, written_op}
 use Rattle.vp_laws.proofs.InvHeld.{has_copy, holds_copy}
@@ -26,14 +26,14 @@ use Rattle.vp_laws.proofs.Closing.{Closed, closed_lasts}
 use Rattle.vp_laws.proofs.Stopping.{shared_holder}
 use Rattle.vp_laws.proofs.ValuesAfter.{value_after, without_entry}
 use Rattle.vp_laws.proofs.CopyInvariants.{FromView, DoubtOn, InvCopies, InvRefresh}
-use Rattle.vp_laws.proofs.CopyFacts.{still_below, three_ways, copy_holder}
+use Rattle.vp_laws.proofs.CopyFacts.{still_below, copy_holder}
 use Rattle.vp_laws.proofs.Worlds.{NowIs, now_is}
 use Rattle.vp_laws.proofs.NewEntries.{entering, stops, agreed_was}
 use Rattle.vp_laws.proofs.CopyOrigins.{Own, Origin, origin}
 use Rattle.vp_laws.proofs.CopyValues.{old_value, old_in_doubt, old_last}
 use Rattle.vp_laws.proofs.CopyWrites.{applied_date, applied_on, applied_sure, applied_value, applied_from, written_date, written_sure, written_value, written_from}
 use Rattle.vp_laws.proofs.CopyBrought.{doubt_on, own_above, brought_sure, brought_value, brought_from, brought_above}
-use Rattle.vp_laws.proofs.Refreshes.{certain_from, answer_listed, answer_in, answer_view, left_below_now, other_answer, all_closed}
+use Rattle.vp_laws.proofs.Refreshes.{certain_from, answer_listed, answer_in, left_below_now, other_answer, all_closed}
 use Rattle.vp_laws.proofs.Tower.{Known, Does}
 
 -- what is not found is not listed, and the other way round

@@ -1,30 +1,28 @@
 -- An entry that wrote a record in a view above the date of a copy, and of which the site is a member, is in doubt there after a step; and
 -- what a refresh brings is the newest copy of the members.
-use Rattle.std.proofs.Common.{◌≡◌, ◌≢◌, ◌⊎◌, ◌∙◌, ap, sym, subst, ℕ, true, List, refl, ⊎_elim}
+use Rattle.std.proofs.Common.{◌≡◌, ◌≢◌, ◌∙◌, ap, sym, subst, ℕ, true, List, ⊎_elim}
 use Rattle.std.specs.Prelude.{Some}
-use Rattle.vp_model.specs.Types.{ViewId, TxnId, View, Commit, Input, Stored}
+use Rattle.vp_model.specs.Types.{TxnId, View, Commit, Input, Stored}
 use Rattle.vp_model.specs.Types.message
 use Rattle.vp_model.specs.Types.op
 use Rattle.vp_model.specs.Words.{keys}
 use Rattle.vp_model.specs.Catalogue.{Catalogue, holders, accessible}
 use Rattle.vp_model.specs.Durable.{DurableState, Doubt}
-use Rattle.vp_model.specs.Transactions.{last_writes, writes_held}
 use Rattle.vp_model.specs.Site.{SiteState, Stepped}
 use Rattle.vp_laws.proofs.Members.{Has}
-use Rattle.vp_laws.proofs.Order.{AtMost, Precedes, AtMost-trans, AtMost-along, not_both, same_site}
+use Rattle.vp_laws.proofs.Order.{AtMost, Precedes, AtMost-along, not_both, same_site}
 use Rattle.vp_laws.proofs.LocalViews.{letter}
 use Rattle.vp_laws.proofs.TableCopies.{AnswerNow}
 use Rattle.vp_laws.proofs.TableCopyAt.{Certain}
 use Rattle.vp_laws.proofs.Scenes.{Scene, kept_at, promise_at}
 use Rattle.vp_laws.proofs.InvShares.{InDoubt, InvShares}
 use Rattle.vp_laws.proofs.InvEntered.{Wrote, AgreedAs, written_op}
-use Rattle.vp_laws.proofs.InvListed.{wrote_here, not_below_itself}
-use Rattle.vp_laws.proofs.Closing.{Closed}
+use Rattle.vp_laws.proofs.InvListed.{wrote_here}
 use Rattle.vp_laws.proofs.Stopping.{shared_holder}
 use Rattle.vp_laws.proofs.ValuesAfter.{value_after}
 use Rattle.vp_laws.proofs.CopyInvariants.{FromView, InvCopies, InvRefresh}
 use Rattle.vp_laws.proofs.CopyFacts.{still_below, three_ways, copy_holder}
-use Rattle.vp_laws.proofs.NewEntries.{doubted, doubt_says, agreed_was}
+use Rattle.vp_laws.proofs.NewEntries.{doubted, agreed_was}
 use Rattle.vp_laws.proofs.CopyOrigins.{Untouched, Own, Brought, gone_aborted}
 use Rattle.vp_laws.proofs.CopyValues.{value_now}
 use Rattle.vp_laws.proofs.CopyWrites.{applied_above, written_above}

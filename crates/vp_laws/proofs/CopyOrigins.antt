@@ -1,8 +1,8 @@
 -- Where each copy in the world after a step is from: it is untouched, or of a doubt that commits, or of an entry of the step, or a
 -- refresh brought it.
-use Rattle.std.proofs.Common.{◌≡◌, ◌≢◌, ◌⊎◌, ◌∙◌, ap, sym, subst, ℕ, Bool, true, false, List, ◌∷◌, ◌++◌, refl, inl, inr, ⊎_elim}
+use Rattle.std.proofs.Common.{◌≡◌, ◌≢◌, ◌⊎◌, ◌∙◌, ap, sym, subst, ℕ, Bool, true, false, List, refl, inl, inr, ⊎_elim}
 use Rattle.std.specs.Prelude.{Some}
-use Rattle.vp_model.specs.Types.{ViewId, TxnId, View, Commit, Input, Stored}
+use Rattle.vp_model.specs.Types.{ViewId, TxnId, Commit, Input, Stored}
 use Rattle.vp_model.specs.Types.message
 use Rattle.vp_model.specs.Words.{keys, value_at, same_view}
 use Rattle.vp_model.specs.Catalogue.{Catalogue, holders}
@@ -18,13 +18,13 @@ use Rattle.vp_laws.proofs.TableCopies.{dated_at, value_pair}
 use Rattle.vp_laws.proofs.TableCopyAt.{OwnCopy, CopyAt, Refreshed}
 use Rattle.vp_laws.proofs.TableShares.{OutcomeComes}
 use Rattle.vp_laws.proofs.Scenes.{Scene, kept_at}
-use Rattle.vp_laws.proofs.InvEntered.{Wrote, AgreedAs}
+use Rattle.vp_laws.proofs.InvEntered.{Wrote}
 use Rattle.vp_laws.proofs.InvGuards.{strictly}
 use Rattle.vp_laws.proofs.InvDated.{IsDated}
 use Rattle.vp_laws.proofs.InvHeld.{copy_value}
 use Rattle.vp_laws.proofs.InvListed.{wrote_here}
 use Rattle.vp_laws.proofs.OneDoubt.{doubt_found}
-use Rattle.vp_laws.proofs.CopyInvariants.{FromView, DoubtOn, InvCopies, InvRefresh}
+use Rattle.vp_laws.proofs.CopyInvariants.{FromView, InvRefresh}
 use Rattle.vp_laws.proofs.CopyFacts.{copy_dated, copy_holder, closed_above}
 use Rattle.vp_laws.proofs.Worlds.{KeptIs, kept_is}
 use Rattle.vp_laws.proofs.NewEntries.{doubted, stops, doubt_stays, Doubted}

@@ -1,32 +1,24 @@
 -- The value of each copy after a step is the one after the entries of views up to its date, but for the entry of a doubt of that view.
-use Rattle.std.proofs.Common.{◌≡◌, ◌≢◌, ◌⊎◌, ◌∙◌, ap, sym, subst, ℕ, Bool, true, false, List, [], ◌∷◌, ◌++◌, refl, inl, inr, ⊎_elim}
+use Rattle.std.proofs.Common.{◌≡◌, ◌≢◌, ◌∙◌, ap, sym, subst, ℕ, Bool, true, false, List, [], ◌∷◌, ◌++◌, refl, ⊎_elim}
 use Rattle.std.specs.Prelude.{Some}
-use Rattle.vp_model.specs.Types.{ViewId, TxnId, View, Commit, Input, Stored}
-use Rattle.vp_model.specs.Types.message
-use Rattle.vp_model.specs.Words.{has, keys, value_at, same_txn}
-use Rattle.vp_model.specs.Catalogue.{Catalogue, holders}
-use Rattle.vp_model.specs.Durable.{DurableState, Doubt}
-use Rattle.vp_model.specs.Transactions.{last_writes, writes_held}
+use Rattle.vp_model.specs.Types.{ViewId, TxnId, Commit, Input, Stored}
+use Rattle.vp_model.specs.Words.{keys, same_txn}
+use Rattle.vp_model.specs.Catalogue.{Catalogue}
+use Rattle.vp_model.specs.Durable.{Doubt}
 use Rattle.vp_model.specs.Site.{SiteState, Stepped}
-use Rattle.vp_laws.proofs.Members.{Has, has_none, has_cases, has_one_is, filter_has}
-use Rattle.vp_laws.proofs.Lists.{mapped_has}
+use Rattle.vp_laws.proofs.Members.{Has, has_none, has_cases, has_one_is}
 use Rattle.vp_laws.proofs.Apart.{same_txn-is, same_txn-not}
-use Rattle.vp_laws.proofs.Order.{AtMost, Precedes, AtMost-refl, AtMost-same, not_both}
-use Rattle.vp_laws.proofs.LocalViews.{letter}
+use Rattle.vp_laws.proofs.Order.{AtMost, AtMost-same}
 use Rattle.vp_laws.proofs.TableShares.{OutcomeComes}
 use Rattle.vp_laws.proofs.Scenes.{Scene, kept_at}
 use Rattle.vp_laws.proofs.InvEndings.{Once}
-use Rattle.vp_laws.proofs.InvShares.{InDoubt}
-use Rattle.vp_laws.proofs.InvEntered.{Wrote, AgreedAs}
-use Rattle.vp_laws.proofs.InvHeld.{has_copy}
-use Rattle.vp_laws.proofs.InvListed.{wrote_here, not_below_itself}
-use Rattle.vp_laws.proofs.JournalPlaces.{has_split, last_split, stands, once_later, last_value}
-use Rattle.vp_laws.proofs.ValuesAfter.{value_after, value_up_to, without_entry, value_written, value_of_last, without_more, without_same, without_none}
-use Rattle.vp_laws.proofs.ValuesGrow.{after_more, after_is, doubt_or_none}
+use Rattle.vp_laws.proofs.InvEntered.{Wrote}
+use Rattle.vp_laws.proofs.JournalPlaces.{last_split, stands, once_later}
+use Rattle.vp_laws.proofs.ValuesAfter.{value_after, without_entry, without_more, without_same, without_none}
+use Rattle.vp_laws.proofs.ValuesGrow.{after_more, doubt_or_none}
 use Rattle.vp_laws.proofs.CopyInvariants.{DoubtOn, InvCopies, InvRefresh}
-use Rattle.vp_laws.proofs.CopyFacts.{three_ways, copy_holder, no_doubt_below}
-use Rattle.vp_laws.proofs.NewEntries.{JournalNow, journal_now, none_entered, journal_same, entering, certain_now, doubt_says, doubt_stays, Fresh, doubt_from, fresh_name, fresh_same, fresh_no_outcome, fresh_not_entered}
-use Rattle.vp_laws.proofs.CopyOrigins.{Untouched, Applied, Written, gone_aborted, meets}
+use Rattle.vp_laws.proofs.NewEntries.{JournalNow, journal_now, doubt_says, doubt_stays, Fresh, doubt_from, fresh_name, fresh_same, fresh_no_outcome, fresh_not_entered}
+use Rattle.vp_laws.proofs.CopyOrigins.{Untouched, gone_aborted, meets}
 use Rattle.vp_laws.proofs.Tower.{Known, Does}
 
 module _ (catalogue : Catalogue) (w new : Scene) (s : ℕ) (x : SiteState) (given : Input) (o : Stepped) (k : Known catalogue w) (n : Known catalogue new) (d : Does catalogue w new s x given o) (copies : InvCopies catalogue w) (refresh : InvRefresh catalogue w) where

@@ -1,8 +1,8 @@
 -- A copy that a step writes: for a doubt that commits, or for an entry of the step. Nothing is in doubt on it, it has the value that its
 -- entry wrote, and no entry of a later view of the site has written it.
-use Rattle.std.proofs.Common.{◌≡◌, ◌≢◌, ◌⊎◌, ◌∙◌, ap, sym, subst, ℕ, true, List, [], ◌∷◌, ◌++◌, refl, ⊎_elim}
+use Rattle.std.proofs.Common.{◌≡◌, ◌∙◌, ap, sym, subst, ℕ, true, List, ◌∷◌, ◌++◌, refl, ⊎_elim}
 use Rattle.std.specs.Prelude.{Some}
-use Rattle.vp_model.specs.Types.{ViewId, TxnId, View, Commit, Input, Stored}
+use Rattle.vp_model.specs.Types.{ViewId, View, Commit, Input, Stored}
 use Rattle.vp_model.specs.Types.message
 use Rattle.vp_model.specs.Words.{has, keys, value_at}
 use Rattle.vp_model.specs.Catalogue.{Catalogue, holders}
@@ -24,8 +24,8 @@ use Rattle.vp_laws.proofs.JournalPlaces.{has_split, stands_behind, once_later, l
 use Rattle.vp_laws.proofs.ValuesAfter.{value_after, value_up_to, value_written, value_of_last}
 use Rattle.vp_laws.proofs.ValuesGrow.{after_is}
 use Rattle.vp_laws.proofs.CopyInvariants.{FromView, InvCopies, InvRefresh}
-use Rattle.vp_laws.proofs.CopyFacts.{three_ways, copy_holder, no_doubt_below}
-use Rattle.vp_laws.proofs.NewEntries.{none_entered, journal_same, journal_with, one_entry, Entering, entering, entering_agreed, certain_now, doubt_says, agreed_was, Fresh, doubt_from, fresh_no_outcome}
+use Rattle.vp_laws.proofs.CopyFacts.{three_ways, no_doubt_below}
+use Rattle.vp_laws.proofs.NewEntries.{none_entered, journal_same, journal_with, one_entry, Entering, entering, entering_agreed, certain_now, doubt_says, agreed_was, doubt_from, fresh_no_outcome}
 use Rattle.vp_laws.proofs.CopyOrigins.{Applied, Written}
 use Rattle.vp_laws.proofs.CopyValues.{value_now}
 use Rattle.vp_laws.proofs.Tower.{Known, Does}

@@ -407,18 +407,19 @@ no_live : (catalogue : Catalogue) (s : ℕ) (d : DurableState) (t : Live) → Ha
 unfolding start
 no_live catalogue s d t h = has_none t h
 
+-- the same messages were sent
+pub request_on : (w new : Scene) → new.sent ≡ w.sent → (a b : ℕ) (txn : TxnId) (view : ViewId) (number rec : ℕ) (exclusive : Bool) → HasRequest new a b txn view number rec exclusive → HasRequest w a b txn view number rec exclusive
+request_on w new same a b txn view number rec false (HasRequest.to_read h) = HasRequest.to_read (rw same at h)
+request_on w new same a b txn view number rec true (HasRequest.to_write h) = HasRequest.to_write (rw same at h)
+
+pub answered_on : (w new : Scene) → new.sent ≡ w.sent → (k : ℕ) (txn : TxnId) (rec : ℕ) (exclusive : Bool) → HasAnswered new k txn rec exclusive → HasAnswered w k txn rec exclusive
+answered_on w new same k txn rec false (HasAnswered.read r) = HasAnswered.read (r.0, r.1, r.2, r.3, rw same at r.4, rw same at r.5)
+answered_on w new same k txn rec true (HasAnswered.wrote r) = HasAnswered.wrote (r.0, r.1, r.2, rw same at r.3, rw same at r.4)
+
 module _ (catalogue : Catalogue) (w new : Scene) (s : ℕ) (q : Quiet catalogue w new s) (lived : InvLived w) (views : InvViews catalogue w) (asked : InvLed w) (shares : InvShares catalogue w) (owned : (k : ℕ) (y : SiteState) (t : Live) → plain_at w k ≡ Some y → Has y.live t → t.txn.site ≡ k) (inv : InvUsed catalogue w) where
   still_there : (k : ℕ) (y : SiteState) (t : Live) → QuietIs catalogue w s k y → Has y.live t → plain_at w k ≡ Some y
   still_there k y t (QuietIs.other n old) h = old
   still_there k y t (QuietIs.here e same) h = absurd (no_live catalogue s (kept_at w s) t (subst (λ (y : SiteState). Has y.live t) (sym same) h))
-
-  request_on : (a b : ℕ) (txn : TxnId) (view : ViewId) (number rec : ℕ) (exclusive : Bool) → HasRequest new a b txn view number rec exclusive → HasRequest w a b txn view number rec exclusive
-  request_on a b txn view number rec false (HasRequest.to_read h) = HasRequest.to_read (rw q.sent at h)
-  request_on a b txn view number rec true (HasRequest.to_write h) = HasRequest.to_write (rw q.sent at h)
-
-  answered_on : (k : ℕ) (txn : TxnId) (rec : ℕ) (exclusive : Bool) → HasAnswered new k txn rec exclusive → HasAnswered w k txn rec exclusive
-  answered_on k txn rec false (HasAnswered.read r) = HasAnswered.read (r.0, r.1, r.2, r.3, rw q.sent at r.4, rw q.sent at r.5)
-  answered_on k txn rec true (HasAnswered.wrote r) = HasAnswered.wrote (r.0, r.1, r.2, rw q.sent at r.3, rw q.sent at r.4)
 
   lock_on : (k : ℕ) (view : ViewId) (txn : TxnId) (rec : ℕ) (exclusive : Bool) → AtMost view (promise_at w k) → LockedAt w k txn rec exclusive → HasLeft new k view ⊎ LockedAt new k txn rec exclusive
   lock_on k view txn rec exclusive promised (y, up, lock) = ⊎_elim
@@ -428,14 +429,14 @@ module _ (catalogue : Catalogue) (w new : Scene) (s : ℕ) (q : Quiet catalogue 
 
   used_quiet : InvUsed catalogue new
   used_quiet = record {
-    one = λ k y t a b e d number rec other u z exclusive g h f i. inv.one k y t a b e d number rec other u z exclusive (still_there k y t (quiet_is catalogue w new s q k y g) h) h (request_on a b t.txn u number rec exclusive f) (request_on e d t.txn z number other exclusive i);
+    one = λ k y t a b e d number rec other u z exclusive g h f i. inv.one k y t a b e d number rec other u z exclusive (still_there k y t (quiet_is catalogue w new s q k y g) h) h (request_on w new q.sent a b t.txn u number rec exclusive f) (request_on w new q.sent e d t.txn z number other exclusive i);
     used = λ k at rec exclusive y t g h a.
         let old = still_there k y t (quiet_is catalogue w new s q k y g) h in
-        let b = answered_on at t.txn rec exclusive a in
+        let b = answered_on w new q.sent at t.txn rec exclusive a in
         ⊎_elim (λ (l : HasLeft w at t.view). inl (left_quiet catalogue w new s q lived at t.view l))
         (λ (l : LockedAt w at t.txn rec exclusive). lock_on at t.view t.txn rec exclusive (answered_promised catalogue w views asked shares k y t at rec exclusive old (owned k y t old h) h b) l)
         (inv.used k at rec exclusive y t old h b);
-    conflict = λ k j at rec exclusive y z t u g h f i e a b. inv.conflict k j at rec exclusive y z t u (still_there k y t (quiet_is catalogue w new s q k y g) h) h (still_there j z u (quiet_is catalogue w new s q j z f) i) i e (answered_on at t.txn rec true a) (answered_on at u.txn rec exclusive b);
+    conflict = λ k j at rec exclusive y z t u g h f i e a b. inv.conflict k j at rec exclusive y z t u (still_there k y t (quiet_is catalogue w new s q k y g) h) h (still_there j z u (quiet_is catalogue w new s q j z f) i) i e (answered_on w new q.sent at t.txn rec true a) (answered_on w new q.sent at u.txn rec exclusive b);
   }
 
 used_above : (catalogue : Catalogue) → Above catalogue (Twelfth catalogue) (InvUsed catalogue)

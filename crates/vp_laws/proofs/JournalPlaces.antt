@@ -1,13 +1,12 @@
 -- Where an entry stands in the journal, and the values that it wrote.
-use Rattle.std.proofs.Common.{◌≡◌, ◌≢◌, ◌⊎◌, ◌∙◌, ap, sym, subst, ℕ, ◌<◌, List, [], ◌∷◌, ◌++◌, refl, arith, inl, inr, ⊎_elim}
+use Rattle.std.proofs.Common.{◌≡◌, ◌≢◌, ◌⊎◌, ◌∙◌, ap, sym, ℕ, ◌<◌, List, [], ◌∷◌, ◌++◌, arith, inl, inr, ⊎_elim}
 use Rattle.std.specs.Prelude.{Some}
 use Rattle.std.specs.List.{AllByRecursion}
 use Rattle.vp_model.specs.Types.{Commit, Op}
 use Rattle.vp_model.specs.Words.{keys, value_at}
-use Rattle.vp_model.specs.Catalogue.{Catalogue}
-use Rattle.vp_model.specs.Transactions.{last_writes, writes_held}
+use Rattle.vp_model.specs.Transactions.{last_writes}
 use Rattle.vp_one_site.proofs.Play.{Write, Ascending, last_ascending}
-use Rattle.vp_laws.proofs.Members.{Has, has_none, has_first, has_more, has_right, has_cons, map_has, filter_has}
+use Rattle.vp_laws.proofs.Members.{Has, has_none, has_first, has_more, has_right, has_cons}
 use Rattle.vp_laws.proofs.InvEndings.{Once}
 use Rattle.vp_laws.proofs.InvHeld.{Differ, pair_value}
 

@@ -84,4 +84,5 @@ pub mod CopyBrought
 pub mod CopiesKept
 pub mod OwnUse
 pub mod RefreshKept
+pub mod InvCopies
 pub mod UsableCopies

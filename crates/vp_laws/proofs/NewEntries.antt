@@ -2,9 +2,8 @@
 -- nothing here is in doubt on that or under refresh, and no record that is closed for a higher view was written.
 use Rattle.std.proofs.Common.{◌≡◌, ◌≢◌, ◌⊎◌, ◌∙◌, ap, sym, subst, ℕ, Bool, true, false, List, [], ◌∷◌, ◌++◌, refl, inl, inr, ⊎_elim, append-nil}
 use Rattle.std.specs.Prelude.{Some}
-use Rattle.vp_model.specs.Types.{ViewId, TxnId, View, Message, Commit, Input, Part, Live, Refreshing}
+use Rattle.vp_model.specs.Types.{TxnId, View, Message, Commit, Input, Part, Live, Refreshing}
 use Rattle.vp_model.specs.Types.message
-use Rattle.vp_model.specs.Types.op
 use Rattle.vp_model.specs.Words.{is_empty, same_txn, keys}
 use Rattle.vp_model.specs.Catalogue.{Catalogue, holders, accessible}
 use Rattle.vp_model.specs.Durable.{DurableState, Doubt}
@@ -18,7 +17,7 @@ use Rattle.vp_laws.proofs.LocalViews.{letter}
 use Rattle.vp_laws.proofs.Table.{Comes, Decides}
 use Rattle.vp_laws.proofs.TableLed.{IsOf}
 use Rattle.vp_laws.proofs.TableShares.{Prepared, DoubtNow, OutcomeComes}
-use Rattle.vp_laws.proofs.Scenes.{Scene, kept_in, plain_at, kept_at}
+use Rattle.vp_laws.proofs.Scenes.{Scene, kept_in, kept_at}
 use Rattle.vp_laws.proofs.InvShares.{InDoubt}
 use Rattle.vp_laws.proofs.InvEntered.{Wrote, AgreedAs, written_op}
 use Rattle.vp_laws.proofs.InvSettled.{some_not_empty, doubt_was}
@@ -131,9 +130,9 @@ module _ (catalogue : Catalogue) (w new : Scene) (s : ℕ) (x : SiteState) (give
       let vote = n.entered.voted e j (d.st.enters e h) (record { view = v; agreed = agreed; rec = rec; wrote = wrote; holder = holder; member = member }) (λ z. other (z ∙ f.site)) in
       let writes = wrote_here catalogue e j rec holder wrote in
       let doubt : InDoubt w j e.txn = ⊎_elim
-          (λ old. k.shares.says (letter j vote.0 (message.Vote e.txn)) old x f.was (rw f.site d.up) f.live f.named (rw f.done (some writes)))
-          (λ more. absurd (other (d.shares.from (letter j vote.0 (message.Vote e.txn)) more ∙ d.here.id)))
-          (d.st.sent (letter j vote.0 (message.Vote e.txn)) vote.1) in
+      (λ old. k.shares.says (letter j vote.0 (message.Vote e.txn)) old x f.was (rw f.site d.up) f.live f.named (rw f.done (some writes)))
+      (λ more. absurd (other (d.shares.from (letter j vote.0 (message.Vote e.txn)) more ∙ d.here.id)))
+      (d.st.sent (letter j vote.0 (message.Vote e.txn)) vote.1) in
       let says = doubt_says e (d.st.enters e h) j doubt.0 doubt.1 doubt.2 in
       record {
         doubt = doubt.0;

@@ -1,7 +1,7 @@
 -- What a live transaction has used is closed for its view: a copy here on which it has a lock, and what other sites have answered.
-use Rattle.std.proofs.Common.{◌≡◌, ◌≢◌, ◌⊎◌, ◌∙◌, ap, sym, subst, ℕ, Bool, true, false, List, refl, ⊎_elim}
+use Rattle.std.proofs.Common.{◌≡◌, ◌≢◌, ◌∙◌, ap, sym, subst, ℕ, Bool, true, false, List, refl, ⊎_elim}
 use Rattle.std.specs.Prelude.{Option, Some, None}
-use Rattle.vp_model.specs.Types.{TxnId, View, Op, Stored, Pending, Live, Refreshing}
+use Rattle.vp_model.specs.Types.{TxnId, View, Op, Stored, Pending, Live}
 use Rattle.vp_model.specs.Types.op
 use Rattle.vp_model.specs.Types.owner
 use Rattle.vp_model.specs.Words.{keys, value_at}
@@ -10,7 +10,6 @@ use Rattle.vp_model.specs.Refresh.{is_usable, is_usable_in, other_holders_in}
 use Rattle.vp_model.specs.Site.{SiteState}
 use Rattle.vp_laws.proofs.Members.{Has}
 use Rattle.vp_laws.proofs.Lists.{mapped_has}
-use Rattle.vp_laws.proofs.Order.{same_site}
 use Rattle.vp_laws.proofs.LockTables.{HasLock}
 use Rattle.vp_laws.proofs.Table.{Reads}
 use Rattle.vp_laws.proofs.TableLed.{IsOf}

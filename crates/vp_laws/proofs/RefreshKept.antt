@@ -1,13 +1,12 @@
 -- A step keeps the invariant of answers to a refresh and of closed records.
 use Rattle.std.proofs.Common.{◌≡◌, ◌≢◌, ◌⊎◌, ◌∙◌, ap, sym, subst, ℕ, Bool, true, false, List, refl, inl, inr, ⊎_elim}
-use Rattle.std.specs.Prelude.{Option, Some, None, is_some, ◌||◌}
+use Rattle.std.specs.Prelude.{Option, Some, is_some, ◌||◌}
 use Rattle.vp_model.specs.Types.{ViewId, TxnId, View, Sent, Commit, Input, Op, Stored, Pending, Live}
 use Rattle.vp_model.specs.Types.message
-use Rattle.vp_model.specs.Types.op
 use Rattle.vp_model.specs.Types.owner
-use Rattle.vp_model.specs.Words.{keys, value_at}
+use Rattle.vp_model.specs.Words.{value_at}
 use Rattle.vp_model.specs.Catalogue.{Catalogue, holders, accessible}
-use Rattle.vp_model.specs.Durable.{DurableState, Doubt}
+use Rattle.vp_model.specs.Durable.{DurableState}
 use Rattle.vp_model.specs.Refresh.{is_usable, is_usable_in, is_doubtful}
 use Rattle.vp_model.specs.Messages.{holds_view}
 use Rattle.vp_model.specs.Site.{SiteState, Stepped}
@@ -33,13 +32,11 @@ use Rattle.vp_laws.proofs.InvOps.{record_of}
 use Rattle.vp_laws.proofs.InvEntered.{Wrote, AgreedAs}
 use Rattle.vp_laws.proofs.InvSettled.{holding}
 use Rattle.vp_laws.proofs.InvUsed.{HasAnswered, Was, Split}
-use Rattle.vp_laws.proofs.InvListed.{not_below_itself}
-use Rattle.vp_laws.proofs.HasLeft.{HasLeft}
 use Rattle.vp_laws.proofs.Closing.{ClosedAt, Closed, closed_at_lasts}
 use Rattle.vp_laws.proofs.ValuesAfter.{value_after}
 use Rattle.vp_laws.proofs.CopyInvariants.{FromView, InvCopies, InvRefresh}
 use Rattle.vp_laws.proofs.CopyFacts.{three_ways, copy_holder, closed_above}
-use Rattle.vp_laws.proofs.Worlds.{NowIs, now_is}
+use Rattle.vp_laws.proofs.Worlds.{now_is}
 use Rattle.vp_laws.proofs.NewEntries.{none_entered, journal_same, Entering, entering, doubted, stops, agreed_was, Fresh, doubt_from}
 use Rattle.vp_laws.proofs.CopyValues.{value_now}
 use Rattle.vp_laws.proofs.CopyBrought.{doubt_on}

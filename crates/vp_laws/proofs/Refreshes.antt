@@ -1,7 +1,7 @@
 -- What a site knows of a record that it refreshes: each answer is of a lower date, and where all other holders have answered and no
 -- doubt is on the record, it is closed for the held view.
-use Rattle.std.proofs.Common.{◌≡◌, ◌≢◌, ◌⊎◌, ◌∙◌, ap, sym, subst, ℕ, Bool, true, false, List, [], ◌∷◌, refl, ⊎_elim}
-use Rattle.std.specs.Prelude.{Option, Some, None, filter, not}
+use Rattle.std.proofs.Common.{◌≡◌, ◌≢◌, ◌∙◌, ap, sym, subst, ℕ, Bool, true, false, List, [], ◌∷◌, refl, ⊎_elim}
+use Rattle.std.specs.Prelude.{Option, Some, not}
 use Rattle.vp_model.specs.Types.{ViewId, View, Commit, Input, Stored, Refreshing}
 use Rattle.vp_model.specs.Types.message
 use Rattle.vp_model.specs.Words.{has, is_empty, keys, opening}
@@ -22,7 +22,7 @@ use Rattle.vp_laws.proofs.InvDated.{WasSent, answer_sent}
 use Rattle.vp_laws.proofs.InvListed.{not_below_itself}
 use Rattle.vp_laws.proofs.HasLeft.{HasLeft, left_here}
 use Rattle.vp_laws.proofs.Closing.{ClosedAt, Closed, closed_at_lasts}
-use Rattle.vp_laws.proofs.CopyInvariants.{InvCopies, InvRefresh}
+use Rattle.vp_laws.proofs.CopyInvariants.{InvRefresh}
 use Rattle.vp_laws.proofs.NewEntries.{not_listed}
 use Rattle.vp_laws.proofs.Tower.{Known, Does}
 

@@ -1,20 +1,15 @@
 -- The parts of the invariant that are stated and not proved yet, by what they are about. What stands is in the files Inv*.
-use Rattle.std.proofs.Common.{◌≡◌, ◌≢◌, ℕ, Bool, true, false, List, ◌∷◌, ◌++◌}
-use Rattle.std.specs.Prelude.{Option, Some, None}
-use Rattle.vp_model.specs.Types.{ViewId, View, Commit, Op, Stored, Pending, Live}
+use Rattle.std.proofs.Common.{◌≡◌, ℕ, List}
+use Rattle.std.specs.Prelude.{Option, Some}
+use Rattle.vp_model.specs.Types.{ViewId, Op, Live}
 use Rattle.vp_model.specs.Types.message
-use Rattle.vp_model.specs.Types.op
-use Rattle.vp_model.specs.Words.{keys, value_at}
-use Rattle.vp_model.specs.Catalogue.{Catalogue, accessible, start_values}
-use Rattle.vp_model.specs.Durable.{Doubt}
+use Rattle.vp_model.specs.Catalogue.{Catalogue, start_values}
 use Rattle.vp_model.specs.Site.{SiteState}
-use Rattle.vp_model.specs.Refresh.{is_usable, refreshing_of}
 use Rattle.vp_model.specs.OneCopy.{Values, play, serial, order, content}
 use Rattle.vp_laws.proofs.Members.{Has}
-use Rattle.vp_laws.proofs.Order.{Precedes}
 use Rattle.vp_laws.proofs.LocalViews.{letter}
-use Rattle.vp_laws.proofs.Scenes.{Scene, plain_at, kept_at}
-use Rattle.vp_laws.proofs.ValuesAfter.{value_after, without_entry}
+use Rattle.vp_laws.proofs.Scenes.{Scene, plain_at}
+use Rattle.vp_laws.proofs.ValuesAfter.{value_after}
 
 -- the order
 

@@ -1,15 +1,15 @@
 -- All that is proved of a world so far, by name, and all that is known of one step of it.
 use Rattle.std.proofs.Common.{◌≡◌, ◌∙◌, ap, ℕ, Bool, true}
-use Rattle.std.specs.Prelude.{Some, None}
+use Rattle.std.specs.Prelude.{Some}
 use Rattle.vp_model.specs.Types.{View, Input, Message, Live}
 use Rattle.vp_model.specs.Words.{keys}
 use Rattle.vp_model.specs.Catalogue.{Catalogue}
 use Rattle.vp_model.specs.Refresh.{is_usable}
 use Rattle.vp_model.specs.Durable.{DurableState}
 use Rattle.vp_model.specs.Site.{SiteState, Stepped}
-use Rattle.vp_model.specs.Step.{step, durable_of}
+use Rattle.vp_model.specs.Step.{step}
 use Rattle.vp_laws.proofs.Members.{Has}
-use Rattle.vp_laws.proofs.LocalViews.{letter, Tidy, Local}
+use Rattle.vp_laws.proofs.LocalViews.{letter, Local}
 use Rattle.vp_laws.proofs.Table.{Comes}
 use Rattle.vp_laws.proofs.TableViews.{local-step}
 use Rattle.vp_laws.proofs.TableLed.{Led}
@@ -23,7 +23,7 @@ use Rattle.vp_laws.proofs.TableLocks.{Guards, guards-step}
 use Rattle.vp_laws.proofs.TableCopies.{Copies, copies-step}
 use Rattle.vp_laws.proofs.TableUnlisted.{IsUnlisted, Unlisting, unlisting-step}
 use Rattle.vp_laws.proofs.TableCovered.{Quits, quits}
-use Rattle.vp_laws.proofs.Scenes.{Scene, plain_at, kept_at, promise_at, Acted, acted, stepping}
+use Rattle.vp_laws.proofs.Scenes.{Scene, plain_at, Acted, acted, stepping}
 use Rattle.vp_laws.proofs.Events.{Arrives}
 use Rattle.vp_laws.proofs.Worlds.{NowIs}
 use Rattle.vp_laws.proofs.InvViews.{InvViews, SiteOk}
@@ -137,9 +137,9 @@ does catalogue w s x given up r k n =
     let settled = k.ends.settled s x up in
     let locks = k.guards.site s x up in
     let locks_now = guards-step catalogue x given ok.tidy led below apart locks
-        (outcomes catalogue w s x given up r k.views led k.led below k.ends k.shares k.entered)
-        (awaited catalogue w s x given up r k.views led k.led below k.ends k.shares k.entered)
-        (invited catalogue w s x given up r k.views led k.led below k.ends k.shares k.entered) in
+    (outcomes catalogue w s x given up r k.views led k.led below k.ends k.shares k.entered)
+    (awaited catalogue w s x given up r k.views led k.led below k.ends k.shares k.entered)
+    (invited catalogue w s x given up r k.views led k.led below k.ends k.shares k.entered) in
     let st = stepping catalogue w s x given up ok.kept (local-step catalogue x given ok.tidy) in
     record {
       up = up;

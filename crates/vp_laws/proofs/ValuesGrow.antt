@@ -1,11 +1,11 @@
 -- The value of a held record after the entries of views up to one, and when an added entry leaves it.
-use Rattle.std.proofs.Common.{◌≡◌, ◌⊎◌, ◌∙◌, ap, sym, ℕ, Bool, true, false, List, [], ◌∷◌, ◌++◌, refl, inl, inr}
+use Rattle.std.proofs.Common.{◌≡◌, ◌⊎◌, ◌∙◌, ap, ℕ, Bool, true, false, List, [], ◌∷◌, ◌++◌, refl, inl, inr}
 use Rattle.std.specs.Prelude.{Option, Some, None, option_map, slice_get, ◌&&◌}
 use Rattle.std.specs.List.{list_any}
 use Rattle.std.proofs.lemmas.Option.{slice_get-map}
 use Rattle.vp_model.specs.Types.{ViewId, Commit}
 use Rattle.vp_model.specs.Words.{has, keys, same_view, view_before}
-use Rattle.vp_model.specs.Catalogue.{Catalogue, RecordEntry, weights_in, holders, start_values}
+use Rattle.vp_model.specs.Catalogue.{Catalogue, RecordEntry, holders, start_values}
 use Rattle.vp_model.specs.Durable.{Doubt}
 use Rattle.vp_laws.proofs.Members.{Has, has_none, any_true, any_false, both_true, has_from_test}
 use Rattle.vp_laws.proofs.Order.{AtMost, from_before, same_is, same_from}
