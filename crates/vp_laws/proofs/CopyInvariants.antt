@@ -55,5 +55,5 @@ pub record InvRefresh (catalogue : Catalogue) (w : Scene) : Type 0 where
   pub entry : (e : Commit) (v : View) (operation : Op) → Has w.journal e → AgreedAs w e.view v → Has e.ops operation → Closed catalogue w (record_of operation) v
   -- and so is one that a site has answered for a live transaction
   pub used : (s q rec : ℕ) (exclusive : Bool) (x : SiteState) (t : Live) (v : View) → plain_at w s ≡ Some x → Has x.live t → HasAnswered w q t.txn rec exclusive → AgreedAs w t.view v → Closed catalogue w rec v
-  -- each record that a site is asked for a lock on is accessible in the view
-  pub asked : (from to number rec : ℕ) (txn : TxnId) (view : ViewId) (exclusive : Bool) (v : View) → HasRequest w from to txn view number rec exclusive → AgreedAs w view v → accessible catalogue rec v.members ≡ true
+  -- each record that a site is asked for a lock on is accessible in the view, and the site holds it
+  pub asked : (from to number rec : ℕ) (txn : TxnId) (view : ViewId) (exclusive : Bool) (v : View) → HasRequest w from to txn view number rec exclusive → AgreedAs w view v → (accessible catalogue rec v.members ≡ true) × Has (holders catalogue rec) to

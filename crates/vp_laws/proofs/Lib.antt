@@ -31,6 +31,7 @@ pub mod TableLocks
 pub mod TableCopies
 pub mod TableCopyAt
 pub mod TableListed
+pub mod TableAlone
 -- worlds and schedules
 pub mod Scenes
 pub mod Events

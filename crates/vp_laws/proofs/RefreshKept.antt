@@ -1,17 +1,17 @@
 -- A step keeps the invariant of answers to a refresh and of closed records.
 use Rattle.std.proofs.Common.{◌≡◌, ◌≢◌, ◌⊎◌, ◌∙◌, ap, sym, subst, ℕ, Bool, true, false, List, refl, inl, inr, ⊎_elim}
-use Rattle.std.specs.Prelude.{Option, Some, is_some, ◌||◌}
+use Rattle.std.specs.Prelude.{Option, Some, is_some, not, ◌||◌, ◌&&◌, ◌==◌}
 use Rattle.vp_model.specs.Types.{ViewId, TxnId, View, Sent, Commit, Input, Op, Stored, Pending, Live}
 use Rattle.vp_model.specs.Types.message
 use Rattle.vp_model.specs.Types.owner
-use Rattle.vp_model.specs.Words.{value_at}
+use Rattle.vp_model.specs.Words.{has, value_at}
 use Rattle.vp_model.specs.Catalogue.{Catalogue, holders, accessible}
 use Rattle.vp_model.specs.Durable.{DurableState}
-use Rattle.vp_model.specs.Refresh.{is_usable, is_usable_in, is_doubtful}
+use Rattle.vp_model.specs.Refresh.{is_usable, is_usable_in, is_doubtful, members_in, other_holders}
 use Rattle.vp_model.specs.Messages.{holds_view}
 use Rattle.vp_model.specs.Site.{SiteState, Stepped}
 use Rattle.vp_laws.specs.Votes.{is_commit}
-use Rattle.vp_laws.proofs.Members.{Has}
+use Rattle.vp_laws.proofs.Members.{Has, filter_has}
 use Rattle.vp_laws.proofs.Apart.{apart_unique}
 use Rattle.vp_laws.proofs.Order.{AtMost, Precedes, not_both, same_site}
 use Rattle.vp_laws.proofs.Journal.{Precedes-trans}
@@ -187,7 +187,10 @@ module _ (catalogue : Catalogue) (w new : Scene) (s : ℕ) (x : SiteState) (give
       let is : of.0 ≡ v = n.views.unique of.0 v (d.st.moved.agreed of.0 (d.here.held of.0 of.1)) agreed.0 (of.2 ∙ at ∙ sym agreed.1) in
       subst (λ (n : ℕ). accessible catalogue n v.members ≡ true) same (subst (λ (v : View). accessible catalogue r v.members ≡ true) is (subst (λ (held : Option View). is_usable_in catalogue held r ≡ true) of.1 usable))
 
-  asked_sent : (m : Sent) → SentFor catalogue x o.site.live m → (from to number rec : ℕ) (txn : TxnId) (view : ViewId) (exclusive : Bool) (v : View) → ((m ≡ letter from to (message.ReadRequest txn view number rec)) ⊎ (m ≡ letter from to (message.WriteRequest txn view number rec))) → AgreedAs new view v → accessible catalogue rec v.members ≡ true
+  held_by : (r rec q to : ℕ) → Has (other_holders catalogue x r) q → r ≡ rec → q ≡ to → Has (holders catalogue rec) to
+  held_by r rec q to h same it = subst (Has (holders catalogue rec)) it (subst (λ (n : ℕ). Has (holders catalogue n) q) same (filter_has (λ (q : ℕ). has (members_in x.held) q && not (q == x.id)) (holders catalogue r) q h).0)
+
+  asked_sent : (m : Sent) → SentFor catalogue x o.site.live m → (from to number rec : ℕ) (txn : TxnId) (view : ViewId) (exclusive : Bool) (v : View) → ((m ≡ letter from to (message.ReadRequest txn view number rec)) ⊎ (m ≡ letter from to (message.WriteRequest txn view number rec))) → AgreedAs new view v → (accessible catalogue rec v.members ≡ true) × Has (holders catalogue rec) to
   asked_sent m (SentFor.aside a) from to number rec txn view exclusive v is agreed = absurd (⊎_elim (λ (e : m ≡ letter from to (message.ReadRequest txn view number rec)). let z = ap (λ (m : Sent). is_aside m.message) e in let y = a.aside in cc) (λ (e : m ≡ letter from to (message.WriteRequest txn view number rec)). let z = ap (λ (m : Sent). is_aside m.message) e in let y = a.aside in cc) is)
   asked_sent m (SentFor.outcome t commit f e) from to number rec txn view exclusive v is agreed = absurd (⊎_elim (λ (q : m ≡ letter from to (message.ReadRequest txn view number rec)). let z = sym e ∙ ap (λ (m : Sent). m.message) q in cc) (λ (q : m ≡ letter from to (message.WriteRequest txn view number rec)). let z = sym e ∙ ap (λ (m : Sent). m.message) q in cc) is)
   asked_sent m (SentFor.reads u p r q h a only e) from to number rec txn view exclusive v is agreed = ⊎_elim
@@ -195,7 +198,8 @@ module _ (catalogue : Catalogue) (w new : Scene) (s : ℕ) (x : SiteState) (give
       let z = ap (λ (m : Sent). m.message) (e ∙ f) in
       let same : r ≡ rec = cc in
       let at : u.view ≡ view = cc in
-      usable_in u r rec view v h a.usable same at agreed)
+      let it : q ≡ to = ap (λ (m : Sent). m.to) (e ∙ f) in
+      (usable_in u r rec view v h a.usable same at agreed, held_by r rec q to a.holder same it))
       (λ (f : m ≡ letter from to (message.WriteRequest txn view number rec)). absurd (let z = ap (λ (m : Sent). m.message) (e ∙ f) in cc))
       is
   asked_sent m (SentFor.writes u p r value q h a j only e) from to number rec txn view exclusive v is agreed = ⊎_elim
@@ -204,7 +208,8 @@ module _ (catalogue : Catalogue) (w new : Scene) (s : ℕ) (x : SiteState) (give
       let z = ap (λ (m : Sent). m.message) (e ∙ f) in
       let same : r ≡ rec = cc in
       let at : u.view ≡ view = cc in
-      usable_in u r rec view v h a.usable same at agreed)
+      let it : q ≡ to = ap (λ (m : Sent). m.to) (e ∙ f) in
+      (usable_in u r rec view v h a.usable same at agreed, held_by r rec q to j same it))
       is
   asked_sent m (SentFor.prepares u p q h a j only e) from to number rec txn view exclusive v is agreed = absurd (⊎_elim (λ (f : m ≡ letter from to (message.ReadRequest txn view number rec)). let z = ap (λ (m : Sent). m.message) (e ∙ f) in cc) (λ (f : m ≡ letter from to (message.WriteRequest txn view number rec)). let z = ap (λ (m : Sent). m.message) (e ∙ f) in cc) is)
 
@@ -218,7 +223,7 @@ module _ (catalogue : Catalogue) (w new : Scene) (s : ℕ) (x : SiteState) (give
       let same : b.0 ≡ v = n.views.unique b.0 v (d.st.moved.agreed b.0 b.1) agreed.0 (b.2 ∙ sym agreed.1) in
       (subst (Has w.agreed) same b.1, agreed.1)
 
-  asked_now : (from to number rec : ℕ) (txn : TxnId) (view : ViewId) (exclusive : Bool) (v : View) → HasRequest new from to txn view number rec exclusive → AgreedAs new view v → accessible catalogue rec v.members ≡ true
+  asked_now : (from to number rec : ℕ) (txn : TxnId) (view : ViewId) (exclusive : Bool) (v : View) → HasRequest new from to txn view number rec exclusive → AgreedAs new view v → (accessible catalogue rec v.members ≡ true) × Has (holders catalogue rec) to
   asked_now from to number rec txn view false v (HasRequest.to_read h) agreed = ⊎_elim
       (λ old. refresh.asked from to number rec txn view false v (HasRequest.to_read old) (agreed_of from to number rec txn view false v (HasRequest.to_read old) agreed))
       (λ more. asked_sent (letter from to (message.ReadRequest txn view number rec)) (d.steps.sent _ more) from to number rec txn view false v (inl refl) agreed)
@@ -257,7 +262,7 @@ module _ (catalogue : Catalogue) (w new : Scene) (s : ℕ) (x : SiteState) (give
       let same : h.0 ≡ v = n.views.unique h.0 v (d.st.moved.agreed h.0 (d.here.held h.0 h.1)) agreed.0 (h.2 ∙ sym agreed.1) in
       let held : x.held ≡ Some v = h.1 ∙ ap (λ (v : View). Some v) same in
       let request = request_was to number rec txn g.view exclusive g.comes in
-      let usable = refresh.asked to s number rec txn g.view exclusive v request (agreed_of to s number rec txn g.view exclusive v request agreed) in
+      let usable = (refresh.asked to s number rec txn g.view exclusive v request (agreed_of to s number rec txn g.view exclusive v request agreed)).0 in
       copies.usable s rec x v stored d.up held (subst (λ (held : Option View). is_usable_in catalogue held rec ≡ true) (sym held) usable)
       (unlisted_none rec x.refresh (free_unlisted rec exclusive txn (free_from_none rec exclusive txn x.locks g.free))) g.copy
 

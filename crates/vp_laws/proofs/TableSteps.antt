@@ -105,7 +105,7 @@ sent_fewer catalogue x live now m sub (SentFor.reads u p rec q h a o e) = SentFo
 sent_fewer catalogue x live now m sub (SentFor.writes u p rec value q h a k o e) = SentFor.writes u p rec value q h a k (only_fewer live now _ sub o) e
 sent_fewer catalogue x live now m sub (SentFor.prepares u p q h a k o e) = SentFor.prepares u p q h a k (only_fewer live now _ sub o) e
 
-locked_effects : (x : SiteState) (t : Live) (rec : ℕ) (l : Lent) → Locked x t rec l → l.effects ≡ (lent_at x).effects
+pub locked_effects : (x : SiteState) (t : Live) (rec : ℕ) (l : Lent) → Locked x t rec l → l.effects ≡ (lent_at x).effects
 unfolding take_lock
 locked_effects x t rec l (Locked.no_copy n e) = ap (λ (l : Lent). l.effects) e
 locked_effects x t rec l (Locked.locked stored v c e) = ap (λ (l : Lent). l.effects) e
