@@ -86,4 +86,5 @@ pub mod CopiesKept
 pub mod OwnUse
 pub mod RefreshKept
 pub mod InvCopies
+pub mod InvReading
 pub mod UsableCopies

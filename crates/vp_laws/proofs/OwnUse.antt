@@ -1,5 +1,5 @@
 -- What a live transaction has used is closed for its view: a copy here on which it has a lock, and what other sites have answered.
-use Rattle.std.proofs.Common.{◌≡◌, ◌≢◌, ◌∙◌, ap, sym, subst, ℕ, Bool, true, false, List, refl, ⊎_elim}
+use Rattle.std.proofs.Common.{◌⊎◌, ◌≡◌, ◌≢◌, ◌∙◌, ap, sym, subst, ℕ, Bool, true, false, List, refl, inl, inr, ⊎_elim}
 use Rattle.std.specs.Prelude.{Option, Some, None}
 use Rattle.vp_model.specs.Types.{TxnId, View, Op, Stored, Pending, Live}
 use Rattle.vp_model.specs.Types.op
@@ -68,20 +68,28 @@ module _ (catalogue : Catalogue) (w : Scene) (k : Known catalogue w) (copies : I
         go None e = elsewhere rec wrote e
         go (Some stored) e = own_closed rec true v stored (((k.guards.site s x up).own t live).wrote rec wrote.0 wrote.1 (copied rec stored e)) (view_is v agreed) e ((k.ops.live s x t up live).usable (op.Write rec wrote.0) wrote.1)
 
-    -- a read that is done, where no other read of the record is pending
-    pub read_closed : (rec : ℕ) (value : List ℕ) → Has t.ops (op.Read rec value) → ((p : Pending) → t.pending ≡ Some p → Reads catalogue p rec → ⊥) → Closed catalogue w rec v
-    read_closed rec value h idle = go (value_at rec x.copies) refl
-      where
-        go : (c : Option Stored) → value_at rec x.copies ≡ c → Closed catalogue w rec v
-        go (Some stored) e = own_closed rec false v stored (((k.guards.site s x up).own t live).read rec value h (copied rec stored e)) (view_is v agreed) e ((k.ops.live s x t up live).usable (op.Read rec value) h)
-        go None e = ⊎_elim
-            (λ wrote. written_closed rec wrote)
-            (λ asked. ⊎_elim
-            (λ (r : HasRead w asked.0 t.txn rec). refresh.used s asked.0 rec false x t v up live (HasAnswered.read r) agreed)
-            (λ pending. absurd (idle pending.0 pending.1 pending.2))
-            ((k.answers.live s x t up live).remote (asked.0, rec) asked.1))
-            ((k.reads.live s x t up live).done rec value h (not_copied rec x.copies e))
+    -- where no read is pending, a done one has been answered, or is of an own write
+    pub idle_reads : ((p : Pending) (rec : ℕ) → t.pending ≡ Some p → Reads catalogue p rec → ⊥) → (rec : ℕ) (value : List ℕ) → Has t.ops (op.Read rec value) → value_at rec x.copies ≡ None → HasWritten t rec ⊎ ((q : ℕ) × HasRead w q t.txn rec)
+    idle_reads idle rec value h none = ⊎_elim
+        (λ wrote. inl wrote)
+        (λ asked. ⊎_elim
+        (λ (r : HasRead w asked.0 t.txn rec). inr (asked.0, r))
+        (λ pending. absurd (idle pending.0 rec pending.1 pending.2))
+        ((k.answers.live s x t up live).remote (asked.0, rec) asked.1))
+        ((k.reads.live s x t up live).done rec value h (not_copied rec x.copies none))
 
-    pub ops_closed : (operation : Op) → Has t.ops operation → ((p : Pending) (rec : ℕ) → t.pending ≡ Some p → Reads catalogue p rec → ⊥) → Closed catalogue w (record_of operation) v
-    ops_closed (op.Read rec value) h idle = read_closed rec value h (λ p e r. idle p rec e r)
-    ops_closed (op.Write rec value) h idle = written_closed rec (value, h)
+    -- what it has done is closed for its view, where each read elsewhere has been answered
+    module _ (reads : (rec : ℕ) (value : List ℕ) → Has t.ops (op.Read rec value) → value_at rec x.copies ≡ None → HasWritten t rec ⊎ ((q : ℕ) × HasRead w q t.txn rec)) where
+      read_closed : (rec : ℕ) (value : List ℕ) → Has t.ops (op.Read rec value) → Closed catalogue w rec v
+      read_closed rec value h = go (value_at rec x.copies) refl
+        where
+          go : (c : Option Stored) → value_at rec x.copies ≡ c → Closed catalogue w rec v
+          go (Some stored) e = own_closed rec false v stored (((k.guards.site s x up).own t live).read rec value h (copied rec stored e)) (view_is v agreed) e ((k.ops.live s x t up live).usable (op.Read rec value) h)
+          go None e = ⊎_elim
+              (λ wrote. written_closed rec wrote)
+              (λ (r : (q : ℕ) × HasRead w q t.txn rec). refresh.used s r.0 rec false x t v up live (HasAnswered.read r.1) agreed)
+              (reads rec value h e)
+
+      pub ops_closed : (operation : Op) → Has t.ops operation → Closed catalogue w (record_of operation) v
+      ops_closed (op.Read rec value) h = read_closed rec value h
+      ops_closed (op.Write rec value) h = written_closed rec (value, h)

@@ -41,7 +41,7 @@ use Rattle.vp_laws.proofs.NewEntries.{none_entered, journal_same, Entering, ente
 use Rattle.vp_laws.proofs.CopyValues.{value_now}
 use Rattle.vp_laws.proofs.CopyBrought.{doubt_on}
 use Rattle.vp_laws.proofs.CopiesKept.{closed_now, from_lasts, unlisted_none}
-use Rattle.vp_laws.proofs.OwnUse.{ops_closed}
+use Rattle.vp_laws.proofs.OwnUse.{idle_reads, ops_closed}
 use Rattle.vp_laws.proofs.Refreshes.{certain_from, left_below}
 use Rattle.vp_laws.proofs.Tower.{Known, Does}
 
@@ -178,7 +178,7 @@ module _ (catalogue : Catalogue) (w new : Scene) (s : ℕ) (x : SiteState) (give
       let f = entering catalogue w new s x given o k n d e h in
       let same : f.view ≡ v = n.views.unique f.view v (d.st.moved.agreed f.view (d.here.held f.view f.held)) agreed.0 (f.is ∙ sym agreed.1) in
       closed_now catalogue w new s x given o k n d copies refresh (record_of operation) v
-      (ops_closed catalogue w k copies s x f.was d.up f.live refresh v (subst (Has w.agreed) same (d.here.held f.view f.held), agreed.1 ∙ sym f.viewed) operation (rw f.done did) (deciding e h f))
+      (ops_closed catalogue w k copies s x f.was d.up f.live refresh v (subst (Has w.agreed) same (d.here.held f.view f.held), agreed.1 ∙ sym f.viewed) (idle_reads catalogue w k copies s x f.was d.up f.live refresh v (subst (Has w.agreed) same (d.here.held f.view f.held), agreed.1 ∙ sym f.viewed) (deciding e h f)) operation (rw f.done did))
 
   -- each record that is asked for is accessible
   usable_in : (u : Live) (r rec : ℕ) (view : ViewId) (v : View) → Has x.live u → is_usable catalogue x r ≡ true → r ≡ rec → u.view ≡ view → AgreedAs new view v → accessible catalogue rec v.members ≡ true
