@@ -87,4 +87,6 @@ pub mod OwnUse
 pub mod RefreshKept
 pub mod InvCopies
 pub mod InvReading
+pub mod Conflicts
+pub mod Contents
 pub mod UsableCopies

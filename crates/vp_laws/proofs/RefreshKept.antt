@@ -242,7 +242,7 @@ module _ (catalogue : Catalogue) (w new : Scene) (s : ℕ) (x : SiteState) (give
   said_view to number rec txn view false (HasRequest.to_read h) y u up there named = (k.shares.says _ h).live y u up there named
   said_view to number rec txn view true (HasRequest.to_write h) y u up there named = (k.shares.says _ h).live y u up there named
 
-  free_unlisted : (rec : ℕ) (exclusive : Bool) (txn : TxnId) → IsFree rec exclusive (owner.Txn txn) x.locks → IsUnlisted x.refresh rec
+  pub free_unlisted : (rec : ℕ) (exclusive : Bool) (txn : TxnId) → IsFree rec exclusive (owner.Txn txn) x.locks → IsUnlisted x.refresh rec
   free_unlisted rec exclusive txn free r h is =
       let guard = (k.guards.site s x d.up).listed r h in
       let z : guard.lock.owner ≡ owner.Txn txn = free guard.lock guard.has (guard.on ∙ is) (rw (guard.strong refl) (or_true exclusive)) in
