@@ -89,4 +89,6 @@ pub mod InvCopies
 pub mod InvReading
 pub mod Conflicts
 pub mod Contents
+pub mod OrderInvariant
+pub mod OrderSteps
 pub mod UsableCopies

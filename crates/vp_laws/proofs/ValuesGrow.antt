@@ -50,3 +50,12 @@ doubt_or_none doubts rec date = go (list_any (λ (u : Doubt). has (keys u.2) rec
         not_both_tests : (a b : Bool) → (a && b) ≡ false → a ≡ true → b ≡ true → ⊥
         not_both_tests true b e f g = cc
         not_both_tests false b e f g = cc
+
+pub after_some : (catalogue : Catalogue) (journal : List Commit) (date : ViewId) (rec q : ℕ) → Has (holders catalogue rec) q → (value : List ℕ) × (value_after catalogue journal date rec ≡ Some value)
+after_some catalogue journal date rec q h = go (slice_get catalogue.records rec) refl
+  where
+    go : (o : Option RecordEntry) → slice_get catalogue.records rec ≡ o → (value : List ℕ) × (value_after catalogue journal date rec ≡ Some value)
+    go None e = absurd (has_none q (rw e at h))
+    go (Some entry) e =
+        let is : slice_get (start_values catalogue) rec ≡ Some entry.start = slice_get-map (λ (r : RecordEntry). r.start) catalogue.records rec ∙ ap (option_map (λ (r : RecordEntry). r.start)) e in
+        (value_up_to rec entry.start journal date, ap (option_map (λ start. value_up_to rec start journal date)) is)
