@@ -1,11 +1,10 @@
 -- Two live transactions of one view do not use a record that one of them has written: they would have conflicting locks at a site.
-use Rattle.std.proofs.Common.{◌≡◌, ◌≢◌, ◌⊎◌, ◌∙◌, ap, sym, subst, ℕ, Bool, true, false, List, refl, ⊎_elim}
+use Rattle.std.proofs.Common.{◌≡◌, ◌≢◌, ◌∙◌, sym, subst, ℕ, Bool, true, false, List, refl, ⊎_elim}
 use Rattle.std.specs.Prelude.{Option, Some, None}
-use Rattle.vp_model.specs.Types.{ViewId, TxnId, View, Op, Stored, Live}
-use Rattle.vp_model.specs.Types.message
+use Rattle.vp_model.specs.Types.{View, Op, Stored, Live}
 use Rattle.vp_model.specs.Types.op
 use Rattle.vp_model.specs.Types.owner
-use Rattle.vp_model.specs.Words.{keys, value_at}
+use Rattle.vp_model.specs.Words.{value_at}
 use Rattle.vp_model.specs.Catalogue.{Catalogue, holders, accessible}
 use Rattle.vp_model.specs.Refresh.{is_usable_in, other_holders_in}
 use Rattle.vp_model.specs.Site.{SiteState}
@@ -13,7 +12,6 @@ use Rattle.vp_laws.proofs.Members.{Has}
 use Rattle.vp_laws.proofs.Lists.{mapped_has}
 use Rattle.vp_laws.proofs.Order.{same_site}
 use Rattle.vp_laws.proofs.LockTables.{HasLock}
-use Rattle.vp_laws.proofs.LocalViews.{letter}
 use Rattle.vp_laws.proofs.TableLed.{IsOf}
 use Rattle.vp_laws.proofs.TableCopies.{value_pair}
 use Rattle.vp_laws.proofs.TableLeaves.{Uses}
@@ -89,22 +87,21 @@ module _ (catalogue : Catalogue) (w : Scene) (k : Known catalogue w) (copies : I
         let q = shared_holder catalogue rec v.members v.members a a in
         record { site = q.0; holder = q.1; member = q.2; exclusive = true; used = written_at rec q.0 wrote q.1 q.2 }
 
+    -- a site that has answered a read is a holder in the view
+    pub read_from : (rec q : ℕ) → HasRead w q t.txn rec → (accessible catalogue rec v.members ≡ true) × Has (holders catalogue rec) q × Has v.members q
+    read_from rec q r =
+        let request : HasRequest w r.0 q t.txn r.2 r.1 rec false = HasRequest.to_read r.5 in
+        let b = k.led.asked _ r.5 in
+        let viewed : t.view ≡ r.2 = (k.shares.says _ r.5).live y t (rw (((k.led.site j y up).names t live).0 ∙ id) up) live refl in
+        let same : b.0 ≡ v = k.views.unique b.0 v b.1 agreed.0 (b.2 ∙ sym viewed ∙ sym agreed.1) in
+        let a = refresh.asked r.0 q r.1 rec t.txn r.2 false v request (agreed.0, agreed.1 ∙ viewed) in
+        (a.0, a.1, subst (λ (v : View). Has v.members q) same b.3)
+
     read_some : (rec : ℕ) (value : List ℕ) → Has t.ops (op.Read rec value) → UsedSome catalogue w t v rec
     read_some rec value h = go (value_at rec y.copies) refl
       where
         elsewhere : (q : ℕ) → HasRead w q t.txn rec → UsedSome catalogue w t v rec
-        elsewhere q r =
-            let request : HasRequest w r.0 q t.txn r.2 r.1 rec false = HasRequest.to_read r.5 in
-            let b = k.led.asked _ r.5 in
-            let viewed : t.view ≡ r.2 = (k.shares.says _ r.5).live y t (rw (((k.led.site j y up).names t live).0 ∙ id) up) live refl in
-            let same : b.0 ≡ v = k.views.unique b.0 v b.1 agreed.0 (b.2 ∙ sym viewed ∙ sym agreed.1) in
-            record {
-              site = q;
-              holder = (refresh.asked r.0 q r.1 rec t.txn r.2 false b.0 request (b.1, b.2)).1;
-              member = subst (λ (v : View). Has v.members q) same b.3;
-              exclusive = false;
-              used = UsedAt.answered (HasAnswered.read r);
-            }
+        elsewhere q r = let a = read_from rec q r in record { site = q; holder = a.1; member = a.2; exclusive = false; used = UsedAt.answered (HasAnswered.read r) }
 
         go : (c : Option Stored) → value_at rec y.copies ≡ c → UsedSome catalogue w t v rec
         go (Some stored) e =

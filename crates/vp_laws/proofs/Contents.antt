@@ -1,16 +1,16 @@
 -- The one copy after the entries of views up to one is defined, where the whole order plays; and what plays on it plays still, when an
 -- entry of a lower view is added that wrote nothing which is used above.
-use Rattle.std.proofs.Common.{◌≡◌, ◌⊎◌, ◌∙◌, ap, sym, subst, Bool, true, false, cond, List, [], ◌∷◌, ◌++◌, refl, ⊎_elim, append-nil}
-use Rattle.std.specs.Prelude.{Option, Some, None, option_and_then, flat_map, slice_get}
+use Rattle.std.proofs.Common.{◌≡◌, ◌∙◌, ap, sym, subst, Bool, true, false, List, [], ◌∷◌, ◌++◌, refl, ⊎_elim}
+use Rattle.std.specs.Prelude.{Option, Some, None, option_and_then, flat_map}
 use Rattle.std.proofs.lemmas.List.{append_assoc}
 use Rattle.vp_model.specs.Types.{ViewId, Op, Commit}
 use Rattle.vp_model.specs.Words.{view_before}
 use Rattle.vp_model.specs.OneCopy.{Values, play, serial, views_of, in_view, order, content}
 use Rattle.vp_one_site.proofs.Play.{serial-append}
 use Rattle.vp_laws.proofs.Members.{Has, has_right, has_cases, has_one_is}
-use Rattle.vp_laws.proofs.Order.{AtMost, Precedes, AtMost-refl, AtMost-trans, Precedes-at_most, from_before}
+use Rattle.vp_laws.proofs.Order.{Precedes, AtMost-trans, Precedes-at_most, from_before}
 use Rattle.vp_laws.proofs.Journal.{Rising, Split, Precedes-trans, views_rising, flat_has, order_has, order_more}
-use Rattle.vp_laws.proofs.ValuesAfter.{upto, in_at, test_above, test_up_to, up_to_from, upto_all, upto_none, upto_append, upto_has}
+use Rattle.vp_laws.proofs.ValuesAfter.{upto, in_at, test_up_to, up_to_from, upto_all, upto_none, upto_append, upto_has}
 use Rattle.vp_laws.proofs.Playing.{WritesNone, up_to_own, serial_agrees, agrees_behind}
 
 then_some : {X Y : Type 0} (o : Option X) (f : X → Option Y) (y : Y) → option_and_then f o ≡ Some y → (x : X) × (o ≡ Some x) × (f x ≡ Some y)

@@ -14,7 +14,6 @@ use Rattle.vp_model.specs.Step.{start, step, marked_call}
 use Rattle.vp_laws.specs.Votes.{is_commit}
 use Rattle.vp_laws.proofs.Members.{Has, has_none}
 use Rattle.vp_laws.proofs.Lists.{mapped_has}
-use Rattle.vp_laws.proofs.LocalViews.{letter}
 use Rattle.vp_laws.proofs.Table.{Reads, remaining}
 use Rattle.vp_laws.proofs.TableSteps.{LiveNow}
 use Rattle.vp_laws.proofs.TableLocks.{not_copied}

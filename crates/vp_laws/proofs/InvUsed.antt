@@ -161,7 +161,7 @@ module _ (catalogue : Catalogue) (w new : Scene) (s : ℕ) (x : SiteState) (give
   not_new : (txn : TxnId) → UsedTxn w txn → txn ≡ next_name x → ⊥
   not_new txn u n = fresh w s x up id txn u n
 
-  was : (k : ℕ) (y : SiteState) (t : Live) → UsedTxn w t.txn → Has y.live t → NowIs w s (step catalogue x given).site k y → Was w k t
+  pub was : (k : ℕ) (y : SiteState) (t : Live) → UsedTxn w t.txn → Has y.live t → NowIs w s (step catalogue x given).site k y → Was w k t
   was k y t used h (NowIs.other n old) = record { site = y; up_then = old; u = t; here = h; named = refl; viewed = refl }
   was k y t used h (NowIs.here e same) = ⊎_elim
       (λ (q : (u : Live) × Has x.live u × (u.txn ≡ t.txn) × (u.view ≡ t.view)). record { site = x; up_then = rw e up; u = q.0; here = q.1; named = q.2; viewed = q.3 })

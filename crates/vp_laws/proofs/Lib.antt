@@ -91,4 +91,5 @@ pub mod Conflicts
 pub mod Contents
 pub mod OrderInvariant
 pub mod OrderSteps
+pub mod InvOrder
 pub mod UsableCopies

@@ -1,25 +1,25 @@
 -- What a live transaction has done goes through also with the operation of a step, on the entries before it; and an answer that is given
 -- has the value after them.
-use Rattle.std.proofs.Common.{◌≡◌, ◌≢◌, ◌⊎◌, ◌∙◌, ap, sym, subst, ℕ, ◌+◌, ◌≤◌, Bool, true, false, List, [], ◌∷◌, ◌++◌, refl, arith, inl, inr, ⊎_elim, length}
+use Rattle.std.proofs.Common.{◌≡◌, ◌≢◌, ◌∙◌, ap, sym, subst, ℕ, ◌+◌, ◌≤◌, Bool, true, false, List, [], ◌∷◌, ◌++◌, refl, arith, ⊎_elim, length}
 use Rattle.std.specs.Prelude.{Option, Some, None, is_some, option_and_then, slice_get, slice_set, ◌||◌}
 use Rattle.vp_model.specs.Types.{ViewId, TxnId, View, Sent, Commit, Input, Op, Answer, Stored, Pending, Live}
 use Rattle.vp_model.specs.Types.message
 use Rattle.vp_model.specs.Types.op
 use Rattle.vp_model.specs.Types.owner
 use Rattle.vp_model.specs.Words.{keys, value_at}
-use Rattle.vp_model.specs.Catalogue.{Catalogue, holders, accessible, start_values}
+use Rattle.vp_model.specs.Catalogue.{Catalogue, holders, start_values}
 use Rattle.vp_model.specs.Durable.{DurableState, Doubt}
 use Rattle.vp_model.specs.Transactions.{last_writes}
 use Rattle.vp_model.specs.Refresh.{is_usable, is_usable_in}
-use Rattle.vp_model.specs.OneCopy.{Values, play, serial, order, content}
+use Rattle.vp_model.specs.OneCopy.{Values, play, content}
 use Rattle.vp_model.specs.Site.{SiteState, Stepped, Lent}
 use Rattle.vp_one_site.proofs.Play.{get_all, get_all-other, play_sets, last_ascending, play-append, read_plays}
-use Rattle.vp_laws.proofs.Members.{Has, has_none}
+use Rattle.vp_laws.proofs.Members.{Has}
 use Rattle.vp_laws.proofs.Lists.{mapped_has}
-use Rattle.vp_laws.proofs.Order.{AtMost, AtMost-along, same_site}
+use Rattle.vp_laws.proofs.Order.{AtMost, AtMost-along}
 use Rattle.vp_laws.proofs.LockTables.{IsFree, free_from_none}
 use Rattle.vp_laws.proofs.LocalViews.{letter}
-use Rattle.vp_laws.proofs.Table.{Comes, Requests, Reads, Completes}
+use Rattle.vp_laws.proofs.Table.{Requests, Reads, Completes}
 use Rattle.vp_laws.proofs.TableLed.{IsOf}
 use Rattle.vp_laws.proofs.TableSteps.{LiveNow}
 use Rattle.vp_laws.proofs.TableShares.{is_reply, ReplyTo, Granted}
@@ -27,8 +27,6 @@ use Rattle.vp_laws.proofs.TableCopies.{value_pair}
 use Rattle.vp_laws.proofs.Scenes.{Scene, plain_at, kept_at}
 use Rattle.vp_laws.proofs.InvShares.{HasRequest}
 use Rattle.vp_laws.proofs.InvOps.{reads_same}
-use Rattle.vp_laws.proofs.InvAnswers.{Current}
-use Rattle.vp_laws.proofs.InvEntered.{AgreedAs}
 use Rattle.vp_laws.proofs.InvSettled.{holding}
 use Rattle.vp_laws.proofs.InvHeld.{copy_held}
 use Rattle.vp_laws.proofs.InvReading.{InvReading}
@@ -39,6 +37,7 @@ use Rattle.vp_laws.proofs.Playing.{content_value}
 use Rattle.vp_laws.proofs.CopyInvariants.{InvCopies, InvRefresh}
 use Rattle.vp_laws.proofs.CopiesKept.{unlisted_none}
 use Rattle.vp_laws.proofs.RefreshKept.{free_unlisted}
+use Rattle.vp_laws.proofs.NewEntries.{journal_same}
 use Rattle.vp_laws.proofs.UsableCopies.{usable_value}
 use Rattle.vp_laws.proofs.Contents.{content_there}
 use Rattle.vp_laws.proofs.OrderInvariant.{Plays, InvOrder}
@@ -206,10 +205,14 @@ module _ (catalogue : Catalogue) (w new : Scene) (s : ℕ) (x : SiteState) (give
       let now = free_value r.rec false u.txn v.0 r.stored v.1 (subst (λ (held : Option View). is_usable_in catalogue held r.rec ≡ true) (sym v.1) usable) g.copy (free_from_none r.rec false u.txn x.locks g.free) no_entry in
       subst (λ (i : ViewId). value_after catalogue w.journal i r.rec ≡ Some value) (v.2 ∙ sym viewed) (now ∙ ap (λ (v : List ℕ). Some v) r.valued)
 
+  read_quiet : (to : ℕ) (txn : TxnId) (view : ViewId) (number rec : ℕ) → Requests given to txn view number rec false → new.journal ≡ w.journal
+  read_quiet to txn view number rec (Requests.reads e) = journal_same catalogue w new s x given o k n d to (message.ReadRequest txn view number rec) e (λ q. let z = q.1 in cc)
+
   pub record AnsweredNow (q to number : ℕ) (value : List ℕ) (u : Live) : Type 0 where
     pub rec : ℕ
     pub view : ViewId
     pub here : q ≡ s
+    pub quiet : new.journal ≡ w.journal
     pub request : Has w.sent (letter to q (message.ReadRequest u.txn view number rec))
     pub valued : (j : ℕ) (y : SiteState) → plain_at w j ≡ Some y → Has y.live u → value_after catalogue w.journal u.view rec ≡ Some value
 
@@ -221,6 +224,7 @@ module _ (catalogue : Catalogue) (w new : Scene) (s : ℕ) (x : SiteState) (give
         rec = r.rec;
         view = r.granted.view;
         here = here;
+        quiet = read_quiet to u.txn r.granted.view number r.rec r.granted.comes;
         request = subst (λ (q : ℕ). Has w.sent (letter to q (message.ReadRequest u.txn r.granted.view number r.rec))) (sym here) (request_came to number r.rec u.txn r.granted.view r.granted.comes);
         valued = λ j y up live. replied_value q to number value j y u r up live;
       }

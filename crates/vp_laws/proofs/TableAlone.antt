@@ -1,6 +1,6 @@
 -- Where a step makes an entry, each transaction that is live after it was live before it, as it is.
-use Rattle.std.proofs.Common.{◌≡◌, ◌⊎◌, ◌∙◌, ap, true, List, [], ◌∷◌, ◌++◌, refl, inl, inr}
-use Rattle.vp_model.specs.Types.{Sent, Commit, Input, Effects, Pending, Live}
+use Rattle.std.proofs.Common.{◌≡◌, ◌⊎◌, ◌∙◌, ap, true, List, [], refl, inl, inr}
+use Rattle.vp_model.specs.Types.{Sent, Commit, Input, Effects, Live}
 use Rattle.vp_base.specs.declared.site.Ending.TheVariants.{Committed}
 use Rattle.vp_model.specs.Catalogue.{Catalogue}
 use Rattle.vp_model.specs.Site.{CoordinatorState, SiteState, Lent}

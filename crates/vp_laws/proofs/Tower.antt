@@ -30,7 +30,7 @@ use Rattle.vp_laws.proofs.Worlds.{NowIs}
 use Rattle.vp_laws.proofs.InvViews.{InvViews, SiteOk}
 use Rattle.vp_laws.proofs.InvLed.{InvLed}
 use Rattle.vp_laws.proofs.InvBelow.{InvBelow}
-use Rattle.vp_laws.proofs.InvNames.{InvNames}
+use Rattle.vp_laws.proofs.InvNames.{UsedTxn, InvNames}
 use Rattle.vp_laws.proofs.InvVotes.{InvVotes}
 use Rattle.vp_laws.proofs.InvEndings.{InvEndings, fresh}
 use Rattle.vp_laws.proofs.InvShares.{InvShares}
@@ -40,7 +40,7 @@ use Rattle.vp_laws.proofs.InvEntered.{InvEntered}
 use Rattle.vp_laws.proofs.InvLived.{InvLived}
 use Rattle.vp_laws.proofs.InvSettled.{InvSettled}
 use Rattle.vp_laws.proofs.InvGuards.{InvGuards, outcomes, awaited, invited}
-use Rattle.vp_laws.proofs.InvUsed.{HasAnswered, Split, split, InvUsed}
+use Rattle.vp_laws.proofs.InvUsed.{HasAnswered, Was, Split, was, split, InvUsed}
 use Rattle.vp_laws.proofs.InvDated.{InvDated}
 use Rattle.vp_laws.proofs.InvReads.{InvReads}
 use Rattle.vp_laws.proofs.InvHeld.{InvHeld}
@@ -123,6 +123,7 @@ pub record Does (catalogue : Catalogue) (w new : Scene) (s : ℕ) (x : SiteState
   pub copies : Copies catalogue x given o
   pub unlisting : Unlisting catalogue x given o
   pub quits : (rec : ℕ) (v : View) → o.site.held ≡ Some v → is_usable catalogue o.site rec ≡ true → Has (keys x.copies) rec → IsUnlisted o.site.refresh rec → Quits catalogue x given o rec
+  pub was : (j : ℕ) (y : SiteState) (t : Live) → UsedTxn w t.txn → Has y.live t → NowIs w s o.site j y → Was w j t
   pub split : (j : ℕ) (y : SiteState) (t : Live) → NowIs w s o.site j y → Has y.live t → (q rec : ℕ) (exclusive : Bool) → HasAnswered new q t.txn rec exclusive → Split w s x given o j t q rec exclusive
   pub st : Acted w new s x o
 
@@ -162,6 +163,7 @@ does catalogue w s x given up r k n =
       copies = copies-step catalogue x given ok.tidy (λ r h. let q = locks.lower r h in (q.0, q.1));
       unlisting = unlisting-step catalogue x given ok.tidy (λ r h. let q = locks.lower r h in (q.0, q.1));
       quits = quits catalogue x given (λ e. (led.idle e).1) ok.tidy (unlisting-step catalogue x given ok.tidy (λ r h. let q = locks.lower r h in (q.0, q.1)));
+      was = was catalogue w (acted w s x o) s x given up r ok.id (ap (λ (d : DurableState). d.promise) ok.kept) k.views k.led (owned w k) k.names k.ends k.shares k.answers k.used (steps-step catalogue x given led apart).kept (shares-step catalogue x given) (leaves-step catalogue x given) locks_now st;
       split = split catalogue w (acted w s x o) s x given up r ok.id (ap (λ (d : DurableState). d.promise) ok.kept) k.views k.led (owned w k) k.names k.ends k.shares k.answers k.used (steps-step catalogue x given led apart).kept (shares-step catalogue x given) (leaves-step catalogue x given) locks_now st;
       st = st;
     }
