@@ -92,4 +92,5 @@ pub mod Contents
 pub mod OrderInvariant
 pub mod OrderSteps
 pub mod InvOrder
+pub mod Readable
 pub mod UsableCopies
