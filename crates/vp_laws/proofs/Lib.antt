@@ -61,22 +61,18 @@ pub mod OneDoubt
 -- a closed record: it stays so, and no lower writer of it is decided
 pub mod Closing
 pub mod Stopping
--- the laws in the words of the contracts
-pub mod Words
-pub mod EntryWords
-pub mod SiteWords
--- what is stated and not proved yet
-pub mod ValuesAfter
+-- why a record is not under refresh after a step
 pub mod TableUnlisted
 pub mod TableCovered
-pub mod Playing
-pub mod CopyInvariants
-pub mod Remaining
+-- all of this by name, and what is known of a step
 pub mod Tower
 pub mod NewEntries
 pub mod JournalPlaces
-pub mod CopyFacts
+pub mod ValuesAfter
 pub mod ValuesGrow
+-- copies and their refresh, in one induction
+pub mod CopyInvariants
+pub mod CopyFacts
 pub mod CopyOrigins
 pub mod CopyValues
 pub mod CopyWrites
@@ -86,11 +82,19 @@ pub mod CopiesKept
 pub mod OwnUse
 pub mod RefreshKept
 pub mod InvCopies
+pub mod UsableCopies
+-- the order of the entries
 pub mod InvReading
 pub mod Conflicts
+pub mod Playing
 pub mod Contents
 pub mod OrderInvariant
 pub mod OrderSteps
 pub mod InvOrder
+-- the laws in the words of the contracts
+pub mod Words
+pub mod EntryWords
+pub mod SiteWords
 pub mod Readable
-pub mod UsableCopies
+-- what is stated and not proved yet
+pub mod Remaining

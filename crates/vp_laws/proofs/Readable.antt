@@ -1,33 +1,30 @@
 -- The laws of one copy in the words of the contracts: the entries are a serial run, and each copy that may be read has its content.
-use Rattle.std.proofs.Common.{◌≡◌, ◌≢◌, ◌⊎◌, ◌∙◌, ap, sym, subst, ℕ, Bool, true, false, cond, List, [], ◌∷◌, map, refl, arith, ⊎_elim}
-use Rattle.std.specs.Prelude.{Option, Some, None, IsSome, IsTrue, find, option_and_then, slice_get, ◌==◌, ◌&&◌, not}
-use Rattle.std.specs.List.{Contains, list_all, list_any}
+use Rattle.std.proofs.Common.{◌≡◌, ◌≢◌, ◌∙◌, ap, sym, subst, ℕ, Bool, true, false, cond, List, [], ◌∷◌, map, refl, arith, ⊎_elim}
+use Rattle.std.specs.Prelude.{Option, Some, None, IsSome, IsTrue, find, option_and_then, slice_get, ◌==◌, not}
+use Rattle.std.specs.List.{list_any}
 use Rattle.std.specs.Option.{option_map_or}
 use Rattle.std.specs.Str.{bytes_eq}
 use Rattle.std.proofs.lemmas.Bool.{eq-eqb, eqb-true}
 use Rattle.std.proofs.lemmas.Bool.Decides.{nat_tests}
 use Rattle.std.proofs.lemmas.Slice.Eq.{bytes_eq-Decides}
-use Rattle.vp_model.specs.Types.{ViewId, TxnId, View, Commit, Input, Stored, Lock, Refreshing}
-use Rattle.vp_model.specs.Types.owner
-use Rattle.vp_model.specs.Words.{keys, change_first, same_owner, value_at}
-use Rattle.vp_model.specs.Catalogue.{Catalogue, holders, sites_of, start_values}
+use Rattle.vp_model.specs.Types.{View, Stored, Lock}
+use Rattle.vp_model.specs.Words.{keys, change_first}
+use Rattle.vp_model.specs.Catalogue.{Catalogue, sites_of, start_values}
 use Rattle.vp_model.specs.Durable.{DurableState, Doubt}
 use Rattle.vp_model.specs.Refresh.{is_usable}
 use Rattle.vp_model.specs.OneCopy.{Values, serial, order, content}
 use Rattle.vp_model.specs.Site.{SiteState}
 use Rattle.vp_model.specs.Step.{durable_of}
-use Rattle.vp_model.specs.World.{Place, WorldState, Moment, Schedule, place_of, site_of, start_place, start_world, moments_of, run_of}
+use Rattle.vp_model.specs.World.{Place, WorldState, Moment, Schedule, place_of, start_place, start_world, moments_of, run_of}
 use Rattle.vp_model.specs.Headline.{IsSerial, is_locked, is_readable, has_value, copies_true_in, copies_true_at, copies_true, CopiesAreTrue}
 use Rattle.vp_laws.specs.Catalogues.{AreApart}
-use Rattle.vp_laws.proofs.Members.{Has, has_of, contains, has_none, has_cons, any_false, both_true}
+use Rattle.vp_laws.proofs.Members.{Has, contains, has_none, has_cons, any_false, both_true}
 use Rattle.vp_laws.proofs.Lists.{mapped_has, all_from}
-use Rattle.vp_laws.proofs.Order.{AtMost, AtMost-along}
-use Rattle.vp_laws.proofs.LockTables.{HasLock}
-use Rattle.vp_laws.proofs.Scenes.{Scene, scene_of, plain_at, kept_at, acted}
-use Rattle.vp_laws.proofs.Events.{Lasts, crashed, restarted, in_last, in_each}
+use Rattle.vp_laws.proofs.Order.{AtMost-along}
+use Rattle.vp_laws.proofs.Scenes.{Scene, scene_of, plain_at, kept_at}
+use Rattle.vp_laws.proofs.Events.{Lasts, in_last, in_each}
 use Rattle.vp_laws.proofs.TableUnlisted.{IsUnlisted}
 use Rattle.vp_laws.proofs.InvHeld.{Differ, copy_value, copy_held}
-use Rattle.vp_laws.proofs.ValuesAfter.{value_after}
 use Rattle.vp_laws.proofs.Playing.{content_value}
 use Rattle.vp_laws.proofs.CopiesKept.{unlisted_none}
 use Rattle.vp_laws.proofs.UsableCopies.{usable_value}

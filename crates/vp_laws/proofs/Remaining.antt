@@ -1,26 +1,36 @@
--- The parts of the invariant that are stated and not proved yet, by what they are about. What stands is in the files Inv*.
-use Rattle.std.proofs.Common.{◌≡◌, ℕ, List}
-use Rattle.std.specs.Prelude.{Option, Some}
-use Rattle.vp_model.specs.Types.{ViewId, Op, Live}
-use Rattle.vp_model.specs.Types.message
-use Rattle.vp_model.specs.Catalogue.{Catalogue, start_values}
-use Rattle.vp_model.specs.Site.{SiteState}
-use Rattle.vp_model.specs.OneCopy.{Values, play, serial, order, content}
-use Rattle.vp_laws.proofs.Members.{Has}
-use Rattle.vp_laws.proofs.LocalViews.{letter}
-use Rattle.vp_laws.proofs.Scenes.{Scene, plain_at}
-use Rattle.vp_laws.proofs.ValuesAfter.{value_after}
+-- The laws of one copy that are stated and not proved yet. What stands is in the files Inv*, and as contracts in `src/claims.rt`: the entries
+-- are a serial run, readable copies are true, and no transaction has two entries.
+--
+-- For the ends: a table of what a step replies (an end of a transaction is of one that it decides or closes, or of one that has finished,
+-- with the end that was kept), a part of the invariant that says which answers a live and a finished transaction keep (a live one keeps
+-- values and writes that are done; a finished one has its end last), and that a transaction that is over without an entry gets none later.
+--
+-- For what clients were told: each answer that a live transaction keeps was replied under its number, at the first time with the value of
+-- the operation in that place, to a call with that number that was not refused; so the operations are those that the lines tell.
+--
+-- For refusals: each kept or sent refusal was made by a step of the named site for that very request; a history of the moments beside the
+-- world, since the invariant speaks of worlds alone.
+use Rattle.std.proofs.Common.{◌≡◌}
+use Rattle.std.specs.Prelude.{All}
+use Rattle.vp_model.specs.Types.{Commit}
+use Rattle.vp_model.specs.Catalogue.{sites_of}
+use Rattle.vp_model.specs.World.{Schedule, lines_of, journal_of}
+use Rattle.vp_model.specs.Told.{told}
+use Rattle.vp_model.specs.Headline.{EndsAreTrue, RefusalsAreJustified, IsOneCopy}
+use Rattle.vp_laws.specs.Catalogues.{AreApart}
 
--- the order
+-- committed is answered exactly for transactions with an entry, and no other end for one that has one
+abbrev pub Ends : Type 0
+Ends = (s : Schedule) → EndsAreTrue s
 
--- the operations go through on these values
-abbrev pub Plays : Option Values → List Op → Type 0
-Plays start ops = (before : Values) × (after : Values) × (start ≡ Some before) × (play before ops ≡ Some after)
+-- each transaction is committed with the operations that its client was told of
+abbrev pub Told : Type 0
+Told = (s : Schedule) → All (λ (commit : Commit). commit.ops ≡ told s.catalogue (lines_of s) commit.txn) (journal_of s)
 
-pub record InvOrder (catalogue : Catalogue) (w : Scene) : Type 0 where
-  -- the entries in order are a serial run on one copy
-  pub serial : (after : Values) × (serial (start_values catalogue) (order w.journal) ≡ Some after)
-  -- what a live transaction has done goes through after the entries of views up to its own
-  pub live : (s : ℕ) (x : SiteState) (t : Live) → plain_at w s ≡ Some x → Has x.live t → Plays (content (start_values catalogue) w.journal t.view) t.ops
-  -- a value on its way to a live transaction is the one after the entries of views up to its own
-  pub answered : (s q to number rec : ℕ) (view : ViewId) (value : List ℕ) (x : SiteState) (t : Live) → plain_at w s ≡ Some x → Has x.live t → Has w.sent (letter q to (message.ReadAnswer t.txn number value)) → Has w.sent (letter to q (message.ReadRequest t.txn view number rec)) → value_after catalogue w.journal t.view rec ≡ Some value
+-- each refusal names weights, a lock or a view that the named site then had
+abbrev pub Refusals : Type 0
+Refusals = (s : Schedule) → RefusalsAreJustified s
+
+-- all of it, over a catalogue whose sites are different numbers
+abbrev pub OneCopy : Type 0
+OneCopy = (s : Schedule) → AreApart (sites_of s.catalogue) → IsOneCopy s
