@@ -20,7 +20,7 @@ use Rattle.vp_model.specs.Step.{fix, without_wait, fix_view, ask_again, ask_agai
 use Rattle.vp_laws.proofs.Members.{Has, filter_has, has_first, has_more, both_true}
 use Rattle.vp_laws.proofs.Order.{is_view_is}
 use Rattle.vp_laws.proofs.Frames.{close_all-beside, close_all-none}
-use Rattle.vp_laws.proofs.Table.{Comes, IsCall, Left, Joined, Requests, Asks, lent_at, Back, Table}
+use Rattle.vp_laws.proofs.Table.{Comes, IsCall, Replies, Left, Joined, Requests, Asks, lent_at, Back, Table}
 use Rattle.vp_laws.proofs.Coordinator.{by_test, abandon-closed, abandon-kept, time_out_calls-kept, own_call-kept, on_answer-kept}
 
 -- a record that is accessible and has a copy here
@@ -135,7 +135,7 @@ module _ (catalogue : Catalogue) (x : SiteState) (given : Input) (P : Stepped �
 
   on_regroup-kept : (port : ℕ) → P (on_regroup catalogue port (begin_step x))
   unfolding on_regroup
-  on_regroup-kept port = by_test P (is_spent x.views) _ _ (λ e. k.coordinator.answers (answer.Spent (highest x.views)) port) (λ e. k.answers_inviting port e invite-kept)
+  on_regroup-kept port = by_test P (is_spent x.views) _ _ (λ e. k.coordinator.answers (answer.Spent (highest x.views)) port (Replies.other refl)) (λ e. k.answers_inviting port e invite-kept)
 
   on_call-kept : IsCall given → (port : ℕ) (words : Call) → P (on_call catalogue port words (begin_step x))
   unfolding on_call

@@ -36,7 +36,7 @@ module _ (catalogue : Catalogue) (x : SiteState) (given : Input) where
   unfolding start_txn take_lock complete read_at write_at prepare_parts mark_calls
   moves = record {
     begin = λ port view e. inl refl;
-    answers = λ words port. inl refl;
+    answers = λ words port why. inl refl;
     take_lock = λ t rec exclusive stored h i a v c. inl refl;
     complete = λ t p operation words l h g e r. inl (ap (λ (e : Effects). e.commits) (completes_effects catalogue x given t p operation words l g));
     read_at = λ t p rec q h n r a w c o. inl refl;

@@ -232,7 +232,7 @@ module _ (catalogue : Catalogue) (x : SiteState) (given : Input) (led : Led x) (
       sent = λ m h. absurd (has_none m h);
       entered = λ e h. absurd (has_none e h);
     };
-    answers = λ words port. starts;
+    answers = λ words port why. starts;
     take_lock = λ t rec exclusive stored h i a v c. starts;
     complete = λ t p operation words l h g e r. completes t p operation words l h g e;
     read_at = λ t p rec q h n r a w c o. reads_at t p rec q h (record { next = n; reads = r; usable = a; unwritten = w; no_copy = c; holder = o });

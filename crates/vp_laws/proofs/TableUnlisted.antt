@@ -217,7 +217,7 @@ module _ (catalogue : Catalogue) (x : SiteState) (given : Input) (tidy : Tidy x)
     end_here = λ from txn commit c. ends_here from txn commit (doubt_of txn x.doubts) (b.end_here from txn commit c);
     coordinator = record {
       begin = λ port view e. stays _ refl refl (b.coordinator.begin port view e);
-      answers = λ words port. stays _ refl refl (b.coordinator.answers words port);
+      answers = λ words port why. stays _ refl refl (b.coordinator.answers words port why);
       take_lock = λ t rec exclusive stored h i a v c. stays _ refl refl (b.coordinator.take_lock t rec exclusive stored h i a v c);
       complete = λ t p operation words l h g e q. stays _ refl refl (b.coordinator.complete t p operation words l h g e q.base);
       read_at = λ t p rec q h n r a w c o. stays _ refl refl (b.coordinator.read_at t p rec q h n r a w c o);
