@@ -32,6 +32,7 @@ pub mod TableCopies
 pub mod TableCopyAt
 pub mod TableListed
 pub mod TableAlone
+pub mod TableReplies
 -- worlds and schedules
 pub mod Scenes
 pub mod Events

@@ -254,7 +254,7 @@ module _ (catalogue : Catalogue) (x : SiteState) (given : Input) (led : Led x) (
       starts_with : (c : CoordinatorState) → c.live ≡ x.live → R c [] []
       starts_with c e = record { apart = subst Apart (sym e) apart; live = λ t h. LiveNow.still (rw e at h); sent = λ m h. absurd (has_none m h); entered = λ e h. absurd (has_none e h) }
 
-  keeps : Keeps catalogue x given R
+  pub keeps : Keeps catalogue x given R
   keeps = record {
     aside = λ c ms extra cs quiet r. plus c ms extra cs (λ m h. SentFor.aside (quiet m h)) r;
     starts = starts;
