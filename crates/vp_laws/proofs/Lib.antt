@@ -33,6 +33,7 @@ pub mod TableCopyAt
 pub mod TableListed
 pub mod TableAlone
 pub mod TableReplies
+pub mod TableFinished
 -- worlds and schedules
 pub mod Scenes
 pub mod Events
@@ -92,6 +93,8 @@ pub mod Contents
 pub mod OrderInvariant
 pub mod OrderSteps
 pub mod InvOrder
+-- the answers that transactions keep
+pub mod InvKept
 -- the laws in the words of the contracts
 pub mod Words
 pub mod EntryWords

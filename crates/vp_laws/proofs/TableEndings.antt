@@ -97,7 +97,7 @@ not_live_named : (live now : List Live) → ((t : Live) → Has now t → (u : L
 not_live_named live now sub txn h t q e = let r = sub t q in h r.0 r.1 (r.2 ∙ e)
 
 -- the end of a list of ends
-at_most-has : {X : Type 0} (n : ℕ) (xs : List X) (a : X) → Has (at_most n xs) a → Has xs a
+pub at_most-has : {X : Type 0} (n : ℕ) (xs : List X) (a : X) → Has (at_most n xs) a → Has xs a
 at_most-has n xs a h = go (nat_lt n (length xs)) h
   where
     dropped : {X : Type 0} (xs : List X) (a : X) → Has (drop 1 xs) a → Has xs a

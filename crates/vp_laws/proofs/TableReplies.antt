@@ -155,7 +155,7 @@ module _ (catalogue : Catalogue) (x : SiteState) (given : Input) (led : Led x) (
     };
   }
 
-  completed_words : (t : Live) (p : Pending) (operation : Op) (words : Answer) (l : Lent) → Completes catalogue x given t p operation words l → is_end words ≡ false
+  pub completed_words : (t : Live) (p : Pending) (operation : Op) (words : Answer) (l : Lent) → Completes catalogue x given t p operation words l → is_end words ≡ false
   completed_words t p operation words l (Completes.own_write rec value next r a v o e f) = rw e refl
   completed_words t p operation words l (Completes.own_copy rec stored next r a v c f o e g) = rw e refl
   completed_words t p operation words l (Completes.write_again rec before value next r a v o e f) = rw e refl

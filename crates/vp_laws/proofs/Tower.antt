@@ -17,6 +17,8 @@ use Rattle.vp_laws.proofs.TableBelow.{Below}
 use Rattle.vp_laws.proofs.TableEndings.{Endings, endings-step}
 use Rattle.vp_laws.proofs.TableSteps.{Steps, steps-step}
 use Rattle.vp_laws.proofs.TableShares.{Shares, shares-step}
+use Rattle.vp_laws.proofs.TableFinished.{FinishedNow, finished-step}
+use Rattle.vp_laws.proofs.TableReplies.{Replying, replies-step}
 use Rattle.vp_laws.proofs.TableAlone.{Alone, alone-step}
 use Rattle.vp_laws.proofs.TableWaits.{Waits, waits-step}
 use Rattle.vp_laws.proofs.TableLeaves.{Leaves, leaves-step}
@@ -116,6 +118,8 @@ pub record Does (catalogue : Catalogue) (w new : Scene) (s : ℕ) (x : SiteState
   pub endings : Endings x given o.site.coordinator o.effects.messages o.effects.commits
   pub steps : Steps catalogue x given o.site.coordinator o.effects.messages o.effects.commits
   pub shares : Shares x given o
+  pub finished : FinishedNow x o.site.coordinator o.effects.messages o.effects.commits
+  pub replying : Replying x o.site.live o.effects.commits o.effects.replies
   pub alone : Alone x o.site.coordinator o.effects.messages o.effects.commits
   pub waits : Waits catalogue x given o.site.coordinator o.effects.messages o.effects.commits
   pub leaves : Leaves x given o
@@ -156,6 +160,8 @@ does catalogue w s x given up r k n =
       endings = (endings-step catalogue x given led apart settled (λ d h. fresh w s x up ok.id d.0 ((k.names.site s x up).decisions d h))).kept;
       steps = (steps-step catalogue x given led apart).kept;
       shares = shares-step catalogue x given;
+      finished = (finished-step catalogue x given).kept;
+      replying = replies-step catalogue x given led apart;
       alone = (alone-step catalogue x given).kept;
       waits = (waits-step catalogue x given settled.decisions).kept;
       leaves = leaves-step catalogue x given;
