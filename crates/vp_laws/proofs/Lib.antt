@@ -95,6 +95,9 @@ pub mod OrderSteps
 pub mod InvOrder
 -- the answers that transactions keep
 pub mod InvKept
+-- moments of a schedule
+pub mod Moments
+pub mod EndsTrue
 -- the laws in the words of the contracts
 pub mod Words
 pub mod EntryWords

@@ -1,5 +1,5 @@
 -- All that is proved of a world so far, by name, and all that is known of one step of it.
-use Rattle.std.proofs.Common.{◌≡◌, ◌∙◌, ap, ℕ, Bool, true}
+use Rattle.std.proofs.Common.{◌≡◌, ◌∙◌, ◌≤◌, inl, ap, sym, subst, ℕ, Bool, true}
 use Rattle.std.specs.Prelude.{Some}
 use Rattle.vp_model.specs.Types.{View, Input, Message, Live}
 use Rattle.vp_model.specs.Words.{keys}
@@ -12,7 +12,7 @@ use Rattle.vp_laws.proofs.Members.{Has}
 use Rattle.vp_laws.proofs.LocalViews.{letter, Local}
 use Rattle.vp_laws.proofs.Table.{Comes}
 use Rattle.vp_laws.proofs.TableViews.{local-step}
-use Rattle.vp_laws.proofs.TableLed.{Led}
+use Rattle.vp_laws.proofs.TableLed.{Led, led-step}
 use Rattle.vp_laws.proofs.TableBelow.{Below}
 use Rattle.vp_laws.proofs.TableEndings.{Endings, endings-step}
 use Rattle.vp_laws.proofs.TableSteps.{Steps, steps-step}
@@ -32,7 +32,7 @@ use Rattle.vp_laws.proofs.Worlds.{NowIs}
 use Rattle.vp_laws.proofs.InvViews.{InvViews, SiteOk}
 use Rattle.vp_laws.proofs.InvLed.{InvLed}
 use Rattle.vp_laws.proofs.InvBelow.{InvBelow}
-use Rattle.vp_laws.proofs.InvNames.{UsedTxn, InvNames}
+use Rattle.vp_laws.proofs.InvNames.{UsedTxn, InvNames, Grows, at_most_equal}
 use Rattle.vp_laws.proofs.InvVotes.{InvVotes}
 use Rattle.vp_laws.proofs.InvEndings.{InvEndings, fresh}
 use Rattle.vp_laws.proofs.InvShares.{InvShares}
@@ -118,6 +118,7 @@ pub record Does (catalogue : Catalogue) (w new : Scene) (s : ℕ) (x : SiteState
   pub endings : Endings x given o.site.coordinator o.effects.messages o.effects.commits
   pub steps : Steps catalogue x given o.site.coordinator o.effects.messages o.effects.commits
   pub shares : Shares x given o
+  pub grows : Grows w new s
   pub finished : FinishedNow x o.site.coordinator o.effects.messages o.effects.commits
   pub replying : Replying x o.site.live o.effects.commits o.effects.replies
   pub alone : Alone x o.site.coordinator o.effects.messages o.effects.commits
@@ -143,6 +144,7 @@ does catalogue w s x given up r k n =
     let apart = k.votes.site s x up in
     let settled = k.ends.settled s x up in
     let locks = k.guards.site s x up in
+    let leads = led-step catalogue x given ok.tidy led in
     let locks_now = guards-step catalogue x given ok.tidy led below apart locks
     (outcomes catalogue w s x given up r k.views led k.led below k.ends k.shares k.entered)
     (awaited catalogue w s x given up r k.views led k.led below k.ends k.shares k.entered)
@@ -160,6 +162,10 @@ does catalogue w s x given up r k n =
       endings = (endings-step catalogue x given led apart settled (λ d h. fresh w s x up ok.id d.0 ((k.names.site s x up).decisions d h))).kept;
       steps = (steps-step catalogue x given led apart).kept;
       shares = shares-step catalogue x given;
+      grows = record {
+        life = at_most_equal _ _ (ap (λ (d : DurableState). d.life) (sym ok.kept) ∙ sym (ap (λ (d : DurableState). d.life) st.kept_now ∙ leads.life));
+        seq = λ y h. let same : o.site ≡ y = (let z = st.now in cc) in inl (x, up, ap (λ (y : SiteState). y.life) (sym same) ∙ leads.life, subst (λ (y : SiteState). x.seq ≤ y.seq) same leads.seq);
+      };
       finished = (finished-step catalogue x given).kept;
       replying = replies-step catalogue x given led apart;
       alone = (alone-step catalogue x given).kept;
