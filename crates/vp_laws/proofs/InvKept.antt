@@ -1,10 +1,10 @@
 -- The answers that transactions keep, in every world: a live one keeps no end, and a finished one no other end than its own.
-use Rattle.std.proofs.Common.{◌≡◌, ◌⊎◌, ◌∙◌, ap, sym, subst, ℕ, false, true, List, [], ◌∷◌, ◌++◌, refl, inl, inr, ⊎_elim}
+use Rattle.std.proofs.Common.{◌≡◌, ◌⊎◌, ◌∙◌, ap, sym, subst, ℕ, false, List, [], ◌∷◌, inl, inr, ⊎_elim}
 use Rattle.std.specs.Prelude.{Option, Some, None, option_map, option_to_list}
-use Rattle.vp_model.specs.Types.{TxnId, Input, Answer, Pending, Live, Ending, Finished}
+use Rattle.vp_model.specs.Types.{Input, Answer, Pending, Live, Finished}
 use Rattle.vp_model.specs.Catalogue.{Catalogue, start_copies}
 use Rattle.vp_model.specs.Durable.{DurableState, empty_durable}
-use Rattle.vp_model.specs.Transactions.{answer_of, answers_after}
+use Rattle.vp_model.specs.Transactions.{answer_of}
 use Rattle.vp_model.specs.Site.{SiteState, Stepped}
 use Rattle.vp_model.specs.Step.{start, step}
 use Rattle.vp_laws.proofs.Members.{Has, has_none, has_one_is, has_cases}

@@ -1,6 +1,6 @@
 -- What a moment of a schedule is: a step of a site with what it gave, or a change that shows no commit and no reply. And what lasts from a
 -- moment to the end of the schedule.
-use Rattle.std.proofs.Common.{◌≡◌, ◌⊎◌, ◌∙◌, ap, sym, subst, ℕ, ◌+◌, ◌-◌, ◌^◌, zero, suc, Bool, true, false, cond, List, [], ◌∷◌, ◌++◌, refl, ⊎_elim}
+use Rattle.std.proofs.Common.{◌≡◌, sym, subst, ℕ, ◌+◌, ◌-◌, ◌^◌, zero, suc, Bool, true, false, cond, List, [], ◌∷◌, ◌++◌, refl, ⊎_elim}
 use Rattle.std.specs.Prelude.{Option, Some, None, ◌==◌, slice_get, length}
 use Rattle.std.specs.Option.{option_map_or}
 use Rattle.std.proofs.lemmas.Option.{slice_get_within, get_or_from_slice_get}
@@ -17,7 +17,7 @@ use Rattle.vp_model.specs.Headline.{commits_in}
 use Rattle.vp_laws.proofs.Members.{Has, has_of, has_none, has_cases, has_one_is}
 use Rattle.vp_laws.proofs.Keeps.{for_some-keeps}
 use Rattle.vp_laws.proofs.Scenes.{Scene, scene_of, plain_at, acted, place-id}
-use Rattle.vp_laws.proofs.Events.{Arrives, crashed, restarted, Lasts, happens-good}
+use Rattle.vp_laws.proofs.Events.{Arrives, Lasts, happens-good}
 use Rattle.vp_laws.proofs.Worlds.{Quiet, crash_quiet, restart_quiet}
 
 pub data MomentOf (catalogue : Catalogue) (w : Scene) (what : Shown) (new : Scene) : Type 0 where

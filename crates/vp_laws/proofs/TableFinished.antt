@@ -1,10 +1,10 @@
 -- Where each finished transaction of a step comes from: it was finished, or it was live and ends now, with its answers and that end.
-use Rattle.std.proofs.Common.{◌≡◌, ◌⊎◌, ap, Bool, true, false, List, [], ◌∷◌, ◌++◌, refl, inl, inr, ⊎_elim}
+use Rattle.std.proofs.Common.{◌≡◌, ◌⊎◌, ap, Bool, true, false, List, [], ◌∷◌, ◌++◌, inl, inr, ⊎_elim}
 use Rattle.vp_model.specs.Types.{Sent, Commit, Input, Live, Ending, Finished}
 use Rattle.vp_base.specs.declared.site.Ending.TheVariants.{Committed}
 use Rattle.vp_model.specs.Catalogue.{Catalogue}
 use Rattle.vp_model.specs.Site.{CoordinatorState, SiteState, Lent}
-use Rattle.vp_model.specs.Transactions.{answers_after, with_finished, close, decided, keep_writes, decide, complete}
+use Rattle.vp_model.specs.Transactions.{answers_after, close, decided, keep_writes, decide, complete}
 use Rattle.vp_model.specs.Calls.{start_txn, take_lock, read_at, write_at, prepare_parts}
 use Rattle.vp_model.specs.Step.{mark_calls, step}
 use Rattle.vp_laws.proofs.Members.{Has, has_one_is, has_cases}

@@ -1,6 +1,6 @@
 -- What a step replies: an end of a transaction is of one that it decides or closes now, or of one that has ended; and each entry is replied.
-use Rattle.std.proofs.Common.{◌≡◌, ◌≢◌, ◌⊎◌, ◌∙◌, map, append-nil, ap, sym, subst, ℕ, Bool, true, false, cond, List, [], ◌∷◌, ◌++◌, refl, inl, inr, ⊎_elim}
-use Rattle.std.specs.Prelude.{Option, Some, None, is_some}
+use Rattle.std.proofs.Common.{◌≡◌, ◌∙◌, map, append-nil, ap, sym, subst, ℕ, Bool, true, false, cond, List, [], ◌∷◌, ◌++◌, refl, ⊎_elim}
+use Rattle.std.specs.Prelude.{Option, Some, None}
 use Rattle.vp_model.specs.Types.{TxnId, Commit, Input, Stored, Effects, Op, Answer, Reply, Pending, Live, Ending, Refreshing}
 use Rattle.vp_base.specs.declared.site.Ending.TheVariants.{Committed}
 use Rattle.vp_model.specs.Types.answer
@@ -12,13 +12,13 @@ use Rattle.vp_model.specs.Site.{reply, CoordinatorState, SiteState, Lent, Steppe
 use Rattle.vp_model.specs.Transactions.{answer_of, with_pending_reply, finish, close, keep_writes, decided, decide, complete}
 use Rattle.vp_model.specs.Refresh.{newest, take_newer, end_refresh, start_refresh}
 use Rattle.vp_model.specs.Views.{drop_view, start_inviting, invite, hold}
-use Rattle.vp_model.specs.Calls.{handling, start_txn, take_lock, read_at, write_at, prepare_parts}
+use Rattle.vp_model.specs.Calls.{start_txn, take_lock, read_at, write_at, prepare_parts}
 use Rattle.vp_model.specs.Messages.{accept, on_accept, on_stale, grant, end_here}
 use Rattle.vp_model.specs.Step.{fix, mark, mark_calls, ask_again, resend_one, inquire, step}
-use Rattle.vp_laws.proofs.Members.{Has, has_none, has_one, has_one_is, has_cases, has_left, has_right, map_has}
+use Rattle.vp_laws.proofs.Members.{Has, has_none, has_one, has_one_is, has_cases, has_left, map_has}
 use Rattle.vp_laws.proofs.Apart.{Apart, named, without_gone}
 use Rattle.vp_laws.proofs.Lists.{without_first_has}
-use Rattle.vp_laws.proofs.Frames.{Ends, close-ends, close-commits, decided-ends, decided-commits, decide-cases}
+use Rattle.vp_laws.proofs.Frames.{close-ends, close-commits, decided-commits, decide-cases}
 use Rattle.vp_laws.proofs.Table.{next_view, lent_at, Handled, Completes, Decides, is_abort, is_end, Replies, Back, Table}
 use Rattle.vp_laws.proofs.TableLed.{Led}
 use Rattle.vp_laws.proofs.TableEndings.{NotLive, WasLive}
