@@ -95,9 +95,11 @@ pub mod OrderSteps
 pub mod InvOrder
 -- the answers that transactions keep
 pub mod InvKept
+pub mod InvMatched
 -- moments of a schedule
 pub mod Moments
 pub mod EndsTrue
+pub mod OneCopy
 -- the laws in the words of the contracts
 pub mod Words
 pub mod EntryWords
