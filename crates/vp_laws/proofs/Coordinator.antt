@@ -61,7 +61,7 @@ slice_has (y ∷ ys) zero a e = let same : y ≡ a = cc in rw same (has_first a 
 slice_has (y ∷ ys) (suc i) a e = has_more y ys a (slice_has ys i a e)
 
 -- neither below nor above the next number
-next_number : (n m : ℕ) → nat_le n m ≡ false → nat_lt (m + 1) n ≡ false → n ≡ m + 1
+pub next_number : (n m : ℕ) → nat_le n m ≡ false → nat_lt (m + 1) n ≡ false → n ≡ m + 1
 next_number n m a b = grind (arith, nat_tests, a, b)
 
 module _ (catalogue : Catalogue) (x : SiteState) (given : Input) (Q : Lent → Type 0) (k : OfCoordinator catalogue x given Q) (h : Q (lent_at x)) where

@@ -34,6 +34,7 @@ pub mod TableListed
 pub mod TableAlone
 pub mod TableReplies
 pub mod TableFinished
+pub mod TableCalls
 -- worlds and schedules
 pub mod Scenes
 pub mod Events
