@@ -1,6 +1,6 @@
 -- What a live transaction was told, in every world: its answers are those of its operations, each under its number.
 use Rattle.std.proofs.Common.{◌≡◌, ◌∙◌, ap, sym, subst, ℕ, ◌+◌, suc, List, [], ◌∷◌, ◌++◌, refl, arith, length}
-use Rattle.std.specs.Prelude.{Option, Some, None}
+use Rattle.std.specs.Prelude.{Some}
 use Rattle.vp_model.specs.Types.{TxnId, Input, Op, Answer, Pending, Live}
 use Rattle.vp_model.specs.Types.answer
 use Rattle.vp_model.specs.Types.op

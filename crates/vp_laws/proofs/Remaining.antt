@@ -1,8 +1,12 @@
 -- The laws of one copy that are stated and not proved yet. What stands is in the files Inv*, and as contracts in `src/claims.rt`: the entries
 -- are a serial run, readable copies are true, the ends that are replied are true, and no transaction has two entries.
 --
--- For what clients were told: each answer that a live transaction keeps was replied under its number, at the first time with the value of
--- the operation in that place, to a call with that number that was not refused; so the operations are those that the lines tell.
+-- For what clients were told, over the lines of a run: a live transaction's operations are told, its pending call took the next number,
+-- and no later number is taken (the laws of one more line stand in vp_one_site, `ToldLines.antt`); an entry's are told; and each answer
+-- that is kept, live or finished, is reported. There already: `InvMatched` (answers are those of the operations), `InvKept` (kept ends),
+-- `TableReplies` (what is replied), `TableCalls` (a call is refused early, repeated, next, or of a finished transaction) and `Moments`
+-- (what a moment is). To come: that the pending call of `IsNext` is the call that came, so that a step does one operation and replies it
+-- alone; and the walk through a next call, which is refused early, pends, is done, or ends the transaction.
 --
 -- For refusals: each kept or sent refusal was made by a step of the named site for that very request; a history of the moments beside the
 -- world, since the invariant speaks of worlds alone.

@@ -1,17 +1,17 @@
 -- What a site does with a call of a transaction: it refuses it early, or has the transaction live or finished here. A live one has answered
 -- the number, or the number is its next one and no call is pending.
-use Rattle.std.proofs.Common.{◌≡◌, ℕ, ◌+◌, ◌≤◌, Bool, true, false, List, [], ◌∷◌, refl, arith, length}
-use Rattle.std.specs.Prelude.{Option, Some, None, is_some, nat_le, nat_lt}
+use Rattle.std.proofs.Common.{◌≡◌, ℕ, ◌+◌, ◌≤◌, true, false, List, refl, arith, length}
+use Rattle.std.specs.Prelude.{is_some, nat_le, nat_lt}
 use Rattle.std.proofs.lemmas.Bool.Decides.{nat_tests}
-use Rattle.vp_model.specs.Types.{TxnId, Call, Answer, Reply, Pending, Live, Finished}
+use Rattle.vp_model.specs.Types.{TxnId, Call, Answer, Reply, Live, Finished}
 use Rattle.vp_model.specs.Types.answer
 use Rattle.vp_model.specs.Types.call
 use Rattle.vp_model.specs.Types.input
 use Rattle.vp_model.specs.Words.{same_txn}
 use Rattle.vp_model.specs.Catalogue.{Catalogue}
 use Rattle.vp_model.specs.Site.{SiteState, Lent, lent_reply}
-use Rattle.vp_model.specs.Transactions.{finished_of, live_of}
-use Rattle.vp_model.specs.Calls.{live_call, finished_call, handled, on_txn_call, own_call, on_call}
+use Rattle.vp_model.specs.Transactions.{finished_of}
+use Rattle.vp_model.specs.Calls.{live_call, finished_call, on_txn_call, own_call, on_call}
 use Rattle.vp_model.specs.Step.{on_input, step}
 use Rattle.vp_model.specs.Told.{is_early_refusal}
 use Rattle.vp_laws.proofs.Members.{Has, has_one, find_has, find_true}
