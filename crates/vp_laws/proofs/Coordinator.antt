@@ -1,6 +1,6 @@
 -- The rows of the coordinator are made of its small moves, so a property of its part that survives these is kept by them.
-use Rattle.std.proofs.Common.{◌≡◌, ◌∙◌, ℕ, ◌+◌, Bool, true, false, cond, List, [], ◌∷◌, refl, arith, length, ap, sym, ⊎_elim}
-use Rattle.std.specs.Prelude.{Option, Some, None, is_some, filter, ◌==◌, nat_le, nat_lt}
+use Rattle.std.proofs.Common.{◌≡◌, ◌∙◌, ℕ, zero, suc, ◌+◌, ◌-◌, ◌^◌, Bool, true, false, cond, List, [], ◌∷◌, refl, arith, length, ap, sym, ⊎_elim}
+use Rattle.std.specs.Prelude.{Option, Some, None, is_some, filter, slice_get, ◌==◌, nat_le, nat_lt}
 use Rattle.std.specs.List.{AllByRecursion}
 use Rattle.std.specs.Option.{option_map_or}
 use Rattle.std.proofs.lemmas.Bool.Decides.{nat_tests}
@@ -27,7 +27,7 @@ use Rattle.vp_laws.proofs.Frames.{close-commits, close-ends}
 use Rattle.vp_laws.proofs.Lists.{without_first_has}
 use Rattle.vp_laws.proofs.LocalViews.{letter}
 use Rattle.vp_laws.specs.Votes.{is_commit}
-use Rattle.vp_laws.proofs.Table.{Closed, Comes, Handled, IsNext, Reads, Writes, Counts, remaining, IsLast, Locked, Completes, Decides, is_abort, lent_at, OfCoordinator}
+use Rattle.vp_laws.proofs.Table.{Closed, Comes, Handled, IsCall, IsNext, Reads, Writes, Counts, remaining, IsLast, Locked, Completes, Decides, Replies, is_abort, lent_at, OfCoordinator}
 
 first_has : (xs : List ℕ) (q : ℕ) → first xs ≡ Some q → Has xs q
 first_has [] q e = cc
@@ -54,8 +54,14 @@ live_of-has txn live t e = find_has (λ (u : Live). same_txn u.txn txn) live t e
 pub live_of-is : (txn : TxnId) (live : List Live) (t : Live) → live_of txn live ≡ Some t → t.txn ≡ txn
 live_of-is txn live t e = same_txn-is t.txn txn (find_true (λ (u : Live). same_txn u.txn txn) live t e)
 
+-- what is looked up by its place is there
+slice_has : {X : Type 0} (xs : List X) (i : ℕ) (a : X) → slice_get xs i ≡ Some a → Has xs a
+slice_has [] i a e = cc
+slice_has (y ∷ ys) zero a e = let same : y ≡ a = cc in rw same (has_first a ys)
+slice_has (y ∷ ys) (suc i) a e = has_more y ys a (slice_has ys i a e)
+
 -- neither below nor above the next number
-next_number : (n m : ℕ) → nat_le n m ≡ false → nat_lt (m + 1) n ≡ false → n ≡ m + 1
+pub next_number : (n m : ℕ) → nat_le n m ≡ false → nat_lt (m + 1) n ≡ false → n ≡ m + 1
 next_number n m a b = grind (arith, nat_tests, a, b)
 
 module _ (catalogue : Catalogue) (x : SiteState) (given : Input) (Q : Lent → Type 0) (k : OfCoordinator catalogue x given Q) (h : Q (lent_at x)) where
@@ -102,7 +108,10 @@ module _ (catalogue : Catalogue) (x : SiteState) (given : Input) (Q : Lent → T
 
   on_begin-kept : (port : ℕ) → Q (on_begin (surroundings x) port (lent_at x))
   unfolding on_begin begin_in
-  on_begin-kept port = grind (arith, k.begin port, k.answers, h)
+  on_begin-kept port = by_option Q _ _ _
+      (λ view e. by_test Q (nat_le 1024 (length x.live)) _ _ (λ many. k.answers _ port (Replies.other refl))
+      (λ few. by_test Q (x.seq == 2 ^ 32 - 1) _ _ (λ spent. k.answers _ port (Replies.other refl)) (λ left. k.begin port view e)))
+      (λ none. k.answers _ port (Replies.other refl))
 
   handled_by : (t : Live) (p : Pending) → Has x.live t → Handled x (handling t p)
   handled_by t p e = record { was = t; live = e; same = refl }
@@ -111,7 +120,7 @@ module _ (catalogue : Catalogue) (x : SiteState) (given : Input) (Q : Lent → T
   handled_as t e = record { was = t; live = e; same = refl }
 
   -- the next call of a live transaction t
-  module _ (t : Live) (p : Pending) (here : Has x.live t) (next : IsNext t p) where
+  module _ (called : IsCall given) (t : Live) (p : Pending) (here : Has x.live t) (next : IsNext t p) where
     closing-kept : (why : Ending) → is_abort why ≡ true → Q (close x.id (handling t p) why (lent_at x))
     closing-kept why a = k.close (handling t p) why (lent_at x) (handled_by t p here) a refl h
 
@@ -145,12 +154,12 @@ module _ (catalogue : Catalogue) (x : SiteState) (given : Input) (Q : Lent → T
     with_record-kept : (name : List ℕ) (use_record : ℕ → Lent → Lent) → ((rec : ℕ) → find_record catalogue name ≡ Some rec → is_usable catalogue x rec ≡ true → Q (use_record rec (lent_at x))) → Q (with_record catalogue x.held t p name use_record (lent_at x))
     unfolding with_record
     with_record-kept name use_record used = by_option Q _ _ _
-        (λ rec e. by_test Q (nat_le 64 (length t.ops)) _ _ (λ many. k.answers _ _) (λ few. by_test Q (is_usable catalogue x rec) _ _ (λ a. used rec e a) (λ not_usable. k.answers _ _)))
-        (λ none. k.answers _ _)
+        (λ rec e. by_test Q (nat_le 64 (length t.ops)) _ _ (λ many. k.answers _ _ (Replies.other refl)) (λ few. by_test Q (is_usable catalogue x rec) _ _ (λ a. used rec e a) (λ not_usable. k.answers _ _ (Replies.other refl))))
+        (λ none. k.answers _ _ (Replies.other refl))
 
     commit-kept : is_commit p.call ≡ true → Q (commit catalogue x.id t p (lent_at x))
     unfolding commit
-    commit-kept c = by_test Q (is_empty t.parts) _ _ (λ e. k.decide (handling t p) (handled_by t p here) (Decides.alone t p here next c e refl)) (λ e. k.prepare_parts t p here next c e)
+    commit-kept c = by_test Q (is_empty t.parts) _ _ (λ e. k.decide (handling t p) (handled_by t p here) (Decides.alone called t p here next c e refl)) (λ e. k.prepare_parts t p here next c e)
 
     new_call-kept : (words : Call) → p.call ≡ words → Q (new_call catalogue x.id x.held t p words (lent_at x))
     unfolding new_call
@@ -161,30 +170,32 @@ module _ (catalogue : Catalogue) (x : SiteState) (given : Input) (Q : Lent → T
     new_call-kept call.Begin e = h
     new_call-kept call.Regroup e = h
 
-  live_call-kept : (t : Live) (p : Pending) → Has x.live t → Q (live_call catalogue x.id x.held t p (lent_at x))
+  live_call-kept : IsCall given → (t : Live) (p : Pending) → Has x.live t → Q (live_call catalogue x.id x.held t p (lent_at x))
   unfolding live_call
-  live_call-kept t p here =
-      by_test Q (nat_le p.number (length t.answers)) _ _ (λ old. by_some Q _ (λ answer. lent_reply answer p.port) (lent_at x) (λ answer e. k.answers answer p.port) h)
-      (λ fresh. by_test Q (nat_lt (length t.answers + 1) p.number) _ _ (λ skipped. k.answers _ _)
-      (λ fits. by_test Q (is_some t.pending) _ _ (λ busy. k.answers _ _) (λ idle. new_call-kept t p here (record { idle = idle; number = next_number p.number (length t.answers) fresh fits }) p.call refl)))
+  live_call-kept called t p here =
+      by_test Q (nat_le p.number (length t.answers)) _ _ (λ old. by_some Q _ (λ answer. lent_reply answer p.port) (lent_at x) (λ answer e. k.answers answer p.port (Replies.kept t here (slice_has t.answers (p.number - 1) answer e))) h)
+      (λ fresh. by_test Q (nat_lt (length t.answers + 1) p.number) _ _ (λ skipped. k.answers _ _ (Replies.other refl))
+      (λ fits. by_test Q (is_some t.pending) _ _ (λ busy. k.answers _ _ (Replies.other refl)) (λ idle. new_call-kept called t p here (record { idle = idle; number = next_number p.number (length t.answers) fresh fits }) p.call refl)))
 
-  finished_call-kept : (port number : ℕ) (f : Finished) → Q (finished_call port number f (lent_at x))
+  finished_call-kept : (port number : ℕ) (f : Finished) → Has x.finished f → Q (finished_call port number f (lent_at x))
   unfolding finished_call
-  finished_call-kept port number f = grind (arith, k.answers, h)
+  finished_call-kept port number f here = by_test Q (nat_le number (length f.answers)) _ _
+      (λ old. by_some Q _ (λ answer. lent_reply answer port) (lent_at x) (λ answer e. k.answers answer port (Replies.kept_end f here (slice_has f.answers (number - 1) answer e))) h)
+      (λ more. k.answers _ port (Replies.over f number here refl))
 
-  on_txn_call-kept : (port : ℕ) (txn : TxnId) (number : ℕ) (words : Call) → Q (on_txn_call catalogue x.id x.held port txn number words (lent_at x))
+  on_txn_call-kept : IsCall given → (port : ℕ) (txn : TxnId) (number : ℕ) (words : Call) → Q (on_txn_call catalogue x.id x.held port txn number words (lent_at x))
   unfolding on_txn_call
-  on_txn_call-kept port txn number words =
-      by_option Q _ _ _ (λ t e. live_call-kept t (handled port number words) (live_of-has txn x.live t e)) (λ none. by_option Q (λ f. finished_call port number f (lent_at x)) (finished_of txn x.finished) (lent_reply (answer.Unknown txn) port (lent_at x)) (λ f e. finished_call-kept port number f) (λ unknown. k.answers (answer.Unknown txn) port))
+  on_txn_call-kept called port txn number words =
+      by_option Q _ _ _ (λ t e. live_call-kept called t (handled port number words) (live_of-has txn x.live t e)) (λ none. by_option Q (λ f. finished_call port number f (lent_at x)) (finished_of txn x.finished) (lent_reply (answer.Unknown txn) port (lent_at x)) (λ f e. finished_call-kept port number f (find_has (λ (t : Finished). same_txn t.txn txn) x.finished f e)) (λ unknown. k.answers (answer.Unknown txn) port (Replies.other refl)))
 
-  pub own_call-kept : (port : ℕ) (words : Call) → Q (own_call catalogue port words (surroundings x) (lent_at x))
+  pub own_call-kept : IsCall given → (port : ℕ) (words : Call) → Q (own_call catalogue port words (surroundings x) (lent_at x))
   unfolding own_call
-  own_call-kept port call.Begin = on_begin-kept port
-  own_call-kept port call.Regroup = h
-  own_call-kept port (call.Read txn number name) = on_txn_call-kept port txn number (call.Read txn number name)
-  own_call-kept port (call.Write txn number name value) = on_txn_call-kept port txn number (call.Write txn number name value)
-  own_call-kept port (call.Commit txn number) = on_txn_call-kept port txn number (call.Commit txn number)
-  own_call-kept port (call.Abort txn number) = on_txn_call-kept port txn number (call.Abort txn number)
+  own_call-kept called port call.Begin = on_begin-kept port
+  own_call-kept called port call.Regroup = h
+  own_call-kept called port (call.Read txn number name) = on_txn_call-kept called port txn number (call.Read txn number name)
+  own_call-kept called port (call.Write txn number name value) = on_txn_call-kept called port txn number (call.Write txn number name value)
+  own_call-kept called port (call.Commit txn number) = on_txn_call-kept called port txn number (call.Commit txn number)
+  own_call-kept called port (call.Abort txn number) = on_txn_call-kept called port txn number (call.Abort txn number)
 
   -- answers to this site's transactions
   with_missing-kept : (txn : TxnId) (from : ℕ) (f : Live → Pending → Lent → Lent) → ((t : Live) (p : Pending) → Has x.live t → t.txn ≡ txn → t.pending ≡ Some p → has p.missing from ≡ true → Q (f t p (lent_at x))) → Q (with_missing txn from f (lent_at x))

@@ -95,7 +95,7 @@ module _ (catalogue : Catalogue) (w new : Scene) (s : ℕ) (x : SiteState) (give
       rw (← same, ← on) (copy_was (r, stored) (value_pair r x.copies stored copy))
 
   -- a kept answer
-  answer_sent : (r : ℕ) (k : ℕ × Stored) → AnswerNow catalogue x given r k → (v : View) × (x.held ≡ Some v) × WasSent catalogue w s r v k
+  pub answer_sent : (r : ℕ) (k : ℕ × Stored) → AnswerNow catalogue x given r k → (v : View) × (x.held ≡ Some v) × WasSent catalogue w s r v k
   answer_sent rec k (AnswerNow.was r h e a) = let q = inv.kept s x r k up h a in (q.0, q.1, subst (λ (n : ℕ). WasSent catalogue w s n q.0 k) e q.2)
   answer_sent rec k (AnswerNow.came from view r stored comes is held h e u) =
       let v = holding x view held in

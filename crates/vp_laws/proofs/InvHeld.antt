@@ -128,6 +128,16 @@ module _ (catalogue : Catalogue) (w : Scene) (s : ℕ) (x : SiteState) (up : pla
       go None e = absurd (not_copied rec x.copies e (holds_copy rec h))
       go (Some stored) e = (stored, e)
 
+-- a site, up or down, holds what it has a copy of
+pub holder_kept : (catalogue : Catalogue) (w : Scene) (s rec : ℕ) → InvHeld catalogue w → Has (keys (kept_at w s).copies) rec → Has (holders catalogue rec) s
+holder_kept catalogue w s rec inv h = go (place_of s w.places) refl
+  where
+    go : (o : Option Place) → place_of s w.places ≡ o → Has (holders catalogue rec) s
+    go None e = absurd (has_none rec (subst (λ (o : Option Place). Has (keys (kept_in o).copies) rec) e h))
+    go (Some p) e =
+        let q = placed 0 catalogue.records s rec (subst (λ (ks : List ℕ). Has ks rec) (inv.held s p e) h) in
+        subst (λ (n : ℕ). Has (holders catalogue n) s) (sym (q.1 ∙ from_first q.0)) q.2
+
 abbrev pub Sixteenth : Catalogue → Scene → Type 0
 Sixteenth catalogue w = With (Fifteenth catalogue) (InvHeld catalogue) w
 

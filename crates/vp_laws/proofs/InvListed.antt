@@ -44,7 +44,7 @@ wrote_here catalogue e q rec holder wrote =
     let k = filter_keeps (λ (w : ℕ × List ℕ). has (holders catalogue w.0) q) (last_writes e.ops) r.0 r.1 (has_test (holders catalogue r.0.0) q (subst (λ (n : ℕ). Has (holders catalogue n) q) (sym r.2) holder)) in
     subst (Has (keys (writes_held catalogue q (last_writes e.ops)))) r.2 (mapped_has (λ (p : ℕ × List ℕ). p.0) _ r.0 k)
 
-not_below_itself : (a b : ViewId) → Precedes a b → a ≡ b → ⊥
+pub not_below_itself : (a b : ViewId) → Precedes a b → a ≡ b → ⊥
 not_below_itself a b p e = grind arith
 
 module _ (catalogue : Catalogue) (w new : Scene) (s : ℕ) (x : SiteState) (given : Input) (o : Stepped) (up : plain_at w s ≡ Some x) (views : InvViews catalogue w) (views_now : InvViews catalogue new) (led : Led x) (asked : InvLed w) (shares : InvShares catalogue w) (shares_now : InvShares catalogue new) (entered : InvEntered catalogue w) (entered_now : InvEntered catalogue new) (settled : InvSettled catalogue w) (guards : InvGuards catalogue w) (held : InvHeld catalogue w) (held_now : InvHeld catalogue new) (inv : InvListed catalogue w) (steps : Steps catalogue x given o.site.coordinator o.effects.messages o.effects.commits) (p : Shares x given o) (g : Listing catalogue x given o) (st : Acted w new s x o) where

@@ -99,7 +99,7 @@ at_most_trans a b c h k = omega arith
 not_above : (a b : ℕ) → a ≤ b → b < a → ⊥
 not_above a b h k = omega arith
 
-used_lasts : (w new : Scene) (s : ℕ) → Moved w new s → Grows w new s → (t : TxnId) → UsedTxn w t → UsedTxn new t
+pub used_lasts : (w new : Scene) (s : ℕ) → Moved w new s → Grows w new s → (t : TxnId) → UsedTxn w t → UsedTxn new t
 used_lasts w new s moved grows t u = ⊎_elim (λ here. at_same here) (λ n. at_other n) (same_site t.site s)
   where
     at_other : t.site ≢ s → UsedTxn new t
@@ -118,7 +118,7 @@ used_lasts w new s moved grows t u = ⊎_elim (λ here. at_same here) (λ n. at_
     }
 
 -- the own transactions of a site that is up
-own_used : (w : Scene) (s : ℕ) (x : SiteState) → plain_at w s ≡ Some x → x.id ≡ s → (kept_at w s).life ≡ x.life → Led x → (t : Live) → Has x.live t → UsedTxn w t.txn
+pub own_used : (w : Scene) (s : ℕ) (x : SiteState) → plain_at w s ≡ Some x → x.id ≡ s → (kept_at w s).life ≡ x.life → Led x → (t : Live) → Has x.live t → UsedTxn w t.txn
 own_used w s x up id life led t h =
     let n = led.names t h in
     let here : t.txn.site ≡ s = n.0 ∙ id in
@@ -130,7 +130,7 @@ own_used w s x up id life led t h =
     at_most_same : (a b : ℕ) → a ≡ b → a ≤ b
     at_most_same a b e = omega arith
 
-at_most_equal : (a b : ℕ) → a ≡ b → a ≤ b
+pub at_most_equal : (a b : ℕ) → a ≡ b → a ≤ b
 at_most_equal a b e = omega arith
 
 names_acts : (catalogue : Catalogue) (w : Scene) (s : ℕ) (x : SiteState) (given : Input) → plain_at w s ≡ Some x → Arrives w s given → Second catalogue w → InvNames w → InvNames (acted w s x (step catalogue x given))
@@ -233,7 +233,7 @@ one_life_more : (d : DurableState) → d.life ≤ (apply (start_record d) d).lif
 unfolding apply
 one_life_more d = omega arith
 
-start_life : (catalogue : Catalogue) (s : ℕ) (d : DurableState) → d.life < (start catalogue s d).life
+pub start_life : (catalogue : Catalogue) (s : ℕ) (d : DurableState) → d.life < (start catalogue s d).life
 unfolding start
 start_life catalogue s d = omega arith
 

@@ -139,7 +139,7 @@ module _ (catalogue : Catalogue) (w new : Scene) (s : ℕ) (x : SiteState) (give
       (inv.ended e s there a.0 a.2 (λ d. same_txn-not d.0.0 part.txn (any_false (λ (d : Doubt). same_txn d.0 part.txn) x.doubts q.certain d.0 (rw doubts_kept d.1)) (d.2 ∙ sym named)))
 
   -- so each doubt about one was there
-  doubt_was : (e : Commit) (k : ℕ) → Has w.journal e → InDoubt new k e.txn → InDoubt w k e.txn
+  pub doubt_was : (e : Commit) (k : ℕ) → Has w.journal e → InDoubt new k e.txn → InDoubt w k e.txn
   doubt_was e k there (d, h, named) = go (kept_is w new s x o st k)
     where
       here : k ≡ s → DoubtNow x given d → InDoubt w k e.txn

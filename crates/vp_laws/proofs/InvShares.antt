@@ -396,7 +396,7 @@ module _ (catalogue : Catalogue) (w new : Scene) (s : ℕ) (x : SiteState) (give
       none t d named m (SentFor.outcome txn commit g f) is = let z = sym f ∙ ap (λ (m : Sent). m.message) is in cc
       none t d named m (SentFor.reads u p rec q k a only f) is = let z = ap (λ (m : Sent). m.message) (f ∙ is) in cc
       none t d named m (SentFor.writes u p rec value q k a j only f) is = let z = ap (λ (m : Sent). m.message) (f ∙ is) in cc
-      none t (Decides.alone was p here next commit alone same) named m (SentFor.prepares u q k h a j only f) is =
+      none t (Decides.alone call was p here next commit alone same) named m (SentFor.prepares u q k h a j only f) is =
           let z = ap (λ (m : Sent). m.message) (f ∙ is) in
           let name : u.txn ≡ e.txn = cc in
           let it : u ≡ was = apart_unique x.live apart u was h here (name ∙ sym named ∙ ap (λ (t : Live). t.txn) same) in
@@ -411,7 +411,7 @@ module _ (catalogue : Catalogue) (w new : Scene) (s : ℕ) (x : SiteState) (give
       not_same a b n = grind (arith, nat_tests, n)
 
       decided : (t : Live) → Decides catalogue x given t → (txn : TxnId) (in_view : ViewId) (last : List (ℕ × List ℕ)) → t.txn ≡ txn → t.view ≡ in_view → last_writes t.ops ≡ last → Has w.sent (letter from to (message.Prepare txn view number readings writings)) → (in_view ≡ view) × (writes_held catalogue to last ≡ writings) × HasVote new to txn
-      decided t (Decides.alone was p here next commit alone same) txn in_view last named viewed wrote old =
+      decided t (Decides.alone call was p here next commit alone same) txn in_view last named viewed wrote old =
           let name : was.txn ≡ txn = ap (λ (t : Live). t.txn) (sym same) ∙ named in
           let q = votes.prepared _ old x was (rw (← name, owned was here ∙ id) up) here name in
           absurd (some_not was.pending q.pending q.waits next.idle)

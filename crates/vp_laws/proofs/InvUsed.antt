@@ -55,6 +55,20 @@ pub record InvUsed (catalogue : Catalogue) (w : Scene) : Type 0 where
   -- no site has answered conflicting operations for two live transactions of one view
   pub conflict : (s r q rec : ℕ) (exclusive : Bool) (x y : SiteState) (t u : Live) → plain_at w s ≡ Some x → Has x.live t → plain_at w r ≡ Some y → Has y.live u → t.view ≡ u.view → HasAnswered w q t.txn rec true → HasAnswered w q u.txn rec exclusive → t.txn ≡ u.txn
 
+-- what a live transaction of a name that was used was before
+pub record Was (w : Scene) (k : ℕ) (t : Live) : Type 0 where
+  pub site : SiteState
+  pub up_then : plain_at w k ≡ Some site
+  pub u : Live
+  pub here : Has site.live u
+  pub named : u.txn ≡ t.txn
+  pub viewed : u.view ≡ t.view
+
+-- an answer was there before, or is given now in the view that is held
+pub data Split (w : Scene) (s : ℕ) (x : SiteState) (given : Input) (o : Stepped) (k : ℕ) (t : Live) (q rec : ℕ) (exclusive : Bool) : Type 0 where
+  before : Was w k t → HasAnswered w q t.txn rec exclusive → Split w s x given o k t q rec exclusive
+  now : Was w k t → q ≡ s → Uses o.site t.view → (to number : ℕ) (stored : Stored) → Granted x given to t.txn number rec exclusive stored → Split w s x given o k t q rec exclusive
+
 -- a lock that is granted is there after the step
 granted_lock : (catalogue : Catalogue) (x : SiteState) (given : Input) (from : ℕ) (txn : TxnId) (number rec : ℕ) (exclusive : Bool) (stored : Stored) → Granted x given from txn number rec exclusive stored → HasLock rec exclusive (owner.Txn txn) (step catalogue x given).site.locks
 unfolding step on_input on_message on_read_request on_write_request on_request lock_copy grant
@@ -147,16 +161,7 @@ module _ (catalogue : Catalogue) (w new : Scene) (s : ℕ) (x : SiteState) (give
   not_new : (txn : TxnId) → UsedTxn w txn → txn ≡ next_name x → ⊥
   not_new txn u n = fresh w s x up id txn u n
 
-  -- what a live transaction of a name that was used was before
-  record Was (k : ℕ) (t : Live) : Type 0 where
-    site : SiteState
-    up_then : plain_at w k ≡ Some site
-    u : Live
-    here : Has site.live u
-    named : u.txn ≡ t.txn
-    viewed : u.view ≡ t.view
-
-  was : (k : ℕ) (y : SiteState) (t : Live) → UsedTxn w t.txn → Has y.live t → NowIs w s (step catalogue x given).site k y → Was k t
+  pub was : (k : ℕ) (y : SiteState) (t : Live) → UsedTxn w t.txn → Has y.live t → NowIs w s (step catalogue x given).site k y → Was w k t
   was k y t used h (NowIs.other n old) = record { site = y; up_then = old; u = t; here = h; named = refl; viewed = refl }
   was k y t used h (NowIs.here e same) = ⊎_elim
       (λ (q : (u : Live) × Has x.live u × (u.txn ≡ t.txn) × (u.view ≡ t.view)). record { site = x; up_then = rw e up; u = q.0; here = q.1; named = q.2; viewed = q.3 })
@@ -225,7 +230,7 @@ module _ (catalogue : Catalogue) (w new : Scene) (s : ℕ) (x : SiteState) (give
       (st.sent (letter a b (message.WriteRequest t.txn u number rec)) f)
 
   -- a lock for a transaction that is live still stays, or its site has left the view
-  locked_lasts : (k : ℕ) (y : SiteState) (t : Live) → NowIs w s o.site k y → Has y.live t → Was k t → (q rec : ℕ) (exclusive : Bool) → AtMost t.view (promise_at w q) → LockedAt w q t.txn rec exclusive → HasLeft new q t.view ⊎ LockedAt new q t.txn rec exclusive
+  locked_lasts : (k : ℕ) (y : SiteState) (t : Live) → NowIs w s o.site k y → Has y.live t → Was w k t → (q rec : ℕ) (exclusive : Bool) → AtMost t.view (promise_at w q) → LockedAt w q t.txn rec exclusive → HasLeft new q t.view ⊎ LockedAt new q t.txn rec exclusive
   locked_lasts k y t n h old q rec exclusive promised (z, upz, lock) = ⊎_elim
       (λ (e : q ≡ s).
       let same : z ≡ x = (let a = rw e at upz in cc) in
@@ -246,7 +251,7 @@ module _ (catalogue : Catalogue) (w new : Scene) (s : ℕ) (x : SiteState) (give
       gone e (Gone.ended u there named none) = absurd (none t (here_if k y t u n h there named) refl)
 
   -- what was answered before
-  answered_old : (k : ℕ) (y : SiteState) (t : Live) → NowIs w s o.site k y → Has y.live t → Was k t → (q rec : ℕ) (exclusive : Bool) → HasAnswered w q t.txn rec exclusive → HasLeft new q t.view ⊎ LockedAt new q t.txn rec exclusive
+  answered_old : (k : ℕ) (y : SiteState) (t : Live) → NowIs w s o.site k y → Has y.live t → Was w k t → (q rec : ℕ) (exclusive : Bool) → HasAnswered w q t.txn rec exclusive → HasLeft new q t.view ⊎ LockedAt new q t.txn rec exclusive
   answered_old k y t n h old q rec exclusive a =
       let b : HasAnswered w q old.u.txn rec exclusive = subst (λ (txn : TxnId). HasAnswered w q txn rec exclusive) (sym old.named) a in
       let promised = answered_promised catalogue w views asked shares k old.site old.u q rec exclusive old.up_then (owned k old.site old.u old.up_then old.here) old.here b in
@@ -324,12 +329,7 @@ module _ (catalogue : Catalogue) (w new : Scene) (s : ℕ) (x : SiteState) (give
       inr (subst (λ (rec : ℕ). LockedAt new q t.txn rec true) same (granted_now q r.0 t.txn r.1 a.rec true a.stored at a.granted)))
       (st.sent (letter q r.0 (message.WriteAnswer t.txn r.1)) r.3)
 
-  -- an answer was there before, or is given now in the view that is held
-  data Split (k : ℕ) (t : Live) (q rec : ℕ) (exclusive : Bool) : Type 0 where
-    before : Was k t → HasAnswered w q t.txn rec exclusive → Split k t q rec exclusive
-    now : q ≡ s → Uses o.site t.view → Split k t q rec exclusive
-
-  in_use : (k : ℕ) (t : Live) (to : ℕ) (number : ℕ) (exclusive : Bool) → Was k t → (q : ℕ) (a : NewAnswer q to t.txn number exclusive) → Uses o.site t.view
+  in_use : (k : ℕ) (t : Live) (to : ℕ) (number : ℕ) (exclusive : Bool) → Was w k t → (q : ℕ) (a : NewAnswer q to t.txn number exclusive) → Uses o.site t.view
   in_use k t to number exclusive old q a =
       let h = holding x a.granted.view a.granted.held in
       Uses.held h.0 (granted_views catalogue x given to t.txn number a.rec exclusive a.stored a.granted ∙ h.1) (h.2 ∙ sym (go exclusive (request_came to t.txn a.granted.view number a.rec exclusive a.granted.comes)))
@@ -345,14 +345,17 @@ module _ (catalogue : Catalogue) (w new : Scene) (s : ℕ) (x : SiteState) (give
   used_name a b number rec txn view false (HasRequest.to_read h) = named_read a b number rec txn view h
   used_name a b number rec txn view true (HasRequest.to_write h) = named_write a b number rec txn view h
 
-  split : (k : ℕ) (y : SiteState) (t : Live) → NowIs w s o.site k y → Has y.live t → (q rec : ℕ) (exclusive : Bool) → HasAnswered new q t.txn rec exclusive → Split k t q rec exclusive
+  pub split : (k : ℕ) (y : SiteState) (t : Live) → NowIs w s o.site k y → Has y.live t → (q rec : ℕ) (exclusive : Bool) → HasAnswered new q t.txn rec exclusive → Split w s x given o k t q rec exclusive
   split k y t n h q rec false (HasAnswered.read r) = ⊎_elim
       (λ old. let a = shares.says _ old in
       let same : a.1 ≡ rec = one_now k y t r.0 q r.0 q r.1 a.1 rec a.0 r.2 false n h (HasRequest.to_read (st.moved.sent _ a.2)) (HasRequest.to_read r.5) in
       Split.before (was k y t (named_read r.0 q r.1 a.1 t.txn a.0 a.2) h n) (HasAnswered.read (rw (← same) (r.0, r.1, a.0, r.3, old, a.2))))
       (λ more. let a = read_answered _ (p.replies (letter q r.0 (message.ReadAnswer t.txn r.1 r.3)) more) q t.txn r.1 r.3 refl in
       let old = was k y t (used_name r.0 s r.1 a.rec t.txn a.granted.view false (request_came r.0 t.txn a.granted.view r.1 a.rec false a.granted.comes)) h n in
-      Split.now (p.from (letter q r.0 (message.ReadAnswer t.txn r.1 r.3)) more ∙ id) (in_use k t r.0 r.1 false old q a))
+      let request = request_stays r.0 s t.txn a.granted.view r.1 a.rec false (request_came r.0 t.txn a.granted.view r.1 a.rec false a.granted.comes) in
+      let at = p.from (letter q r.0 (message.ReadAnswer t.txn r.1 r.3)) more ∙ id in
+      let same : a.rec ≡ rec = one_now k y t r.0 s r.0 q r.1 a.rec rec a.granted.view r.2 false n h request (HasRequest.to_read r.5) in
+      Split.now old at (in_use k t r.0 r.1 false old q a) r.0 r.1 a.stored (subst (λ (rec : ℕ). Granted x given r.0 t.txn r.1 rec false a.stored) same a.granted))
       (st.sent (letter q r.0 (message.ReadAnswer t.txn r.1 r.3)) r.4)
   split k y t n h q rec true (HasAnswered.wrote r) = ⊎_elim
       (λ old. let a = shares.says _ old in
@@ -360,7 +363,10 @@ module _ (catalogue : Catalogue) (w new : Scene) (s : ℕ) (x : SiteState) (give
       Split.before (was k y t (named_write r.0 q r.1 a.1 t.txn a.0 a.2) h n) (HasAnswered.wrote (rw (← same) (r.0, r.1, a.0, old, a.2))))
       (λ more. let a = write_answered _ (p.replies (letter q r.0 (message.WriteAnswer t.txn r.1)) more) q t.txn r.1 refl in
       let old = was k y t (used_name r.0 s r.1 a.rec t.txn a.granted.view true (request_came r.0 t.txn a.granted.view r.1 a.rec true a.granted.comes)) h n in
-      Split.now (p.from (letter q r.0 (message.WriteAnswer t.txn r.1)) more ∙ id) (in_use k t r.0 r.1 true old q a))
+      let request = request_stays r.0 s t.txn a.granted.view r.1 a.rec true (request_came r.0 t.txn a.granted.view r.1 a.rec true a.granted.comes) in
+      let at = p.from (letter q r.0 (message.WriteAnswer t.txn r.1)) more ∙ id in
+      let same : a.rec ≡ rec = one_now k y t r.0 s r.0 q r.1 a.rec rec a.granted.view r.2 true n h request (HasRequest.to_write r.4) in
+      Split.now old at (in_use k t r.0 r.1 true old q a) r.0 r.1 a.stored (subst (λ (rec : ℕ). Granted x given r.0 t.txn r.1 rec true a.stored) same a.granted))
       (st.sent (letter q r.0 (message.WriteAnswer t.txn r.1)) r.3)
 
   -- a site that uses the view has one lock
@@ -380,9 +386,9 @@ module _ (catalogue : Catalogue) (w new : Scene) (s : ℕ) (x : SiteState) (give
       both : q ≡ s → Uses o.site t.view → t.txn ≡ u.txn
       both at uses = at_once q rec exclusive t.view t.txn u.txn at uses (used_now k y t n h q rec true a) (subst (λ (i : ViewId). HasLeft new q i ⊎ LockedAt new q u.txn rec exclusive) (sym e) (used_now j z u m i q rec exclusive b))
 
-      go : Split k t q rec true → Split j u q rec exclusive → t.txn ≡ u.txn
-      go (Split.now at uses) other = both at uses
-      go (Split.before old was) (Split.now at uses) = both at (subst (Uses o.site) (sym e) uses)
+      go : Split w s x given o k t q rec true → Split w s x given o j u q rec exclusive → t.txn ≡ u.txn
+      go (Split.now was at uses to number stored granted) other = both at uses
+      go (Split.before old was) (Split.now then at uses to number stored granted) = both at (subst (Uses o.site) (sym e) uses)
       go (Split.before old had) (Split.before other has) =
           sym old.named ∙ inv.conflict k j q rec exclusive old.site other.site old.u other.u old.up_then old.here other.up_then other.here (old.viewed ∙ e ∙ sym other.viewed)
           (subst (λ (txn : TxnId). HasAnswered w q txn rec true) (sym old.named) had) (subst (λ (txn : TxnId). HasAnswered w q txn rec exclusive) (sym other.named) has) ∙ other.named
@@ -401,18 +407,19 @@ no_live : (catalogue : Catalogue) (s : ℕ) (d : DurableState) (t : Live) → Ha
 unfolding start
 no_live catalogue s d t h = has_none t h
 
+-- the same messages were sent
+pub request_on : (w new : Scene) → new.sent ≡ w.sent → (a b : ℕ) (txn : TxnId) (view : ViewId) (number rec : ℕ) (exclusive : Bool) → HasRequest new a b txn view number rec exclusive → HasRequest w a b txn view number rec exclusive
+request_on w new same a b txn view number rec false (HasRequest.to_read h) = HasRequest.to_read (rw same at h)
+request_on w new same a b txn view number rec true (HasRequest.to_write h) = HasRequest.to_write (rw same at h)
+
+pub answered_on : (w new : Scene) → new.sent ≡ w.sent → (k : ℕ) (txn : TxnId) (rec : ℕ) (exclusive : Bool) → HasAnswered new k txn rec exclusive → HasAnswered w k txn rec exclusive
+answered_on w new same k txn rec false (HasAnswered.read r) = HasAnswered.read (r.0, r.1, r.2, r.3, rw same at r.4, rw same at r.5)
+answered_on w new same k txn rec true (HasAnswered.wrote r) = HasAnswered.wrote (r.0, r.1, r.2, rw same at r.3, rw same at r.4)
+
 module _ (catalogue : Catalogue) (w new : Scene) (s : ℕ) (q : Quiet catalogue w new s) (lived : InvLived w) (views : InvViews catalogue w) (asked : InvLed w) (shares : InvShares catalogue w) (owned : (k : ℕ) (y : SiteState) (t : Live) → plain_at w k ≡ Some y → Has y.live t → t.txn.site ≡ k) (inv : InvUsed catalogue w) where
   still_there : (k : ℕ) (y : SiteState) (t : Live) → QuietIs catalogue w s k y → Has y.live t → plain_at w k ≡ Some y
   still_there k y t (QuietIs.other n old) h = old
   still_there k y t (QuietIs.here e same) h = absurd (no_live catalogue s (kept_at w s) t (subst (λ (y : SiteState). Has y.live t) (sym same) h))
-
-  request_on : (a b : ℕ) (txn : TxnId) (view : ViewId) (number rec : ℕ) (exclusive : Bool) → HasRequest new a b txn view number rec exclusive → HasRequest w a b txn view number rec exclusive
-  request_on a b txn view number rec false (HasRequest.to_read h) = HasRequest.to_read (rw q.sent at h)
-  request_on a b txn view number rec true (HasRequest.to_write h) = HasRequest.to_write (rw q.sent at h)
-
-  answered_on : (k : ℕ) (txn : TxnId) (rec : ℕ) (exclusive : Bool) → HasAnswered new k txn rec exclusive → HasAnswered w k txn rec exclusive
-  answered_on k txn rec false (HasAnswered.read r) = HasAnswered.read (r.0, r.1, r.2, r.3, rw q.sent at r.4, rw q.sent at r.5)
-  answered_on k txn rec true (HasAnswered.wrote r) = HasAnswered.wrote (r.0, r.1, r.2, rw q.sent at r.3, rw q.sent at r.4)
 
   lock_on : (k : ℕ) (view : ViewId) (txn : TxnId) (rec : ℕ) (exclusive : Bool) → AtMost view (promise_at w k) → LockedAt w k txn rec exclusive → HasLeft new k view ⊎ LockedAt new k txn rec exclusive
   lock_on k view txn rec exclusive promised (y, up, lock) = ⊎_elim
@@ -422,14 +429,14 @@ module _ (catalogue : Catalogue) (w new : Scene) (s : ℕ) (q : Quiet catalogue 
 
   used_quiet : InvUsed catalogue new
   used_quiet = record {
-    one = λ k y t a b e d number rec other u z exclusive g h f i. inv.one k y t a b e d number rec other u z exclusive (still_there k y t (quiet_is catalogue w new s q k y g) h) h (request_on a b t.txn u number rec exclusive f) (request_on e d t.txn z number other exclusive i);
+    one = λ k y t a b e d number rec other u z exclusive g h f i. inv.one k y t a b e d number rec other u z exclusive (still_there k y t (quiet_is catalogue w new s q k y g) h) h (request_on w new q.sent a b t.txn u number rec exclusive f) (request_on w new q.sent e d t.txn z number other exclusive i);
     used = λ k at rec exclusive y t g h a.
         let old = still_there k y t (quiet_is catalogue w new s q k y g) h in
-        let b = answered_on at t.txn rec exclusive a in
+        let b = answered_on w new q.sent at t.txn rec exclusive a in
         ⊎_elim (λ (l : HasLeft w at t.view). inl (left_quiet catalogue w new s q lived at t.view l))
         (λ (l : LockedAt w at t.txn rec exclusive). lock_on at t.view t.txn rec exclusive (answered_promised catalogue w views asked shares k y t at rec exclusive old (owned k y t old h) h b) l)
         (inv.used k at rec exclusive y t old h b);
-    conflict = λ k j at rec exclusive y z t u g h f i e a b. inv.conflict k j at rec exclusive y z t u (still_there k y t (quiet_is catalogue w new s q k y g) h) h (still_there j z u (quiet_is catalogue w new s q j z f) i) i e (answered_on at t.txn rec true a) (answered_on at u.txn rec exclusive b);
+    conflict = λ k j at rec exclusive y z t u g h f i e a b. inv.conflict k j at rec exclusive y z t u (still_there k y t (quiet_is catalogue w new s q k y g) h) h (still_there j z u (quiet_is catalogue w new s q j z f) i) i e (answered_on w new q.sent at t.txn rec true a) (answered_on w new q.sent at u.txn rec exclusive b);
   }
 
 used_above : (catalogue : Catalogue) → Above catalogue (Twelfth catalogue) (InvUsed catalogue)

@@ -19,7 +19,7 @@ Rising (v ∷ vs) = ((u : ViewId) → Has vs u → Precedes v u) × Rising vs
 pub above_from : (a b : ViewId) → same_view a b ≡ false → view_before a b ≡ false → Precedes b a
 above_from a b e f = grind (arith, nat_tests, e, f)
 
-Precedes-trans : (a b c : ViewId) → Precedes a b → Precedes b c → Precedes a c
+pub Precedes-trans : (a b c : ViewId) → Precedes a b → Precedes b c → Precedes a c
 Precedes-trans a b c p q = omega arith
 
 pub unlike_below : (a b : ViewId) → Precedes a b → same_view a b ≡ false

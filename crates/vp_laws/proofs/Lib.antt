@@ -31,6 +31,10 @@ pub mod TableLocks
 pub mod TableCopies
 pub mod TableCopyAt
 pub mod TableListed
+pub mod TableAlone
+pub mod TableReplies
+pub mod TableFinished
+pub mod TableCalls
 -- worlds and schedules
 pub mod Scenes
 pub mod Events
@@ -60,13 +64,47 @@ pub mod OneDoubt
 -- a closed record: it stays so, and no lower writer of it is decided
 pub mod Closing
 pub mod Stopping
+-- why a record is not under refresh after a step
+pub mod TableUnlisted
+pub mod TableCovered
+-- all of this by name, and what is known of a step
+pub mod Tower
+pub mod NewEntries
+pub mod JournalPlaces
+pub mod ValuesAfter
+pub mod ValuesGrow
+-- copies and their refresh, in one induction
+pub mod CopyInvariants
+pub mod CopyFacts
+pub mod CopyOrigins
+pub mod CopyValues
+pub mod CopyWrites
+pub mod Refreshes
+pub mod CopyBrought
+pub mod CopiesKept
+pub mod OwnUse
+pub mod RefreshKept
+pub mod InvCopies
+pub mod UsableCopies
+-- the order of the entries
+pub mod InvReading
+pub mod Conflicts
+pub mod Playing
+pub mod Contents
+pub mod OrderInvariant
+pub mod OrderSteps
+pub mod InvOrder
+-- the answers that transactions keep
+pub mod InvKept
+pub mod InvMatched
+-- moments of a schedule
+pub mod Moments
+pub mod EndsTrue
+pub mod OneCopy
 -- the laws in the words of the contracts
 pub mod Words
 pub mod EntryWords
 pub mod SiteWords
+pub mod Readable
 -- what is stated and not proved yet
-pub mod ValuesAfter
-pub mod TableUnlisted
-pub mod Playing
 pub mod Remaining
-pub mod UsableCopies

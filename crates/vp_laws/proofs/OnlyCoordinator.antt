@@ -108,7 +108,7 @@ module _ (catalogue : Catalogue) (x : SiteState) (given : Input) (R : Coordinato
   own : OfCoordinator catalogue x given (Back x P)
   own = let m = k.moves in record {
     begin = λ port view e. record { id = refl; kept = m.begin port view e };
-    answers = λ words port. record { id = refl; kept = m.answers words port };
+    answers = λ words port why. record { id = refl; kept = m.answers words port why };
     take_lock = λ t rec exclusive stored h i a v c. record { id = refl; kept = m.take_lock t rec exclusive stored h i a v c };
     complete = λ t p operation words l h g e q. record { id = refl; kept = m.complete t p operation words l h g e q.kept };
     read_at = λ t p rec q h n r a w c o. record { id = refl; kept = m.read_at t p rec q h n r a w c o };

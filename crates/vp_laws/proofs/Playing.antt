@@ -63,7 +63,7 @@ WritesNone e ops = (operation : Op) → Has ops operation → Wrote e (op_record
 abbrev unwritten : Commit → ℕ → Type 0
 unwritten e rec = value_at rec (last_writes e.ops) ≡ None
 
-agrees_behind : (e : Commit) (m n : Values) → play m e.ops ≡ Some n → AgreeOn (unwritten e) m n
+pub agrees_behind : (e : Commit) (m n : Values) → play m e.ops ≡ Some n → AgreeOn (unwritten e) m n
 agrees_behind e m n h rec none = sym (ap (λ (k : Values). slice_get k rec) (play_sets e.ops m n h) ∙ get_all-other rec (last_writes e.ops) m none)
 
 all_unwritten : (e : Commit) (ops : List Op) → WritesNone e ops → AllByRecursion (λ (operation : Op). unwritten e (op_record operation)) ops
@@ -73,7 +73,7 @@ all_unwritten e ops h = all_of (λ (operation : Op). unwritten e (op_record oper
 pub plays_behind : (e : Commit) (ops : List Op) (a b n : Values) → play a e.ops ≡ Some b → play a ops ≡ Some n → WritesNone e ops → (k : Values) × (play b ops ≡ Some k)
 plays_behind e ops a b n g h none = let i = play_agrees (unwritten e) ops a b n (all_unwritten e ops none) (agrees_behind e a b g) h in (i.0, i.1)
 
-serial_agrees : (e : Commit) (es : List Commit) (a b n : Values) → AgreeOn (unwritten e) a b → serial a es ≡ Some n → ((f : Commit) → Has es f → WritesNone e f.ops) → (k : Values) × (serial b es ≡ Some k)
+pub serial_agrees : (e : Commit) (es : List Commit) (a b n : Values) → AgreeOn (unwritten e) a b → serial a es ≡ Some n → ((f : Commit) → Has es f → WritesNone e f.ops) → (k : Values) × (serial b es ≡ Some k)
 serial_agrees e [] a b n same h none = (b, refl)
 serial_agrees e (f ∷ es) a b n same h none =
     let t = then_some (play a f.ops) (λ (k : Values). serial k es) n h in
@@ -90,7 +90,7 @@ module _ (start : Values) (journal : List Commit) (e : Commit) where
   s = order_more journal e
 
   -- what stands up to the entry's view, before and after it is added
-  up_to_own : upto e.view (order journal) ≡ s.before
+  pub up_to_own : upto e.view (order journal) ≡ s.before
   up_to_own = ap (upto e.view) s.was ∙ upto_append e.view s.before s.behind ∙ rw (upto_all e.view s.before s.low, upto_none e.view s.behind s.high) (append_nil_before s.before)
     where
       append_nil_before : (es : List Commit) → es ++ [] ≡ es

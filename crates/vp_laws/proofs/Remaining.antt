@@ -1,85 +1,32 @@
--- The parts of the invariant that are stated and not proved yet, by what they are about. What stands is in the files Inv*.
-use Rattle.std.proofs.Common.{◌≡◌, ◌≢◌, ℕ, Bool, true, false, List, ◌∷◌, ◌++◌}
-use Rattle.std.specs.Prelude.{Option, Some, None}
-use Rattle.vp_model.specs.Types.{ViewId, View, Commit, Op, Stored, Pending, Live}
-use Rattle.vp_model.specs.Types.message
-use Rattle.vp_model.specs.Types.op
-use Rattle.vp_model.specs.Words.{keys, value_at}
-use Rattle.vp_model.specs.Catalogue.{Catalogue, accessible, start_values}
-use Rattle.vp_model.specs.Durable.{Doubt}
-use Rattle.vp_model.specs.Site.{SiteState}
-use Rattle.vp_model.specs.Refresh.{is_usable, refreshing_of}
-use Rattle.vp_model.specs.OneCopy.{Values, play, serial, order, content}
-use Rattle.vp_laws.proofs.Members.{Has}
-use Rattle.vp_laws.proofs.Order.{Precedes}
-use Rattle.vp_laws.proofs.LocalViews.{letter}
-use Rattle.vp_laws.proofs.Table.{Writes}
-use Rattle.vp_laws.proofs.Scenes.{Scene, plain_at, kept_at}
-use Rattle.vp_laws.proofs.InvShares.{InDoubt}
-use Rattle.vp_laws.proofs.InvOps.{record_of}
-use Rattle.vp_laws.proofs.InvEntered.{Wrote, AgreedAs}
-use Rattle.vp_laws.proofs.Closing.{ClosedAt, Closed}
-use Rattle.vp_laws.proofs.InvAnswers.{HasRead, HasWrote}
-use Rattle.vp_laws.proofs.ValuesAfter.{value_after, without_entry}
+-- The laws of one copy that are stated and not proved yet. What stands is in the files Inv*, and as contracts in `src/claims.rt`: the entries
+-- are a serial run, readable copies are true, the ends that are replied are true, and no transaction has two entries.
+--
+-- For what clients were told, over the lines of a run: a live transaction's operations are told, its pending call took the next number,
+-- and no later number is taken (the laws of one more line stand in vp_one_site, `ToldLines.antt`); an entry's are told; and each answer
+-- that is kept, live or finished, is reported. There already: `InvMatched` (answers are those of the operations), `InvKept` (kept ends),
+-- `TableReplies` (what is replied), `TableCalls` (a call is refused early, repeated, next, or of a finished transaction) and `Moments`
+-- (what a moment is). To come: that the pending call of `IsNext` is the call that came, so that a step does one operation and replies it
+-- alone; and the walk through a next call, which is refused early, pends, is done, or ends the transaction.
+--
+-- For refusals: each kept or sent refusal was made by a step of the named site for that very request; a history of the moments beside the
+-- world, since the invariant speaks of worlds alone.
+use Rattle.std.proofs.Common.{◌≡◌}
+use Rattle.std.specs.Prelude.{All}
+use Rattle.vp_model.specs.Types.{Commit}
+use Rattle.vp_model.specs.Catalogue.{sites_of}
+use Rattle.vp_model.specs.World.{Schedule, lines_of, journal_of}
+use Rattle.vp_model.specs.Told.{told}
+use Rattle.vp_model.specs.Headline.{RefusalsAreJustified, IsOneCopy}
+use Rattle.vp_laws.specs.Catalogues.{AreApart}
 
--- locks
+-- each transaction is committed with the operations that its client was told of
+abbrev pub Told : Type 0
+Told = (s : Schedule) → All (λ (commit : Commit). commit.ops ≡ told s.catalogue (lines_of s) commit.txn) (journal_of s)
 
--- an operation of a live transaction that a site has answered, or that was done on the coordinator's own copy. A pending write has
--- its lock there already
-pub data Used (catalogue : Catalogue) (w : Scene) (x : SiteState) (t : Live) (q rec : ℕ) : Bool → Type 0 where
-  read : HasRead w q t.txn rec → Used catalogue w x t q rec false
-  wrote : HasWrote w q t.txn rec → Used catalogue w x t q rec true
-  own_read : (value : List ℕ) (stored : Stored) → q ≡ x.id → Has t.ops (op.Read rec value) → value_at rec x.copies ≡ Some stored → Used catalogue w x t q rec false
-  own_wrote : (value : List ℕ) (stored : Stored) → q ≡ x.id → Has t.ops (op.Write rec value) → value_at rec x.copies ≡ Some stored → Used catalogue w x t q rec true
-  own_asked : (p : Pending) (value : List ℕ) (stored : Stored) → q ≡ x.id → t.pending ≡ Some p → Writes catalogue p rec value → value_at rec x.copies ≡ Some stored → Used catalogue w x t q rec true
+-- each refusal names weights, a lock or a view that the named site then had
+abbrev pub Refusals : Type 0
+Refusals = (s : Schedule) → RefusalsAreJustified s
 
--- copies and their refresh
-
--- the site holds the record in the date's view, or the record is closed for a later view of the site
-pub data FromView (catalogue : Catalogue) (w : Scene) (s rec : ℕ) (date : ViewId) : Type 0 where
-  member : (v : View) → AgreedAs w date v → Has v.members s → FromView catalogue w s rec date
-  closed : (v : View) → Has w.agreed v → Precedes date v.id → Has v.members s → accessible catalogue rec v.members ≡ true → Closed catalogue w rec v → FromView catalogue w s rec date
-
--- the transaction in doubt here of the date's view that writes the record
-abbrev pub DoubtOn : Scene → ℕ → ℕ → ViewId → Doubt → Type 0
-DoubtOn w s rec date d = Has (kept_at w s).doubts d × Has (keys d.2) rec × (d.1 ≡ date)
-
-pub record InvCopies (catalogue : Catalogue) (w : Scene) : Type 0 where
-  -- a copy has the value after the entries of views up to its date, but for the entry of a doubt of that view
-  pub value : (s rec : ℕ) (c : Stored) → value_at rec (kept_at w s).copies ≡ Some c → ((d : Doubt) → DoubtOn w s rec c.date d → ⊥) → value_after catalogue w.journal c.date rec ≡ Some c.value
-  pub value_in_doubt : (s rec : ℕ) (c : Stored) (d : Doubt) → value_at rec (kept_at w s).copies ≡ Some c → DoubtOn w s rec c.date d → value_after catalogue (without_entry d.0 w.journal) c.date rec ≡ Some c.value
-  -- and no later entry of that view than the doubt's own wrote the record
-  pub last : (s rec : ℕ) (c : Stored) (d : Doubt) (front back : List Commit) (e f : Commit) → value_at rec (kept_at w s).copies ≡ Some c → DoubtOn w s rec c.date d → w.journal ≡ front ++ e ∷ back → e.txn ≡ d.0 → Has back f → Wrote f rec → f.view ≢ e.view
-  -- each entry that wrote the record in a later view of the site is in doubt there
-  pub above : (s rec : ℕ) (c : Stored) (e : Commit) (v : View) → value_at rec (kept_at w s).copies ≡ Some c → Has w.journal e → Wrote e rec → Precedes c.date e.view → AgreedAs w e.view v → Has v.members s → InDoubt w s e.txn
-  -- where a copy is from
-  pub from : (s rec : ℕ) (c : Stored) → value_at rec (kept_at w s).copies ≡ Some c → FromView catalogue w s rec c.date
-  -- a copy that may be used and is not under refresh has missed no entry below the held view, and its record is closed for it
-  pub between : (s rec : ℕ) (x : SiteState) (v : View) (c : Stored) (e : Commit) → plain_at w s ≡ Some x → x.held ≡ Some v → is_usable catalogue x rec ≡ true → refreshing_of rec x.refresh ≡ None → value_at rec x.copies ≡ Some c → Has w.journal e → Wrote e rec → Precedes c.date e.view → Precedes e.view v.id → ⊥
-  pub usable : (s rec : ℕ) (x : SiteState) (v : View) (c : Stored) → plain_at w s ≡ Some x → x.held ≡ Some v → is_usable catalogue x rec ≡ true → refreshing_of rec x.refresh ≡ None → value_at rec x.copies ≡ Some c → Closed catalogue w rec v
-
-pub record InvRefresh (catalogue : Catalogue) (w : Scene) : Type 0 where
-  -- an answer of a lower date comes from a site that is closed below the view, with the value of its date
-  pub closed : (p to rec : ℕ) (view date : ViewId) (value : List ℕ) → Has w.sent (letter p to (message.RefreshAnswer view rec value date)) → Precedes date view → ClosedAt w p rec view
-  pub value : (p to rec : ℕ) (view date : ViewId) (value : List ℕ) → Has w.sent (letter p to (message.RefreshAnswer view rec value date)) → Precedes date view → value_after catalogue w.journal date rec ≡ Some value
-  -- no entry of a view between wrote the record, where the sender was a member
-  pub between : (p to rec : ℕ) (view date : ViewId) (value : List ℕ) (e : Commit) (v : View) → Has w.sent (letter p to (message.RefreshAnswer view rec value date)) → Has w.journal e → Wrote e rec → Precedes date e.view → Precedes e.view view → AgreedAs w e.view v → Has v.members p → ⊥
-  pub from : (p to rec : ℕ) (view date : ViewId) (value : List ℕ) → Has w.sent (letter p to (message.RefreshAnswer view rec value date)) → Precedes date view → FromView catalogue w p rec date
-  -- a record that an entry uses is closed for its view
-  pub entry : (e : Commit) (v : View) (operation : Op) → Has w.journal e → AgreedAs w e.view v → Has e.ops operation → Closed catalogue w (record_of operation) v
-  -- and so is one that a live transaction has used
-  pub used : (s q rec : ℕ) (exclusive : Bool) (x : SiteState) (t : Live) (v : View) → plain_at w s ≡ Some x → Has x.live t → Used catalogue w x t q rec exclusive → AgreedAs w t.view v → Closed catalogue w rec v
-
--- the order
-
--- the operations go through on these values
-abbrev pub Plays : Option Values → List Op → Type 0
-Plays start ops = (before : Values) × (after : Values) × (start ≡ Some before) × (play before ops ≡ Some after)
-
-pub record InvOrder (catalogue : Catalogue) (w : Scene) : Type 0 where
-  -- the entries in order are a serial run on one copy
-  pub serial : (after : Values) × (serial (start_values catalogue) (order w.journal) ≡ Some after)
-  -- what a live transaction has done goes through after the entries of views up to its own
-  pub live : (s : ℕ) (x : SiteState) (t : Live) → plain_at w s ≡ Some x → Has x.live t → Plays (content (start_values catalogue) w.journal t.view) t.ops
-  -- a value on its way to a live transaction is the one after the entries of views up to its own
-  pub answered : (s q to number rec : ℕ) (view : ViewId) (value : List ℕ) (x : SiteState) (t : Live) → plain_at w s ≡ Some x → Has x.live t → Has w.sent (letter q to (message.ReadAnswer t.txn number value)) → Has w.sent (letter to q (message.ReadRequest t.txn view number rec)) → value_after catalogue w.journal t.view rec ≡ Some value
+-- all of it, over a catalogue whose sites are different numbers
+abbrev pub OneCopy : Type 0
+OneCopy = (s : Schedule) → AreApart (sites_of s.catalogue) → IsOneCopy s

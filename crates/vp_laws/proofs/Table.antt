@@ -1,7 +1,7 @@
 -- The table in small moves: what a property of a step's state has to survive, so that the whole step keeps it.
 use Rattle.std.proofs.Common.{◌≡◌, ◌⊎◌, ℕ, ◌+◌, Bool, true, false, List, [], map, length}
 use Rattle.std.specs.Prelude.{Some, None, is_some, filter, ◌==◌, ◌&&◌, not}
-use Rattle.vp_model.specs.Types.{ViewId, TxnId, View, Stored, Op, Owner, Answer, Message, Sent, Input, Part, Refreshing, Pending, Live, Ending}
+use Rattle.vp_model.specs.Types.{ViewId, TxnId, View, Stored, Op, Owner, Call, Answer, Message, Sent, Input, Part, Refreshing, Pending, Live, Ending, Finished}
 use Rattle.vp_base.specs.declared.site.Ending.TheVariants.{Committed, Aborted, LockHeld, ViewChanged, TimedOut}
 use Rattle.vp_model.specs.Types.answer
 use Rattle.vp_model.specs.Types.call
@@ -15,7 +15,7 @@ use Rattle.vp_model.specs.Catalogue.{Catalogue, find_record}
 use Rattle.vp_model.specs.Durable.{Decision, doubt_of}
 use Rattle.vp_model.specs.Locks.{conflict}
 use Rattle.vp_model.specs.Site.{SiteState, Lent, Stepped, begin_step, force, send, reply, change_views, change_participant, change_refresh, surroundings, lent, put_back, lent_force, lent_send, lent_reply, lent_coordinator}
-use Rattle.vp_model.specs.Transactions.{last_writes, close, decide, complete, wait_for}
+use Rattle.vp_model.specs.Transactions.{last_writes, answer_of, close, decide, complete, wait_for}
 use Rattle.vp_model.specs.Refresh.{is_usable, other_holders, is_doubtful, refreshing_of, unanswered, end_refresh, start_refresh}
 use Rattle.vp_model.specs.Views.{part_of, has_doubt, without_view, without_parts, highest, is_spent, drop_view, start_inviting, invite, hold}
 use Rattle.vp_model.specs.Calls.{next_txn, start_txn, handling, take_lock, read_at, write_at, prepare_parts}
@@ -128,9 +128,12 @@ pub data Completes (catalogue : Catalogue) (x : SiteState) (given : Input) (t : 
   read_answered : (from rec : ℕ) (value : List ℕ) → Comes given from (message.ReadAnswer t.txn p.number value) → IsLast t p from → Reads catalogue p rec → operation ≡ op.Read rec value → words ≡ answer.Value t.txn p.number value → l ≡ lent_at x → Completes catalogue x given t p operation words l
   write_answered : (from rec : ℕ) (value : List ℕ) → Comes given from (message.WriteAnswer t.txn p.number) → IsLast t p from → Writes catalogue p rec value → operation ≡ op.Write rec value → words ≡ answer.Written t.txn p.number → l ≡ lent_at x → Completes catalogue x given t p operation words l
 
+abbrev pub IsCall : Input → Type 0
+IsCall given = (port : ℕ) × (words : Call) × (given ≡ input.Call port words)
+
 -- why a transaction commits: its commit is called and it has no part, or the last vote comes. Which transaction is decided is the last argument
 pub data Decides (catalogue : Catalogue) (x : SiteState) (given : Input) (t : Live) : Type 0 where
-  alone : (was : Live) (p : Pending) → Has x.live was → IsNext was p → is_commit p.call ≡ true → is_empty was.parts ≡ true → t ≡ handling was p → Decides catalogue x given t
+  alone : IsCall given → (was : Live) (p : Pending) → Has x.live was → IsNext was p → is_commit p.call ≡ true → is_empty was.parts ≡ true → t ≡ handling was p → Decides catalogue x given t
   voted : (p : Pending) (from : ℕ) → Has x.live t → IsLast t p from → Comes given from (message.Vote t.txn) → is_commit p.call ≡ true → Decides catalogue x given t
 
 abbrev pub is_abort : Ending → Bool
@@ -146,10 +149,26 @@ pub record Closed (x : SiteState) (l : Lent) : Type 0 where
   pub commits : l.effects.commits ≡ []
   pub messages : (m : Sent) → Has l.effects.messages m → (txn : TxnId) × (m.message ≡ message.Outcome txn false)
 
+-- an answer that tells how a transaction ended
+abbrev pub is_end : Answer → Bool
+is_end (answer.Committed txn number) = true
+is_end (answer.Aborted txn number) = true
+is_end (answer.LockHeld txn number name at owner) = true
+is_end (answer.ViewChanged txn number at held now) = true
+is_end (answer.TimedOut txn number at) = true
+is_end words = false
+
+-- a reply that changes nothing: no end, an answer that was kept, or the end of a finished transaction
+pub data Replies (x : SiteState) (words : Answer) : Type 0 where
+  other : is_end words ≡ false → Replies x words
+  kept : (t : Live) → Has x.live t → Has t.answers words → Replies x words
+  kept_end : (f : Finished) → Has x.finished f → Has f.answers words → Replies x words
+  over : (f : Finished) (number : ℕ) → Has x.finished f → answer_of f.txn number f.ending ≡ words → Replies x words
+
 -- Q speaks of what the coordinator has done so far, in a step from x for the input `given`
 pub record OfCoordinator (catalogue : Catalogue) (x : SiteState) (given : Input) (Q : Lent → Type 0) : Type 0 where
   pub begin : (port : ℕ) (view : View) → x.held ≡ Some view → Q (start_txn (next_name x) port view.id (lent_at x))
-  pub answers : (words : Answer) (port : ℕ) → Q (lent_reply words port (lent_at x))
+  pub answers : (words : Answer) (port : ℕ) → Replies x words → Q (lent_reply words port (lent_at x))
   pub take_lock : (t : Live) (rec : ℕ) (exclusive : Bool) (stored : Stored) → Has x.live t → is_some t.pending ≡ false → is_usable catalogue x rec ≡ true → value_at rec x.copies ≡ Some stored → conflict rec exclusive t.txn x.locks ≡ None → Q (take_lock t.txn rec exclusive (lent_at x))
   pub complete : (t : Live) (p : Pending) (operation : Op) (words : Answer) (l : Lent) → Has x.live t → Completes catalogue x given t p operation words l → l.live ≡ x.live → Q l → Q (complete t p operation words l)
   pub read_at : (t : Live) (p : Pending) (rec q : ℕ) → Has x.live t → IsNext t p → Reads catalogue p rec → is_usable catalogue x rec ≡ true → value_at rec (last_writes t.ops) ≡ None → value_at rec x.copies ≡ None → Has (other_holders catalogue x rec) q → Q (read_at x.id t p rec q (lent_at x))

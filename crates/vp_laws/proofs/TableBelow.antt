@@ -415,7 +415,7 @@ module _ (catalogue : Catalogue) (x : SiteState) (given : Input) (tidy : Tidy x)
     end_here = λ from txn commit c. ends_here from txn commit (doubt_of txn x.doubts) refl;
     coordinator = record {
       begin = λ port view e. hushed (lent_at x) _ refl refl begins;
-      answers = λ words port. hushed (lent_at x) _ refl refl begins;
+      answers = λ words port why. hushed (lent_at x) _ refl refl begins;
       take_lock = λ t rec exclusive stored h i a v c. hushed (lent_at x) _ refl refl begins;
       complete = λ t p operation words l h g e q. hushed l _ refl refl q;
       read_at = λ t p rec q h n r a w c o. one _ x.id q (message.ReadRequest t.txn t.view p.number rec) refl (same_but _ x refl refl refl refl refl) refl;

@@ -232,7 +232,7 @@ module _ (catalogue : Catalogue) (x : SiteState) (given : Input) (tidy : Tidy x)
     end_here = λ from txn commit c. ends_here from txn commit (doubt_of txn x.doubts) refl c;
     coordinator = record {
       begin = λ port view e. quiet (lent_at x) _ refl refl starts;
-      answers = λ words port. quiet (lent_at x) _ refl refl starts;
+      answers = λ words port why. quiet (lent_at x) _ refl refl starts;
       take_lock = λ t rec exclusive stored h i a v c. quiet (lent_at x) _ refl refl starts;
       complete = λ t p operation words l h g e q. quiet l _ refl refl q;
       read_at = λ t p rec q h n r a w c o. quiet (lent_at x) _ refl refl starts;

@@ -94,7 +94,7 @@ module _ (catalogue : Catalogue) (x : SiteState) (given : Input) where
     end_here = λ from txn commit c. ends_here from txn commit (doubt_of txn x.doubts) refl;
     coordinator = record {
       begin = λ port view e. refl;
-      answers = λ words port. refl;
+      answers = λ words port why. refl;
       take_lock = λ t rec exclusive stored q i a v c. refl;
       complete = λ t p operation words l q g e h. h;
       read_at = λ t p rec q l n r a w c o. refl;

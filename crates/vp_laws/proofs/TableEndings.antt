@@ -97,7 +97,7 @@ not_live_named : (live now : List Live) → ((t : Live) → Has now t → (u : L
 not_live_named live now sub txn h t q e = let r = sub t q in h r.0 r.1 (r.2 ∙ e)
 
 -- the end of a list of ends
-at_most-has : {X : Type 0} (n : ℕ) (xs : List X) (a : X) → Has (at_most n xs) a → Has xs a
+pub at_most-has : {X : Type 0} (n : ℕ) (xs : List X) (a : X) → Has (at_most n xs) a → Has xs a
 at_most-has n xs a h = go (nat_lt n (length xs)) h
   where
     dropped : {X : Type 0} (xs : List X) (a : X) → Has (drop 1 xs) a → Has xs a
@@ -343,7 +343,7 @@ module _ (catalogue : Catalogue) (x : SiteState) (given : Input) (led : Led x) (
   unfolding start_txn take_lock complete read_at write_at prepare_parts mark_calls
   moves = record {
     begin = λ port view e. begun_now view;
-    answers = λ words port. begins;
+    answers = λ words port why. begins;
     take_lock = λ t rec exclusive stored h i a v c. begins;
     complete = λ t p operation words l h g e r. moves_on (record t { ops = t.ops ++ operation ∷ []; answers = t.answers ++ words ∷ []; pending = None }) t l.coordinator l.effects.messages l.effects.commits (rw e h) refl r;
     read_at = λ t p rec q h n r a w c o. more _ [] (letter x.id q (message.ReadRequest t.txn t.view p.number rec) ∷ []) [] (letters_tell x.id (λ q. message.ReadRequest t.txn t.view p.number rec) (q ∷ []) (λ q. refl))

@@ -291,7 +291,7 @@ module _ (catalogue : Catalogue) (x : SiteState) (given : Input) where
     end_here = λ from txn commit c. ends_here from txn commit (doubt_of txn x.doubts) c;
     coordinator = record {
       begin = λ port view e. same_site _;
-      answers = λ words port. same_site _;
+      answers = λ words port why. same_site _;
       take_lock = λ t rec exclusive stored h i a v c. same_site _;
       complete = λ t p operation words l h g e q. same_site _;
       read_at = λ t p rec q h n r a w c o. same_site _;

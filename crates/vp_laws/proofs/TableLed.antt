@@ -485,7 +485,7 @@ module _ (catalogue : Catalogue) (x : SiteState) (given : Input) (tidy : Tidy x)
     end_here = λ from txn commit c. ends_here from txn commit (doubt_of txn x.doubts);
     coordinator = record {
       begin = λ port view e. begins_one port view e;
-      answers = λ words port. plain (lent_at x) _ refl refl refl refl begins;
+      answers = λ words port why. plain (lent_at x) _ refl refl refl refl begins;
       take_lock = λ t rec exclusive stored h i a v c. plain (lent_at x) _ refl refl refl refl begins;
       complete = λ t p operation words l h g e q. completes t p operation words l h e q;
       read_at = λ t p rec q h n r a w c o. reads_at t p rec q h o;

@@ -590,7 +590,7 @@ module _ (catalogue : Catalogue) (x : SiteState) (given : Input) (tidy : Tidy x)
     end_here = λ from txn commit c. ends_here from txn commit (doubt_of txn x.doubts) c;
     coordinator = record {
       begin = λ port view e. begins view _ refl refl refl;
-      answers = λ words port. quiet (lent_at x) _ refl refl refl starts;
+      answers = λ words port why. quiet (lent_at x) _ refl refl refl starts;
       take_lock = λ t rec exclusive stored h i a v c. locks_copy t rec exclusive _ h c refl;
       complete = λ t p operation words l h g e q. completes t p operation words l h g e q;
       read_at = λ t p rec q h n r a w c o. reads t p rec q h r c;

@@ -525,7 +525,7 @@ module _ (N : TxnId → Type 0) (A : ViewId → Type 0) where
       end_here = λ from txn commit c. ends_here from txn commit (arrived from (message.Outcome txn commit) c);
       coordinator = record {
         begin = λ port view e. hushed (lent_at x) _ refl refl refl begins;
-        answers = λ words port. hushed (lent_at x) _ refl refl refl begins;
+        answers = λ words port why. hushed (lent_at x) _ refl refl refl begins;
         take_lock = λ t rec exclusive stored h i a v c. takes_lock t rec exclusive h;
         complete = λ t p operation words l h g e q. hushed l _ refl refl refl q;
         read_at = λ t p rec q h n r a w c o. plain (lent_at x) _ (letter x.id q (message.ReadRequest t.txn t.view p.number rec) ∷ []) refl refl refl (letter_named x.id q (message.ReadRequest t.txn t.view p.number rec) (here_named t h)) begins;

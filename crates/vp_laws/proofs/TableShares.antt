@@ -336,7 +336,7 @@ module _ (catalogue : Catalogue) (x : SiteState) (given : Input) where
     end_here = λ from txn commit c. ends_here from txn commit (doubt_of txn x.doubts) c;
     coordinator = record {
       begin = λ port view e. hushed (lent_at x) _ refl starts;
-      answers = λ words port. hushed (lent_at x) _ refl starts;
+      answers = λ words port why. hushed (lent_at x) _ refl starts;
       take_lock = λ t rec exclusive stored h i a v c. hushed (lent_at x) _ refl starts;
       complete = λ t p operation words l h g e q. hushed l _ refl q;
       read_at = λ t p rec q h n r a w c o. asking (lent_at x) _ (λ a. message.ReadRequest t.txn t.view p.number rec) (q ∷ []) refl (λ q. refl) starts;

@@ -105,7 +105,7 @@ sent_fewer catalogue x live now m sub (SentFor.reads u p rec q h a o e) = SentFo
 sent_fewer catalogue x live now m sub (SentFor.writes u p rec value q h a k o e) = SentFor.writes u p rec value q h a k (only_fewer live now _ sub o) e
 sent_fewer catalogue x live now m sub (SentFor.prepares u p q h a k o e) = SentFor.prepares u p q h a k (only_fewer live now _ sub o) e
 
-locked_effects : (x : SiteState) (t : Live) (rec : ℕ) (l : Lent) → Locked x t rec l → l.effects ≡ (lent_at x).effects
+pub locked_effects : (x : SiteState) (t : Live) (rec : ℕ) (l : Lent) → Locked x t rec l → l.effects ≡ (lent_at x).effects
 unfolding take_lock
 locked_effects x t rec l (Locked.no_copy n e) = ap (λ (l : Lent). l.effects) e
 locked_effects x t rec l (Locked.locked stored v c e) = ap (λ (l : Lent). l.effects) e
@@ -232,7 +232,7 @@ module _ (catalogue : Catalogue) (x : SiteState) (given : Input) (led : Led x) (
       sent = λ m h. absurd (has_none m h);
       entered = λ e h. absurd (has_none e h);
     };
-    answers = λ words port. starts;
+    answers = λ words port why. starts;
     take_lock = λ t rec exclusive stored h i a v c. starts;
     complete = λ t p operation words l h g e r. completes t p operation words l h g e;
     read_at = λ t p rec q h n r a w c o. reads_at t p rec q h (record { next = n; reads = r; usable = a; unwritten = w; no_copy = c; holder = o });
@@ -254,7 +254,7 @@ module _ (catalogue : Catalogue) (x : SiteState) (given : Input) (led : Led x) (
       starts_with : (c : CoordinatorState) → c.live ≡ x.live → R c [] []
       starts_with c e = record { apart = subst Apart (sym e) apart; live = λ t h. LiveNow.still (rw e at h); sent = λ m h. absurd (has_none m h); entered = λ e h. absurd (has_none e h) }
 
-  keeps : Keeps catalogue x given R
+  pub keeps : Keeps catalogue x given R
   keeps = record {
     aside = λ c ms extra cs quiet r. plus c ms extra cs (λ m h. SentFor.aside (quiet m h)) r;
     starts = starts;

@@ -1,26 +1,28 @@
 -- Why a record is not under refresh after a step: it was not before, in the same view; its refresh has ended; or the view was joined now.
 use Rattle.std.proofs.Common.{◌≡◌, ◌≢◌, ◌⊎◌, ◌∙◌, ap, sym, subst, ℕ, Bool, true, false, cond, List, [], ◌∷◌, refl, arith, inl, inr, ⊎_elim}
-use Rattle.std.specs.Prelude.{Option, Some, None, filter, find, option_map, not, ◌==◌}
+use Rattle.std.specs.Prelude.{Option, Some, None, filter, find, option_map, not, ◌==◌, ◌&&◌, nat_lt}
 use Rattle.std.proofs.lemmas.Bool.{eqb-true}
 use Rattle.std.proofs.lemmas.Bool.Decides.{nat_tests}
 use Rattle.vp_model.specs.Types.{TxnId, View, Input, Stored, Refreshing}
 use Rattle.vp_model.specs.Types.entry
-use Rattle.vp_model.specs.Words.{put_at, view_before, replace_at, value_at, is_empty}
+use Rattle.vp_model.specs.Types.input
+use Rattle.vp_model.specs.Types.message
+use Rattle.vp_model.specs.Words.{put, put_at, view_before, replace_at, value_at, is_empty, is_view, has}
 use Rattle.vp_model.specs.Catalogue.{Catalogue}
 use Rattle.vp_model.specs.Locks.{without_guard}
 use Rattle.vp_model.specs.Site.{SiteState, Stepped, begin_step, put_back, force, change_copies}
-use Rattle.vp_model.specs.Refresh.{newer, newest, take_newer, end_refresh, start_refresh, refreshing_of, unanswered, is_doubtful}
+use Rattle.vp_model.specs.Refresh.{newest, take_newer, end_refresh, start_refresh, refreshing_of, unanswered, is_doubtful}
 use Rattle.vp_model.specs.Views.{drop_view, start_inviting, hold}
 use Rattle.vp_model.specs.Durable.{Doubt, doubt_of}
 use Rattle.vp_model.specs.Messages.{with_answer, accept, on_accept, on_stale, grant, end_here}
 use Rattle.vp_model.specs.Step.{fix, ask_again, resend_one, inquire, step}
-use Rattle.vp_laws.proofs.Members.{Has, has_none, has_cons, filter_keeps, find_has, both_true}
-use Rattle.vp_laws.proofs.Lists.{mapped_has}
-use Rattle.vp_laws.proofs.Order.{AtMost, AtMost-refl, AtMost-trans, Precedes-at_most, from_before, is_view_is, same_site}
+use Rattle.vp_laws.proofs.Members.{Has, filter_keeps, find_has}
+use Rattle.vp_laws.proofs.Lists.{mapped_has, put_new, put_old}
+use Rattle.vp_laws.proofs.Order.{AtMost, AtMost-refl, AtMost-trans, same_site}
 use Rattle.vp_laws.proofs.LocalViews.{Tidy}
-use Rattle.vp_laws.proofs.Table.{Left, Joined, Table}
+use Rattle.vp_laws.proofs.Table.{Comes, Left, Table}
 use Rattle.vp_laws.proofs.TableCopies.{AnswerNow, value_pair}
-use Rattle.vp_laws.proofs.TableCopyAt.{CopiesAt, replaced_not}
+use Rattle.vp_laws.proofs.TableCopyAt.{CopiesAt, newest_each, replaced_not}
 use Rattle.vp_laws.proofs.TableCopyAt.{table as copies_table, starts as copies_start}
 use Rattle.vp_laws.proofs.ValuesAfter.{up_to_from}
 use Rattle.vp_laws.proofs.Rows.{step-keeps}
@@ -33,39 +35,25 @@ IsUnlisted refresh rec = (r : Refreshing) → Has refresh r → r.rec ≢ rec
 pub record Ended (catalogue : Catalogue) (x : SiteState) (given : Input) (o : Stepped) (rec : ℕ) : Type 0 where
   pub r : Refreshing
   pub on : r.rec ≡ rec
-  pub answers : (k : ℕ × Stored) → Has r.answers k → AnswerNow catalogue x given rec k
+  pub answers : (k : ℕ × Stored) → Has r.answers k → AnswerNow catalogue x given rec k × (o.site.held ≡ x.held)
   pub all : is_empty (unanswered catalogue o.site r) ≡ true
   pub certain : is_doubtful o.site rec ≡ false
   pub newest : (c : Stored) (k : ℕ × Stored) → value_at rec o.site.copies ≡ Some c → Has r.answers k → AtMost k.1.date c.date
 
+-- the view is joined now: its members came, or the invitation to it ends
+pub data Joins (x : SiteState) (given : Input) (view : View) : Type 0 where
+  came : (from : ℕ) → Comes given from (message.ViewCommit view.id view.members) → (is_view x.waiting view.id && has view.members x.id) ≡ true → Joins x given view
+  fixed : given ≡ input.Tick → x.inviting ≡ Some (view.id, view.members) → Joins x given view
+
 pub data Unlisted (catalogue : Catalogue) (x : SiteState) (given : Input) (o : Stepped) (rec : ℕ) : Type 0 where
   still : IsUnlisted x.refresh rec → o.site.held ≡ x.held → Unlisted catalogue x given o rec
   ended : Ended catalogue x given o rec → Unlisted catalogue x given o rec
-  joined : (view : View) → o.site.held ≡ Some view → (x.waiting ≡ Some view.id) ⊎ (x.inviting ≡ Some (view.id, view.members)) → Unlisted catalogue x given o rec
+  joined : (view : View) → o.site.held ≡ Some view → Joins x given view → Unlisted catalogue x given o rec
 
 pub record Unlisting (catalogue : Catalogue) (x : SiteState) (given : Input) (o : Stepped) : Type 0 where
   pub base : CopiesAt catalogue x given o
   -- while a view is held, why each record that is not under refresh is not
   pub unlisted : (rec : ℕ) (v : View) → o.site.held ≡ Some v → IsUnlisted o.site.refresh rec → Unlisted catalogue x given o rec
-
--- the newest of some copies is as new as each of them
-newer_both : (own next : Stored) → AtMost own.date (newer own next).date × AtMost next.date (newer own next).date
-newer_both own next = go (view_before own.date next.date) refl
-  where
-    go : (b : Bool) → view_before own.date next.date ≡ b → AtMost own.date (cond b next own).date × AtMost next.date (cond b next own).date
-    go true e = (Precedes-at_most own.date next.date (from_before own.date next.date e), AtMost-refl next.date)
-    go false e = (AtMost-refl own.date, up_to_from own.date next.date e)
-
-newest_own : (own : Stored) (answers : List (ℕ × Stored)) → AtMost own.date (newest own answers).date
-newest_own own [] = AtMost-refl own.date
-newest_own own (a ∷ answers) = AtMost-trans _ _ _ (newer_both own a.1).0 (newest_own (newer own a.1) answers)
-
-newest_each : (own : Stored) (answers : List (ℕ × Stored)) (k : ℕ × Stored) → Has answers k → AtMost k.1.date (newest own answers).date
-newest_each own [] k h = absurd (has_none k h)
-newest_each own (a ∷ answers) k h = ⊎_elim
-    (λ (one : a ≡ k). subst (λ (k : ℕ × Stored). AtMost k.1.date (newest (newer own a.1) answers).date) one (AtMost-trans _ _ _ (newer_both own a.1).1 (newest_own (newer own a.1) answers)))
-    (λ more. newest_each (newer own a.1) answers k more)
-    (has_cons a answers k h)
 
 value_replaced : (n k : ℕ) (v : Stored) (pairs : List (ℕ × Stored)) → n ≢ k → value_at k (replace_at n v pairs) ≡ value_at k pairs
 value_replaced n k v [] d = refl
@@ -78,15 +66,15 @@ value_replaced n k v (p ∷ pairs) d = go (p.0 == n) (p.0 == k) refl refl (value
     go false false e f i = rw f i
 
 -- a copy after a newer one may have been taken
-record Took (rec : ℕ) (best : Stored) (o n : Stepped) : Type 0 where
-  id : n.site.id ≡ o.site.id
-  held : n.site.held ≡ o.site.held
-  doubts : n.site.doubts ≡ o.site.doubts
-  refresh : n.site.refresh ≡ o.site.refresh
-  other : (k : ℕ) → rec ≢ k → value_at k n.site.copies ≡ value_at k o.site.copies
-  here : (c : Stored) → value_at rec n.site.copies ≡ Some c → AtMost best.date c.date
+pub record Took (rec : ℕ) (best : Stored) (o n : Stepped) : Type 0 where
+  pub id : n.site.id ≡ o.site.id
+  pub held : n.site.held ≡ o.site.held
+  pub doubts : n.site.doubts ≡ o.site.doubts
+  pub refresh : n.site.refresh ≡ o.site.refresh
+  pub other : (k : ℕ) → rec ≢ k → value_at k n.site.copies ≡ value_at k o.site.copies
+  pub here : (c : Stored) → value_at rec n.site.copies ≡ Some c → AtMost best.date c.date
 
-took : (rec : ℕ) (own best : Stored) (o : Stepped) → value_at rec o.site.copies ≡ Some own → Took rec best o (take_newer rec own best o)
+pub took : (rec : ℕ) (own best : Stored) (o : Stepped) → value_at rec o.site.copies ≡ Some own → Took rec best o (take_newer rec own best o)
 unfolding take_newer
 took rec own best o v = go (view_before own.date best.date) refl
   where
@@ -134,7 +122,7 @@ module _ (catalogue : Catalogue) (x : SiteState) (given : Input) (tidy : Tidy x)
   on : (o e : Stepped) (rec : ℕ) → e.site.id ≡ o.site.id → e.site.held ≡ o.site.held → e.site.doubts ≡ o.site.doubts → value_at rec e.site.copies ≡ value_at rec o.site.copies → Unlisted catalogue x given o rec → Unlisted catalogue x given e rec
   on o e rec i v d c (Unlisted.still none same) = Unlisted.still none (v ∙ same)
   on o e rec i v d c (Unlisted.joined view now origin) = Unlisted.joined view (v ∙ now) origin
-  on o e rec i v d c (Unlisted.ended q) = Unlisted.ended (record { r = q.r; on = q.on; answers = q.answers; all = rw (i, v) q.all; certain = rw d q.certain; newest = λ k a f h. q.newest k a (sym c ∙ f) h })
+  on o e rec i v d c (Unlisted.ended q) = Unlisted.ended (record { r = q.r; on = q.on; answers = λ k h. let z = q.answers k h in (z.0, v ∙ z.1); all = rw (i, v) q.all; certain = rw d q.certain; newest = λ k a f h. q.newest k a (sym c ∙ f) h })
 
   same : (o e : Stepped) → e.site.id ≡ o.site.id → e.site.held ≡ o.site.held → e.site.doubts ≡ o.site.doubts → e.site.copies ≡ o.site.copies → ((r : Refreshing) → Has o.site.refresh r → (q : Refreshing) × Has e.site.refresh q × (q.rec ≡ r.rec)) → CopiesAt catalogue x given e → P o → P e
   same o e i v d c sub base p = record { base = base; unlisted = λ rec u h none. on o e rec i v d (ap (value_at rec) c) (p.unlisted rec u (sym v ∙ h) (λ r g is. let q = sub r g in none q.0 q.1 (q.2 ∙ is))) }
@@ -155,7 +143,7 @@ module _ (catalogue : Catalogue) (x : SiteState) (given : Input) (tidy : Tidy x)
       go k u h none (inl z) = Unlisted.ended (record {
         r = r;
         on = z;
-        answers = λ q g. subst (λ (n : ℕ). AnswerNow catalogue x given n q) z (p.base.answers r q there g).0;
+        answers = λ q g. let b = p.base.answers r q there g in (subst (λ (n : ℕ). AnswerNow catalogue x given n q) z b.0, t.held ∙ b.1);
         all = rw (t.id, t.held) a;
         certain = subst (λ (k : ℕ). is_doubtful n.site k ≡ false) z (rw t.doubts d);
         newest = λ c q f g. AtMost-trans _ _ _ (newest_each own r.answers q g) (t.here c (subst (λ (k : ℕ). value_at k n.site.copies ≡ Some c) (sym z) f));
@@ -166,9 +154,19 @@ module _ (catalogue : Catalogue) (x : SiteState) (given : Input) (tidy : Tidy x)
   unfolding end_refresh
   finishes rec r own o e a d v base p = removes rec r own o (take_newer r.rec own (newest own r.answers) o) e a d (took r.rec own (newest own r.answers) o v) p base
 
-  refreshes : (view : View) (rec : ℕ) (o : Stepped) → Joined x view o → CopiesAt catalogue x given (start_refresh catalogue view rec o) → P (start_refresh catalogue view rec o)
+  refreshes : (view : View) (rec : ℕ) (o : Stepped) → CopiesAt catalogue x given (start_refresh catalogue view rec o) → P o → P (start_refresh catalogue view rec o)
   unfolding start_refresh
-  refreshes view rec o j base = record { base = base; unlisted = λ k u h none. Unlisted.joined view j.held j.origin }
+  refreshes view rec o base p = record { base = base; unlisted = λ k u h none. on o (start_refresh catalogue view rec o) k refl refl refl refl (p.unlisted k u h (λ r g is. none r (stays_listed k r g is none) is)) }
+    where
+      more : List Refreshing
+      more = put (λ (a : Refreshing) (b : Refreshing). a.rec == b.rec) (λ (a : Refreshing) (b : Refreshing). nat_lt a.rec b.rec) (record { rec = rec; answers = [] }) o.site.refresh
+
+      apart : (a b : ℕ) → a ≢ b → (a == b) ≡ false
+      apart a b n = grind (arith, nat_tests, n)
+
+      stays_listed : (k : ℕ) (r : Refreshing) → Has o.site.refresh r → r.rec ≡ k → IsUnlisted more k → Has more r
+      stays_listed k r g is none = put_old (λ (a : Refreshing) (b : Refreshing). a.rec == b.rec) (λ (a : Refreshing) (b : Refreshing). nat_lt a.rec b.rec) (record { rec = rec; answers = [] }) o.site.refresh r g
+          (apart rec r.rec (λ z. none (record { rec = rec; answers = [] }) (put_new (λ (a : Refreshing) (b : Refreshing). a.rec == b.rec) (λ (a : Refreshing) (b : Refreshing). nat_lt a.rec b.rec) (record { rec = rec; answers = [] }) o.site.refresh) (z ∙ is)))
 
   ends_here : (from : ℕ) (txn : TxnId) (commit : Bool) (doubt : Option Doubt) → CopiesAt catalogue x given (end_here from txn commit doubt (begin_step x)) → P (end_here from txn commit doubt (begin_step x))
   unfolding end_here
@@ -197,13 +195,13 @@ module _ (catalogue : Catalogue) (x : SiteState) (given : Input) (tidy : Tidy x)
     accept_again = λ from id c e. stays _ refl refl (b.accept_again from id c e);
     accepted = λ from id c. stays _ refl refl (b.accepted from id c);
     seen = λ from id promise c. stays _ refl refl (b.seen from id promise c);
-    hold = λ from id members c e. record { base = b.hold from id members c e; unlisted = λ k u h none. Unlisted.joined (record { id = id; members = members }) refl (inl (is_view_is x.waiting id (both_true _ _ e).0)) };
+    hold = λ from id members c e. record { base = b.hold from id members c e; unlisted = λ k u h none. Unlisted.joined (record { id = id; members = members }) refl (Joins.came from c e) };
     heard = λ from view c e. stays _ refl refl (b.heard from view c e);
-    fix = λ view c e. record { base = b.fix view c e; unlisted = λ k u h none. Unlisted.joined view refl (inr e) };
+    fix = λ view c e. record { base = b.fix view c e; unlisted = λ k u h none. Unlisted.joined view refl (Joins.fixed c e) };
     without_wait = λ id c i w. stays _ refl refl (b.without_wait id c i w);
     probe = λ view c e. stays _ refl refl (b.probe view c e);
     answers_inviting = λ port s p. same _ _ refl refl refl refl (λ r h. each _ r h) (b.answers_inviting port s p.base) p;
-    start_refresh = λ view rec o e a h p. refreshes view rec o e (b.start_refresh view rec o e a h p.base);
+    start_refresh = λ view rec o e a h p. refreshes view rec o (b.start_refresh view rec o e a h p.base) p;
     end_refresh = λ rec r own o e a d v p. finishes rec r own o e a d v (b.end_refresh rec r own o e a d v p.base) p;
     keep_answer = λ from view rec stored r c e f g. first _ refl (λ q h. (with_answer rec from stored q, mapped_has (with_answer rec from stored) x.refresh q h, rec_same rec from stored q)) (b.keep_answer from view rec stored r c e f g);
     answer_refresh = λ from view rec stored c e d v. stays _ refl refl (b.answer_refresh from view rec stored c e d v);
@@ -219,7 +217,7 @@ module _ (catalogue : Catalogue) (x : SiteState) (given : Input) (tidy : Tidy x)
     end_here = λ from txn commit c. ends_here from txn commit (doubt_of txn x.doubts) (b.end_here from txn commit c);
     coordinator = record {
       begin = λ port view e. stays _ refl refl (b.coordinator.begin port view e);
-      answers = λ words port. stays _ refl refl (b.coordinator.answers words port);
+      answers = λ words port why. stays _ refl refl (b.coordinator.answers words port why);
       take_lock = λ t rec exclusive stored h i a v c. stays _ refl refl (b.coordinator.take_lock t rec exclusive stored h i a v c);
       complete = λ t p operation words l h g e q. stays _ refl refl (b.coordinator.complete t p operation words l h g e q.base);
       read_at = λ t p rec q h n r a w c o. stays _ refl refl (b.coordinator.read_at t p rec q h n r a w c o);

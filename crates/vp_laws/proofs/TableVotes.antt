@@ -337,7 +337,7 @@ module _ (catalogue : Catalogue) (x : SiteState) (given : Input) (led : Led x) (
     end_here = λ from txn commit c. ends_here from txn commit (doubt_of txn x.doubts);
     coordinator = record {
       begin = λ port view e. begins_one port view;
-      answers = λ words port. hushed (lent_at x) _ refl refl begins;
+      answers = λ words port why. hushed (lent_at x) _ refl refl begins;
       take_lock = λ t rec exclusive stored h i a v c. hushed (lent_at x) _ refl refl begins;
       complete = λ t p operation words l h g e q. put_on (record t { ops = t.ops ++ operation ∷ []; answers = t.answers ++ words ∷ []; pending = None }) t (put_back (begin_step x) l) (put_back (begin_step x) (complete t p operation words l)) [] h (completes_operating catalogue x given t p operation words l g) refl e refl refl (sym (append-nil l.effects.messages)) (λ m k. absurd (has_none m k)) q;
       read_at = λ t p rec q h n r a w c o. put_on (record t { remote = t.remote ++ (q, rec) ∷ []; parts = put_number q t.parts; pending = Some (record p { missing = q ∷ [] }) }) t (begin_step x) (put_back (begin_step x) (read_at x.id t p rec q (lent_at x))) (letter x.id q (message.ReadRequest t.txn t.view p.number rec) ∷ []) h (inl n.idle) refl refl refl refl refl (letter_still x.id q (message.ReadRequest t.txn t.view p.number rec) refl) begins;

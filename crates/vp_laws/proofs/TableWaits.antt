@@ -134,7 +134,7 @@ module _ (catalogue : Catalogue) (x : SiteState) (given : Input) (settled : (d :
   unfolding start_txn take_lock complete read_at write_at prepare_parts mark_calls
   moves = record {
     begin = λ port view e. beside x.coordinator _ [] _ [] refl starts;
-    answers = λ words port. starts;
+    answers = λ words port why. starts;
     take_lock = λ t rec exclusive stored h i a v c. starts;
     complete = λ t p operation words l h g e r. beside l.coordinator _ l.effects.messages _ l.effects.commits refl r;
     read_at = λ t p rec q h n r a w c o. beside x.coordinator _ [] _ [] refl starts;

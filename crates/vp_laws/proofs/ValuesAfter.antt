@@ -169,7 +169,7 @@ module _ (rec : ℕ) (start : List ℕ) (journal : List Commit) (e : Commit) whe
 
 -- the entries of a view stand last of those up to it
 module _ (journal : List Commit) (v : ViewId) where
-  in_at : (u : ViewId) (f : Commit) → Has (in_view journal u) f → f.view ≡ u
+  pub in_at : (u : ViewId) (f : Commit) → Has (in_view journal u) f → f.view ≡ u
   in_at u f h = same_is f.view u (filter_has (λ (c : Commit). same_view c.view u) journal f h).1
 
   empty_at : ((f : Commit) → Has journal f → f.view ≡ v → ⊥) → in_view journal v ≡ []

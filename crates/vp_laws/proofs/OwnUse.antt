@@ -1,0 +1,95 @@
+-- What a live transaction has used is closed for its view: a copy here on which it has a lock, and what other sites have answered.
+use Rattle.std.proofs.Common.{◌⊎◌, ◌≡◌, ◌≢◌, ◌∙◌, ap, sym, subst, ℕ, Bool, true, false, List, refl, inl, inr, ⊎_elim}
+use Rattle.std.specs.Prelude.{Option, Some, None}
+use Rattle.vp_model.specs.Types.{TxnId, View, Op, Stored, Pending, Live}
+use Rattle.vp_model.specs.Types.op
+use Rattle.vp_model.specs.Types.owner
+use Rattle.vp_model.specs.Words.{keys, value_at}
+use Rattle.vp_model.specs.Catalogue.{Catalogue, holders, accessible}
+use Rattle.vp_model.specs.Refresh.{is_usable, is_usable_in, other_holders_in}
+use Rattle.vp_model.specs.Site.{SiteState}
+use Rattle.vp_laws.proofs.Members.{Has}
+use Rattle.vp_laws.proofs.Lists.{mapped_has}
+use Rattle.vp_laws.proofs.LockTables.{HasLock}
+use Rattle.vp_laws.proofs.Table.{Reads}
+use Rattle.vp_laws.proofs.TableLed.{IsOf}
+use Rattle.vp_laws.proofs.TableCopies.{value_pair}
+use Rattle.vp_laws.proofs.TableUnlisted.{IsUnlisted}
+use Rattle.vp_laws.proofs.Scenes.{Scene, plain_at}
+use Rattle.vp_laws.proofs.TableLocks.{not_copied}
+use Rattle.vp_laws.proofs.InvOps.{record_of, HasWritten}
+use Rattle.vp_laws.proofs.InvAnswers.{HasRead}
+use Rattle.vp_laws.proofs.InvEntered.{AgreedAs, other_holder}
+use Rattle.vp_laws.proofs.InvUsed.{HasAnswered}
+use Rattle.vp_laws.proofs.InvHeld.{holds_copy}
+use Rattle.vp_laws.proofs.Closing.{Closed}
+use Rattle.vp_laws.proofs.Stopping.{shared_holder}
+use Rattle.vp_laws.proofs.CopyInvariants.{InvCopies, InvRefresh}
+use Rattle.vp_laws.proofs.CopiesKept.{unlisted_none}
+use Rattle.vp_laws.proofs.Tower.{Known}
+
+module _ (catalogue : Catalogue) (w : Scene) (k : Known catalogue w) (copies : InvCopies catalogue w) (s : ℕ) (x : SiteState) (t : Live) (up : plain_at w s ≡ Some x) (live : Has x.live t) where
+  -- a record on which it has a lock is not under refresh
+  pub lock_unlisted : (rec : ℕ) (exclusive : Bool) → HasLock rec exclusive (owner.Txn t.txn) x.locks → IsUnlisted x.refresh rec
+  lock_unlisted rec exclusive lock r h is =
+      let low = (k.guards.site s x up).lower r h in
+      let u = low.3 lock.lock t.txn lock.has (lock.on ∙ sym is) lock.by in
+      ((k.below.site s x up).doubts u.0 u.1).1 (ap (λ (t : TxnId). t.site) u.2 ∙ ((k.led.site s x up).names t live).0)
+
+  of : IsOf x t
+  of = (k.led.site s x up).live t live
+
+  pub view_is : (v : View) → AgreedAs w t.view v → x.held ≡ Some v
+  view_is v a = of.1 ∙ ap (λ (v : View). Some v) (k.views.unique of.0 v ((k.views.site s x up).held of.0 of.1) a.0 (of.2 ∙ sym a.1))
+
+  pub own_closed : (rec : ℕ) (exclusive : Bool) (v : View) (stored : Stored) → HasLock rec exclusive (owner.Txn t.txn) x.locks → x.held ≡ Some v → value_at rec x.copies ≡ Some stored → is_usable catalogue x rec ≡ true → Closed catalogue w rec v
+  own_closed rec exclusive v stored lock held copy usable = copies.usable s rec x v stored up held usable (unlisted_none rec x.refresh (lock_unlisted rec exclusive lock)) copy
+
+  module _ (refresh : InvRefresh catalogue w) (v : View) (agreed : AgreedAs w t.view v) where
+    copied : (rec : ℕ) (stored : Stored) → value_at rec x.copies ≡ Some stored → Has (keys x.copies) rec
+    copied rec stored e = mapped_has (λ (p : ℕ × Stored). p.0) x.copies (rec, stored) (value_pair rec x.copies stored e)
+
+    usable_in_view : (operation : Op) → Has t.ops operation → accessible catalogue (record_of operation) v.members ≡ true
+    usable_in_view operation h = subst (λ (held : Option View). is_usable_in catalogue held (record_of operation) ≡ true) (view_is v agreed) ((k.ops.live s x t up live).usable operation h)
+
+    -- it was written elsewhere, where there is no copy here
+    elsewhere : (rec : ℕ) → HasWritten t rec → value_at rec x.copies ≡ None → Closed catalogue w rec v
+    elsewhere rec wrote none =
+        let usable = usable_in_view (op.Write rec wrote.0) wrote.1 in
+        let q = shared_holder catalogue rec v.members v.members usable usable in
+        let other : q.0 ≢ x.id = (λ z. not_copied rec x.copies none (holds_copy catalogue w s x up (k.views.site s x up).kept k.held rec (subst (Has (holders catalogue rec)) (z ∙ (k.views.site s x up).id) q.1))) in
+        let holder = subst (λ (held : Option View). Has (other_holders_in catalogue x.id held rec) q.0) (sym (view_is v agreed)) (other_holder catalogue x.id rec q.0 v q.1 q.2 other) in
+        refresh.used s q.0 rec true x t v up live (HasAnswered.wrote ((k.answers.live s x t up live).wrote rec wrote q.0 holder)) agreed
+
+    pub written_closed : (rec : ℕ) → HasWritten t rec → Closed catalogue w rec v
+    written_closed rec wrote = go (value_at rec x.copies) refl
+      where
+        go : (c : Option Stored) → value_at rec x.copies ≡ c → Closed catalogue w rec v
+        go None e = elsewhere rec wrote e
+        go (Some stored) e = own_closed rec true v stored (((k.guards.site s x up).own t live).wrote rec wrote.0 wrote.1 (copied rec stored e)) (view_is v agreed) e ((k.ops.live s x t up live).usable (op.Write rec wrote.0) wrote.1)
+
+    -- where no read is pending, a done one has been answered, or is of an own write
+    pub idle_reads : ((p : Pending) (rec : ℕ) → t.pending ≡ Some p → Reads catalogue p rec → ⊥) → (rec : ℕ) (value : List ℕ) → Has t.ops (op.Read rec value) → value_at rec x.copies ≡ None → HasWritten t rec ⊎ ((q : ℕ) × HasRead w q t.txn rec)
+    idle_reads idle rec value h none = ⊎_elim
+        (λ wrote. inl wrote)
+        (λ asked. ⊎_elim
+        (λ (r : HasRead w asked.0 t.txn rec). inr (asked.0, r))
+        (λ pending. absurd (idle pending.0 rec pending.1 pending.2))
+        ((k.answers.live s x t up live).remote (asked.0, rec) asked.1))
+        ((k.reads.live s x t up live).done rec value h (not_copied rec x.copies none))
+
+    -- what it has done is closed for its view, where each read elsewhere has been answered
+    module _ (reads : (rec : ℕ) (value : List ℕ) → Has t.ops (op.Read rec value) → value_at rec x.copies ≡ None → HasWritten t rec ⊎ ((q : ℕ) × HasRead w q t.txn rec)) where
+      read_closed : (rec : ℕ) (value : List ℕ) → Has t.ops (op.Read rec value) → Closed catalogue w rec v
+      read_closed rec value h = go (value_at rec x.copies) refl
+        where
+          go : (c : Option Stored) → value_at rec x.copies ≡ c → Closed catalogue w rec v
+          go (Some stored) e = own_closed rec false v stored (((k.guards.site s x up).own t live).read rec value h (copied rec stored e)) (view_is v agreed) e ((k.ops.live s x t up live).usable (op.Read rec value) h)
+          go None e = ⊎_elim
+              (λ wrote. written_closed rec wrote)
+              (λ (r : (q : ℕ) × HasRead w q t.txn rec). refresh.used s r.0 rec false x t v up live (HasAnswered.read r.1) agreed)
+              (reads rec value h e)
+
+      pub ops_closed : (operation : Op) → Has t.ops operation → Closed catalogue w (record_of operation) v
+      ops_closed (op.Read rec value) h = read_closed rec value h
+      ops_closed (op.Write rec value) h = written_closed rec (value, h)

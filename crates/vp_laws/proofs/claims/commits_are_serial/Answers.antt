@@ -1,0 +1,5 @@
+use Rattle.vp_laws.proofs.Readable.{serial_played}
+use Rattle.vp_laws.proofs.claims.commits_are_serial.Goals as goal
+
+pub returns : goal.returns
+returns c = serial_played

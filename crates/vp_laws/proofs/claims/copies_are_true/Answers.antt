@@ -1,0 +1,5 @@
+use Rattle.vp_laws.proofs.Readable.{copies_read}
+use Rattle.vp_laws.proofs.claims.copies_are_true.Goals as goal
+
+pub returns : goal.returns
+returns c = copies_read

@@ -1,0 +1,5 @@
+use Rattle.vp_laws.proofs.EndsTrue.{ends_told}
+use Rattle.vp_laws.proofs.claims.ends_are_true.Goals as goal
+
+pub returns : goal.returns
+returns c = ends_told
