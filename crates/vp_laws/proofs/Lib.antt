@@ -23,6 +23,9 @@ pub mod TableVotes
 pub mod OnlyCoordinator
 pub mod TableEndings
 pub mod TableSteps
+-- what clients see of a step
+pub mod Reasons
+pub mod FrontRows
 pub mod TableShares
 pub mod TableWaits
 pub mod TableLeaves
