@@ -26,6 +26,7 @@ pub mod TableSteps
 -- what clients see of a step
 pub mod Reasons
 pub mod FrontRows
+pub mod FrontSteps
 pub mod TableShares
 pub mod TableWaits
 pub mod TableLeaves
