@@ -27,6 +27,7 @@ pub mod TableSteps
 pub mod Reasons
 pub mod FrontRows
 pub mod FrontSteps
+pub mod TableEnds
 pub mod TableShares
 pub mod TableWaits
 pub mod TableLeaves
@@ -39,6 +40,7 @@ pub mod TableListed
 pub mod Scenes
 pub mod Events
 pub mod Worlds
+pub mod Occurs
 -- the invariant in every world, each group above the ones before it
 pub mod InvViews
 pub mod Agreement
