@@ -49,6 +49,7 @@ pub mod InvBelow
 pub mod InvNames
 pub mod InvVotes
 pub mod InvEndings
+pub mod InvKept
 pub mod InvShares
 pub mod InvOps
 pub mod InvAnswers
