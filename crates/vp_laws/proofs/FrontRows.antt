@@ -1,36 +1,33 @@
 -- A property of the coordinator's state and of the replies that survives the small moves is kept by a whole step.
-use Rattle.std.proofs.Common.{◌≡◌, ◌∙◌, ◌++◌, ap, sym, subst, ℕ, ◌+◌, Bool, true, false, List, [], ◌∷◌, refl, arith, length, append-nil}
+use Rattle.std.proofs.Common.{◌≡◌, ◌∙◌, ◌++◌, sym, ℕ, ◌+◌, Bool, true, false, List, [], ◌∷◌, refl, arith, length, append-nil}
 use Rattle.std.specs.Prelude.{Option, Some, None, is_some, filter, ◌==◌, nat_le, nat_lt, ◌&&◌}
-use Rattle.std.specs.List.{AllByRecursion}
-use Rattle.std.specs.Option.{option_map_or}
 use Rattle.std.proofs.lemmas.Bool.{eqb-true}
 use Rattle.std.proofs.lemmas.Bool.Decides.{nat_tests}
-use Rattle.vp_model.specs.Types.{ViewId, View, TxnId, Op, Stored, Commit, Reply, Call, Answer, Message, Obstacle, Input, Pending, Live, Ending, Finished, Effects}
+use Rattle.vp_model.specs.Types.{TxnId, Op, Commit, Reply, Call, Answer, Message, Obstacle, Input, Pending, Live, Ending, Finished, Effects}
 use Rattle.vp_base.specs.declared.site.Ending.TheVariants.{Committed, LockHeld, ViewChanged, TimedOut, Aborted}
 use Rattle.vp_model.specs.Types.answer
 use Rattle.vp_model.specs.Types.call
 use Rattle.vp_model.specs.Types.input
 use Rattle.vp_model.specs.Types.message
 use Rattle.vp_model.specs.Types.obstacle
-use Rattle.vp_model.specs.Words.{same_txn, has, first, value_at, is_empty, for_each}
+use Rattle.vp_model.specs.Words.{same_txn, has, first, value_at, is_empty}
 use Rattle.vp_model.specs.Catalogue.{Catalogue, find_record}
 use Rattle.vp_model.specs.Locks.{conflict}
 use Rattle.vp_model.specs.Site.{CoordinatorState, SiteState, Lent, surroundings, lent_reply}
-use Rattle.vp_model.specs.Transactions.{with_finished, with_pending_reply, live_of, finished_of, last_writes, finish, close, close_all, keep_writes, decided, decide, complete, writing_parts}
+use Rattle.vp_model.specs.Transactions.{with_finished, with_pending_reply, live_of, finished_of, last_writes, finish, close, close_all, keep_writes, decided, decide, complete}
 use Rattle.vp_model.specs.Refresh.{is_usable, other_holders}
 use Rattle.vp_model.specs.Views.{abandon}
-use Rattle.vp_model.specs.Calls.{handling, kept_answer, start_txn, begin_in, on_begin, with_record, take_lock, lock_here, answer_read, answer_write, read, read_at, write_elsewhere, write, write_at, commit, prepare_parts, new_call, live_call, finished_call, handled, on_txn_call, own_call}
-use Rattle.vp_model.specs.Answers.{with_missing, count_in, read_answered, on_read_answer, write_answered, on_write_answer, refused_by, on_refuse, voted, on_vote, on_ack, on_inquire, on_answer, waits_for}
+use Rattle.vp_model.specs.Calls.{handling, start_txn, begin_in, on_begin, with_record, take_lock, lock_here, answer_read, answer_write, read, read_at, write_elsewhere, write, write_at, commit, prepare_parts, new_call, live_call, finished_call, handled, on_txn_call, own_call}
+use Rattle.vp_model.specs.Answers.{with_missing, count_in, read_answered, on_read_answer, write_answered, on_write_answer, refused_by, on_refuse, voted, on_vote, on_ack, on_inquire, on_answer}
 use Rattle.vp_model.specs.Told.{is_call}
 use Rattle.vp_model.specs.Step.{is_marked_call, least_missing, time_out_calls, mark_calls}
 use Rattle.vp_laws.specs.Votes.{is_commit}
-use Rattle.vp_laws.proofs.Members.{Has, filter_has, has_first, has_more, find_has, both_true}
+use Rattle.vp_laws.proofs.Members.{Has, filter_has, has_first, has_more, find_has}
 use Rattle.vp_laws.proofs.Frames.{close-commits, decided-ends, decided-commits, decide-cases}
-use Rattle.vp_laws.proofs.Apart.{same_txn-is}
 use Rattle.vp_laws.proofs.Coordinator.{by_option, by_some, by_test, live_of-has, live_of-is}
-use Rattle.vp_laws.proofs.Table.{Comes, Handled, IsNext, Reads, Writes, Counts, remaining, IsLast, Locked, Completes, Decides, lent_at}
+use Rattle.vp_laws.proofs.Table.{Comes, Handled, Reads, Writes, remaining, IsLast, Locked, Completes, Decides, lent_at}
 use Rattle.vp_laws.proofs.TableSteps.{reading, writing, waiting}
-use Rattle.vp_laws.proofs.Reasons.{Called, Operates, Takes, Awaits, Why, is_plain, Tells, told_to, last_reply, IsDone, Goes, Front}
+use Rattle.vp_laws.proofs.Reasons.{Called, Operates, Takes, Awaits, Why, Tells, last_reply, IsDone, Goes, Front}
 
 -- the end that is replied
 reply-replies : (txn : TxnId) (why : Ending) (t : Live) (e : Effects) → t.txn ≡ txn → (with_pending_reply txn why t.pending e).replies ≡ e.replies ++ last_reply t why

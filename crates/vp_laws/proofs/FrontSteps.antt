@@ -1,7 +1,6 @@
 -- A whole step is made of the small moves that clients see, and of moves that they do not see.
-use Rattle.std.proofs.Common.{◌≡◌, ◌∙◌, ◌++◌, ap, sym, subst, ℕ, Bool, true, false, cond, List, [], ◌∷◌, refl, arith}
-use Rattle.std.specs.Prelude.{Option, Some, None, filter, not, map, ◌==◌}
-use Rattle.std.specs.Option.{option_map_or}
+use Rattle.std.proofs.Common.{◌≡◌, ◌∙◌, sym, subst, ℕ, Bool, true, false, List, [], refl, arith}
+use Rattle.std.specs.Prelude.{Option, Some, None, map}
 use Rattle.vp_model.specs.Types.{ViewId, View, TxnId, Stored, Owner, Commit, Reply, Call, Message, Input, Refreshing, Part}
 use Rattle.vp_model.specs.Types.entry
 use Rattle.vp_model.specs.Types.obstacle
@@ -13,12 +12,12 @@ use Rattle.vp_model.specs.Catalogue.{Catalogue}
 use Rattle.vp_model.specs.Durable.{Decision, Doubt, doubt_of}
 use Rattle.vp_model.specs.Site.{CoordinatorState, SiteState, Lent, Stepped, begin_step, lent, put_back, send, force, change_views, change_refresh, change_participant}
 use Rattle.vp_model.specs.Refresh.{newest, take_newer, end_refresh, settle_one, settle, settle_all, start_refresh, start_refresh_all, refreshing_of}
-use Rattle.vp_model.specs.Views.{drop_view, abandon, leave, start_inviting, invite, refresh_here, hold, join, is_spent, usable_here}
+use Rattle.vp_model.specs.Views.{drop_view, leave, start_inviting, invite, refresh_here, hold, join, is_spent, usable_here}
 use Rattle.vp_model.specs.Calls.{on_regroup, on_call}
-use Rattle.vp_model.specs.Messages.{with_heard, refuse_view, with_vote, with_new_doubt, doubted_records, with_answer, accept, on_invite, on_accept, on_stale, on_view_commit, on_probe_message, grant, lock_copy, on_request, on_read_request, on_write_request, first_vote, vote, on_prepare, end_here, end_doubt, acknowledge, end_part, on_outcome, on_refresh_request, keep_answer, on_refresh_answer, answered, on_message}
+use Rattle.vp_model.specs.Messages.{with_heard, refuse_view, with_vote, with_new_doubt, doubted_records, with_answer, accept, on_invite, on_accept, on_stale, on_view_commit, on_probe_message, grant, lock_copy, on_request, on_read_request, on_write_request, first_vote, on_prepare, end_here, end_part, on_outcome, on_refresh_request, on_refresh_answer, answered, on_message}
 use Rattle.vp_model.specs.Step.{time_out_calls, fix, fix_view, ask_again, ask_again_all, time_out, without_wait, tick_view, resend_one, resend, resend_decisions, inquire, inquire_all, on_tick, probe_in, probe_all, on_probe, on_input, step}
 use Rattle.vp_laws.proofs.Keeps.{for_each-same}
-use Rattle.vp_laws.proofs.Coordinator.{by_option, by_some, by_test}
+use Rattle.vp_laws.proofs.Coordinator.{by_some, by_test}
 use Rattle.vp_laws.proofs.Table.{Comes, lent_at}
 use Rattle.vp_laws.proofs.Reasons.{Tells, Front}
 use Rattle.vp_laws.proofs.FrontRows.{abandon-front, time_out_calls-front, own_call-front, on_answer-front}

@@ -1,24 +1,22 @@
 -- Answers that may be repeated, in every world; and transactions that never have an entry, from some world on.
-use Rattle.std.proofs.Common.{◌≡◌, ◌≢◌, ◌⊎◌, ◌∙◌, ap, sym, subst, ℕ, ◌+◌, ◌≤◌, true, false, List, [], ◌∷◌, refl, arith, inl, inr, ⊎_elim}
+use Rattle.std.proofs.Common.{◌≡◌, ◌≢◌, ◌∙◌, ap, sym, subst, ℕ, ◌+◌, ◌≤◌, [], refl, arith, ⊎_elim}
 use Rattle.std.specs.Prelude.{Some}
-use Rattle.vp_model.specs.Types.{TxnId, Commit, Input, Live, Finished}
+use Rattle.vp_model.specs.Types.{TxnId, Commit, Input, Finished}
 use Rattle.vp_model.specs.Catalogue.{Catalogue, start_copies}
 use Rattle.vp_model.specs.Durable.{DurableState, empty_durable}
 use Rattle.vp_model.specs.Site.{SiteState, Stepped}
 use Rattle.vp_model.specs.Step.{start, step, durable_of}
-use Rattle.vp_model.specs.World.{start_world}
 use Rattle.vp_laws.proofs.Members.{Has, has_none}
 use Rattle.vp_laws.proofs.Table.{next_name}
 use Rattle.vp_laws.proofs.Order.{same_site}
-use Rattle.vp_laws.proofs.Scenes.{Scene, scene_of, kept_in, plain_at, kept_at, Acted, acted, stepping}
+use Rattle.vp_laws.proofs.Scenes.{Scene, kept_in, plain_at, kept_at, Acted, acted, stepping}
 use Rattle.vp_laws.proofs.TableViews.{local-step}
 use Rattle.vp_laws.proofs.TableLed.{Led, Leads, led-step}
-use Rattle.vp_laws.proofs.InvNames.{UsedTxn, InvNames}
-use Rattle.vp_laws.proofs.InvVotes.{Fourth}
+use Rattle.vp_laws.proofs.InvNames.{UsedTxn}
 use Rattle.vp_laws.proofs.TableEndings.{NotLive, WasLive, Endings, endings-step}
-use Rattle.vp_laws.proofs.InvEndings.{Over, InvEndings, Fifth, fresh, endings_last}
+use Rattle.vp_laws.proofs.InvEndings.{Over, Fifth, fresh, endings_last}
 use Rattle.vp_laws.proofs.TableEnds.{AnswersKept, Ends, ends-step}
-use Rattle.vp_laws.proofs.Events.{Arrives, Lasts}
+use Rattle.vp_laws.proofs.Events.{Lasts}
 use Rattle.vp_laws.proofs.Worlds.{NowIs, now_is, KeptIs, kept_is, Quiet, QuietIs, quiet_is, started, With, Above, with_last}
 
 pub record InvKept (w : Scene) : Type 0 where

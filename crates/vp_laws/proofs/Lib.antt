@@ -67,6 +67,8 @@ pub mod OneDoubt
 -- a closed record: it stays so, and no lower writer of it is decided
 pub mod Closing
 pub mod Stopping
+-- what clients are told, in every schedule
+pub mod EndsTold
 -- the laws in the words of the contracts
 pub mod Words
 pub mod EntryWords

@@ -1,5 +1,5 @@
 -- The ends that a step answers: of a transaction that it ends, or that was finished before it; and that each entry is answered.
-use Rattle.std.proofs.Common.{◌≡◌, ◌≢◌, ◌⊎◌, ◌∙◌, ap, sym, subst, ℕ, ◌+◌, ◌≤◌, Bool, true, false, cond, List, [], ◌∷◌, ◌++◌, map, refl, inl, inr, ⊎_elim, length, arith}
+use Rattle.std.proofs.Common.{◌≡◌, ◌⊎◌, ◌∙◌, ap, sym, subst, ℕ, ◌+◌, ◌≤◌, Bool, true, false, List, [], ◌∷◌, ◌++◌, map, refl, inl, inr, ⊎_elim, arith}
 use Rattle.std.specs.Prelude.{Option, Some, None, option_map, option_to_list}
 use Rattle.std.specs.List.{list_any}
 use Rattle.std.proofs.lemmas.Bool.Decides.{nat_tests}
@@ -20,14 +20,14 @@ use Rattle.vp_one_site.proofs.Lists.{drop_has}
 use Rattle.vp_one_site.proofs.Outcome.{is_report}
 use Rattle.vp_one_site.proofs.Invariant.{end_of, is_commit}
 use Rattle.vp_one_site.proofs.KeptAnswers.{report_ends_none, end_is}
-use Rattle.vp_laws.proofs.Members.{Has, contains, has_of, has_none, has_first, has_left, has_cases, has_one_is, has_one, map_has}
+use Rattle.vp_laws.proofs.Members.{Has, contains, has_of, has_none, has_cases, has_one_is, has_one, map_has}
 use Rattle.vp_laws.proofs.Lists.{without_first_has, change_first_has}
 use Rattle.vp_laws.proofs.Apart.{Apart, named, apart_without, without_gone, apart_change, apart_more, apart_mark}
 use Rattle.vp_laws.proofs.Table.{next_view, next_name, Handled, Completes, Decides, is_abort}
 use Rattle.vp_laws.proofs.TableEndings.{NotLive, WasLive, IsEntered}
 use Rattle.vp_laws.proofs.TableSteps.{done, waiting}
 use Rattle.vp_laws.proofs.TableLed.{Led}
-use Rattle.vp_laws.proofs.Reasons.{Takes, Awaits, Why, Tells, is_plain, told_to, last_reply, IsDone, Goes, Front}
+use Rattle.vp_laws.proofs.Reasons.{Why, Tells, is_plain, told_to, last_reply, Goes, Front}
 use Rattle.vp_laws.proofs.FrontSteps.{step-front}
 
 -- a kept answer reports an operation, or is the transaction's end
