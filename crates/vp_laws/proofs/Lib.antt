@@ -28,6 +28,7 @@ pub mod Reasons
 pub mod FrontRows
 pub mod FrontSteps
 pub mod TableEnds
+pub mod TableRefusals
 pub mod TableShares
 pub mod TableWaits
 pub mod TableLeaves
