@@ -45,7 +45,7 @@ pub record Advances (catalogue : Catalogue) (w new : Scene) (what : Shown) : Typ
   pub ends : (a : Answer) → Has (answers_shown what) a → EndIs new a
   pub answered : (e : Commit) → Has (commits_in what) e → list_any (is_committed e.txn) (answers_shown what) ≡ true
 
-no_replies : (what : Shown) → is_step what ≡ false → replies_in what ≡ []
+pub no_replies : (what : Shown) → is_step what ≡ false → replies_in what ≡ []
 no_replies (shown.Step commits first messages replies) e = cc
 no_replies _ e = refl
 
@@ -185,10 +185,10 @@ run_holds s = run-keeps s.catalogue (EndsHold s.catalogue) (record {
 }) s.events
 
 -- in the words of the claim
-all_of : {X : Type 0} (test : X → Bool) (xs : List X) → ((x : X) → Has xs x → test x ≡ true) → list_all test xs ≡ true
+pub all_of : {X : Type 0} (test : X → Bool) (xs : List X) → ((x : X) → Has xs x → test x ≡ true) → list_all test xs ≡ true
 all_of test xs f = all_from test xs (λ x h. f x (has_of xs x (lone_contains xs x h)))
 
-any_of : {X : Type 0} (test : X → Bool) (xs : List X) (x : X) → Has xs x → test x ≡ true → list_any test xs ≡ true
+pub any_of : {X : Type 0} (test : X → Bool) (xs : List X) (x : X) → Has xs x → test x ≡ true → list_any test xs ≡ true
 any_of test xs x h e = any_from test xs x (lone_of xs x (contains xs x h)) e
 
 same_txn-self : (t : TxnId) → same_txn t t ≡ true
@@ -207,7 +207,7 @@ no_entry journal txn none = go (has_entry journal txn) refl
 both : (a b : Bool) → a ≡ true → b ≡ true → (a && b) ≡ true
 both a b p q = rw (p, q) refl
 
-true_is : (b : Bool) → b ≡ true → IsTrue b
+pub true_is : (b : Bool) → b ≡ true → IsTrue b
 true_is true e = search rules
 true_is false e = cc
 

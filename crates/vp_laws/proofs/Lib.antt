@@ -29,6 +29,7 @@ pub mod FrontRows
 pub mod FrontSteps
 pub mod TableEnds
 pub mod TableRefusals
+pub mod TableFair
 pub mod TableShares
 pub mod TableWaits
 pub mod TableLeaves
@@ -70,6 +71,7 @@ pub mod Closing
 pub mod Stopping
 -- what clients are told, in every schedule
 pub mod EndsTold
+pub mod Fair
 -- the laws in the words of the contracts
 pub mod Words
 pub mod EntryWords

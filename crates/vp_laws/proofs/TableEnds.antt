@@ -82,10 +82,10 @@ same_pair txn u a b e = let q : ◌≡◌ {A = TxnId × Bool} (txn, a) (u, b) = 
 same_end : (txn : TxnId) (number : ℕ) (why : Ending) (u : TxnId) (b : Bool) → end_of (answer_of txn number why) ≡ Some (u, b) → (txn ≡ u) × (is_commit why ≡ b)
 same_end txn number why u b e = same_pair txn u (is_commit why) b (sym (end_is txn number why) ∙ e)
 
-kept_has : (number : ℕ) (answers : List Answer) (a : Answer) → kept_answer number answers ≡ Some a → Has answers a
+pub kept_has : (number : ℕ) (answers : List Answer) (a : Answer) → kept_answer number answers ≡ Some a → Has answers a
 kept_has number answers a e = has_of answers a (_, slice_get_within answers _ a e, get_or_from_slice_get answers _ a a e)
 
-at_most_has : {X : Type 0} (n : ℕ) (xs : List X) (a : X) → Has (at_most n xs) a → Has xs a
+pub at_most_has : {X : Type 0} (n : ℕ) (xs : List X) (a : X) → Has (at_most n xs) a → Has xs a
 at_most_has n xs a h = has_of xs a (lone_contains xs a (drop_has n xs a (lone_of (at_most n xs) a (contains (at_most n xs) a h))))
 
 abort_not : (why : Ending) → is_abort why ≡ true → is_commit why ≡ false
@@ -94,6 +94,15 @@ abort_not Aborted e = refl
 abort_not (LockHeld name at owner) e = refl
 abort_not (ViewChanged at held now) e = refl
 abort_not (TimedOut at) e = refl
+
+-- the answer to an operation reports it
+pub completed : (catalogue : Catalogue) (x : SiteState) (given : Input) (t : Live) (p : Pending) (operation : Op) (words : Answer) (l : Lent) → Completes catalogue x given t p operation words l → is_report words ≡ true
+completed catalogue x given t p operation words l (Completes.own_write rec value n r u w o e is) = rw e refl
+completed catalogue x given t p operation words l (Completes.own_copy rec stored n r u w c f o e is) = rw e refl
+completed catalogue x given t p operation words l (Completes.write_again rec before value n w u v o e is) = rw e refl
+completed catalogue x given t p operation words l (Completes.write_alone rec value n w u v z o e is) = rw e refl
+completed catalogue x given t p operation words l (Completes.read_answered from rec value c last r o e is) = rw e refl
+completed catalogue x given t p operation words l (Completes.write_answered from rec value c last w o e is) = rw e refl
 
 module _ (catalogue : Catalogue) (x : SiteState) (given : Input) (after : SiteState) (led : Led x) (apart : Apart x.live) (kept : AnswersKept x.coordinator) where
   abbrev G : CoordinatorState → List Reply → List Commit → Type 0
@@ -132,14 +141,6 @@ module _ (catalogue : Catalogue) (x : SiteState) (given : Input) (after : SiteSt
     live = λ t h. ⊎_elim (λ (new : t ≡ u). rw new reports) (λ old. kept.live t old) (change_first_has (named u.txn) u x.live t h);
     finished = kept.finished;
   }
-
-  completed : (t : Live) (p : Pending) (operation : Op) (words : Answer) (l : Lent) → Completes catalogue x given t p operation words l → is_report words ≡ true
-  completed t p operation words l (Completes.own_write rec value n r u w o e is) = rw e refl
-  completed t p operation words l (Completes.own_copy rec stored n r u w c f o e is) = rw e refl
-  completed t p operation words l (Completes.write_again rec before value n w u v o e is) = rw e refl
-  completed t p operation words l (Completes.write_alone rec value n w u v z o e is) = rw e refl
-  completed t p operation words l (Completes.read_answered from rec value c last r o e is) = rw e refl
-  completed t p operation words l (Completes.write_answered from rec value c last w o e is) = rw e refl
 
   -- what a finished transaction keeps
   after_end : (t : Live) (why : Ending) (c : CoordinatorState) → ((a : Answer) → Has t.answers a → is_report a ≡ true) → AnswersKept c → AnswersKept (with_finished t why c)
@@ -251,7 +252,7 @@ module _ (catalogue : Catalogue) (x : SiteState) (given : Input) (after : SiteSt
   front = record {
     begin = λ port view held c. begins port view;
     tells = λ words port t. replies x.coordinator port words apart kept (tells words t);
-    complete = λ t p operation words l h d z. let report = completed t p operation words l z in
+    complete = λ t p operation words l h d z. let report = completed catalogue x given t p operation words l z in
         replies (put_live (done t operation words) x.coordinator) p.port words (apart_change (done t operation words) x.live apart)
         (moved (done t operation words) (λ a q. ⊎_elim (λ old. kept.live t h a old) (λ new. rw (← has_one_is words a new) report) (has_cases t.answers (words ∷ []) a q)))
         (says_none x _ [] words (report_ends_none words report));
