@@ -72,6 +72,7 @@ pub mod Stopping
 -- what clients are told, in every schedule
 pub mod EndsTold
 pub mod Fair
+pub mod FairStep
 -- the laws in the words of the contracts
 pub mod Words
 pub mod EntryWords
