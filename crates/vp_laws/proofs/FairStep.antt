@@ -42,13 +42,13 @@ pub record IsStep (m : Moment) (w : WorldState) (s : ℕ) (x : SiteState) (given
   pub up : site_of w s ≡ Some x
   pub after : site_of m.after s ≡ Some o.site
 
-same_txn-self : (t : TxnId) → same_txn t t ≡ true
+pub same_txn-self : (t : TxnId) → same_txn t t ≡ true
 same_txn-self t = grind (arith, nat_tests)
 
-eq_self : (n : ℕ) → (n == n) ≡ true
+pub eq_self : (n : ℕ) → (n == n) ≡ true
 eq_self n = grind (arith, nat_tests)
 
-same_view-self : (v : ViewId) → same_view v v ≡ true
+pub same_view-self : (v : ViewId) → same_view v v ≡ true
 same_view-self v = grind (arith, nat_tests)
 
 same_now : (v : Option ViewId) → is_same_view v v ≡ true
@@ -61,7 +61,7 @@ eq_not a b n = grind (arith, nat_tests, n)
 le_self : (n : ℕ) → nat_le n n ≡ true
 le_self n = grind (arith, nat_tests)
 
-named_site : (e : Event) (w : WorldState) (s : ℕ) (given : Input) → Gives e w s given → site_named w e ≡ Some s
+pub named_site : (e : Event) (w : WorldState) (s : ℕ) (given : Input) → Gives e w s given → site_named w e ≡ Some s
 named_site e w s given (Gives.called words is) = rw is refl
 named_site e w s given (Gives.came k m is at to) = rw (is, at, to) refl
 named_site e w s given (Gives.ticked is) = rw is refl

@@ -73,6 +73,8 @@ pub mod Stopping
 pub mod EndsTold
 pub mod Fair
 pub mod FairStep
+pub mod FairAt
+pub mod FairMoves
 -- the laws in the words of the contracts
 pub mod Words
 pub mod EntryWords
