@@ -1,42 +1,25 @@
 -- What is refused is justified by the moments so far: the messages that refuse, the ends that are kept, and each answer of a step.
-use Rattle.std.proofs.Common.{◌≡◌, ◌≢◌, ◌⊎◌, ◌∙◌, ap, sym, subst, ℕ, ◌+◌, ◌≤◌, ◌*◌, Bool, true, false, List, [], ◌∷◌, ◌++◌, map, refl, arith, inl, inr, ⊎_elim, length}
-use Rattle.std.specs.Prelude.{Option, Some, None, option_map, option_to_list, nat_le, not, ◌==◌}
-use Rattle.std.specs.Option.{option_map_or}
-use Rattle.std.proofs.lemmas.Bool.Decides.{nat_tests}
-use Rattle.std.proofs.Math.ListN.{length-append}
-use Rattle.vp_model.specs.Types.{TxnId, ViewId, View, Owner, Obstacle, Answer, Reply, Message, Sent, Input, Pending, Live, Ending, Finished}
-use Rattle.vp_base.specs.declared.site.Ending.TheVariants.{Committed, LockHeld, ViewChanged}
+use Rattle.std.proofs.Common.{◌≡◌, ◌≢◌, ℕ, ◌≤◌, Bool, true, false, List, ◌++◌, refl, length}
+use Rattle.std.specs.Prelude.{Option, Some}
+use Rattle.vp_model.specs.Types.{TxnId, ViewId, Owner, Obstacle, Answer, Message, Sent, Live, Finished}
 use Rattle.vp_model.specs.Types.answer
-use Rattle.vp_model.specs.Types.call
 use Rattle.vp_model.specs.Types.message
 use Rattle.vp_model.specs.Types.obstacle
 use Rattle.vp_model.specs.Words.{is_view}
 use Rattle.vp_model.specs.Catalogue.{Catalogue, find_record, inside, total}
-use Rattle.vp_model.specs.Site.{SiteState, Stepped}
-use Rattle.vp_model.specs.Messages.{held_id}
-use Rattle.vp_model.specs.Transactions.{answer_of, answers_after}
-use Rattle.vp_model.specs.Refresh.{members_in, is_usable_in}
-use Rattle.vp_model.specs.Calls.{handling}
-use Rattle.vp_model.specs.Step.{step}
-use Rattle.vp_model.specs.Told.{answers_in}
-use Rattle.vp_model.specs.World.{WorldState, Moment}
-use Rattle.vp_model.specs.Justified.{justified, was_blocked, held_other, left_then, is_begun, weighs}
+use Rattle.vp_model.specs.Site.{SiteState}
+use Rattle.vp_model.specs.Transactions.{answer_of}
+use Rattle.vp_model.specs.World.{Moment}
+use Rattle.vp_model.specs.Justified.{justified, was_blocked, held_other}
 use Rattle.vp_one_site.proofs.Outcome.{is_report}
-use Rattle.vp_one_site.proofs.KeptAnswers.{blocked_larger}
-use Rattle.vp_laws.proofs.Members.{Has, has_none, has_one, has_left, has_right, has_cases, has_one_is, map_has}
-use Rattle.vp_laws.proofs.Table.{Comes, Handled, Reads, Writes, Requests, Asks}
+use Rattle.vp_laws.proofs.Members.{Has, has_left}
 use Rattle.vp_laws.proofs.LocalViews.{letter}
-use Rattle.vp_laws.proofs.Scenes.{Scene, scene_of, plain_at, acted}
-use Rattle.vp_laws.proofs.Events.{Arrives}
-use Rattle.vp_laws.proofs.InvShares.{HasRequest, OneView}
-use Rattle.vp_laws.proofs.InvAnswers.{Current, Eighth}
-use Rattle.vp_laws.proofs.InvKept.{Kept, Does, does}
-use Rattle.vp_laws.proofs.Reasons.{Operates, Takes, Awaits, Why, told_to}
-use Rattle.vp_laws.proofs.TableRefusals.{Refused, RefuseSays, refusals-step}
-use Rattle.vp_laws.proofs.TableFair.{is_free, finished_as, LiveFrom, FinishedFrom, ReplyFrom, Causes, causes-step}
-use Rattle.vp_laws.proofs.EndsTold.{any_of}
-use Rattle.vp_laws.proofs.Fair.{WasBegun, Once, OtherView, Fair, begun_more, fair_more, fair_larger, fair_justified}
-use Rattle.vp_laws.proofs.FairStep.{IsStep, named_site, tested_x, replied, blocked_here, blocked_there, other_there, left_now, same_txn-self, same_view-self, eq_self}
+use Rattle.vp_laws.proofs.Scenes.{Scene, plain_at}
+use Rattle.vp_laws.proofs.InvShares.{HasRequest}
+use Rattle.vp_laws.proofs.InvAnswers.{Eighth}
+use Rattle.vp_laws.proofs.InvKept.{Kept}
+use Rattle.vp_laws.proofs.TableFair.{is_free}
+use Rattle.vp_laws.proofs.Fair.{WasBegun, Once, Fair, fair_more}
 
 -- a site was asked for a part of the transaction, in the view
 pub data IsAsked (w : Scene) (q from : ℕ) (txn : TxnId) (view : ViewId) (number : ℕ) : Type 0 where

@@ -1,13 +1,11 @@
 -- One step keeps that what is refused is justified, and its own answers are.
-use Rattle.std.proofs.Common.{◌≡◌, ◌≢◌, ◌⊎◌, ◌∙◌, ap, sym, subst, ℕ, ◌+◌, ◌≤◌, ◌*◌, Bool, true, false, List, [], ◌∷◌, ◌++◌, map, refl, arith, inl, inr, ⊎_elim, length}
-use Rattle.std.specs.Prelude.{Option, Some, None, is_some, option_map, option_to_list, nat_le, nat_lt, not, ◌==◌, ◌&&◌}
-use Rattle.std.specs.Option.{option_map_or}
+use Rattle.std.proofs.Common.{◌≡◌, ◌≢◌, ◌∙◌, ap, sym, subst, ℕ, ◌+◌, ◌≤◌, ◌*◌, Bool, true, false, List, [], ◌∷◌, ◌++◌, map, refl, arith, ⊎_elim, length}
+use Rattle.std.specs.Prelude.{Option, Some, None, is_some, option_map, option_to_list, nat_le, nat_lt, ◌&&◌}
 use Rattle.std.proofs.lemmas.Bool.Decides.{nat_tests}
 use Rattle.std.proofs.Math.ListN.{length-append}
-use Rattle.vp_model.specs.Types.{TxnId, ViewId, View, Owner, Obstacle, Answer, Reply, Message, Sent, Input, Pending, Live, Ending, Finished}
+use Rattle.vp_model.specs.Types.{TxnId, ViewId, View, Owner, Obstacle, Answer, Reply, Message, Input, Pending, Live, Ending, Finished}
 use Rattle.vp_base.specs.declared.site.Ending.TheVariants.{Committed, LockHeld, ViewChanged}
 use Rattle.vp_model.specs.Types.answer
-use Rattle.vp_model.specs.Types.call
 use Rattle.vp_model.specs.Types.message
 use Rattle.vp_model.specs.Types.obstacle
 use Rattle.vp_model.specs.Words.{is_view}
@@ -17,11 +15,10 @@ use Rattle.vp_model.specs.Messages.{held_id}
 use Rattle.vp_model.specs.Locks.{conflict}
 use Rattle.vp_model.specs.Transactions.{answer_of, answers_after}
 use Rattle.vp_model.specs.Refresh.{members_in, is_usable_in}
-use Rattle.vp_model.specs.Calls.{handling}
 use Rattle.vp_model.specs.Step.{start, step}
 use Rattle.vp_model.specs.Told.{answers_in}
 use Rattle.vp_model.specs.World.{WorldState, Moment}
-use Rattle.vp_model.specs.Justified.{site_named, justified, was_blocked, held_other, left_then, is_begun, weighs}
+use Rattle.vp_model.specs.Justified.{site_named, justified, held_other, left_then, is_begun, weighs}
 use Rattle.vp_one_site.proofs.Outcome.{is_report}
 use Rattle.vp_one_site.proofs.KeptAnswers.{blocked_larger}
 use Rattle.vp_laws.proofs.Members.{Has, has_none, has_one, has_left, has_right, has_cases, has_one_is, map_has}
@@ -29,14 +26,14 @@ use Rattle.vp_laws.proofs.Table.{Comes, Handled, Reads, Writes, Requests, Asks}
 use Rattle.vp_laws.proofs.LocalViews.{letter}
 use Rattle.vp_laws.proofs.Scenes.{Scene, scene_of, plain_at, kept_at, acted}
 use Rattle.vp_laws.proofs.Events.{Arrives}
-use Rattle.vp_laws.proofs.InvShares.{HasRequest, OneView}
+use Rattle.vp_laws.proofs.InvShares.{HasRequest}
 use Rattle.vp_laws.proofs.InvAnswers.{Current, Eighth, answers_last}
 use Rattle.vp_laws.proofs.InvKept.{Kept, kept_last, Does, does}
 use Rattle.vp_laws.proofs.Worlds.{NowIs, now_is, Quiet, QuietIs, quiet_is}
 use Rattle.vp_model.specs.Durable.{DurableState}
 use Rattle.vp_laws.proofs.Reasons.{Operates, Takes, Awaits, Why, told_to}
 use Rattle.vp_laws.proofs.TableRefusals.{Refused, RefuseSays, refusals-step}
-use Rattle.vp_laws.proofs.TableFair.{is_free, finished_as, LiveFrom, FinishedFrom, ReplyFrom, Causes, causes-step}
+use Rattle.vp_laws.proofs.TableFair.{finished_as, LiveFrom, FinishedFrom, ReplyFrom, Causes, causes-step}
 use Rattle.vp_laws.proofs.EndsTold.{any_of}
 use Rattle.vp_laws.proofs.Fair.{WasBegun, Once, OtherView, Fair, begun_more, fair_more, fair_larger, fair_justified}
 use Rattle.vp_laws.proofs.FairStep.{IsStep, named_site, tested_x, replied, blocked_here, blocked_there, other_there, left_now, same_txn-self, same_view-self, eq_self}
@@ -291,11 +288,11 @@ module _ (catalogue : Catalogue) (world : WorldState) (past : List Moment) (m0 :
       finished_at {k} y f g (NowIs.other n old) = end_more catalogue past (m0 ∷ []) f (fair.finished k y f old g)
       finished_at y f g (NowIs.here e same) = finished_now f (c.finished f (subst (λ (y : SiteState). Has y.finished f) (sym same) g))
 
-none_live : (catalogue : Catalogue) (s : ℕ) (d : DurableState) (t : Live) → Has (start catalogue s d).live t → ⊥
+pub none_live : (catalogue : Catalogue) (s : ℕ) (d : DurableState) (t : Live) → Has (start catalogue s d).live t → ⊥
 unfolding start
 none_live catalogue s d t h = has_none t h
 
-none_finished : (catalogue : Catalogue) (s : ℕ) (d : DurableState) (f : Finished) → Has (start catalogue s d).finished f → ⊥
+pub none_finished : (catalogue : Catalogue) (s : ℕ) (d : DurableState) (f : Finished) → Has (start catalogue s d).finished f → ⊥
 unfolding start
 none_finished catalogue s d f h = has_none f h
 

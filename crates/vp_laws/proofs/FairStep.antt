@@ -1,16 +1,13 @@
 -- A step's refusals are justified by its own moment.
-use Rattle.std.proofs.Common.{◌≡◌, ◌≢◌, ◌∙◌, ap, sym, subst, ℕ, Bool, true, false, List, [], ◌∷◌, ◌++◌, map, refl, arith}
-use Rattle.std.specs.Prelude.{Option, Some, None, option_map, not, ◌==◌, ◌&&◌, nat_le}
+use Rattle.std.proofs.Common.{◌≡◌, ◌≢◌, ◌∙◌, sym, subst, ℕ, Bool, true, false, List, refl, arith}
+use Rattle.std.specs.Prelude.{Option, Some, None, ◌==◌, ◌&&◌, nat_le}
 use Rattle.std.specs.List.{list_any}
 use Rattle.std.specs.Option.{option_map_or}
 use Rattle.std.proofs.lemmas.Bool.{eqb-true}
 use Rattle.std.proofs.lemmas.Bool.Decides.{nat_tests}
 use Rattle.std.proofs.lemmas.Slice.Eq.{bytes_eq-Decides}
-use Rattle.std.specs.Str.{bytes_eq}
-use Rattle.vp_model.specs.Types.{TxnId, ViewId, View, Owner, Obstacle, Call, Answer, Reply, Message, Sent, Event, Input, Shown, Pending, Live}
+use Rattle.vp_model.specs.Types.{TxnId, ViewId, View, Owner, Call, Answer, Reply, Message, Sent, Event, Input, Pending, Live}
 use Rattle.vp_model.specs.Types.answer
-use Rattle.vp_model.specs.Types.call
-use Rattle.vp_model.specs.Types.event
 use Rattle.vp_model.specs.Types.input
 use Rattle.vp_model.specs.Types.message
 use Rattle.vp_model.specs.Types.obstacle
@@ -19,9 +16,9 @@ use Rattle.vp_model.specs.Words.{same_txn, same_view, is_view}
 use Rattle.vp_model.specs.Catalogue.{Catalogue, find_record}
 use Rattle.vp_model.specs.Locks.{conflict}
 use Rattle.vp_model.specs.Site.{SiteState, Stepped}
-use Rattle.vp_model.specs.World.{WorldState, Moment, site_of, message_at}
+use Rattle.vp_model.specs.World.{WorldState, Moment, site_of}
 use Rattle.vp_model.specs.Messages.{held_id}
-use Rattle.vp_model.specs.Told.{is_call, answers_in, messages_in}
+use Rattle.vp_model.specs.Told.{answers_in, messages_in}
 use Rattle.vp_model.specs.Justified.{Request, call_request, message_request, request_of, site_named, is_step_of, is_request, tested_before, tested_after, blocks, is_named, says_held, gave_held, was_blocked, refuses, is_held_by, is_other_view, is_same_view, handles, held_other, left_then}
 use Rattle.vp_one_site.proofs.LockTables.{same_owner-self, least_any}
 use Rattle.vp_laws.proofs.Members.{Has, both_true}
@@ -31,7 +28,7 @@ use Rattle.vp_laws.proofs.Table.{Comes, Requests, Asks}
 use Rattle.vp_laws.proofs.LocalViews.{letter}
 use Rattle.vp_laws.proofs.Occurs.{Gives}
 use Rattle.vp_laws.proofs.EndsTold.{any_of}
-use Rattle.vp_laws.proofs.Reasons.{Called, Operates, Takes, told_to}
+use Rattle.vp_laws.proofs.Reasons.{Called, Operates, told_to}
 
 -- the moment is a step of the site s, from x to o
 pub record IsStep (m : Moment) (w : WorldState) (s : ℕ) (x : SiteState) (given : Input) (o : Stepped) : Type 0 where

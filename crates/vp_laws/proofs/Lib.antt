@@ -75,6 +75,7 @@ pub mod Fair
 pub mod FairStep
 pub mod FairAt
 pub mod FairMoves
+pub mod FairTold
 -- the laws in the words of the contracts
 pub mod Words
 pub mod EntryWords

@@ -1,24 +1,24 @@
 -- What a step refuses, and what it keeps of it: each refusal has its cause, and each closed transaction the cause of its end.
-use Rattle.std.proofs.Common.{◌≡◌, ◌⊎◌, ◌∙◌, ap, sym, subst, ℕ, Bool, true, false, List, [], ◌∷◌, ◌++◌, map, refl, inl, inr, ⊎_elim, length}
+use Rattle.std.proofs.Common.{◌≡◌, ◌∙◌, ap, subst, ℕ, Bool, true, false, List, [], ◌∷◌, ◌++◌, refl, ⊎_elim, length}
 use Rattle.std.specs.Prelude.{Option, Some, None, option_map, option_to_list, nat_le}
-use Rattle.vp_model.specs.Types.{TxnId, ViewId, View, Op, Answer, Reply, Commit, Input, Pending, Live, Ending, Finished}
+use Rattle.vp_model.specs.Types.{View, Answer, Reply, Commit, Input, Pending, Live, Ending, Finished}
 use Rattle.vp_base.specs.declared.site.Ending.TheVariants.{Committed}
 use Rattle.vp_model.specs.Types.answer
 use Rattle.vp_model.specs.Catalogue.{Catalogue, find_record, inside, total}
-use Rattle.vp_model.specs.Site.{CoordinatorState, SiteState, Lent}
+use Rattle.vp_model.specs.Site.{CoordinatorState, SiteState}
 use Rattle.vp_model.specs.Transactions.{answer_of, answers_after, put_live, with_finished}
 use Rattle.vp_model.specs.Refresh.{members_in, is_usable_in}
-use Rattle.vp_model.specs.Calls.{begun, with_begun, kept_answer}
+use Rattle.vp_model.specs.Calls.{begun, with_begun}
 use Rattle.vp_model.specs.Answers.{with_acknowledged}
 use Rattle.vp_model.specs.Step.{mark, step}
 use Rattle.vp_one_site.proofs.Outcome.{is_report}
 use Rattle.vp_laws.proofs.Members.{Has, has_none, has_one, has_left, has_right, has_cases, has_one_is, map_has}
 use Rattle.vp_laws.proofs.Lists.{without_first_has, change_first_has}
 use Rattle.vp_laws.proofs.Apart.{named}
-use Rattle.vp_laws.proofs.Table.{next_view, next_name, Handled, Completes, Decides}
+use Rattle.vp_laws.proofs.Table.{next_view, next_name, Handled}
 use Rattle.vp_laws.proofs.TableSteps.{done, waiting, reading, writing}
 use Rattle.vp_laws.proofs.TableEnds.{AnswersKept, kept_has, at_most_has, completed}
-use Rattle.vp_laws.proofs.Reasons.{Takes, Awaits, Why, Tells, is_plain, told_to, last_reply, IsDone, Goes, Front}
+use Rattle.vp_laws.proofs.Reasons.{Takes, Why, Tells, is_plain, told_to, last_reply, Goes, Front}
 use Rattle.vp_laws.proofs.FrontSteps.{step-front}
 
 -- an answer that needs no cause

@@ -20,7 +20,7 @@ use Rattle.vp_model.specs.Messages.{held_id, holds_view, accept, on_accept, on_s
 use Rattle.vp_model.specs.Step.{step, fix, mark_calls, ask_again, resend_one, known, inquire}
 use Rattle.vp_laws.proofs.Members.{Has, has_none, has_one_is, has_cases, map_has}
 use Rattle.vp_laws.proofs.Frames.{Ends, close-ends, decided-ends, decide-cases}
-use Rattle.vp_laws.proofs.Table.{Comes, next_view, lent_at, Requests, Asks, Back, Table}
+use Rattle.vp_laws.proofs.Table.{next_view, lent_at, Requests, Asks, Back, Table}
 use Rattle.vp_laws.proofs.Rows.{step-keeps}
 use Rattle.vp_laws.proofs.LocalViews.{letter}
 
