@@ -24,7 +24,7 @@ use Rattle.vp_laws.proofs.Scenes.{Scene, scene_of, plain_at, acted}
 use Rattle.vp_laws.proofs.TableEndings.{IsEntered}
 use Rattle.vp_laws.proofs.InvEndings.{HasEntry, Reported}
 use Rattle.vp_laws.proofs.TableEnds.{EndFrom, Ends}
-use Rattle.vp_laws.proofs.InvKept.{Kept, kept_last, Does, does, ends_of, Unentered, unentered_acts, unentered_now, unentered_finished, unentered_quiet}
+use Rattle.vp_laws.proofs.InvRepeated.{Kept, kept_last, Does, does, ends_of, Unentered, unentered_acts, unentered_now, unentered_finished, unentered_quiet}
 use Rattle.vp_laws.proofs.Events.{crashed, restarted}
 use Rattle.vp_laws.proofs.Worlds.{crash_quiet, restart_quiet}
 use Rattle.vp_laws.proofs.Occurs.{Occurs, occurs, run-keeps}

@@ -17,7 +17,7 @@ use Rattle.vp_laws.proofs.LocalViews.{letter}
 use Rattle.vp_laws.proofs.Scenes.{Scene, plain_at}
 use Rattle.vp_laws.proofs.InvShares.{HasRequest}
 use Rattle.vp_laws.proofs.InvAnswers.{Eighth}
-use Rattle.vp_laws.proofs.InvKept.{Kept}
+use Rattle.vp_laws.proofs.InvRepeated.{Kept}
 use Rattle.vp_laws.proofs.TableFair.{is_free}
 use Rattle.vp_laws.proofs.Fair.{WasBegun, Once, Fair, fair_more}
 

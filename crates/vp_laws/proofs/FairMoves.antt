@@ -28,7 +28,7 @@ use Rattle.vp_laws.proofs.Scenes.{Scene, scene_of, plain_at, kept_at, acted}
 use Rattle.vp_laws.proofs.Events.{Arrives}
 use Rattle.vp_laws.proofs.InvShares.{HasRequest}
 use Rattle.vp_laws.proofs.InvAnswers.{Current, Eighth, answers_last}
-use Rattle.vp_laws.proofs.InvKept.{Kept, kept_last, Does, does}
+use Rattle.vp_laws.proofs.InvRepeated.{Kept, kept_last, Does, does}
 use Rattle.vp_laws.proofs.Worlds.{NowIs, now_is, Quiet, QuietIs, quiet_is}
 use Rattle.vp_model.specs.Durable.{DurableState}
 use Rattle.vp_laws.proofs.Reasons.{Operates, Takes, Awaits, Why, told_to}

@@ -16,7 +16,7 @@ use Rattle.vp_laws.proofs.Scenes.{Scene, scene_of, plain_at, acted}
 use Rattle.vp_laws.proofs.Events.{Arrives, crashed, restarted}
 use Rattle.vp_laws.proofs.Worlds.{crash_quiet, restart_quiet, started, start_sent}
 use Rattle.vp_laws.proofs.InvAnswers.{answers_last}
-use Rattle.vp_laws.proofs.InvKept.{kept_last, Does, does}
+use Rattle.vp_laws.proofs.InvRepeated.{kept_last, Does, does}
 use Rattle.vp_laws.proofs.Occurs.{Gives, Occurs, occurs, run-keeps}
 use Rattle.vp_laws.proofs.EndsTold.{all_of, true_is, no_replies}
 use Rattle.vp_laws.proofs.FairStep.{IsStep}

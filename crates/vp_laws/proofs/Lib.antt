@@ -51,7 +51,7 @@ pub mod InvBelow
 pub mod InvNames
 pub mod InvVotes
 pub mod InvEndings
-pub mod InvKept
+pub mod InvRepeated
 pub mod InvShares
 pub mod InvOps
 pub mod InvAnswers
