@@ -23,6 +23,13 @@ pub mod TableVotes
 pub mod OnlyCoordinator
 pub mod TableEndings
 pub mod TableSteps
+-- what clients see of a step
+pub mod Reasons
+pub mod FrontRows
+pub mod FrontSteps
+pub mod TableEnds
+pub mod TableRefusals
+pub mod TableFair
 pub mod TableShares
 pub mod TableWaits
 pub mod TableLeaves
@@ -39,6 +46,7 @@ pub mod TableCalls
 pub mod Scenes
 pub mod Events
 pub mod Worlds
+pub mod Occurs
 -- the invariant in every world, each group above the ones before it
 pub mod InvViews
 pub mod Agreement
@@ -47,6 +55,7 @@ pub mod InvBelow
 pub mod InvNames
 pub mod InvVotes
 pub mod InvEndings
+pub mod InvRepeated
 pub mod InvShares
 pub mod InvOps
 pub mod InvAnswers
@@ -101,6 +110,13 @@ pub mod InvMatched
 pub mod Moments
 pub mod EndsTrue
 pub mod OneCopy
+-- what clients are told, in every schedule
+pub mod EndsTold
+pub mod Fair
+pub mod FairStep
+pub mod FairAt
+pub mod FairMoves
+pub mod FairTold
 -- the laws in the words of the contracts
 pub mod Words
 pub mod EntryWords

@@ -1,0 +1,325 @@
+-- One step keeps that what is refused is justified, and its own answers are.
+use Rattle.std.proofs.Common.{◌≡◌, ◌≢◌, ◌∙◌, ap, sym, subst, ℕ, ◌+◌, ◌≤◌, ◌*◌, Bool, true, false, List, [], ◌∷◌, ◌++◌, map, refl, arith, ⊎_elim, length}
+use Rattle.std.specs.Prelude.{Option, Some, None, is_some, option_map, option_to_list, nat_le, nat_lt, ◌&&◌}
+use Rattle.std.proofs.lemmas.Bool.Decides.{nat_tests}
+use Rattle.std.proofs.Math.ListN.{length-append}
+use Rattle.vp_model.specs.Types.{TxnId, ViewId, View, Owner, Obstacle, Answer, Reply, Message, Input, Pending, Live, Ending, Finished}
+use Rattle.vp_base.specs.declared.site.Ending.TheVariants.{Committed, LockHeld, ViewChanged}
+use Rattle.vp_model.specs.Types.answer
+use Rattle.vp_model.specs.Types.message
+use Rattle.vp_model.specs.Types.obstacle
+use Rattle.vp_model.specs.Words.{is_view}
+use Rattle.vp_model.specs.Catalogue.{Catalogue, find_record, inside, total}
+use Rattle.vp_model.specs.Site.{SiteState, Stepped}
+use Rattle.vp_model.specs.Messages.{held_id}
+use Rattle.vp_model.specs.Locks.{conflict}
+use Rattle.vp_model.specs.Transactions.{answer_of, answers_after}
+use Rattle.vp_model.specs.Refresh.{members_in, is_usable_in}
+use Rattle.vp_model.specs.Step.{start, step}
+use Rattle.vp_model.specs.Told.{answers_in}
+use Rattle.vp_model.specs.World.{WorldState, Moment}
+use Rattle.vp_model.specs.Justified.{site_named, justified, held_other, left_then, is_begun, weighs}
+use Rattle.vp_one_site.proofs.Outcome.{is_report}
+use Rattle.vp_one_site.proofs.KeptAnswers.{blocked_larger}
+use Rattle.vp_laws.proofs.Members.{Has, has_none, has_one, has_left, has_right, has_cases, has_one_is, map_has}
+use Rattle.vp_laws.proofs.Table.{Comes, Handled, Reads, Writes, Requests, Asks}
+use Rattle.vp_laws.proofs.LocalViews.{letter}
+use Rattle.vp_laws.proofs.Scenes.{Scene, scene_of, plain_at, kept_at, acted}
+use Rattle.vp_laws.proofs.Events.{Arrives}
+use Rattle.vp_laws.proofs.InvShares.{HasRequest}
+use Rattle.vp_laws.proofs.InvAnswers.{Current, Eighth, answers_last}
+use Rattle.vp_laws.proofs.InvRepeated.{Kept, kept_last, Does, does}
+use Rattle.vp_laws.proofs.Worlds.{NowIs, now_is, Quiet, QuietIs, quiet_is}
+use Rattle.vp_model.specs.Durable.{DurableState}
+use Rattle.vp_laws.proofs.Reasons.{Operates, Takes, Awaits, Why, told_to}
+use Rattle.vp_laws.proofs.TableRefusals.{Refused, RefuseSays, refusals-step}
+use Rattle.vp_laws.proofs.TableFair.{finished_as, LiveFrom, FinishedFrom, ReplyFrom, Causes, causes-step}
+use Rattle.vp_laws.proofs.EndsTold.{any_of}
+use Rattle.vp_laws.proofs.Fair.{WasBegun, Once, OtherView, Fair, begun_more, fair_more, fair_larger, fair_justified}
+use Rattle.vp_laws.proofs.FairStep.{IsStep, named_site, tested_x, replied, blocked_here, blocked_there, other_there, left_now, same_txn-self, same_view-self, eq_self}
+use Rattle.vp_laws.proofs.FairAt.{IsAsked, RefuseFair, RefuseOk, FairEnd, FairAt, refuse_on, end_more, free_justified, report_fair}
+
+no_number : (a b : ℕ) → a ≤ b → a ≡ b + 1 → ⊥
+no_number a b h e = omega arith
+
+at_most_of : (a b c : ℕ) → a ≡ b + 1 → b + 1 ≤ c → a ≤ c
+at_most_of a b c e h = omega arith
+
+same_at_most : (a b : ℕ) → a ≡ b → b ≤ a
+same_at_most a b e = omega arith
+
+below_of : (n m : ℕ) → nat_le n m ≡ false → m ≤ n
+below_of n m e = grind (arith, nat_tests, e)
+
+module _ (catalogue : Catalogue) (world : WorldState) (past : List Moment) (m0 : Moment) (s : ℕ) (x : SiteState) (given : Input) (up : plain_at (scene_of world) s ≡ Some x) (arrives : Arrives (scene_of world) s given) (is : IsStep m0 world s x given (step catalogue x given)) (fair : FairAt catalogue (scene_of world) past) where
+  abbrev w : Scene
+  w = scene_of world
+
+  abbrev o : Stepped
+  o = step catalogue x given
+
+  abbrev now : List Moment
+  now = past ++ m0 ∷ []
+
+  here : Has now m0
+  here = has_right past (m0 ∷ []) m0 (has_one m0)
+
+  d : Does catalogue w s x given
+  d = does catalogue w s x given up fair.kept.lower
+
+  c : Causes catalogue x given o.site o.site.coordinator o.effects.replies o.effects.commits
+  c = causes-step catalogue x given (fair.kept.upper.site s x up)
+
+  own_site : (t : Live) → Has x.live t → t.txn.site ≡ s
+  own_site t h = (d.led.names t h).0 ∙ d.id
+
+  -- the pending call has the next number
+  next_number : (t : Live) (p : Pending) → Has x.live t → t.pending ≡ Some p → p.number ≡ length t.answers + 1
+  next_number t p h e = (fair.eighth.lower.upper.live s x t up h).next p e
+
+  number_of : (t : Live) (why : Ending) (p : Pending) → Why catalogue x given o.site t why → t.pending ≡ Some p → p.number ≡ length t.answers + 1
+  number_of t why p (Why.aborted was q at e) g = let z = ap (λ (t : Live). t.pending) e in let same : q ≡ p = cc in rw (← same, e) at.next.number
+  number_of t why p (Why.held_here was q name rec exclusive holder at e op f n) g = let z = ap (λ (t : Live). t.pending) e in let same : q ≡ p = cc in rw (← same, e) at.next.number
+  number_of t why p (Why.held_there q from name exclusive holder a n op) g = next_number t p a.live g
+  number_of t why p (Why.other_view q from held_now a n) g = next_number t p a.live g
+  number_of t why p (Why.left h gone) g = next_number t p h g
+  number_of t why p (Why.timed_out missing h) g = next_number t p h g
+
+  came : (from : ℕ) (m : Message) → Comes given from m → Has w.sent (letter from s m)
+  came from m e = rw e at arrives
+
+  -- the request that was refused is of the pending call, and of another site
+  current : (t : Live) (p : Pending) (Asked : Pending → Type 0) → Has x.live t → t.pending ≡ Some p → Current Asked p.number t → Asked p
+  current t p Asked h e cur = ⊎_elim
+      (λ old. absurd (no_number p.number (length t.answers) old (next_number t p h e)))
+      (λ (q : (a : Pending) × (t.pending ≡ Some a) × (a.number ≡ p.number) × Asked a). let z = q.1 in let same : q.0 ≡ p = cc in subst Asked same q.3) cur
+
+  uses_reads : (p : Pending) (name : List ℕ) (exclusive : Bool) (rec : ℕ) → Operates p.call name exclusive → Reads catalogue p rec → find_record catalogue name ≡ Some rec
+  uses_reads p name exclusive rec (Operates.reads txn n e) r = let z = r.words in let same : r.name ≡ name = cc in rw (← same) r.found
+  uses_reads p name exclusive rec (Operates.writes txn n value e) r = let z = r.words in cc
+
+  uses_writes : (p : Pending) (name : List ℕ) (exclusive : Bool) (rec : ℕ) (value : List ℕ) → Operates p.call name exclusive → Writes catalogue p rec value → find_record catalogue name ≡ Some rec
+  uses_writes p name exclusive rec value (Operates.reads txn n e) r = let z = r.words in cc
+  uses_writes p name exclusive rec value (Operates.writes txn n v e) r = let z = r.words in let same : r.name ≡ name = cc in rw (← same) r.found
+
+  up_there : (t : Live) → Has x.live t → plain_at w t.txn.site ≡ Some x
+  up_there t h = rw (own_site t h) up
+
+  named_there : (t : Live) (p : Pending) (from q : ℕ) (view : ViewId) (rec : ℕ) (flag exclusive : Bool) (name : List ℕ) → Awaits x t p → HasRequest w q from t.txn view p.number rec flag → Operates p.call name exclusive → (find_record catalogue name ≡ Some rec) × (from ≢ t.txn.site)
+  named_there t p from q view rec flag exclusive name a (HasRequest.to_read m) op = (
+    uses_reads p name exclusive rec op (current t p (λ p. Reads catalogue p rec) a.live a.pending (fair.eighth.upper.asks _ m x t (up_there t a.live) a.live refl)),
+    (fair.kept.lower.lower.third.second.first.led.asked _ m).5,
+  )
+  named_there t p from q view rec flag exclusive name a (HasRequest.to_write m) op =
+      let r = current t p (λ p. (value : List ℕ) × Writes catalogue p rec value) a.live a.pending (fair.eighth.upper.asks _ m x t (up_there t a.live) a.live refl) in (
+        uses_writes p name exclusive rec r.0 op r.1,
+        (fair.kept.lower.lower.third.second.first.led.asked _ m).5,
+      )
+
+  -- the transaction's view is the one that it was asked for in
+  view_of : (t : Live) (q from : ℕ) (view : ViewId) (number : ℕ) → Has x.live t → IsAsked w q from t.txn view number → (t.view ≡ view) × (from ≢ t.txn.site)
+  view_of t q from view number h (IsAsked.to_read rec m) = ((fair.eighth.lower.lower.upper.says _ m).live x t (up_there t h) h refl, (fair.kept.lower.lower.third.second.first.led.asked _ m).5)
+  view_of t q from view number h (IsAsked.to_write rec m) = ((fair.eighth.lower.lower.upper.says _ m).live x t (up_there t h) h refl, (fair.kept.lower.lower.third.second.first.led.asked _ m).5)
+  view_of t q from view number h (IsAsked.to_prepare reads writes m) = ((fair.eighth.lower.lower.upper.says _ m).live x t (up_there t h) h refl, (fair.kept.lower.lower.third.second.first.led.asked _ m).5)
+
+  begun_now : (t : Live) → Has x.live t → WasBegun now t.txn t.view
+  begun_now t h = begun_more past (m0 ∷ []) t.txn t.view (fair.live s x t up h)
+
+  -- a lock that another site named
+  there_fair : (t : Live) (p : Pending) (from : ℕ) (name : List ℕ) (exclusive : Bool) (holder : Owner) (k : ℕ) → Awaits x t p → Operates p.call name exclusive → p.number ≤ k → RefuseFair catalogue w past from t.txn p.number (obstacle.Held holder) → Fair catalogue now (answer.LockHeld t.txn k name from holder)
+  there_fair t p from name exclusive holder k a op up_to (RefuseFair.blocked view rec flag held_by q asked m h f) =
+      let n = named_there t p from q view rec flag exclusive name a asked op in
+      record { moment = m; has = has_left past (m0 ∷ []) m h; passes = blocked_larger catalogue t.txn p.number k name from holder m up_to (f name n.0 n.1) }
+
+  -- another view that another site named
+  view_fair : (t : Live) (p : Pending) (from : ℕ) (held_now : Option ViewId) (k : ℕ) → Awaits x t p → p.number ≤ k → RefuseFair catalogue w past from t.txn p.number (obstacle.OtherView held_now) → Fair catalogue now (answer.ViewChanged t.txn k from t.view held_now)
+  view_fair t p from held_now k a up_to (RefuseFair.elsewhere view w_now q asked e once) =
+      let n = view_of t q from view p.number a.live asked in
+      let e_now : is_view held_now t.view ≡ false = rw n.0 e in
+      let once_now : Once past (held_other catalogue t.txn p.number from t.view held_now) = rw n.0 once in
+      fair_larger catalogue now t.txn p.number k (ViewChanged from t.view held_now) up_to (begun_now t a.live, OtherView.other held_now n.1 e_now (record { moment = once_now.moment; has = has_left past (m0 ∷ []) once_now.moment once_now.has; passes = once_now.passes }))
+
+  -- a lock here, of a call that comes in this step
+  here_fair : (was : Live) (p : Pending) (name : List ℕ) (rec : ℕ) (exclusive : Bool) (holder : Owner) (k : ℕ) → Takes x given was p → Operates p.call name exclusive → find_record catalogue name ≡ Some rec → conflict rec exclusive was.txn x.locks ≡ Some holder → p.number ≤ k → Has (answers_in m0.line) (answer.LockHeld was.txn p.number name x.id holder) → Fair catalogue now (answer.LockHeld was.txn k name x.id holder)
+  here_fair was p name rec exclusive holder k at op f n up_to told =
+      let told_here : Has (answers_in m0.line) (answer.LockHeld was.txn p.number name s holder) = rw (← d.id) told in
+      let blocked = blocked_here catalogue m0 world s x given o is was p name rec exclusive holder at.called op f n (own_site was at.live) told_here in
+      rw d.id (record { moment = m0; has = here; passes = blocked_larger catalogue was.txn p.number k name s holder m0 up_to blocked })
+
+  left_fair : (t : Live) (k : ℕ) → Has x.live t → o.site.held ≡ None → Fair catalogue now (answer.ViewChanged t.txn k x.id t.view None)
+  left_fair t k h gone =
+      let v = d.led.live t h in
+      let left : left_then s t.view m0 ≡ true = rw (← v.2) (left_now catalogue m0 world s x given o is v.0 v.1 gone) in
+      (begun_now t h, OtherView.left (d.id ∙ sym (own_site t h)) (rw d.id (record { moment = m0; has = here; passes = left })))
+
+  why_fair : (t : Live) (why : Ending) (k : ℕ) → Why catalogue x given o.site t why → ((p : Pending) → t.pending ≡ Some p → Has (answers_in m0.line) (answer_of t.txn p.number why)) → ((p : Pending) → t.pending ≡ Some p → length t.answers + 1 ≤ k) → Fair catalogue now (answer_of t.txn k why)
+  why_fair t why k (Why.aborted was p at e) told up_to = tt
+  why_fair t why k (Why.held_here was p name rec exclusive holder at e op f n) told up_to =
+      let pending : t.pending ≡ Some p = ap (λ (t : Live). t.pending) e in
+      let same : t.txn ≡ was.txn = ap (λ (t : Live). t.txn) e in
+      let number : p.number ≤ k = at_most_of p.number (length t.answers) k (number_of t (LockHeld name x.id holder) p (Why.held_here was p name rec exclusive holder at e op f n) pending) (up_to p pending) in
+      rw same (here_fair was p name rec exclusive holder k at op f n number (rw same at (told p pending)))
+  why_fair t why k (Why.held_there p from name exclusive holder a n op) told up_to =
+      there_fair t p from name exclusive holder k a op (at_most_of p.number (length t.answers) k (next_number t p a.live a.pending) (up_to p a.pending)) (fair.sent _ (came from _ n))
+  why_fair t why k (Why.other_view p from held_now a n) told up_to =
+      view_fair t p from held_now k a (at_most_of p.number (length t.answers) k (next_number t p a.live a.pending) (up_to p a.pending)) (fair.sent _ (came from _ n))
+  why_fair t why k (Why.left h gone) told up_to = left_fair t k h gone
+  why_fair t why k (Why.timed_out missing h) told up_to = tt
+
+  told_of : (t : Live) (why : Ending) → ((p : Pending) → t.pending ≡ Some p → Has o.effects.replies (told_to p.port (answer_of t.txn p.number why))) → (p : Pending) → t.pending ≡ Some p → Has (answers_in m0.line) (answer_of t.txn p.number why)
+  told_of t why told p e = replied catalogue m0 world s x given o is p.port (answer_of t.txn p.number why) (told p e)
+
+  -- the weights that an answer names
+  weighs_x : (t : Live) (name : List ℕ) (rec : ℕ) → Has x.live t → find_record catalogue name ≡ Some rec → is_usable_in catalogue x.held rec ≡ false → weighs catalogue name (inside catalogue rec (members_in x.held)) (total catalogue rec) x ≡ true
+  weighs_x t name rec h found e =
+      let v = d.led.live t h in
+      let up_to : nat_le (2 * inside catalogue rec (members_in x.held)) (total catalogue rec) ≡ true = not_more (total catalogue rec) (2 * inside catalogue rec (members_in x.held)) e in
+      some_held v.0 v.1 (rw (found, eq_self (inside catalogue rec (members_in x.held)), eq_self (total catalogue rec), up_to) refl)
+    where
+      not_more : (a b : ℕ) → nat_lt a b ≡ false → nat_le b a ≡ true
+      not_more a b e = grind (arith, nat_tests, e)
+
+      some_held : {b : Bool} (v : View) → x.held ≡ Some v → b ≡ true → (is_some x.held && b) ≡ true
+      some_held v e f = rw (e, f) refl
+
+  end_justified : (a : Answer) → Fair catalogue now a → justified catalogue now m0 a ≡ true
+  end_justified a f = fair_justified catalogue now m0 a f
+
+  reply_justified : (a : Answer) → Has (answers_in m0.line) a → ReplyFrom catalogue x given o.site a → justified catalogue now m0 a ≡ true
+  reply_justified a h (ReplyFrom.free b e) = free_justified catalogue now m0 b e
+  reply_justified a h (ReplyFrom.inaccessible t p name rec at found e) =
+      let named : site_named m0.before m0.line.event ≡ Some s = rw is.before (named_site m0.line.event world s given is.gives) in
+      rw named (tested_x catalogue m0 world s x given o is (weighs catalogue name (inside catalogue rec (members_in x.held)) (total catalogue rec)) (weighs_x t name rec at.live found e))
+  reply_justified a h (ReplyFrom.repeated f b k q) = end_justified b (fair_more catalogue past (m0 ∷ []) b ((fair.finished s x f up k).answers b q))
+  reply_justified a h (ReplyFrom.ended f number k e) = end_justified _ (fair_more catalogue past (m0 ∷ []) _ ((fair.finished s x f up k).later number (below_of number (length f.answers) e)))
+  reply_justified a h (ReplyFrom.closed t why p n w e) =
+      end_justified _ (why_fair t why p.number w (λ q g. let same : p ≡ q = cc in subst (λ (q : Pending). Has (answers_in m0.line) (answer_of t.txn q.number why)) same h) (λ q g. same_at_most p.number (length t.answers + 1) (number_of t why p w e)))
+
+  pub replies_justified : (a : Answer) → Has (answers_in m0.line) a → justified catalogue now m0 a ≡ true
+  replies_justified a h =
+      let z : Has (map (λ (r : Reply). r.answer) o.effects.replies) a = rw is.shown at h in
+      let r = map_has (λ (r : Reply). r.answer) o.effects.replies a z in
+      reply_justified a h (subst (ReplyFrom catalogue x given o.site) r.2 (c.says r.0 r.1))
+
+  -- what a transaction that ends in this step keeps
+  ends_fair : (t : Live) (why : Ending) → Handled x t → ((k : ℕ) → ((p : Pending) → t.pending ≡ Some p → length t.answers + 1 ≤ k) → Fair catalogue now (answer_of t.txn k why)) → ((p : Pending) → t.pending ≡ Some p → p.number ≡ length t.answers + 1) → FairEnd catalogue now (finished_as t why)
+  ends_fair t why n fair_at number = record {
+    answers = λ a h. ⊎_elim (λ old. report_fair catalogue now a (reports a old)) (λ new. last t.pending refl a new) (has_cases t.answers _ a h);
+    later = λ k h. fair_at k (λ p e. longer k p e h);
+  }
+    where
+      reports : (a : Answer) → Has t.answers a → is_report a ≡ true
+      reports a h = (fair.kept.upper.site s x up).live n.was n.live a (rw (ap (λ (t : Live). t.answers) n.same) at h)
+
+      last : (q : Option Pending) → t.pending ≡ q → (a : Answer) → Has (option_to_list (option_map (λ p. answer_of t.txn p.number why) q)) a → Fair catalogue now a
+      last None e a k = absurd (has_none a k)
+      last (Some p) e a k = subst (Fair catalogue now) (has_one_is (answer_of t.txn p.number why) a k) (fair_at p.number (λ q g. same_at_most p.number (length t.answers + 1) (number p e)))
+
+      longer : (k : ℕ) (p : Pending) → t.pending ≡ Some p → length (answers_after t why) ≤ k → length t.answers + 1 ≤ k
+      longer k p e h = let size : length (answers_after t why) ≡ length t.answers + 1 = rw e (length-append t.answers (answer_of t.txn p.number why ∷ [])) in rw size at h
+
+  finished_now : (f : Finished) → FinishedFrom catalogue x given o.site o.effects.replies f → FairEnd catalogue now f
+  finished_now f (FinishedFrom.was g h) = end_more catalogue past (m0 ∷ []) g (fair.finished s x g up h)
+  finished_now f (FinishedFrom.committed t n) = committed t n
+    where
+      committed : (t : Live) → Handled x t → FairEnd catalogue now (finished_as t Committed)
+      committed t n = record {
+        answers = λ a h. ⊎_elim (λ old. report_fair catalogue now a ((fair.kept.upper.site s x up).live n.was n.live a (rw (ap (λ (t : Live). t.answers) n.same) at old))) (λ new. last t.pending a new) (has_cases t.answers _ a h);
+        later = λ k h. tt;
+      }
+        where
+          last : (q : Option Pending) → (a : Answer) → Has (option_to_list (option_map (λ p. answer_of t.txn p.number Committed) q)) a → Fair catalogue now a
+          last None a k = absurd (has_none a k)
+          last (Some p) a k = subst (Fair catalogue now) (has_one_is (answer_of t.txn p.number Committed) a k) tt
+  finished_now f (FinishedFrom.closed t why n w told) = ends_fair t why n (λ k up_to. why_fair t why k w (told_of t why told) up_to) (λ p e. number_of t why p w e)
+
+  live_now : (t : Live) → LiveFrom x o.effects.replies t → WasBegun now t.txn t.view
+  live_now t (LiveFrom.was u h e f) = rw (← e, ← f) (begun_now u h)
+  live_now t (LiveFrom.begins port h) = record {
+    moment = m0;
+    has = here;
+    told = any_of (is_begun t.txn t.view) (answers_in m0.line) (answer.Begun t.txn t.view) (replied catalogue m0 world s x given o is port (answer.Begun t.txn t.view) h) (rw (same_txn-self t.txn, same_view-self t.view) refl);
+  }
+
+  -- a refusal that this step sends
+  abbrev new : Scene
+  new = acted w s x o
+
+  came_on : (from : ℕ) (m : Message) → Comes given from m → Has new.sent (letter from s m)
+  came_on from m e = d.st.moved.sent (letter from s m) (came from m e)
+
+  was_requested : (q : ℕ) (txn : TxnId) (view : ViewId) (number rec : ℕ) (exclusive : Bool) → Requests given q txn view number rec exclusive → HasRequest new q s txn view number rec exclusive
+  was_requested q txn view number rec exclusive (Requests.reads e) = HasRequest.to_read (came_on q _ e)
+  was_requested q txn view number rec exclusive (Requests.writes e) = HasRequest.to_write (came_on q _ e)
+
+  was_asked : (q : ℕ) (txn : TxnId) (view : ViewId) (number : ℕ) → Asks given q txn view number → IsAsked new q s txn view number
+  was_asked q txn view number (Asks.reads rec e) = IsAsked.to_read rec (came_on q _ e)
+  was_asked q txn view number (Asks.writes rec e) = IsAsked.to_write rec (came_on q _ e)
+  was_asked q txn view number (Asks.prepares reads writes e) = IsAsked.to_prepare reads writes (came_on q _ e)
+
+  refused_now : (to : ℕ) (txn : TxnId) (number : ℕ) (why : Obstacle) → Has o.effects.messages (letter s to (message.Refuse txn number why)) → Refused x given to txn number why → RefuseFair catalogue new now s txn number why
+  refused_now to txn number why sent (Refused.held view rec exclusive holder asks e) =
+      RefuseFair.blocked view rec exclusive holder to (was_requested to txn view number rec exclusive asks) m0 here
+      (λ name found away. blocked_there catalogue m0 world s x given o is to txn view number rec exclusive holder name asks e sent found away)
+  refused_now to txn number why sent (Refused.other view asks e) =
+      RefuseFair.elsewhere view (held_id x) to (was_asked to txn view number asks) e (record { moment = m0; has = here; passes = other_there catalogue m0 world s x given o is to txn view number asks sent })
+
+  sent_ok : (from to : ℕ) (m : Message) → Has o.effects.messages (letter from to m) → RefuseSays x given from to m → RefuseOk catalogue new now from m
+  sent_ok from to (message.Refuse txn number why) h r =
+      let at : from ≡ s = r.0 ∙ d.id in
+      subst (λ (from : ℕ). RefuseFair catalogue new now from txn number why) (sym at) (refused_now to txn number why (subst (λ (from : ℕ). Has o.effects.messages (letter from to (message.Refuse txn number why))) at h) r.1)
+  sent_ok from to m h r = tt
+
+  pub step_fair : FairAt catalogue new now
+  step_fair = record {
+    kept = (kept_last catalogue).acts w s x given up arrives fair.kept;
+    eighth = (answers_last catalogue).acts w s x given up arrives fair.eighth;
+    sent = λ m h. ⊎_elim (λ old. refuse_on catalogue w new past (m0 ∷ []) d.st.moved.sent m.from m.message (fair.sent m old))
+        (λ more. sent_ok m.from m.to m.message more ((refusals-step catalogue x given).sent m more)) (d.st.sent m h);
+    live = λ k y t h g. live_at y t g (now_is w new s x o d.st k y h);
+    finished = λ k y f h g. finished_at y f g (now_is w new s x o d.st k y h);
+  }
+    where
+      live_at : {k : ℕ} (y : SiteState) (t : Live) → Has y.live t → NowIs w s o.site k y → WasBegun now t.txn t.view
+      live_at {k} y t g (NowIs.other n old) = begun_more past (m0 ∷ []) t.txn t.view (fair.live k y t old g)
+      live_at y t g (NowIs.here e same) = live_now t (c.live t (subst (λ (y : SiteState). Has y.live t) (sym same) g))
+
+      finished_at : {k : ℕ} (y : SiteState) (f : Finished) → Has y.finished f → NowIs w s o.site k y → FairEnd catalogue now f
+      finished_at {k} y f g (NowIs.other n old) = end_more catalogue past (m0 ∷ []) f (fair.finished k y f old g)
+      finished_at y f g (NowIs.here e same) = finished_now f (c.finished f (subst (λ (y : SiteState). Has y.finished f) (sym same) g))
+
+pub none_live : (catalogue : Catalogue) (s : ℕ) (d : DurableState) (t : Live) → Has (start catalogue s d).live t → ⊥
+unfolding start
+none_live catalogue s d t h = has_none t h
+
+pub none_finished : (catalogue : Catalogue) (s : ℕ) (d : DurableState) (f : Finished) → Has (start catalogue s d).finished f → ⊥
+unfolding start
+none_finished catalogue s d f h = has_none f h
+
+-- an event that is no step
+pub quiet_fair : (catalogue : Catalogue) (w new : Scene) (past more : List Moment) (s : ℕ) → Quiet catalogue w new s → Kept catalogue new → Eighth catalogue new → FairAt catalogue w past → FairAt catalogue new (past ++ more)
+quiet_fair catalogue w new past more s q kept eighth fair = record {
+  kept = kept;
+  eighth = eighth;
+  sent = λ m h. refuse_on catalogue w new past more (λ m h. rw q.sent h) m.from m.message (fair.sent m (rw q.sent at h));
+  live = λ k y t h g. live_at y t g (quiet_is catalogue w new s q k y h);
+  finished = λ k y f h g. finished_at y f g (quiet_is catalogue w new s q k y h);
+}
+  where
+    live_at : {k : ℕ} (y : SiteState) (t : Live) → Has y.live t → QuietIs catalogue w s k y → WasBegun (past ++ more) t.txn t.view
+    live_at {k} y t g (QuietIs.other n old) = begun_more past more t.txn t.view (fair.live k y t old g)
+    live_at y t g (QuietIs.here e same) = absurd (none_live catalogue s (kept_at w s) t (subst (λ (y : SiteState). Has y.live t) (sym same) g))
+
+    finished_at : {k : ℕ} (y : SiteState) (f : Finished) → Has y.finished f → QuietIs catalogue w s k y → FairEnd catalogue (past ++ more) f
+    finished_at {k} y f g (QuietIs.other n old) = end_more catalogue past more f (fair.finished k y f old g)
+    finished_at y f g (QuietIs.here e same) = absurd (none_finished catalogue s (kept_at w s) f (subst (λ (y : SiteState). Has y.finished f) (sym same) g))
+
+-- nothing but the moments
+pub same_fair : (catalogue : Catalogue) (w : Scene) (past more : List Moment) → FairAt catalogue w past → FairAt catalogue w (past ++ more)
+same_fair catalogue w past more fair = record {
+  kept = fair.kept;
+  eighth = fair.eighth;
+  sent = λ m h. refuse_on catalogue w w past more (λ m h. h) m.from m.message (fair.sent m h);
+  live = λ k y t h g. begun_more past more t.txn t.view (fair.live k y t h g);
+  finished = λ k y f h g. end_more catalogue past more f (fair.finished k y f h g);
+}

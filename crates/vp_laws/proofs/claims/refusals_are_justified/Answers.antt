@@ -1,0 +1,5 @@
+use Rattle.vp_laws.proofs.FairTold.{refusals_justified}
+use Rattle.vp_laws.proofs.claims.refusals_are_justified.Goals as goal
+
+pub returns : goal.returns
+returns c = refusals_justified
