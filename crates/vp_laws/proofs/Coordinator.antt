@@ -27,7 +27,7 @@ use Rattle.vp_laws.proofs.Frames.{close-commits, close-ends}
 use Rattle.vp_laws.proofs.Lists.{without_first_has}
 use Rattle.vp_laws.proofs.LocalViews.{letter}
 use Rattle.vp_laws.specs.Votes.{is_commit}
-use Rattle.vp_laws.proofs.Table.{Closed, Comes, Handled, IsCall, IsNext, Reads, Writes, Counts, remaining, IsLast, Locked, Completes, Decides, Replies, is_abort, lent_at, OfCoordinator}
+use Rattle.vp_laws.proofs.Table.{Closed, Comes, Handled, IsNext, Reads, Writes, Counts, remaining, IsLast, Locked, Completes, Decides, Replies, is_abort, lent_at, OfCoordinator}
 
 first_has : (xs : List ℕ) (q : ℕ) → first xs ≡ Some q → Has xs q
 first_has [] q e = cc
@@ -120,7 +120,7 @@ module _ (catalogue : Catalogue) (x : SiteState) (given : Input) (Q : Lent → T
   handled_as t e = record { was = t; live = e; same = refl }
 
   -- the next call of a live transaction t
-  module _ (called : IsCall given) (t : Live) (p : Pending) (here : Has x.live t) (next : IsNext t p) where
+  module _ (t : Live) (p : Pending) (here : Has x.live t) (next : IsNext given t p) where
     closing-kept : (why : Ending) → is_abort why ≡ true → Q (close x.id (handling t p) why (lent_at x))
     closing-kept why a = k.close (handling t p) why (lent_at x) (handled_by t p here) a refl h
 
@@ -159,7 +159,7 @@ module _ (catalogue : Catalogue) (x : SiteState) (given : Input) (Q : Lent → T
 
     commit-kept : is_commit p.call ≡ true → Q (commit catalogue x.id t p (lent_at x))
     unfolding commit
-    commit-kept c = by_test Q (is_empty t.parts) _ _ (λ e. k.decide (handling t p) (handled_by t p here) (Decides.alone called t p here next c e refl)) (λ e. k.prepare_parts t p here next c e)
+    commit-kept c = by_test Q (is_empty t.parts) _ _ (λ e. k.decide (handling t p) (handled_by t p here) (Decides.alone t p here next c e refl)) (λ e. k.prepare_parts t p here next c e)
 
     new_call-kept : (words : Call) → p.call ≡ words → Q (new_call catalogue x.id x.held t p words (lent_at x))
     unfolding new_call
@@ -170,12 +170,12 @@ module _ (catalogue : Catalogue) (x : SiteState) (given : Input) (Q : Lent → T
     new_call-kept call.Begin e = h
     new_call-kept call.Regroup e = h
 
-  live_call-kept : IsCall given → (t : Live) (p : Pending) → Has x.live t → Q (live_call catalogue x.id x.held t p (lent_at x))
+  live_call-kept : (t : Live) (p : Pending) → given ≡ input.Call p.port p.call → Has x.live t → Q (live_call catalogue x.id x.held t p (lent_at x))
   unfolding live_call
-  live_call-kept called t p here =
+  live_call-kept t p comes here =
       by_test Q (nat_le p.number (length t.answers)) _ _ (λ old. by_some Q _ (λ answer. lent_reply answer p.port) (lent_at x) (λ answer e. k.answers answer p.port (Replies.kept t here (slice_has t.answers (p.number - 1) answer e))) h)
       (λ fresh. by_test Q (nat_lt (length t.answers + 1) p.number) _ _ (λ skipped. k.answers _ _ (Replies.other refl))
-      (λ fits. by_test Q (is_some t.pending) _ _ (λ busy. k.answers _ _ (Replies.other refl)) (λ idle. new_call-kept called t p here (record { idle = idle; number = next_number p.number (length t.answers) fresh fits }) p.call refl)))
+      (λ fits. by_test Q (is_some t.pending) _ _ (λ busy. k.answers _ _ (Replies.other refl)) (λ idle. new_call-kept t p here (record { comes = comes; idle = idle; number = next_number p.number (length t.answers) fresh fits }) p.call refl)))
 
   finished_call-kept : (port number : ℕ) (f : Finished) → Has x.finished f → Q (finished_call port number f (lent_at x))
   unfolding finished_call
@@ -183,19 +183,19 @@ module _ (catalogue : Catalogue) (x : SiteState) (given : Input) (Q : Lent → T
       (λ old. by_some Q _ (λ answer. lent_reply answer port) (lent_at x) (λ answer e. k.answers answer port (Replies.kept_end f here (slice_has f.answers (number - 1) answer e))) h)
       (λ more. k.answers _ port (Replies.over f number here refl))
 
-  on_txn_call-kept : IsCall given → (port : ℕ) (txn : TxnId) (number : ℕ) (words : Call) → Q (on_txn_call catalogue x.id x.held port txn number words (lent_at x))
+  on_txn_call-kept : (port : ℕ) (txn : TxnId) (number : ℕ) (words : Call) → given ≡ input.Call port words → Q (on_txn_call catalogue x.id x.held port txn number words (lent_at x))
   unfolding on_txn_call
-  on_txn_call-kept called port txn number words =
-      by_option Q _ _ _ (λ t e. live_call-kept called t (handled port number words) (live_of-has txn x.live t e)) (λ none. by_option Q (λ f. finished_call port number f (lent_at x)) (finished_of txn x.finished) (lent_reply (answer.Unknown txn) port (lent_at x)) (λ f e. finished_call-kept port number f (find_has (λ (t : Finished). same_txn t.txn txn) x.finished f e)) (λ unknown. k.answers (answer.Unknown txn) port (Replies.other refl)))
+  on_txn_call-kept port txn number words comes =
+      by_option Q _ _ _ (λ t e. live_call-kept t (handled port number words) comes (live_of-has txn x.live t e)) (λ none. by_option Q (λ f. finished_call port number f (lent_at x)) (finished_of txn x.finished) (lent_reply (answer.Unknown txn) port (lent_at x)) (λ f e. finished_call-kept port number f (find_has (λ (t : Finished). same_txn t.txn txn) x.finished f e)) (λ unknown. k.answers (answer.Unknown txn) port (Replies.other refl)))
 
-  pub own_call-kept : IsCall given → (port : ℕ) (words : Call) → Q (own_call catalogue port words (surroundings x) (lent_at x))
+  pub own_call-kept : (port : ℕ) (words : Call) → given ≡ input.Call port words → Q (own_call catalogue port words (surroundings x) (lent_at x))
   unfolding own_call
-  own_call-kept called port call.Begin = on_begin-kept port
-  own_call-kept called port call.Regroup = h
-  own_call-kept called port (call.Read txn number name) = on_txn_call-kept called port txn number (call.Read txn number name)
-  own_call-kept called port (call.Write txn number name value) = on_txn_call-kept called port txn number (call.Write txn number name value)
-  own_call-kept called port (call.Commit txn number) = on_txn_call-kept called port txn number (call.Commit txn number)
-  own_call-kept called port (call.Abort txn number) = on_txn_call-kept called port txn number (call.Abort txn number)
+  own_call-kept port call.Begin comes = on_begin-kept port
+  own_call-kept port call.Regroup comes = h
+  own_call-kept port (call.Read txn number name) comes = on_txn_call-kept port txn number (call.Read txn number name) comes
+  own_call-kept port (call.Write txn number name value) comes = on_txn_call-kept port txn number (call.Write txn number name value) comes
+  own_call-kept port (call.Commit txn number) comes = on_txn_call-kept port txn number (call.Commit txn number) comes
+  own_call-kept port (call.Abort txn number) comes = on_txn_call-kept port txn number (call.Abort txn number) comes
 
   -- answers to this site's transactions
   with_missing-kept : (txn : TxnId) (from : ℕ) (f : Live → Pending → Lent → Lent) → ((t : Live) (p : Pending) → Has x.live t → t.txn ≡ txn → t.pending ≡ Some p → has p.missing from ≡ true → Q (f t p (lent_at x))) → Q (with_missing txn from f (lent_at x))

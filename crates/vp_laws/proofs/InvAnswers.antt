@@ -158,7 +158,7 @@ module _ (catalogue : Catalogue) (w new : Scene) (s : ℕ) (x : SiteState) (give
   aside_asks (message.WriteRequest txn view number rec) e = cc
   aside_asks m e = tt
 
-  asks_sent : (m : Sent) → SentFor catalogue x o.site.live m → Asks catalogue new m.message
+  asks_sent : (m : Sent) → SentFor catalogue x given o.site.live m → Asks catalogue new m.message
   asks_sent m (SentFor.aside a) = aside_asks m.message a.aside
   asks_sent m (SentFor.outcome txn commit g e) = subst (Asks catalogue new) (sym e) tt
   asks_sent m (SentFor.reads u p rec q h a only e) = subst (λ (m : Sent). Asks catalogue new m.message) e (asks_new (λ p. Reads catalogue p rec) (reads_stable rec) u (reading u p rec q) (record p { missing = q ∷ [] }) h refl refl (same_reads catalogue (record p { missing = q ∷ [] }) p rec refl a.reads) only)
@@ -255,7 +255,7 @@ module _ (catalogue : Catalogue) (w new : Scene) (s : ℕ) (x : SiteState) (give
     remote = λ r z. ⊎_elim (λ g. inl g) (λ (a : (a : Pending) × (u.pending ≡ Some a) × Reads catalogue a r.1 × Has a.missing r.0). inl (read a.0 r a.1 a.2 a.3)) (b.remote r z);
   }
 
-  idle_reads : (u : Live) (p : Pending) → IsNext u p → (a : Pending) (r : ℕ × ℕ) → u.pending ≡ Some a → Reads catalogue a r.1 → Has a.missing r.0 → HasRead new r.0 u.txn r.1
+  idle_reads : (u : Live) (p : Pending) → IsNext given u p → (a : Pending) (r : ℕ × ℕ) → u.pending ≡ Some a → Reads catalogue a r.1 → Has a.missing r.0 → HasRead new r.0 u.txn r.1
   idle_reads u p next a r e k m = absurd (some_not u.pending a e next.idle)
 
   no_write : {C : Type 0} (operation : Op) (rec other : ℕ) (value v : List ℕ) → operation ≡ op.Read rec value → operation ≡ op.Write other v → C
@@ -294,7 +294,7 @@ module _ (catalogue : Catalogue) (w new : Scene) (s : ℕ) (x : SiteState) (give
   asked_fine : (u now : Live) → Fine u → now.txn ≡ u.txn → now.ops ≡ u.ops → (rec : ℕ) → HasWritten now rec → (q : ℕ) → Has (other_holders_in catalogue x.id x.held rec) q → HasWrote new q now.txn rec
   asked_fine u now b name same rec k q z = rw name (b.wrote rec (k.0, rw same at k.1) q z)
 
-  old_read : (u : Live) (p : Pending) → Fine u → IsNext u p → (r : ℕ × ℕ) → Has u.remote r → HasRead new r.0 u.txn r.1
+  old_read : (u : Live) (p : Pending) → Fine u → IsNext given u p → (r : ℕ × ℕ) → Has u.remote r → HasRead new r.0 u.txn r.1
   old_read u p b next r z = ⊎_elim (λ g. g) (λ (a : (a : Pending) × (u.pending ≡ Some a) × Reads catalogue a r.1 × Has a.missing r.0). absurd (some_not u.pending a.0 a.1 next.idle)) (b.remote r z)
 
   live_fine : (t : Live) → LiveNow catalogue x given t → Fine t

@@ -119,7 +119,7 @@ module _ (catalogue : Catalogue) (w new : Scene) (s : ℕ) (x : SiteState) (give
 
   -- the parts of a transaction that is decided have voted
   part_voted : (t : Live) → Decides catalogue x given t → (q : ℕ) → Has t.parts q → HasVote new q t.txn
-  part_voted t (Decides.alone call was p here next commit alone same) q h = absurd (has_none q (rw (is_none was.parts alone) at (rw (ap (λ (t : Live). t.parts) same) at h)))
+  part_voted t (Decides.alone was p here next commit alone same) q h = absurd (has_none q (rw (is_none was.parts alone) at (rw (ap (λ (t : Live). t.parts) same) at h)))
   part_voted t (Decides.voted p from here last comes commit) q h = ⊎_elim
       (λ missing. ⊎_elim
       (λ (it : q ≡ from). (s, rw it (st.moved.sent _ (came from (message.Vote t.txn) comes))))

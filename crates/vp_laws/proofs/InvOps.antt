@@ -179,7 +179,7 @@ module _ (catalogue : Catalogue) (x : SiteState) (given : Input) (all : (u : Liv
   wider : (u now : Live) → LiveOk catalogue x.id x.held u → now.ops ≡ u.ops → ((q : ℕ) → Has u.parts q → Has now.parts q) → (rec : ℕ) → HasWritten now rec → (q : ℕ) → Has (other_holders_in catalogue x.id x.held rec) q → Has now.parts q
   wider u now h same up rec k q z = up q (h.written rec (k.0, rw same at k.1) q z)
 
-  reads_ok : (u : Live) (p : Pending) (rec q : ℕ) → LiveOk catalogue x.id x.held u → AskingRead catalogue x u p rec q → LiveOk catalogue x.id x.held (reading u p rec q)
+  reads_ok : (u : Live) (p : Pending) (rec q : ℕ) → LiveOk catalogue x.id x.held u → AskingRead catalogue x given u p rec q → LiveOk catalogue x.id x.held (reading u p rec q)
   reads_ok u p rec q h a = record {
     numbers = h.numbers;
     next = λ b e. let is : record p { missing = q ∷ [] } ≡ b = cc in ap (λ (p : Pending). p.number) (sym is) ∙ a.next.number;
@@ -195,7 +195,7 @@ module _ (catalogue : Catalogue) (x : SiteState) (given : Input) (all : (u : Liv
         read_not_write catalogue p rec other value a.reads (record { txn = r.txn; number = r.number; name = r.name; words = ap (λ (p : Pending). p.call) is ∙ r.words; found = r.found });
   }
 
-  writes_ok : (u : Live) (p : Pending) (rec : ℕ) (value : List ℕ) → LiveOk catalogue x.id x.held u → AskingWrite catalogue x u p rec value → LiveOk catalogue x.id x.held (writing u p (other_holders catalogue x rec))
+  writes_ok : (u : Live) (p : Pending) (rec : ℕ) (value : List ℕ) → LiveOk catalogue x.id x.held u → AskingWrite catalogue x given u p rec value → LiveOk catalogue x.id x.held (writing u p (other_holders catalogue x rec))
   writes_ok u p rec value h a = record {
     numbers = h.numbers;
     next = λ b e. let is : record p { missing = other_holders catalogue x rec } ≡ b = cc in ap (λ (p : Pending). p.number) (sym is) ∙ a.next.number;

@@ -330,7 +330,7 @@ module _ (catalogue : Catalogue) (w new : Scene) (s : ℕ) (x : SiteState) (give
   reply_says m (ReplyTo.write_answer t number rec stored a g) e f = subst (Says catalogue new m.from m.to) g (a.view, rec, rw f (stays _ (came m.to (message.WriteRequest t a.view number rec) (write_comes t a.view number rec m.to a.comes))))
   reply_says m (ReplyTo.refresh_answer view rec stored a h d v g) e f = subst (Says catalogue new m.from m.to) g tt
 
-  says_new : (m : Sent) → SentFor catalogue x o.site.live m → ReplyTo x given o.site.participant m → m.from ≡ s → Says catalogue new m.from m.to m.message
+  says_new : (m : Sent) → SentFor catalogue x given o.site.live m → ReplyTo x given o.site.participant m → m.from ≡ s → Says catalogue new m.from m.to m.message
   says_new m (SentFor.aside a) r f = reply_says m r a.aside f
   says_new m (SentFor.outcome txn commit g e) r f = subst (Says catalogue new m.from m.to) (sym e) tt
   says_new m (SentFor.reads u p rec q h a only e) r f = subst (λ (m : Sent). Says catalogue new m.from m.to m.message) e (view_new u (reading u p rec q) h refl refl only)
@@ -374,7 +374,7 @@ module _ (catalogue : Catalogue) (w new : Scene) (s : ℕ) (x : SiteState) (give
       (λ more. absurd (none (letter from to (message.Prepare e.txn view number readings writings)) (c.sent _ more) refl))
       (st.sent _ sent)
     where
-      none : (m : Sent) → SentFor catalogue x o.site.live m → m ≡ letter from to (message.Prepare e.txn view number readings writings) → ⊥
+      none : (m : Sent) → SentFor catalogue x given o.site.live m → m ≡ letter from to (message.Prepare e.txn view number readings writings) → ⊥
       none m (SentFor.aside a) is = let z = ap (λ (m : Sent). is_aside m.message) is in let y = a.aside in cc
       none m (SentFor.outcome txn commit g f) is = let z = sym f ∙ ap (λ (m : Sent). m.message) is in cc
       none m (SentFor.reads u p rec q k a only f) is = let z = ap (λ (m : Sent). m.message) (f ∙ is) in cc
@@ -391,12 +391,12 @@ module _ (catalogue : Catalogue) (w new : Scene) (s : ℕ) (x : SiteState) (give
       (st.sent _ sent)
     where
       -- no prepare is sent in the step that decides
-      none : (t : Live) → Decides catalogue x given t → t.txn ≡ e.txn → (m : Sent) → SentFor catalogue x o.site.live m → m ≡ letter from to (message.Prepare e.txn view number readings writings) → ⊥
+      none : (t : Live) → Decides catalogue x given t → t.txn ≡ e.txn → (m : Sent) → SentFor catalogue x given o.site.live m → m ≡ letter from to (message.Prepare e.txn view number readings writings) → ⊥
       none t d named m (SentFor.aside a) is = let z = ap (λ (m : Sent). is_aside m.message) is in let y = a.aside in cc
       none t d named m (SentFor.outcome txn commit g f) is = let z = sym f ∙ ap (λ (m : Sent). m.message) is in cc
       none t d named m (SentFor.reads u p rec q k a only f) is = let z = ap (λ (m : Sent). m.message) (f ∙ is) in cc
       none t d named m (SentFor.writes u p rec value q k a j only f) is = let z = ap (λ (m : Sent). m.message) (f ∙ is) in cc
-      none t (Decides.alone call was p here next commit alone same) named m (SentFor.prepares u q k h a j only f) is =
+      none t (Decides.alone was p here next commit alone same) named m (SentFor.prepares u q k h a j only f) is =
           let z = ap (λ (m : Sent). m.message) (f ∙ is) in
           let name : u.txn ≡ e.txn = cc in
           let it : u ≡ was = apart_unique x.live apart u was h here (name ∙ sym named ∙ ap (λ (t : Live). t.txn) same) in
@@ -411,7 +411,7 @@ module _ (catalogue : Catalogue) (w new : Scene) (s : ℕ) (x : SiteState) (give
       not_same a b n = grind (arith, nat_tests, n)
 
       decided : (t : Live) → Decides catalogue x given t → (txn : TxnId) (in_view : ViewId) (last : List (ℕ × List ℕ)) → t.txn ≡ txn → t.view ≡ in_view → last_writes t.ops ≡ last → Has w.sent (letter from to (message.Prepare txn view number readings writings)) → (in_view ≡ view) × (writes_held catalogue to last ≡ writings) × HasVote new to txn
-      decided t (Decides.alone call was p here next commit alone same) txn in_view last named viewed wrote old =
+      decided t (Decides.alone was p here next commit alone same) txn in_view last named viewed wrote old =
           let name : was.txn ≡ txn = ap (λ (t : Live). t.txn) (sym same) ∙ named in
           let q = votes.prepared _ old x was (rw (← name, owned was here ∙ id) up) here name in
           absurd (some_not was.pending q.pending q.waits next.idle)

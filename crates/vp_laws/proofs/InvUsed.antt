@@ -91,46 +91,46 @@ above_number : (a b : ℕ) → a ≤ b → a ≡ b + 1 → ⊥
 above_number a b h e = omega arith
 
 -- a request of this step
-record NewRead (catalogue : Catalogue) (x : SiteState) (live : List Live) (txn : TxnId) (number rec : ℕ) : Type 0 where
+record NewRead (catalogue : Catalogue) (x : SiteState) (given : Input) (live : List Live) (txn : TxnId) (number rec : ℕ) : Type 0 where
   u : Live
   p : Pending
   q : ℕ
   here : Has x.live u
-  asks : AskingRead catalogue x u p rec q
+  asks : AskingRead catalogue x given u p rec q
   only : Only live (reading u p rec q)
   named : u.txn ≡ txn
   numbered : p.number ≡ number
 
-record NewWrite (catalogue : Catalogue) (x : SiteState) (live : List Live) (txn : TxnId) (number rec : ℕ) : Type 0 where
+record NewWrite (catalogue : Catalogue) (x : SiteState) (given : Input) (live : List Live) (txn : TxnId) (number rec : ℕ) : Type 0 where
   u : Live
   p : Pending
   value : List ℕ
   sites : List ℕ
   here : Has x.live u
-  asks : AskingWrite catalogue x u p rec value
+  asks : AskingWrite catalogue x given u p rec value
   only : Only live (writing u p sites)
   named : u.txn ≡ txn
   numbered : p.number ≡ number
 
-new_read : (catalogue : Catalogue) (x : SiteState) (live : List Live) (m : Sent) → SentFor catalogue x live m → (a b : ℕ) (txn : TxnId) (view : ViewId) (number rec : ℕ) → m ≡ letter a b (message.ReadRequest txn view number rec) → NewRead catalogue x live txn number rec
-new_read catalogue x live m (SentFor.aside e) a b txn view number rec is = absurd (let z = ap (λ (m : Sent). is_aside m.message) is in let y = e.aside in cc)
-new_read catalogue x live m (SentFor.outcome t commit f e) a b txn view number rec is = absurd (let z = sym e ∙ ap (λ (m : Sent). m.message) is in cc)
-new_read catalogue x live m (SentFor.reads u p r q h k only e) a b txn view number rec is =
+new_read : (catalogue : Catalogue) (x : SiteState) (given : Input) (live : List Live) (m : Sent) → SentFor catalogue x given live m → (a b : ℕ) (txn : TxnId) (view : ViewId) (number rec : ℕ) → m ≡ letter a b (message.ReadRequest txn view number rec) → NewRead catalogue x given live txn number rec
+new_read catalogue x given live m (SentFor.aside e) a b txn view number rec is = absurd (let z = ap (λ (m : Sent). is_aside m.message) is in let y = e.aside in cc)
+new_read catalogue x given live m (SentFor.outcome t commit f e) a b txn view number rec is = absurd (let z = sym e ∙ ap (λ (m : Sent). m.message) is in cc)
+new_read catalogue x given live m (SentFor.reads u p r q h k only e) a b txn view number rec is =
     let z = ap (λ (m : Sent). m.message) (e ∙ is) in
     let same : r ≡ rec = cc in
-    subst (NewRead catalogue x live txn number) same (record { u = u; p = p; q = q; here = h; asks = k; only = only; named = cc; numbered = cc })
-new_read catalogue x live m (SentFor.writes u p r value q h k j only e) a b txn view number rec is = absurd (let z = ap (λ (m : Sent). m.message) (e ∙ is) in cc)
-new_read catalogue x live m (SentFor.prepares u p q h k j only e) a b txn view number rec is = absurd (let z = ap (λ (m : Sent). m.message) (e ∙ is) in cc)
+    subst (NewRead catalogue x given live txn number) same (record { u = u; p = p; q = q; here = h; asks = k; only = only; named = cc; numbered = cc })
+new_read catalogue x given live m (SentFor.writes u p r value q h k j only e) a b txn view number rec is = absurd (let z = ap (λ (m : Sent). m.message) (e ∙ is) in cc)
+new_read catalogue x given live m (SentFor.prepares u p q h k j only e) a b txn view number rec is = absurd (let z = ap (λ (m : Sent). m.message) (e ∙ is) in cc)
 
-new_write : (catalogue : Catalogue) (x : SiteState) (live : List Live) (m : Sent) → SentFor catalogue x live m → (a b : ℕ) (txn : TxnId) (view : ViewId) (number rec : ℕ) → m ≡ letter a b (message.WriteRequest txn view number rec) → NewWrite catalogue x live txn number rec
-new_write catalogue x live m (SentFor.aside e) a b txn view number rec is = absurd (let z = ap (λ (m : Sent). is_aside m.message) is in let y = e.aside in cc)
-new_write catalogue x live m (SentFor.outcome t commit f e) a b txn view number rec is = absurd (let z = sym e ∙ ap (λ (m : Sent). m.message) is in cc)
-new_write catalogue x live m (SentFor.reads u p r q h k only e) a b txn view number rec is = absurd (let z = ap (λ (m : Sent). m.message) (e ∙ is) in cc)
-new_write catalogue x live m (SentFor.writes u p r value q h k j only e) a b txn view number rec is =
+new_write : (catalogue : Catalogue) (x : SiteState) (given : Input) (live : List Live) (m : Sent) → SentFor catalogue x given live m → (a b : ℕ) (txn : TxnId) (view : ViewId) (number rec : ℕ) → m ≡ letter a b (message.WriteRequest txn view number rec) → NewWrite catalogue x given live txn number rec
+new_write catalogue x given live m (SentFor.aside e) a b txn view number rec is = absurd (let z = ap (λ (m : Sent). is_aside m.message) is in let y = e.aside in cc)
+new_write catalogue x given live m (SentFor.outcome t commit f e) a b txn view number rec is = absurd (let z = sym e ∙ ap (λ (m : Sent). m.message) is in cc)
+new_write catalogue x given live m (SentFor.reads u p r q h k only e) a b txn view number rec is = absurd (let z = ap (λ (m : Sent). m.message) (e ∙ is) in cc)
+new_write catalogue x given live m (SentFor.writes u p r value q h k j only e) a b txn view number rec is =
     let z = ap (λ (m : Sent). m.message) (e ∙ is) in
     let same : r ≡ rec = cc in
-    subst (NewWrite catalogue x live txn number) same (record { u = u; p = p; value = value; sites = _; here = h; asks = k; only = only; named = cc; numbered = cc })
-new_write catalogue x live m (SentFor.prepares u p q h k j only e) a b txn view number rec is = absurd (let z = ap (λ (m : Sent). m.message) (e ∙ is) in cc)
+    subst (NewWrite catalogue x given live txn number) same (record { u = u; p = p; value = value; sites = _; here = h; asks = k; only = only; named = cc; numbered = cc })
+new_write catalogue x given live m (SentFor.prepares u p q h k j only e) a b txn view number rec is = absurd (let z = ap (λ (m : Sent). m.message) (e ∙ is) in cc)
 
 pending_same : (t : Live) (a b : Live) (p q : Pending) → t ≡ a → t ≡ b → a.pending ≡ Some p → b.pending ≡ Some q → p ≡ q
 pending_same t a b p q e f g h = let z = sym g ∙ ap (λ (t : Live). t.pending) (sym e ∙ f) ∙ h in cc
@@ -175,26 +175,26 @@ module _ (catalogue : Catalogue) (w new : Scene) (s : ℕ) (x : SiteState) (give
   named_write a b number rec txn view h = (names.sent (letter a b (message.WriteRequest txn view number rec)) h).0
 
   -- an old request has not the number of a new one
-  old_read : (a b number rec other : ℕ) (txn : TxnId) (view : ViewId) → Has w.sent (letter a b (message.ReadRequest txn view number rec)) → NewRead catalogue x o.site.live txn number other → ⊥
+  old_read : (a b number rec other : ℕ) (txn : TxnId) (view : ViewId) → Has w.sent (letter a b (message.ReadRequest txn view number rec)) → NewRead catalogue x given o.site.live txn number other → ⊥
   old_read a b number rec other txn view h n = ⊎_elim
       (λ low. above_number number (length n.u.answers) low (sym n.numbered ∙ n.asks.next.number))
       (λ q. some_not n.u.pending q.0 q.1 n.asks.next.idle)
       (answers.asks (letter a b (message.ReadRequest txn view number rec)) h x n.u (rw (ap (λ (t : TxnId). t.site) (sym n.named) ∙ owned s x n.u up n.here) up) n.here n.named)
 
-  old_write : (a b number rec other : ℕ) (txn : TxnId) (view : ViewId) → Has w.sent (letter a b (message.WriteRequest txn view number rec)) → NewWrite catalogue x o.site.live txn number other → ⊥
+  old_write : (a b number rec other : ℕ) (txn : TxnId) (view : ViewId) → Has w.sent (letter a b (message.WriteRequest txn view number rec)) → NewWrite catalogue x given o.site.live txn number other → ⊥
   old_write a b number rec other txn view h n = ⊎_elim
       (λ low. above_number number (length n.u.answers) low (sym n.numbered ∙ n.asks.next.number))
       (λ q. some_not n.u.pending q.0 q.1 n.asks.next.idle)
       (answers.asks (letter a b (message.WriteRequest txn view number rec)) h x n.u (rw (ap (λ (t : TxnId). t.site) (sym n.named) ∙ owned s x n.u up n.here) up) n.here n.named)
 
   -- two new ones are of one call
-  both_read : (t : Live) (number rec other : ℕ) → Has o.site.live t → NewRead catalogue x o.site.live t.txn number rec → NewRead catalogue x o.site.live t.txn number other → rec ≡ other
+  both_read : (t : Live) (number rec other : ℕ) → Has o.site.live t → NewRead catalogue x given o.site.live t.txn number rec → NewRead catalogue x given o.site.live t.txn number other → rec ≡ other
   both_read t number rec other h m n =
       let z = pending_same t (reading m.u m.p rec m.q) (reading n.u n.p other n.q) (record m.p { missing = m.q ∷ [] }) (record n.p { missing = n.q ∷ [] }) (m.only t h (sym m.named)) (n.only t h (sym n.named)) refl refl in
       let call = ap (λ (p : Pending). p.call) z in
       reads_same catalogue m.p rec other m.asks.reads (let r = n.asks.reads in record { txn = r.txn; number = r.number; name = r.name; words = call ∙ r.words; found = r.found })
 
-  both_write : (t : Live) (number rec other : ℕ) → Has o.site.live t → NewWrite catalogue x o.site.live t.txn number rec → NewWrite catalogue x o.site.live t.txn number other → rec ≡ other
+  both_write : (t : Live) (number rec other : ℕ) → Has o.site.live t → NewWrite catalogue x given o.site.live t.txn number rec → NewWrite catalogue x given o.site.live t.txn number other → rec ≡ other
   both_write t number rec other h m n =
       let z = pending_same t (writing m.u m.p m.sites) (writing n.u n.p n.sites) (record m.p { missing = m.sites }) (record n.p { missing = n.sites }) (m.only t h (sym m.named)) (n.only t h (sym n.named)) refl refl in
       let call = ap (λ (p : Pending). p.call) z in
@@ -210,22 +210,22 @@ module _ (catalogue : Catalogue) (w new : Scene) (s : ℕ) (x : SiteState) (give
       (λ old. ⊎_elim
       (λ old2. let q = was k y t (named_read a b number rec t.txn u old) h n in
       inv.one k q.site q.u a b e d number rec other u z false q.up_then q.here (HasRequest.to_read (rw q.named old)) (HasRequest.to_read (rw q.named old2)))
-      (λ more. absurd (old_read a b number rec other t.txn u old (new_read catalogue x o.site.live _ (c.sent _ more) e d t.txn z number other refl)))
+      (λ more. absurd (old_read a b number rec other t.txn u old (new_read catalogue x given o.site.live _ (c.sent _ more) e d t.txn z number other refl)))
       (st.sent (letter e d (message.ReadRequest t.txn z number other)) i))
-      (λ more. let m = new_read catalogue x o.site.live _ (c.sent _ more) a b t.txn u number rec refl in ⊎_elim
+      (λ more. let m = new_read catalogue x given o.site.live _ (c.sent _ more) a b t.txn u number rec refl in ⊎_elim
       (λ old2. absurd (old_read e d number other rec t.txn z old2 m))
-      (λ more2. both_read t number rec other (here_if k y t m.u n h m.here m.named) m (new_read catalogue x o.site.live _ (c.sent _ more2) e d t.txn z number other refl))
+      (λ more2. both_read t number rec other (here_if k y t m.u n h m.here m.named) m (new_read catalogue x given o.site.live _ (c.sent _ more2) e d t.txn z number other refl))
       (st.sent (letter e d (message.ReadRequest t.txn z number other)) i))
       (st.sent (letter a b (message.ReadRequest t.txn u number rec)) f)
   one_now k y t a b e d number rec other u z true n h (HasRequest.to_write f) (HasRequest.to_write i) = ⊎_elim
       (λ old. ⊎_elim
       (λ old2. let q = was k y t (named_write a b number rec t.txn u old) h n in
       inv.one k q.site q.u a b e d number rec other u z true q.up_then q.here (HasRequest.to_write (rw q.named old)) (HasRequest.to_write (rw q.named old2)))
-      (λ more. absurd (old_write a b number rec other t.txn u old (new_write catalogue x o.site.live _ (c.sent _ more) e d t.txn z number other refl)))
+      (λ more. absurd (old_write a b number rec other t.txn u old (new_write catalogue x given o.site.live _ (c.sent _ more) e d t.txn z number other refl)))
       (st.sent (letter e d (message.WriteRequest t.txn z number other)) i))
-      (λ more. let m = new_write catalogue x o.site.live _ (c.sent _ more) a b t.txn u number rec refl in ⊎_elim
+      (λ more. let m = new_write catalogue x given o.site.live _ (c.sent _ more) a b t.txn u number rec refl in ⊎_elim
       (λ old2. absurd (old_write e d number other rec t.txn z old2 m))
-      (λ more2. both_write t number rec other (here_if k y t m.u n h m.here m.named) m (new_write catalogue x o.site.live _ (c.sent _ more2) e d t.txn z number other refl))
+      (λ more2. both_write t number rec other (here_if k y t m.u n h m.here m.named) m (new_write catalogue x given o.site.live _ (c.sent _ more2) e d t.txn z number other refl))
       (st.sent (letter e d (message.WriteRequest t.txn z number other)) i))
       (st.sent (letter a b (message.WriteRequest t.txn u number rec)) f)
 

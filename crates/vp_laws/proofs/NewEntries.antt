@@ -62,7 +62,7 @@ module _ (catalogue : Catalogue) (w new : Scene) (s : ℕ) (x : SiteState) (give
   none_entered from m c not e h = go (d.steps.entered e h).was (d.steps.entered e h).decides
     where
       go : (t : Live) → Decides catalogue x given t → ⊥
-      go t (Decides.alone call was p here next commit alone same) = let z = sym c ∙ call.2 in cc
+      go t (Decides.alone was p here next commit alone same) = let z = sym c ∙ next.comes in cc
       go t (Decides.voted p from here last comes commit) = not (t.txn, (let z = sym c ∙ comes in cc))
 
   pub journal_same : (from : ℕ) (m : Message) → Comes given from m → (is_vote m → ⊥) → new.journal ≡ w.journal

@@ -168,7 +168,7 @@ module _ (catalogue : Catalogue) (w new : Scene) (s : ℕ) (x : SiteState) (give
       same t there named = apart_unique x.live (k.votes.site s x d.up) f.was t f.live there (f.named ∙ sym named)
 
       go : (t : Live) → Decides catalogue x given t → t.txn ≡ e.txn → ⊥
-      go t (Decides.alone call was a there next commit alone is) named = some_not f.was.pending p pending (ap (λ (t : Live). is_some t.pending) (same was there (ap (λ (t : Live). t.txn) (sym is) ∙ named)) ∙ next.idle)
+      go t (Decides.alone was a there next commit alone is) named = some_not f.was.pending p pending (ap (λ (t : Live). is_some t.pending) (same was there (ap (λ (t : Live). t.txn) (sym is) ∙ named)) ∙ next.idle)
       go t (Decides.voted a from there last comes commit) named =
           let is : p ≡ a = (let z = sym pending ∙ ap (λ (t : Live). t.pending) (same t there named) ∙ last.pending in cc) in
           no_reads a rec commit (subst (λ (p : Pending). Reads catalogue p rec) is reads)
@@ -190,7 +190,7 @@ module _ (catalogue : Catalogue) (w new : Scene) (s : ℕ) (x : SiteState) (give
   held_by : (r rec q to : ℕ) → Has (other_holders catalogue x r) q → r ≡ rec → q ≡ to → Has (holders catalogue rec) to
   held_by r rec q to h same it = subst (Has (holders catalogue rec)) it (subst (λ (n : ℕ). Has (holders catalogue n) q) same (filter_has (λ (q : ℕ). has (members_in x.held) q && not (q == x.id)) (holders catalogue r) q h).0)
 
-  asked_sent : (m : Sent) → SentFor catalogue x o.site.live m → (from to number rec : ℕ) (txn : TxnId) (view : ViewId) (exclusive : Bool) (v : View) → ((m ≡ letter from to (message.ReadRequest txn view number rec)) ⊎ (m ≡ letter from to (message.WriteRequest txn view number rec))) → AgreedAs new view v → (accessible catalogue rec v.members ≡ true) × Has (holders catalogue rec) to
+  asked_sent : (m : Sent) → SentFor catalogue x given o.site.live m → (from to number rec : ℕ) (txn : TxnId) (view : ViewId) (exclusive : Bool) (v : View) → ((m ≡ letter from to (message.ReadRequest txn view number rec)) ⊎ (m ≡ letter from to (message.WriteRequest txn view number rec))) → AgreedAs new view v → (accessible catalogue rec v.members ≡ true) × Has (holders catalogue rec) to
   asked_sent m (SentFor.aside a) from to number rec txn view exclusive v is agreed = absurd (⊎_elim (λ (e : m ≡ letter from to (message.ReadRequest txn view number rec)). let z = ap (λ (m : Sent). is_aside m.message) e in let y = a.aside in cc) (λ (e : m ≡ letter from to (message.WriteRequest txn view number rec)). let z = ap (λ (m : Sent). is_aside m.message) e in let y = a.aside in cc) is)
   asked_sent m (SentFor.outcome t commit f e) from to number rec txn view exclusive v is agreed = absurd (⊎_elim (λ (q : m ≡ letter from to (message.ReadRequest txn view number rec)). let z = sym e ∙ ap (λ (m : Sent). m.message) q in cc) (λ (q : m ≡ letter from to (message.WriteRequest txn view number rec)). let z = sym e ∙ ap (λ (m : Sent). m.message) q in cc) is)
   asked_sent m (SentFor.reads u p r q h a only e) from to number rec txn view exclusive v is agreed = ⊎_elim

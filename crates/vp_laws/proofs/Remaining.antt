@@ -5,8 +5,9 @@
 -- and no later number is taken (the laws of one more line stand in vp_one_site, `ToldLines.antt`); an entry's are told; and each answer
 -- that is kept, live or finished, is reported. There already: `InvMatched` (answers are those of the operations), `InvKept` (kept ends),
 -- `TableReplies` (what is replied), `TableCalls` (a call is refused early, repeated, next, or of a finished transaction) and `Moments`
--- (what a moment is). To come: that the pending call of `IsNext` is the call that came, so that a step does one operation and replies it
--- alone; and the walk through a next call, which is refused early, pends, is done, or ends the transaction.
+-- (what a moment is). The pending call of `IsNext` is the call that came, and an operation that is done is replied alone (`DoneAlone`). To
+-- come: that this stands to the end of the step; and the walk through a next call, which is refused early, pends, is done, or ends the
+-- transaction.
 --
 -- For refusals: each kept or sent refusal was made by a step of the named site for that very request; a history of the moments beside the
 -- world, since the invariant speaks of worlds alone.

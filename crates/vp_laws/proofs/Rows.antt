@@ -20,7 +20,7 @@ use Rattle.vp_model.specs.Step.{fix, without_wait, fix_view, ask_again, ask_agai
 use Rattle.vp_laws.proofs.Members.{Has, filter_has, has_first, has_more, both_true}
 use Rattle.vp_laws.proofs.Order.{is_view_is}
 use Rattle.vp_laws.proofs.Frames.{close_all-beside, close_all-none}
-use Rattle.vp_laws.proofs.Table.{Comes, IsCall, Replies, Left, Joined, Requests, Asks, lent_at, Back, Table}
+use Rattle.vp_laws.proofs.Table.{Comes, Replies, Left, Joined, Requests, Asks, lent_at, Back, Table}
 use Rattle.vp_laws.proofs.Coordinator.{by_test, abandon-closed, abandon-kept, time_out_calls-kept, own_call-kept, on_answer-kept}
 
 -- a record that is accessible and has a copy here
@@ -137,14 +137,14 @@ module _ (catalogue : Catalogue) (x : SiteState) (given : Input) (P : Stepped �
   unfolding on_regroup
   on_regroup-kept port = by_test P (is_spent x.views) _ _ (λ e. k.coordinator.answers (answer.Spent (highest x.views)) port (Replies.other refl)) (λ e. k.answers_inviting port e invite-kept)
 
-  on_call-kept : IsCall given → (port : ℕ) (words : Call) → P (on_call catalogue port words (begin_step x))
+  on_call-kept : (port : ℕ) (words : Call) → given ≡ input.Call port words → P (on_call catalogue port words (begin_step x))
   unfolding on_call
-  on_call-kept called port call.Begin = own_call-kept catalogue x given K k.coordinator h called port call.Begin
-  on_call-kept called port call.Regroup = on_regroup-kept port
-  on_call-kept called port (call.Read txn number name) = own_call-kept catalogue x given K k.coordinator h called port (call.Read txn number name)
-  on_call-kept called port (call.Write txn number name value) = own_call-kept catalogue x given K k.coordinator h called port (call.Write txn number name value)
-  on_call-kept called port (call.Commit txn number) = own_call-kept catalogue x given K k.coordinator h called port (call.Commit txn number)
-  on_call-kept called port (call.Abort txn number) = own_call-kept catalogue x given K k.coordinator h called port (call.Abort txn number)
+  on_call-kept port call.Begin comes = own_call-kept catalogue x given K k.coordinator h port call.Begin comes
+  on_call-kept port call.Regroup comes = on_regroup-kept port
+  on_call-kept port (call.Read txn number name) comes = own_call-kept catalogue x given K k.coordinator h port (call.Read txn number name) comes
+  on_call-kept port (call.Write txn number name value) comes = own_call-kept catalogue x given K k.coordinator h port (call.Write txn number name value) comes
+  on_call-kept port (call.Commit txn number) comes = own_call-kept catalogue x given K k.coordinator h port (call.Commit txn number) comes
+  on_call-kept port (call.Abort txn number) comes = own_call-kept catalogue x given K k.coordinator h port (call.Abort txn number) comes
 
   answered-kept : (from : ℕ) (m : Message) → Comes given from m → P (answered catalogue from m (begin_step x))
   answered-kept from m c = on_answer-kept catalogue x given K k.coordinator h from m c
@@ -211,7 +211,7 @@ module _ (catalogue : Catalogue) (x : SiteState) (given : Input) (P : Stepped �
   step_kept = stepped given refl
     where
       stepped : (g : Input) → given ≡ g → P (on_input catalogue g (begin_step x))
-      stepped (input.Call port words) c = on_call-kept (port, words, c) port words
+      stepped (input.Call port words) c = on_call-kept port words c
       stepped (input.Message from m) c = on_message-kept from m c
       stepped input.Tick c = on_tick-kept c
       stepped input.Probe c = on_probe-kept c

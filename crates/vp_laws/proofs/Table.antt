@@ -1,7 +1,7 @@
 -- The table in small moves: what a property of a step's state has to survive, so that the whole step keeps it.
 use Rattle.std.proofs.Common.{◌≡◌, ◌⊎◌, ℕ, ◌+◌, Bool, true, false, List, [], map, length}
 use Rattle.std.specs.Prelude.{Some, None, is_some, filter, ◌==◌, ◌&&◌, not}
-use Rattle.vp_model.specs.Types.{ViewId, TxnId, View, Stored, Op, Owner, Call, Answer, Message, Sent, Input, Part, Refreshing, Pending, Live, Ending, Finished}
+use Rattle.vp_model.specs.Types.{ViewId, TxnId, View, Stored, Op, Owner, Answer, Message, Sent, Input, Part, Refreshing, Pending, Live, Ending, Finished}
 use Rattle.vp_base.specs.declared.site.Ending.TheVariants.{Committed, Aborted, LockHeld, ViewChanged, TimedOut}
 use Rattle.vp_model.specs.Types.answer
 use Rattle.vp_model.specs.Types.call
@@ -79,8 +79,9 @@ pub record Handled (x : SiteState) (t : Live) : Type 0 where
 abbrev pub IsOperating : Live → Type 0
 IsOperating t = (is_some t.pending ≡ false) ⊎ ((p : Pending) × (t.pending ≡ Some p) × (is_commit p.call ≡ false))
 
--- the call is the next one of the transaction, and none is pending
-pub record IsNext (t : Live) (p : Pending) : Type 0 where
+-- the call came, it is the next one of the transaction, and none is pending
+pub record IsNext (given : Input) (t : Live) (p : Pending) : Type 0 where
+  pub comes : given ≡ input.Call p.port p.call
   pub idle : is_some t.pending ≡ false
   pub number : p.number ≡ length t.answers + 1
 
@@ -121,19 +122,16 @@ pub data Locked (x : SiteState) (t : Live) (rec : ℕ) (l : Lent) : Type 0 where
 
 -- how an operation is done, with its answer, and the coordinator's part so far
 pub data Completes (catalogue : Catalogue) (x : SiteState) (given : Input) (t : Live) (p : Pending) (operation : Op) (words : Answer) (l : Lent) : Type 0 where
-  own_write : (rec : ℕ) (value : List ℕ) → IsNext t p → Reads catalogue p rec → is_usable catalogue x rec ≡ true → value_at rec (last_writes t.ops) ≡ Some value → operation ≡ op.Read rec value → words ≡ answer.Value t.txn p.number value → l ≡ lent_at x → Completes catalogue x given t p operation words l
-  own_copy : (rec : ℕ) (stored : Stored) → IsNext t p → Reads catalogue p rec → is_usable catalogue x rec ≡ true → value_at rec (last_writes t.ops) ≡ None → value_at rec x.copies ≡ Some stored → conflict rec false t.txn x.locks ≡ None → operation ≡ op.Read rec stored.value → words ≡ answer.Value t.txn p.number stored.value → l ≡ take_lock t.txn rec false (lent_at x) → Completes catalogue x given t p operation words l
-  write_again : (rec : ℕ) (before value : List ℕ) → IsNext t p → Writes catalogue p rec value → is_usable catalogue x rec ≡ true → value_at rec (last_writes t.ops) ≡ Some before → operation ≡ op.Write rec value → words ≡ answer.Written t.txn p.number → l ≡ lent_at x → Completes catalogue x given t p operation words l
-  write_alone : (rec : ℕ) (value : List ℕ) → IsNext t p → Writes catalogue p rec value → is_usable catalogue x rec ≡ true → value_at rec (last_writes t.ops) ≡ None → is_empty (other_holders catalogue x rec) ≡ true → operation ≡ op.Write rec value → words ≡ answer.Written t.txn p.number → Locked x t rec l → Completes catalogue x given t p operation words l
+  own_write : (rec : ℕ) (value : List ℕ) → IsNext given t p → Reads catalogue p rec → is_usable catalogue x rec ≡ true → value_at rec (last_writes t.ops) ≡ Some value → operation ≡ op.Read rec value → words ≡ answer.Value t.txn p.number value → l ≡ lent_at x → Completes catalogue x given t p operation words l
+  own_copy : (rec : ℕ) (stored : Stored) → IsNext given t p → Reads catalogue p rec → is_usable catalogue x rec ≡ true → value_at rec (last_writes t.ops) ≡ None → value_at rec x.copies ≡ Some stored → conflict rec false t.txn x.locks ≡ None → operation ≡ op.Read rec stored.value → words ≡ answer.Value t.txn p.number stored.value → l ≡ take_lock t.txn rec false (lent_at x) → Completes catalogue x given t p operation words l
+  write_again : (rec : ℕ) (before value : List ℕ) → IsNext given t p → Writes catalogue p rec value → is_usable catalogue x rec ≡ true → value_at rec (last_writes t.ops) ≡ Some before → operation ≡ op.Write rec value → words ≡ answer.Written t.txn p.number → l ≡ lent_at x → Completes catalogue x given t p operation words l
+  write_alone : (rec : ℕ) (value : List ℕ) → IsNext given t p → Writes catalogue p rec value → is_usable catalogue x rec ≡ true → value_at rec (last_writes t.ops) ≡ None → is_empty (other_holders catalogue x rec) ≡ true → operation ≡ op.Write rec value → words ≡ answer.Written t.txn p.number → Locked x t rec l → Completes catalogue x given t p operation words l
   read_answered : (from rec : ℕ) (value : List ℕ) → Comes given from (message.ReadAnswer t.txn p.number value) → IsLast t p from → Reads catalogue p rec → operation ≡ op.Read rec value → words ≡ answer.Value t.txn p.number value → l ≡ lent_at x → Completes catalogue x given t p operation words l
   write_answered : (from rec : ℕ) (value : List ℕ) → Comes given from (message.WriteAnswer t.txn p.number) → IsLast t p from → Writes catalogue p rec value → operation ≡ op.Write rec value → words ≡ answer.Written t.txn p.number → l ≡ lent_at x → Completes catalogue x given t p operation words l
 
-abbrev pub IsCall : Input → Type 0
-IsCall given = (port : ℕ) × (words : Call) × (given ≡ input.Call port words)
-
 -- why a transaction commits: its commit is called and it has no part, or the last vote comes. Which transaction is decided is the last argument
 pub data Decides (catalogue : Catalogue) (x : SiteState) (given : Input) (t : Live) : Type 0 where
-  alone : IsCall given → (was : Live) (p : Pending) → Has x.live was → IsNext was p → is_commit p.call ≡ true → is_empty was.parts ≡ true → t ≡ handling was p → Decides catalogue x given t
+  alone : (was : Live) (p : Pending) → Has x.live was → IsNext given was p → is_commit p.call ≡ true → is_empty was.parts ≡ true → t ≡ handling was p → Decides catalogue x given t
   voted : (p : Pending) (from : ℕ) → Has x.live t → IsLast t p from → Comes given from (message.Vote t.txn) → is_commit p.call ≡ true → Decides catalogue x given t
 
 abbrev pub is_abort : Ending → Bool
@@ -171,9 +169,9 @@ pub record OfCoordinator (catalogue : Catalogue) (x : SiteState) (given : Input)
   pub answers : (words : Answer) (port : ℕ) → Replies x words → Q (lent_reply words port (lent_at x))
   pub take_lock : (t : Live) (rec : ℕ) (exclusive : Bool) (stored : Stored) → Has x.live t → is_some t.pending ≡ false → is_usable catalogue x rec ≡ true → value_at rec x.copies ≡ Some stored → conflict rec exclusive t.txn x.locks ≡ None → Q (take_lock t.txn rec exclusive (lent_at x))
   pub complete : (t : Live) (p : Pending) (operation : Op) (words : Answer) (l : Lent) → Has x.live t → Completes catalogue x given t p operation words l → l.live ≡ x.live → Q l → Q (complete t p operation words l)
-  pub read_at : (t : Live) (p : Pending) (rec q : ℕ) → Has x.live t → IsNext t p → Reads catalogue p rec → is_usable catalogue x rec ≡ true → value_at rec (last_writes t.ops) ≡ None → value_at rec x.copies ≡ None → Has (other_holders catalogue x rec) q → Q (read_at x.id t p rec q (lent_at x))
-  pub write_at : (t : Live) (p : Pending) (rec : ℕ) (value : List ℕ) (l : Lent) → Has x.live t → IsNext t p → Writes catalogue p rec value → is_usable catalogue x rec ≡ true → value_at rec (last_writes t.ops) ≡ None → is_empty (other_holders catalogue x rec) ≡ false → Locked x t rec l → l.live ≡ x.live → Q l → Q (write_at x.id t p rec (other_holders catalogue x rec) l)
-  pub prepare_parts : (t : Live) (p : Pending) → Has x.live t → IsNext t p → is_commit p.call ≡ true → is_empty t.parts ≡ false → Q (prepare_parts catalogue x.id t p (lent_at x))
+  pub read_at : (t : Live) (p : Pending) (rec q : ℕ) → Has x.live t → IsNext given t p → Reads catalogue p rec → is_usable catalogue x rec ≡ true → value_at rec (last_writes t.ops) ≡ None → value_at rec x.copies ≡ None → Has (other_holders catalogue x rec) q → Q (read_at x.id t p rec q (lent_at x))
+  pub write_at : (t : Live) (p : Pending) (rec : ℕ) (value : List ℕ) (l : Lent) → Has x.live t → IsNext given t p → Writes catalogue p rec value → is_usable catalogue x rec ≡ true → value_at rec (last_writes t.ops) ≡ None → is_empty (other_holders catalogue x rec) ≡ false → Locked x t rec l → l.live ≡ x.live → Q l → Q (write_at x.id t p rec (other_holders catalogue x rec) l)
+  pub prepare_parts : (t : Live) (p : Pending) → Has x.live t → IsNext given t p → is_commit p.call ≡ true → is_empty t.parts ≡ false → Q (prepare_parts catalogue x.id t p (lent_at x))
   pub still_waits : (t : Live) (p : Pending) (from : ℕ) → Has x.live t → t.pending ≡ Some p → has p.missing from ≡ true → is_empty (remaining from p) ≡ false → Counts catalogue given t p from → Q (wait_for t p (remaining from p) (lent_at x))
   pub decide : (t : Live) → Handled x t → Decides catalogue x given t → Q (decide catalogue x.id t (lent_at x))
   pub close : (t : Live) (why : Ending) (l : Lent) → Handled x t → is_abort why ≡ true → l.effects.commits ≡ [] → Q l → Q (close x.id t why l)

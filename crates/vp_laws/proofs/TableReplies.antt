@@ -119,7 +119,7 @@ module _ (catalogue : Catalogue) (x : SiteState) (given : Input) (led : Led x) (
       }
 
   pending_there : (t : Live) → Decides catalogue x given t → (p : Pending) × (t.pending ≡ Some p)
-  pending_there t (Decides.alone call was p here next commit alone same) = (p, ap (λ (t : Live). t.pending) same)
+  pending_there t (Decides.alone was p here next commit alone same) = (p, ap (λ (t : Live). t.pending) same)
   pending_there t (Decides.voted p from here last comes commit) = (p, last.pending)
 
   decides : (t : Live) → Decides catalogue x given t → S (put_back (begin_step x) (decide catalogue x.id t (lent_at x))) → K (decide catalogue x.id t (lent_at x))

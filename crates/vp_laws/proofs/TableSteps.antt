@@ -38,8 +38,8 @@ abbrev pub writing : Live → Pending → List ℕ → Live
 writing t p sites = record t { parts = for_each sites put_number t.parts; pending = Some (record p { missing = sites }) }
 
 -- a read of a record without a copy here, which another holder is asked for
-pub record AskingRead (catalogue : Catalogue) (x : SiteState) (u : Live) (p : Pending) (rec q : ℕ) : Type 0 where
-  pub next : IsNext u p
+pub record AskingRead (catalogue : Catalogue) (x : SiteState) (given : Input) (u : Live) (p : Pending) (rec q : ℕ) : Type 0 where
+  pub next : IsNext given u p
   pub reads : Reads catalogue p rec
   pub usable : is_usable catalogue x rec ≡ true
   pub unwritten : value_at rec (last_writes u.ops) ≡ None
@@ -47,15 +47,15 @@ pub record AskingRead (catalogue : Catalogue) (x : SiteState) (u : Live) (p : Pe
   pub holder : Has (other_holders catalogue x rec) q
 
 -- a first write of a record, which all other holders in the view are asked for
-pub record AskingWrite (catalogue : Catalogue) (x : SiteState) (u : Live) (p : Pending) (rec : ℕ) (value : List ℕ) : Type 0 where
-  pub next : IsNext u p
+pub record AskingWrite (catalogue : Catalogue) (x : SiteState) (given : Input) (u : Live) (p : Pending) (rec : ℕ) (value : List ℕ) : Type 0 where
+  pub next : IsNext given u p
   pub writes : Writes catalogue p rec value
   pub usable : is_usable catalogue x rec ≡ true
   pub unwritten : value_at rec (last_writes u.ops) ≡ None
   pub others : is_empty (other_holders catalogue x rec) ≡ false
 
-pub record AskingVotes (u : Live) (p : Pending) : Type 0 where
-  pub next : IsNext u p
+pub record AskingVotes (given : Input) (u : Live) (p : Pending) : Type 0 where
+  pub next : IsNext given u p
   pub commit : is_commit p.call ≡ true
   pub parts : is_empty u.parts ≡ false
 
@@ -65,9 +65,9 @@ pub data LiveNow (catalogue : Catalogue) (x : SiteState) (given : Input) (now : 
   marked : (u : Live) → Has x.live u → given ≡ input.Tick → mark u ≡ now → LiveNow catalogue x given now
   waits : (u : Live) (p : Pending) (from : ℕ) → Has x.live u → u.pending ≡ Some p → has p.missing from ≡ true → is_empty (remaining from p) ≡ false → Counts catalogue given u p from → waiting u p (remaining from p) ≡ now → LiveNow catalogue x given now
   completed : (u : Live) (p : Pending) (operation : Op) (words : Answer) (l : Lent) → Has x.live u → Completes catalogue x given u p operation words l → done u operation words ≡ now → LiveNow catalogue x given now
-  reads : (u : Live) (p : Pending) (rec q : ℕ) → Has x.live u → AskingRead catalogue x u p rec q → reading u p rec q ≡ now → LiveNow catalogue x given now
-  writes : (u : Live) (p : Pending) (rec : ℕ) (value : List ℕ) → Has x.live u → AskingWrite catalogue x u p rec value → writing u p (other_holders catalogue x rec) ≡ now → LiveNow catalogue x given now
-  prepares : (u : Live) (p : Pending) → Has x.live u → AskingVotes u p → waiting u p u.parts ≡ now → LiveNow catalogue x given now
+  reads : (u : Live) (p : Pending) (rec q : ℕ) → Has x.live u → AskingRead catalogue x given u p rec q → reading u p rec q ≡ now → LiveNow catalogue x given now
+  writes : (u : Live) (p : Pending) (rec : ℕ) (value : List ℕ) → Has x.live u → AskingWrite catalogue x given u p rec value → writing u p (other_holders catalogue x rec) ≡ now → LiveNow catalogue x given now
+  prepares : (u : Live) (p : Pending) → Has x.live u → AskingVotes given u p → waiting u p u.parts ≡ now → LiveNow catalogue x given now
   begins : (view : View) → x.held ≡ Some view → begun (next_name x) view.id ≡ now → LiveNow catalogue x given now
 
 -- no other live transaction has this one's name
@@ -75,12 +75,12 @@ abbrev pub Only : List Live → Live → Type 0
 Only live now = (t : Live) → Has live t → t.txn ≡ now.txn → t ≡ now
 
 -- why a message is sent, and what its transaction is after the step
-pub data SentFor (catalogue : Catalogue) (x : SiteState) (live : List Live) (m : Sent) : Type 0 where
-  aside : Aside x m → SentFor catalogue x live m
-  outcome : (txn : TxnId) (commit : Bool) → m.from ≡ x.id → m.message ≡ message.Outcome txn commit → SentFor catalogue x live m
-  reads : (u : Live) (p : Pending) (rec q : ℕ) → Has x.live u → AskingRead catalogue x u p rec q → Only live (reading u p rec q) → letter x.id q (message.ReadRequest u.txn u.view p.number rec) ≡ m → SentFor catalogue x live m
-  writes : (u : Live) (p : Pending) (rec : ℕ) (value : List ℕ) (q : ℕ) → Has x.live u → AskingWrite catalogue x u p rec value → Has (other_holders catalogue x rec) q → Only live (writing u p (other_holders catalogue x rec)) → letter x.id q (message.WriteRequest u.txn u.view p.number rec) ≡ m → SentFor catalogue x live m
-  prepares : (u : Live) (p : Pending) (q : ℕ) → Has x.live u → AskingVotes u p → Has u.parts q → Only live (waiting u p u.parts) → letter x.id q (prepare_for catalogue u p q) ≡ m → SentFor catalogue x live m
+pub data SentFor (catalogue : Catalogue) (x : SiteState) (given : Input) (live : List Live) (m : Sent) : Type 0 where
+  aside : Aside x m → SentFor catalogue x given live m
+  outcome : (txn : TxnId) (commit : Bool) → m.from ≡ x.id → m.message ≡ message.Outcome txn commit → SentFor catalogue x given live m
+  reads : (u : Live) (p : Pending) (rec q : ℕ) → Has x.live u → AskingRead catalogue x given u p rec q → Only live (reading u p rec q) → letter x.id q (message.ReadRequest u.txn u.view p.number rec) ≡ m → SentFor catalogue x given live m
+  writes : (u : Live) (p : Pending) (rec : ℕ) (value : List ℕ) (q : ℕ) → Has x.live u → AskingWrite catalogue x given u p rec value → Has (other_holders catalogue x rec) q → Only live (writing u p (other_holders catalogue x rec)) → letter x.id q (message.WriteRequest u.txn u.view p.number rec) ≡ m → SentFor catalogue x given live m
+  prepares : (u : Live) (p : Pending) (q : ℕ) → Has x.live u → AskingVotes given u p → Has u.parts q → Only live (waiting u p u.parts) → letter x.id q (prepare_for catalogue u p q) ≡ m → SentFor catalogue x given live m
 
 -- why a transaction is entered
 pub record EnteredFor (catalogue : Catalogue) (x : SiteState) (given : Input) (e : Commit) : Type 0 where
@@ -92,18 +92,18 @@ pub record EnteredFor (catalogue : Catalogue) (x : SiteState) (given : Input) (e
 pub record Steps (catalogue : Catalogue) (x : SiteState) (given : Input) (c : CoordinatorState) (ms : List Sent) (cs : List Commit) : Type 0 where
   pub apart : Apart c.live
   pub live : (t : Live) → Has c.live t → LiveNow catalogue x given t
-  pub sent : (m : Sent) → Has ms m → SentFor catalogue x c.live m
+  pub sent : (m : Sent) → Has ms m → SentFor catalogue x given c.live m
   pub entered : (e : Commit) → Has cs e → EnteredFor catalogue x given e
 
 only_fewer : (live now : List Live) (t : Live) → ((u : Live) → Has now u → Has live u) → Only live t → Only now t
 only_fewer live now t sub h u k e = h u (sub u k) e
 
-sent_fewer : (catalogue : Catalogue) (x : SiteState) (live now : List Live) (m : Sent) → ((u : Live) → Has now u → Has live u) → SentFor catalogue x live m → SentFor catalogue x now m
-sent_fewer catalogue x live now m sub (SentFor.aside a) = SentFor.aside a
-sent_fewer catalogue x live now m sub (SentFor.outcome txn commit f e) = SentFor.outcome txn commit f e
-sent_fewer catalogue x live now m sub (SentFor.reads u p rec q h a o e) = SentFor.reads u p rec q h a (only_fewer live now _ sub o) e
-sent_fewer catalogue x live now m sub (SentFor.writes u p rec value q h a k o e) = SentFor.writes u p rec value q h a k (only_fewer live now _ sub o) e
-sent_fewer catalogue x live now m sub (SentFor.prepares u p q h a k o e) = SentFor.prepares u p q h a k (only_fewer live now _ sub o) e
+sent_fewer : (catalogue : Catalogue) (x : SiteState) (given : Input) (live now : List Live) (m : Sent) → ((u : Live) → Has now u → Has live u) → SentFor catalogue x given live m → SentFor catalogue x given now m
+sent_fewer catalogue x given live now m sub (SentFor.aside a) = SentFor.aside a
+sent_fewer catalogue x given live now m sub (SentFor.outcome txn commit f e) = SentFor.outcome txn commit f e
+sent_fewer catalogue x given live now m sub (SentFor.reads u p rec q h a o e) = SentFor.reads u p rec q h a (only_fewer live now _ sub o) e
+sent_fewer catalogue x given live now m sub (SentFor.writes u p rec value q h a k o e) = SentFor.writes u p rec value q h a k (only_fewer live now _ sub o) e
+sent_fewer catalogue x given live now m sub (SentFor.prepares u p q h a k o e) = SentFor.prepares u p q h a k (only_fewer live now _ sub o) e
 
 pub locked_effects : (x : SiteState) (t : Live) (rec : ℕ) (l : Lent) → Locked x t rec l → l.effects ≡ (lent_at x).effects
 unfolding take_lock
@@ -127,7 +127,7 @@ module _ (catalogue : Catalogue) (x : SiteState) (given : Input) (led : Led x) (
   starts = record { apart = apart; live = λ t h. LiveNow.still h; sent = λ m h. absurd (has_none m h); entered = λ e h. absurd (has_none e h) }
 
   -- one transaction moves on, where nothing was sent or entered before
-  moves_on : (now : Live) (c : CoordinatorState) (ms : List Sent) → c.live ≡ x.live → LiveNow catalogue x given now → ((m : Sent) → Has ms m → Only (change_first (named now.txn) (λ (u : Live). now) c.live) now → SentFor catalogue x (change_first (named now.txn) (λ (u : Live). now) c.live) m) → R (put_live now c) ms []
+  moves_on : (now : Live) (c : CoordinatorState) (ms : List Sent) → c.live ≡ x.live → LiveNow catalogue x given now → ((m : Sent) → Has ms m → Only (change_first (named now.txn) (λ (u : Live). now) c.live) now → SentFor catalogue x given (change_first (named now.txn) (λ (u : Live). now) c.live) m) → R (put_live now c) ms []
   moves_on now c ms v from sent =
       let away : Apart c.live = subst Apart (sym v) apart in
       record {
@@ -141,15 +141,15 @@ module _ (catalogue : Catalogue) (x : SiteState) (given : Input) (led : Led x) (
   L l = R l.coordinator l.effects.messages l.effects.commits
 
   -- fewer live ones, and outcomes
-  fewer : (c now : CoordinatorState) (ms extra : List Sent) (cs more : List Commit) → Apart now.live → ((t : Live) → Has now.live t → Has c.live t) → ((m : Sent) → Has extra m → SentFor catalogue x now.live m) → ((e : Commit) → Has more e → EnteredFor catalogue x given e) → R c ms cs → R now (ms ++ extra) (cs ++ more)
+  fewer : (c now : CoordinatorState) (ms extra : List Sent) (cs more : List Commit) → Apart now.live → ((t : Live) → Has now.live t → Has c.live t) → ((m : Sent) → Has extra m → SentFor catalogue x given now.live m) → ((e : Commit) → Has more e → EnteredFor catalogue x given e) → R c ms cs → R now (ms ++ extra) (cs ++ more)
   fewer c now ms extra cs more away sub sent entered r = record {
     apart = away;
     live = λ t h. r.live t (sub t h);
-    sent = λ m h. ⊎_elim (λ old. sent_fewer catalogue x c.live now.live m sub (r.sent m old)) (λ new. sent m new) (has_cases ms extra m h);
+    sent = λ m h. ⊎_elim (λ old. sent_fewer catalogue x given c.live now.live m sub (r.sent m old)) (λ new. sent m new) (has_cases ms extra m h);
     entered = λ e h. ⊎_elim (λ old. r.entered e old) (λ new. entered e new) (has_cases cs more e h);
   }
 
-  outcomes : (txn : TxnId) (commit : Bool) (sites : List ℕ) (live : List Live) (m : Sent) → Has (letters x.id (λ q. message.Outcome txn commit) sites) m → SentFor catalogue x live m
+  outcomes : (txn : TxnId) (commit : Bool) (sites : List ℕ) (live : List Live) (m : Sent) → Has (letters x.id (λ q. message.Outcome txn commit) sites) m → SentFor catalogue x given live m
   outcomes txn commit sites live m h = let r = map_has (λ (q : ℕ). letter x.id q (message.Outcome txn commit)) sites m h in SentFor.outcome txn commit (sym (ap (λ (m : Sent). m.from) r.2)) (sym (ap (λ (m : Sent). m.message) r.2))
 
   ends : (t : Live) (why : Ending) (commit : Bool) (l now : Lent) (more : List Commit) → Ends x.id t why commit l now → now.effects.commits ≡ l.effects.commits ++ more → ((e : Commit) → Has more e → EnteredFor catalogue x given e) → L l → L now
@@ -188,7 +188,7 @@ module _ (catalogue : Catalogue) (x : SiteState) (given : Input) (led : Led x) (
       from_here : (m : Sent) → Has l.effects.messages m → m.from ≡ x.id
       from_here m h = go (r.sent m h)
         where
-          go : SentFor catalogue x l.live m → m.from ≡ x.id
+          go : SentFor catalogue x given l.live m → m.from ≡ x.id
           go (SentFor.aside a) = a.from
           go (SentFor.outcome txn commit f e) = f
           go (SentFor.reads u p rec q h a o e) = ap (λ (m : Sent). m.from) (sym e)
@@ -203,7 +203,7 @@ module _ (catalogue : Catalogue) (x : SiteState) (given : Input) (led : Led x) (
       let cs : l.effects.commits ≡ [] = ap (λ (e : Effects). e.commits) e in
       rw (ms, cs) (moves_on (done t operation words) l.coordinator [] v (LiveNow.completed t p operation words l h g refl) (λ m k o. absurd (has_none m k)))
 
-  writes_at : (t : Live) (p : Pending) (rec : ℕ) (value : List ℕ) (l : Lent) → Has x.live t → AskingWrite catalogue x t p rec value → Locked x t rec l → l.live ≡ x.live → L (write_at x.id t p rec (other_holders catalogue x rec) l)
+  writes_at : (t : Live) (p : Pending) (rec : ℕ) (value : List ℕ) (l : Lent) → Has x.live t → AskingWrite catalogue x given t p rec value → Locked x t rec l → l.live ≡ x.live → L (write_at x.id t p rec (other_holders catalogue x rec) l)
   unfolding write_at
   writes_at t p rec value l h a d v =
       let e = locked_effects x t rec l d in
@@ -213,12 +213,12 @@ module _ (catalogue : Catalogue) (x : SiteState) (given : Input) (led : Led x) (
       rw (ms, cs) (moves_on (writing t p others) l.coordinator (letters x.id (λ q. message.WriteRequest t.txn t.view p.number rec) others) v (LiveNow.writes t p rec value h a refl)
       (λ m k o. let r = map_has (λ (q : ℕ). letter x.id q (message.WriteRequest t.txn t.view p.number rec)) others m k in SentFor.writes t p rec value r.0 h a r.1 o r.2))
 
-  reads_at : (t : Live) (p : Pending) (rec q : ℕ) → Has x.live t → AskingRead catalogue x t p rec q → L (read_at x.id t p rec q (lent_at x))
+  reads_at : (t : Live) (p : Pending) (rec q : ℕ) → Has x.live t → AskingRead catalogue x given t p rec q → L (read_at x.id t p rec q (lent_at x))
   unfolding read_at
   reads_at t p rec q h a = moves_on (reading t p rec q) x.coordinator (letter x.id q (message.ReadRequest t.txn t.view p.number rec) ∷ []) refl (LiveNow.reads t p rec q h a refl)
       (λ m k o. SentFor.reads t p rec q h a o (has_one_is (letter x.id q (message.ReadRequest t.txn t.view p.number rec)) m k))
 
-  asks_votes : (t : Live) (p : Pending) → Has x.live t → AskingVotes t p → L (prepare_parts catalogue x.id t p (lent_at x))
+  asks_votes : (t : Live) (p : Pending) → Has x.live t → AskingVotes given t p → L (prepare_parts catalogue x.id t p (lent_at x))
   unfolding prepare_parts
   asks_votes t p h a = moves_on (waiting t p t.parts) x.coordinator (letters x.id (prepare_for catalogue t p) t.parts) refl (LiveNow.prepares t p h a refl)
       (λ m k o. let r = map_has (λ (q : ℕ). letter x.id q (prepare_for catalogue t p q)) t.parts m k in SentFor.prepares t p r.0 h a r.1 o r.2)
@@ -262,7 +262,7 @@ module _ (catalogue : Catalogue) (x : SiteState) (given : Input) (led : Led x) (
     resends = λ c d ms cs tick h r. plus c ms _ cs (outcomes d.0 true d.1 c.live) r;
   }
     where
-      plus : (c : CoordinatorState) (ms extra : List Sent) (cs : List Commit) → ((m : Sent) → Has extra m → SentFor catalogue x c.live m) → R c ms cs → R c (ms ++ extra) cs
+      plus : (c : CoordinatorState) (ms extra : List Sent) (cs : List Commit) → ((m : Sent) → Has extra m → SentFor catalogue x given c.live m) → R c ms cs → R c (ms ++ extra) cs
       plus c ms extra cs new r = record {
         apart = r.apart;
         live = r.live;
