@@ -166,7 +166,7 @@ module _ (catalogue : Catalogue) (x : SiteState) (given : Input) (after : SiteSt
   live_call-front t p here c =
       by_test Q (nat_le p.number (length t.answers)) _ _ (λ old. by_some Q _ (λ answer. lent_reply answer p.port) (lent_at x) (λ answer e. told answer p.port (Tells.again t p.number answer here e)) h)
       (λ fresh. by_test Q (nat_lt (length t.answers + 1) p.number) _ _ (λ skipped. told _ _ (Tells.plain _ refl))
-      (λ fits. by_test Q (is_some t.pending) _ _ (λ busy. told _ _ (Tells.plain _ refl)) (λ idle. new_call-front t p (record { live = here; next = record { idle = idle; number = next_number p.number (length t.answers) fresh fits }; called = c }) p.call refl)))
+      (λ fits. by_test Q (is_some t.pending) _ _ (λ busy. told _ _ (Tells.plain _ refl)) (λ idle. new_call-front t p (record { live = here; next = record { comes = c.comes; idle = idle; number = next_number p.number (length t.answers) fresh fits }; called = c }) p.call refl)))
 
   finished_call-front : (port number : ℕ) (f : Finished) → Has x.finished f → Q (finished_call port number f (lent_at x))
   unfolding finished_call

@@ -35,7 +35,7 @@ pub data Operates (words : Call) (name : List ℕ) : Bool → Type 0 where
 -- a call that is handled, as the transaction's next
 pub record Takes (x : SiteState) (given : Input) (was : Live) (p : Pending) : Type 0 where
   pub live : Has x.live was
-  pub next : IsNext was p
+  pub next : IsNext given was p
   pub called : Called given was p
 
 -- the call that a message is for

@@ -158,7 +158,7 @@ module _ (catalogue : Catalogue) (x : SiteState) (given : Input) where
     end_here = λ from txn commit c. ends_here from txn commit (doubt_of txn x.doubts);
     coordinator = record {
       begin = λ port view e. hushed (lent_at x) _ refl begins;
-      answers = λ words port. hushed (lent_at x) _ refl begins;
+      answers = λ words port why. hushed (lent_at x) _ refl begins;
       take_lock = λ t rec exclusive stored h i a v c. hushed (lent_at x) _ refl begins;
       complete = λ t p operation words l h g e q. hushed l _ refl q;
       read_at = λ t p rec q h n r a w c o. one _ q (message.ReadRequest t.txn t.view p.number rec) refl refl refl;

@@ -1,12 +1,13 @@
 -- What the check of a history prints.
-use Rattle.std.specs.Prelude.{◌≡◌, ◌⊎◌, ℕ, List, [], ◌∷◌, ◌++◌, length, slice_index_or, codes, Some, Ok, Err}
+use Rattle.std.specs.Prelude.{◌≡◌, ℕ, List, [], ◌∷◌, ◌++◌, length, slice_index_or, codes, Some, Ok, Err}
 use Rattle.std.specs.Fmt.{decimal}
 use Rattle.vp_base.specs.Identifiers.{txn_text}
 use Rattle.vp_model.specs.Types.{TxnId}
 use Rattle.vp_model.specs.OneCopy.{Values, serial}
 use Rattle.vp_onecopy.specs.Checking.{IsFirstDifference}
-use Rattle.vp_onecopy.specs.Passing.{AnsweredAll}
+use Rattle.vp_onecopy.specs.Passing.{AnsweredAll, IsOnly}
 use Rattle.vp_onecopy.specs.declared.map.History.{History}
+use Rattle.vp_onecopy.specs.declared.fault.HistoryFault.{HistoryFault}
 use Rattle.vp_onecopy.specs.declared.fault.HistoryFault.TheVariants as faults
 use Rattle.vp_top.specs.Refused.{bad_line_text, twice_text}
 use Rattle.vp_top.specs.declared.status.Status.{Status}
@@ -43,14 +44,22 @@ IsVerdict h status.Differs text =
     × (text ≡ difference_text txn place (slice_index_or h.names rec []) kept read)
 IsVerdict h _ text = ⊥
 
--- the bytes are any lines and then a history, and this is the verdict on it
+-- the bytes are any lines and then this history and no other, and this is the verdict on it
 pub record IsChecked (bytes : List ℕ) (end : Status) (text : List ℕ) : Type 0 where
   pub history : History
   pub spelled : AnsweredAll bytes (Ok history)
+  pub only : IsOnly bytes (Ok history)
   pub verdict : IsVerdict history end text
 
--- the bytes are no such text: this is the first line at fault, and its place
-abbrev pub IsMisspelled : List ℕ → List ℕ → Type 0
-IsMisspelled bytes text =
-    ((line at : ℕ) × AnsweredAll bytes (Err (faults.BadLine line at)) × (text ≡ bad_line_text line at))
-    ⊎ ((line : ℕ) × AnsweredAll bytes (Err (faults.Twice line)) × (text ≡ twice_text line))
+-- how a fault is told
+abbrev pub Finds : HistoryFault → Status → List ℕ → Type 0
+Finds (faults.BadLine line at) status.BadLine text = text ≡ bad_line_text line at
+Finds (faults.Twice line) status.BadLine text = text ≡ twice_text line
+Finds _ _ text = ⊥
+
+-- the bytes are no such text: this is their one fault, at the first line where one stands
+pub record IsMisspelled (bytes : List ℕ) (end : Status) (text : List ℕ) : Type 0 where
+  pub fault : HistoryFault
+  pub answered : AnsweredAll bytes (Err fault)
+  pub only : IsOnly bytes (Err fault)
+  pub told : Finds fault end text

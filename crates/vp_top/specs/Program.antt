@@ -21,7 +21,7 @@ IsAnswer commands.Replay bytes status.Limit text = IsRefused bytes status.Limit 
 IsAnswer commands.Replay bytes _ text = ⊥
 IsAnswer commands.Check bytes status.Done text = IsChecked bytes status.Done text
 IsAnswer commands.Check bytes status.Differs text = IsChecked bytes status.Differs text
-IsAnswer commands.Check bytes status.BadLine text = IsMisspelled bytes text
+IsAnswer commands.Check bytes status.BadLine text = IsMisspelled bytes status.BadLine text
 IsAnswer commands.Check bytes _ text = ⊥
 
 -- The words are a command's, its input was read to its end and is not too long, and this is its answer.

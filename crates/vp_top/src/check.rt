@@ -4,7 +4,7 @@ ghost use Rattle.std.specs.Prelude.{◌≡◌, ◌++◌, ◌∷◌, [], IfOk, On
 ghost use Rattle.std.specs.Fmt.{decimal};
 ghost use Rattle.vp_base.specs.Identifiers.{txn_text};
 ghost use Rattle.vp_onecopy.specs.Passing.{IsWhole};
-ghost use Rattle.vp_top.specs.Checked.{value_text, values_text, serial_text, difference_text, IsVerdict};
+ghost use Rattle.vp_top.specs.Checked.{value_text, values_text, serial_text, difference_text, IsVerdict, Finds};
 ghost use Rattle.vp_top.specs.Program.{IsAnswer};
 ghost use Rattle.vp_top.specs.declared.words.Command.TheVariants as commands;
 
@@ -21,23 +21,31 @@ pub fn answer(alloc: Global, input: &[u8]) -> Result<Defined, NoMemory>
 {
     match read_history(alloc, input) {
         Ok(history) => judge(alloc, &history),
-        Err(HistoryFault::BadLine { line, at }) => {
-            let mut text = Vec::new(alloc);
+        Err(fault) => refuse(alloc, fault),
+    }
+}
+
+/// What is told of an input that has no history.
+fn refuse(alloc: Global, fault: HistoryFault) -> Result<Defined, NoMemory>
+    ensures { IfOk result (λ defined. Finds fault defined.status defined.text.items) }
+{
+    let mut text = Vec::new(alloc);
+    match fault {
+        HistoryFault::BadLine { line, at } => {
             print_bad_line(line, at, &mut text)?;
             Ok(Defined {
                 status: Status::BadLine,
                 text,
             })
         }
-        Err(HistoryFault::Twice { line }) => {
-            let mut text = Vec::new(alloc);
+        HistoryFault::Twice { line } => {
             print_twice(line, &mut text)?;
             Ok(Defined {
                 status: Status::BadLine,
                 text,
             })
         }
-        Err(HistoryFault::NoMemory) => Err(NoMemory),
+        HistoryFault::NoMemory => Err(NoMemory),
     }
 }
 
