@@ -48,7 +48,7 @@ impl Catalog {
     }
 
     /// Puts a site behind the last one. Without memory the catalogue is as it was.
-    pub fn add_site(&mut self, site: SiteId, port: u16) -> Result<(), NoMemory>
+    fn add_site(&mut self, site: SiteId, port: u16) -> Result<(), NoMemory>
         ensures { self.new ≡ (if is_ok result then record self.old { sites = self.old.sites ++ (site, port) ∷ [] } else self.old) }
     {
         self.ports.reserve(1)?;
@@ -58,7 +58,7 @@ impl Catalog {
     }
 
     /// Puts a record behind the last one. Without memory the catalogue is as it was.
-    pub fn add_record(&mut self, placed: Placed) -> Result<(), NoMemory>
+    fn add_record(&mut self, placed: Placed) -> Result<(), NoMemory>
         requires { length self.old.records < 256 }
         ensures { self.new ≡ (if is_ok result then record self.old { records = self.old.records ++ placed ∷ [] } else self.old) }
     {

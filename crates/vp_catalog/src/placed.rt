@@ -32,7 +32,7 @@ impl Model for Placed {
 
 impl Placed {
     /// Makes the list of holders, which takes memory.
-    pub fn new(
+    pub(crate) fn new(
         alloc: Global,
         name: Name,
         start: Value,
