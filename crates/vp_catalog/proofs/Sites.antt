@@ -1,9 +1,9 @@
 -- A site of a list is read exactly, and its number goes on with digits alone.
-use Rattle.std.proofs.Common.{◌≡◌, ◌≢◌, ℕ, zero, suc, ◌<◌, ◌≤◌, Bool, true, false, cond, ltb, ◌||◌, eqb, ◌⊎◌, List, [], ◌∷◌, ◌++◌, get_or, map, Option, Some, None, Ok, Err, refl, sym, ap, subst, ◌∙◌, arith, inl, inr}
+use Rattle.std.proofs.Common.{◌≡◌, ◌≢◌, ℕ, ◌+◌, ◌/◌, ◌%◌, zero, suc, ◌<◌, ◌≤◌, Bool, true, false, cond, ltb, ◌||◌, eqb, ◌⊎◌, List, [], ◌∷◌, ◌++◌, get_or, map, Option, Some, None, Ok, Err, refl, sym, ap, subst, ◌∙◌, arith, inl, inr}
 use Rattle.std.specs.Prelude.{option_map}
 use Rattle.std.specs.List.{AllByRecursion}
 use Rattle.std.specs.Fmt.{decimal}
-use Rattle.std.proofs.lemmas.Fmt.{decimal_injective}
+use Rattle.std.proofs.lemmas.Fmt.{decimal_injective, decimal_step, decimal_digit}
 use Rattle.std.proofs.lemmas.Bool.{false≢true, lt-ltb, ltb-true, eqb-true, eq-eqb, cases_eq, or_cases, le-leb, and_from}
 use Rattle.vp_text.specs.Reading.{is_digit}
 use Rattle.vp_text.proofs.Exact.{Exact, Made, made_exact, exact_as}
@@ -154,3 +154,10 @@ pub site_goes : (sites : List ℕ) (above : ℕ) → AllSites sites → GoesOn i
 site_goes sites above all = λ a a2 text x r before longer.
     let digit = all_at IsDigit text x r (site_digits sites above a2 (text ++ x ∷ r) all longer) in
     and_from _ _ (le-leb 48 x digit.0) (le-leb x 57 digit.1)
+
+-- ---- the digits of a site
+
+pub two_digits : (n : ℕ) → 10 ≤ n → n ≤ 16 → decimal n ≡ (48 + n / 10) ∷ (48 + n % 10) ∷ []
+two_digits n big small =
+    let tens : n / 10 < 10 = omega arith in
+    decimal_step n big (omega arith) ∙ ap (λ (x : List ℕ). x ++ (48 + n % 10) ∷ []) (decimal_digit (n / 10) tens)

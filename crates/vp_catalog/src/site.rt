@@ -8,7 +8,6 @@ ghost use Rattle.vp_text.specs.Reading.{Reads};
 ghost use Rattle.vp_base.specs.Reading.{starts_any};
 ghost use Rattle.vp_catalog.specs.Sites.{site_texts, site_named, site_at};
 
-use itoa::Buffer;
 use vp_base::SiteId;
 use vp_text::{Cursor, Unexpected};
 
@@ -41,7 +40,7 @@ fn some_starts(sites: &[SiteId], above: u8, prefix: &[u8]) -> bool
     ensures { result ≡ starts_any (site_texts sites.now above) prefix.now }
 {
     for site in sites {
-        if above < site.get() && begins(site.get(), prefix) {
+        if above < site.get() && begins(*site, prefix) {
             return true;
         }
     }
@@ -54,25 +53,33 @@ fn named(sites: &[SiteId], above: u8, text: &[u8]) -> Option<SiteId>
     ensures higher { IfSome result (λ site. above < site) }
 {
     for site in sites {
-        if above < site.get() && is_number(site.get(), text) {
+        if above < site.get() && is_number(*site, text) {
             return Some(*site);
         }
     }
     None
 }
 
-/// Whether the decimal digits of the number begin so.
-fn begins(number: u8, prefix: &[u8]) -> bool
-    ensures { result ≡ starts_with nat_eq (decimal number) prefix.now }
+/// Whether the decimal digits of the site begin so.
+fn begins(site: SiteId, prefix: &[u8]) -> bool
+    ensures { result ≡ starts_with nat_eq (decimal site) prefix.now }
 {
-    let mut buffer = Buffer::new();
-    buffer.format(number).as_bytes().starts_with(prefix)
+    let number = site.get();
+    if number < 10 {
+        [b'0' + number].starts_with(prefix)
+    } else {
+        [b'0' + number / 10, b'0' + number % 10].starts_with(prefix)
+    }
 }
 
-/// Whether the text is the number in decimal digits.
-fn is_number(number: u8, text: &[u8]) -> bool
-    ensures { result ≡ bytes_eq (decimal number) text.now }
+/// Whether the text is the decimal digits of the site.
+fn is_number(site: SiteId, text: &[u8]) -> bool
+    ensures { result ≡ bytes_eq (decimal site) text.now }
 {
-    let mut buffer = Buffer::new();
-    buffer.format(number).as_bytes() == text
+    let number = site.get();
+    if number < 10 {
+        [b'0' + number].as_slice() == text
+    } else {
+        [b'0' + number / 10, b'0' + number % 10].as_slice() == text
+    }
 }

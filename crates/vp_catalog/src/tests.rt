@@ -1,43 +1,27 @@
-//! The look-ups of a small catalogue, and the number of a site.
+//! Catalogues that are read, printed and refused.
 
-use crate::{Catalog, Placed, take_site};
+use crate::{Catalog, CatalogFault, take_site};
 use std::alloc::Global;
 use std::test::Fail;
-use vp_base::{Name, RecId, SiteId, Sites, Value};
-use vp_text::Cursor;
+use vp_base::{RecId, SiteId, Sites};
+use vp_text::{Cursor, print_number};
+
+fn catalog(alloc: Global, text: &[u8]) -> Result<Catalog, Fail> {
+    match Catalog::read(alloc, text) {
+        Ok(catalog) => Ok(catalog),
+        Err(_) => Err(Fail::from("no catalogue")),
+    }
+}
 
 fn site(number: u8) -> Result<SiteId, Fail> {
     Ok(SiteId::new(number).ok_or("no site")?)
 }
 
-fn placed(alloc: Global, name: &[u8]) -> Result<Placed, Fail> {
-    let mut weights = Vec::new(alloc);
-    weights.push((site(1)?, 2))?;
-    weights.push((site(2)?, 1))?;
-    weights.push((site(3)?, 1))?;
-    Ok(Placed::new(
-        alloc,
-        Name::read(alloc, name)?,
-        Value::read(alloc, b"5")?,
-        weights,
-    )?)
-}
-
-fn catalog(alloc: Global) -> Result<Catalog, Fail> {
-    let mut catalog = Catalog::new(alloc);
-    catalog.add_site(site(1)?, 7001)?;
-    catalog.add_site(site(2)?, 7002)?;
-    catalog.add_site(site(3)?, 7003)?;
-    Ok(catalog)
-}
-
 #[test]
 fn half_of_the_weight_is_not_enough(rt: HostRuntime) -> Result<(), Fail> {
     let alloc = rt.alloc();
-    let mut catalog = catalog(alloc)?;
-    if catalog.count() < 256 {
-        catalog.add_record(placed(alloc, b"y")?)?;
-    }
+    let text = b"site 1 7001\nsite 2 7002\nsite 3 7003\nrecord y 5 1:2 2:1 3:1\n";
+    let catalog = catalog(alloc, text)?;
     let y = RecId::new(0);
     let mut members = Sites::new(alloc);
     members.push(site(1)?)?;
@@ -76,5 +60,102 @@ fn the_number_of_a_site_is_at_fault_where_no_site_goes_on(rt: HostRuntime) -> Re
             }
         }
     }
+    Ok(())
+}
+
+fn fault(rt: &HostRuntime, text: &[u8]) -> Option<CatalogFault> {
+    Catalog::read(rt.alloc(), text).err()
+}
+
+fn bad(line: usize, at: usize) -> Option<CatalogFault> {
+    Some(CatalogFault::BadLine { line, at })
+}
+
+fn twice(line: usize) -> Option<CatalogFault> {
+    Some(CatalogFault::Twice { line })
+}
+
+#[test]
+fn sites_are_refused_at_their_places(rt: HostRuntime) {
+    let cases: [(&[u8], Option<CatalogFault>); 13] = [
+        (b"", bad(1, 1)),
+        (b"site 1 7001", bad(1, 12)),
+        (b"site 1 7001\n", None),
+        (b"site 17 7001\n", bad(1, 7)),
+        (b"site 0 7001\n", bad(1, 6)),
+        (b"site 1 0\n", bad(1, 8)),
+        (b"site 1 65536\n", bad(1, 12)),
+        (b"site 2 7002\nsite 1 7001\n", bad(2, 7)),
+        (b"site 7 7002\nsite 5 7001\n", bad(2, 6)),
+        (b"site 16 1\nsite 16 2\n", bad(2, 1)),
+        (b"record x 1 1:1\n", bad(1, 1)),
+        (b"site 1 7001\nsite 2 7001\n", twice(2)),
+        (b"site 1 7001\n\n", bad(2, 1)),
+    ];
+    for (text, wanted) in cases {
+        assert_eq!(rt; fault(&rt, text), wanted);
+    }
+}
+
+#[test]
+fn records_are_refused_at_their_places(rt: HostRuntime) -> Result<(), Fail> {
+    let cases: [(&[u8], Option<CatalogFault>); 13] = [
+        (b"record x 1 1:1 12:65535\n", None),
+        (b"record x 1\n", bad(3, 11)),
+        (b"record x 1 2:1\n", bad(3, 12)),
+        (b"record x 1 12:1 1:1\n", bad(3, 16)),
+        (b"record x 1 1:1 1:1\n", bad(3, 17)),
+        (b"record x 1 1:0\n", bad(3, 14)),
+        (b"record x 1 1:1", bad(3, 15)),
+        (b"record X 1 1:1\n", bad(3, 8)),
+        (b"record aaaaaaaaaaaaaaaaa 1 1:1\n", bad(3, 24)),
+        (b"record x 1 1:1\nsite 13 7003\n", bad(4, 1)),
+        (b"record x 1 1:1\nrecord x 2 1:1\n", twice(4)),
+        (b"record x 1 1:1\nrecord x 2 1:1", bad(4, 15)),
+        (b"record x 1 1:1\nevents\n", bad(4, 1)),
+    ];
+    for (text, wanted) in cases {
+        let mut whole = Vec::from_slice(rt.alloc(), b"site 1 7001\nsite 12 7012\n")?;
+        whole.extend_from_slice(text)?;
+        assert_eq!(rt; fault(&rt, &whole), wanted);
+    }
+    Ok(())
+}
+
+/// A site and so many records of different names.
+fn many(alloc: Global, count: u64) -> Result<Vec<u8>, Fail> {
+    let mut text = Vec::from_slice(alloc, b"site 1 7001\n")?;
+    for number in 0..count {
+        text.extend_from_slice(b"record r")?;
+        print_number(&mut text, number)?;
+        text.extend_from_slice(b" 1 1:1\n")?;
+    }
+    Ok(text)
+}
+
+#[test]
+fn the_record_behind_256_is_too_many(rt: HostRuntime) -> Result<(), Fail> {
+    let most = many(rt.alloc(), 256)?;
+    assert_eq!(rt; catalog(rt.alloc(), &most)?.count(), 256);
+    let limit = Some(CatalogFault::TooMany {
+        line: 258,
+        limit: 256,
+    });
+    assert_eq!(rt; fault(&rt, &many(rt.alloc(), 257)?), limit);
+    let mut again = most;
+    again.extend_from_slice(b"record r0 1 1:1\n")?;
+    assert_eq!(rt; fault(&rt, &again), limit);
+    Ok(())
+}
+
+#[test]
+fn what_was_read_is_printed(rt: HostRuntime) -> Result<(), Fail> {
+    let text =
+        b"site 1 7001\nsite 2 7002\nsite 16 65535\nrecord x 10 1:1 2:1 16:65535\nrecord y_2 ~! 2:7\n";
+    let catalog = catalog(rt.alloc(), text)?;
+    assert_eq!(rt; catalog.port(site(16)?), Some(65535));
+    let mut out = Vec::new(rt.alloc());
+    catalog.print(&mut out)?;
+    assert_eq!(rt; out.as_slice(), text.as_slice());
     Ok(())
 }
