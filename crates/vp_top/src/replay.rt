@@ -83,7 +83,7 @@ fn refuse(alloc: Global, fault: ScheduleFault) -> Result<Defined, NoMemory>
 }
 
 /// The trace of a schedule of this site alone, and then its history.
-pub fn print_replay(alloc: Global, id: SiteId, schedule: Schedule) -> Result<Vec<u8>, NoMemory>
+fn print_replay(alloc: Global, id: SiteId, schedule: Schedule) -> Result<Vec<u8>, NoMemory>
     requires served { IsServedAt id schedule }
     requires alone { All (IsOnlyAt id) schedule.catalogue.records }
     requires few { length schedule.events ≤ 100000 }
