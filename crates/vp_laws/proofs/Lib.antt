@@ -125,3 +125,6 @@ pub mod SiteWords
 pub mod Readable
 -- what is stated and not proved yet
 pub mod Remaining
+-- what clients are told of operations
+pub mod ToldCalls
+pub mod TableTold
