@@ -128,3 +128,4 @@ pub mod Remaining
 -- what clients are told of operations
 pub mod ToldCalls
 pub mod TableTold
+pub mod ToldAt

@@ -27,9 +27,6 @@ pub record TellsCall (catalogue : Catalogue) (lines : List Line) (u : TxnId) (la
 pub idle : (catalogue : Catalogue) (lines : List Line) (u : TxnId) (last : ℕ) (ops : List Op) → TellsLive catalogue lines u last ops → TellsCall catalogue lines u last None ops
 idle catalogue lines u last ops h = record { so_far = h.so_far; below = h.below; taken = λ p e. cc; untaken = h.untaken }
 
-pub as_live : (catalogue : Catalogue) (lines : List Line) (u : TxnId) (last : ℕ) (ops : List Op) → TellsCall catalogue lines u last None ops → TellsLive catalogue lines u last ops
-as_live catalogue lines u last ops h = record { so_far = h.so_far; below = h.below; untaken = h.untaken }
-
 find_kept : {X : Type 0} (test : X → Bool) (xs ys : List X) (x : X) → find test xs ≡ Some x → find test (xs ++ ys) ≡ Some x
 find_kept test [] ys x e = cc
 find_kept test (y ∷ xs) ys x e = go (test y) e (λ q. find_kept test xs ys x q)
@@ -39,7 +36,7 @@ find_kept test (y ∷ xs) ys x e = go (test y) e (λ q. find_kept test xs ys x q
     go false q i = i q
 
 -- a number that was taken stays so
-taken_on : (lines : List Line) (l : Line) (u : TxnId) (k : ℕ) (words : Call) → taken_call lines u k ≡ Some words → taken_call (lines ++ l ∷ []) u k ≡ Some words
+pub taken_on : (lines : List Line) (l : Line) (u : TxnId) (k : ℕ) (words : Call) → taken_call lines u k ≡ Some words → taken_call (lines ++ l ∷ []) u k ≡ Some words
 taken_on lines l u k words h = go (find (takes u k) lines) refl h
   where
     go : (o : Option Line) → find (takes u k) lines ≡ o → option_and_then (λ (line : Line). call_in line.event) o ≡ Some words → taken_call (lines ++ l ∷ []) u k ≡ Some words
@@ -85,10 +82,6 @@ module _ (catalogue : Catalogue) (lines : List Line) (l : Line) (u : TxnId) (las
       call_of : (q r : Pending) → Some q ≡ Some r → q.call ≡ r.call
       call_of q r e = let same : q ≡ r = cc in ap (λ (p : Pending). p.call) same
 
-  -- the line is its next call, which is answered at once
-  pub done_at_once : (a : Answer) (operation : Op) → TellsCall catalogue lines u last None ops → IsDoneBy catalogue l u (last + 1) a operation → TellsCall catalogue (lines ++ l ∷ []) u (last + 1) None (ops ++ operation ∷ [])
-  done_at_once a operation h d = idle catalogue (lines ++ l ∷ []) u (last + 1) (ops ++ operation ∷ []) (tells_more catalogue lines l u last ops a operation (as_live catalogue lines u last ops h) d)
-
 -- a report under a number beyond all others
 none_above : (n : ℕ) (rs : List Report) → AllByRecursion (λ (p : Report). p.0 ≤ n) rs → value_at (n + 1) rs ≡ None
 none_above n [] h = refl
@@ -119,16 +112,16 @@ one_told f r operation e = rw e refl
 tell : Catalogue → List Line → TxnId → Report → Option Op
 tell catalogue lines u report = option_and_then (told_by catalogue report.1) (taken_call lines u report.0)
 
--- the line answers its pending call: it is no call of its own, and reports an operation under the pending number
-pub record IsAnswered (catalogue : Catalogue) (l : Line) (u : TxnId) (number : ℕ) (words : Call) (a : Answer) (operation : Op) : Type 0 where
-  -- what is reported
+-- an operation is done: the line reports it under the next number, which a call has taken by then
+pub record IsDoneNow (catalogue : Catalogue) (lines : List Line) (l : Line) (u : TxnId) (number : ℕ) (operation : Op) : Type 0 where
   pub report : Option (List ℕ)
-  -- the answer
-  pub answers : answers_in l ≡ a ∷ []
-  -- it reports under this number
-  pub reports : reported u a ≡ Some (number, report)
-  -- no number is taken
-  pub others : (k : ℕ) → takes u k l ≡ false
+  pub words : Call
+  -- it is reported under this number
+  pub reports : reports (lines ++ l ∷ []) u ≡ put_first (number, report) (reports lines u)
+  -- this call has taken the number
+  pub taken : taken_call (lines ++ l ∷ []) u number ≡ Some words
+  -- and none a later one
+  pub untaken : (k : ℕ) → number < k → find (takes u k) (lines ++ l ∷ []) ≡ None
   -- with the call it tells the operation
   pub tells : told_by catalogue report words ≡ Some operation
 
@@ -149,22 +142,20 @@ module _ (catalogue : Catalogue) (lines : List Line) (l : Line) (u : TxnId) wher
   told_same [] h = refl
   told_same (r ∷ rs) h = rw (taken_same r.0 h.0, told_same rs h.1) refl
 
-  pub done_at_last : (last : ℕ) (ops : List Op) (p : Pending) (a : Answer) (operation : Op) → TellsCall catalogue lines u last (Some p) ops → IsAnswered catalogue l u (last + 1) p.call a operation → TellsCall catalogue (lines ++ l ∷ []) u (last + 1) None (ops ++ operation ∷ [])
+  pub done_next : (last : ℕ) (pending : Option Pending) (ops : List Op) (operation : Op) → TellsCall catalogue lines u last pending ops → IsDoneNow catalogue lines l u (last + 1) operation → TellsCall catalogue (lines ++ l ∷ []) u (last + 1) None (ops ++ operation ∷ [])
   unfolding tell
-  done_at_last last ops p a operation h d =
-      let now : reports (lines ++ l ∷ []) u ≡ reports lines u ++ (last + 1, d.report) ∷ [] =
-      reports-last lines l u ∙ ap (λ z. collected u z (reports lines u)) d.answers ∙ collected_one u a (reports lines u) (last + 1, d.report) d.reports ∙ put_last last d.report (reports lines u) h.below in
-      let found : taken_call (lines ++ l ∷ []) u (last + 1) ≡ Some p.call = taken_on lines l u (last + 1) p.call (h.taken p refl) in
+  done_next last pending ops operation h d =
+      let now : reports (lines ++ l ∷ []) u ≡ reports lines u ++ (last + 1, d.report) ∷ [] = d.reports ∙ put_last last d.report (reports lines u) h.below in
       record {
         so_far = record {
-          taken = rw now (all_append (λ (p : Report). is_some (taken_call (lines ++ l ∷ []) u p.0) ≡ true) (reports lines u) (last + 1, d.report) (all_taken (reports lines u) h.so_far.taken) (rw found refl));
+          taken = rw now (all_append (λ (p : Report). is_some (taken_call (lines ++ l ∷ []) u p.0) ≡ true) (reports lines u) (last + 1, d.report) (all_taken (reports lines u) h.so_far.taken) (rw d.taken refl));
           tells =
               ap (filter_map (tell catalogue (lines ++ l ∷ []) u)) now
               ∙ filter_map-append (tell catalogue (lines ++ l ∷ []) u) (reports lines u) ((last + 1, d.report) ∷ [])
               ∙ ap (λ z. z ++ filter_map (tell catalogue (lines ++ l ∷ []) u) ((last + 1, d.report) ∷ [])) (told_same (reports lines u) h.so_far.taken ∙ h.so_far.tells)
-              ∙ ap (λ z. ops ++ z) (one_told (tell catalogue (lines ++ l ∷ []) u) (last + 1, d.report) operation (ap (option_and_then (told_by catalogue d.report)) found ∙ d.tells));
+              ∙ ap (λ z. ops ++ z) (one_told (tell catalogue (lines ++ l ∷ []) u) (last + 1, d.report) operation (ap (option_and_then (told_by catalogue d.report)) d.taken ∙ d.tells));
         };
         below = rw now (all_append (λ (p : Report). p.0 ≤ last + 1) (reports lines u) (last + 1, d.report) (all_weaker last (reports lines u) h.below) (omega arith));
         taken = λ q e. cc;
-        untaken = λ k q. find_last (takes u k) lines l (h.untaken k q) ∙ rw (d.others k) refl;
+        untaken = d.untaken;
       }
