@@ -129,3 +129,4 @@ pub mod Remaining
 pub mod ToldCalls
 pub mod TableTold
 pub mod ToldAt
+pub mod ToldMoves

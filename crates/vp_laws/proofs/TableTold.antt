@@ -30,6 +30,7 @@ use Rattle.vp_laws.proofs.TableEnds.{kept_has}
 use Rattle.vp_laws.proofs.TableEndings.{NotLive}
 use Rattle.vp_laws.proofs.Reasons.{Takes, Awaits, Why, Tells, is_plain, told_to, last_reply, IsDone, Goes, Front}
 use Rattle.vp_laws.proofs.FrontSteps.{step-front}
+use Rattle.vp_laws.proofs.ToldCalls.{SameCall}
 
 -- what an operation that is done is told: its report, which with the call tells the operation
 pub record SaysDone (catalogue : Catalogue) (txn : TxnId) (p : Pending) (operation : Op) (words : Answer) : Type 0 where
@@ -91,11 +92,6 @@ Repeats x u rs = (r : Reply) → Has rs r → (reported u r.answer ≡ None) ⊎
 -- no reply is an early refusal
 abbrev pub AreLate : List Reply → Type 0
 AreLate rs = (r : Reply) → Has rs r → is_early_refusal r.answer ≡ false
-
--- no call is pending before and after, or the same one
-pub data SameCall (a b : Option Pending) : Type 0 where
-  none : a ≡ None → b ≡ None → SameCall a b
-  same : (p q : Pending) → a ≡ Some p → b ≡ Some q → p.call ≡ q.call → SameCall a b
 
 pub data LiveTold (catalogue : Catalogue) (x : SiteState) (given : Input) (rs : List Reply) (t : Live) : Type 0 where
   was : (u : Live) → Has x.live u → u.txn ≡ t.txn → u.ops ≡ t.ops → u.answers ≡ t.answers → SameCall u.pending t.pending → Repeats x t.txn rs → LiveTold catalogue x given rs t

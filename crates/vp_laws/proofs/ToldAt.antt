@@ -71,6 +71,18 @@ taking u k l e = go (call_in l.event) refl e
     go None c q = let z = (parts false (is_step l.shown) (list_any is_early_refusal (answers_in l)) q).0 in cc
     go (Some words) c q = let p = parts (is_call u k words) (is_step l.shown) (list_any is_early_refusal (answers_in l)) q in record { words = words; call = c; own = p.0; late = any_false is_early_refusal (answers_in l) p.1 }
 
+-- a call that is not refused early takes its number
+none_early : (answers : List Answer) → ((a : Answer) → Has answers a → is_early_refusal a ≡ false) → list_any is_early_refusal answers ≡ false
+none_early [] h = refl
+none_early (a ∷ answers) h = rw (h a (has_first a answers)) (none_early answers (λ b k. h b (has_more a answers b k)))
+
+pub takes_now : (u : TxnId) (k : ℕ) (l : Line) (words : Call) → call_in l.event ≡ Some words → is_call u k words ≡ true → is_step l.shown ≡ true → ((a : Answer) → Has (answers_in l) a → is_early_refusal a ≡ false) → takes u k l ≡ true
+takes_now u k l words call own stepped late =
+    ap (λ (o : Option Call). option_map_or (is_call u k) o false && is_step l.shown && not (list_any is_early_refusal (answers_in l))) call
+    ∙ ap (λ (b : Bool). b && is_step l.shown && not (list_any is_early_refusal (answers_in l))) own
+    ∙ ap (λ (b : Bool). true && b && not (list_any is_early_refusal (answers_in l))) stepped
+    ∙ ap (λ (b : Bool). true && true && not b) (none_early (answers_in l) late)
+
 -- a line that shows no step takes no number
 pub unstepped : (u : TxnId) (k : ℕ) (l : Line) → is_step l.shown ≡ false → takes u k l ≡ false
 unstepped u k l e = go (option_map_or (is_call u k) (call_in l.event) false) (is_step l.shown) (not (list_any is_early_refusal (answers_in l))) e

@@ -1,5 +1,5 @@
 -- What one more line makes of what the lines tell of a live transaction, whose calls may wait for other sites.
-use Rattle.std.proofs.Common.{◌≡◌, ◌∙◌, ap, sym, ℕ, ◌+◌, ◌≤◌, ◌<◌, Bool, true, false, cond, List, [], ◌∷◌, ◌++◌, refl, arith}
+use Rattle.std.proofs.Common.{◌≡◌, ◌∙◌, ap, sym, subst, ℕ, ◌+◌, ◌≤◌, ◌<◌, Bool, true, false, cond, List, [], ◌∷◌, ◌++◌, refl, arith}
 use Rattle.std.specs.Prelude.{Option, Some, None, is_some, ◌==◌, nat_lt, filter_map, find, option_and_then}
 use Rattle.std.specs.List.{AllByRecursion}
 use Rattle.std.proofs.lemmas.Bool.{ne_eqb, le-ltb}
@@ -43,6 +43,35 @@ taken_on lines l u k words h = go (find (takes u k) lines) refl h
     go None e q = cc
     go (Some x) e q = ap (option_and_then (λ (line : Line). call_in line.event)) (find_kept (takes u k) lines (l ∷ []) x e) ∙ q
 
+-- no call is pending before and after, or the same one
+pub data SameCall (a b : Option Pending) : Type 0 where
+  none : a ≡ None → b ≡ None → SameCall a b
+  same : (p q : Pending) → a ≡ Some p → b ≡ Some q → p.call ≡ q.call → SameCall a b
+
+pub as_pending : (catalogue : Catalogue) (ls : List Line) (txn : TxnId) (last : ℕ) (ops : List Op) (p q : Option Pending) → SameCall p q → TellsCall catalogue ls txn last p ops → TellsCall catalogue ls txn last q ops
+as_pending catalogue ls txn last ops p q (SameCall.none e f) h = subst (λ (o : Option Pending). TellsCall catalogue ls txn last o ops) (e ∙ sym f) h
+as_pending catalogue ls txn last ops p q (SameCall.same a b e f g) h = subst (λ (o : Option Pending). TellsCall catalogue ls txn last o ops) (sym f) (going_on a b g (subst (λ (o : Option Pending). TellsCall catalogue ls txn last o ops) e h))
+  where
+    call_is : (q r : Pending) → Some q ≡ Some r → q.call ≡ r.call
+    call_is q r e = let same : q ≡ r = cc in ap (λ (p : Pending). p.call) same
+
+    going_on : (a b : Pending) → a.call ≡ b.call → TellsCall catalogue ls txn last (Some a) ops → TellsCall catalogue ls txn last (Some b) ops
+    going_on a b alike h = record {
+      so_far = h.so_far;
+      below = h.below;
+      taken = λ r e. h.taken a refl ∙ ap (λ (c : Call). Some c) (alike ∙ call_is b r e);
+      untaken = h.untaken;
+    }
+
+-- a number that is taken now, and one that is not
+pub taken_now : (lines : List Line) (l : Line) (u : TxnId) (k : ℕ) (words : Call) → find (takes u k) lines ≡ None → takes u k l ≡ true → call_in l.event ≡ Some words → taken_call (lines ++ l ∷ []) u k ≡ Some words
+taken_now lines l u k words before now call =
+    let here : find (takes u k) (lines ++ l ∷ []) ≡ Some l = find_last (takes u k) lines l before ∙ rw now refl in
+    ap (option_and_then (λ (line : Line). call_in line.event)) here ∙ call
+
+pub untaken_on : (lines : List Line) (l : Line) (u : TxnId) (k : ℕ) → find (takes u k) lines ≡ None → takes u k l ≡ false → find (takes u k) (lines ++ l ∷ []) ≡ None
+untaken_on lines l u k before free = find_last (takes u k) lines l before ∙ rw free refl
+
 module _ (catalogue : Catalogue) (lines : List Line) (l : Line) (u : TxnId) (last : ℕ) (ops : List Op) where
   -- nothing is told of it
   pub call_on : (pending : Option Pending) → TellsCall catalogue lines u last pending ops → reports (lines ++ l ∷ []) u ≡ reports lines u → ((k : ℕ) → reach last pending < k → takes u k l ≡ false) → TellsCall catalogue (lines ++ l ∷ []) u last pending ops
@@ -53,32 +82,15 @@ module _ (catalogue : Catalogue) (lines : List Line) (l : Line) (u : TxnId) (las
     untaken = λ k q. find_last (takes u k) lines l (h.untaken k q) ∙ rw (n k q) refl;
   }
 
-  -- the pending call is the same, with other sites missing
-  pub same_call : (p q : Pending) → p.call ≡ q.call → TellsCall catalogue lines u last (Some p) ops → TellsCall catalogue lines u last (Some q) ops
-  same_call p q same h = record {
-    so_far = h.so_far;
-    below = h.below;
-    taken = λ r e. h.taken p refl ∙ ap (λ (c : Call). Some c) (same ∙ call_of q r e);
-    untaken = h.untaken;
-  }
-    where
-      call_of : (q r : Pending) → Some q ≡ Some r → q.call ≡ r.call
-      call_of q r e = let same : q ≡ r = cc in ap (λ (p : Pending). p.call) same
-
   -- the line is its next call, which is not answered yet
   pub call_taken : (p : Pending) → TellsCall catalogue lines u last None ops → reports (lines ++ l ∷ []) u ≡ reports lines u → call_in l.event ≡ Some p.call → takes u (last + 1) l ≡ true → ((k : ℕ) → last + 1 < k → takes u k l ≡ false) → TellsCall catalogue (lines ++ l ∷ []) u last (Some p) ops
   call_taken p h e call now n = record {
     so_far = tells_on catalogue lines l u ops h.so_far e;
     below = rw e h.below;
-    taken = λ q same. found ∙ call ∙ ap (λ (c : Call). Some c) (call_of p q same);
+    taken = λ q same. taken_now lines l u (last + 1) p.call (h.untaken (last + 1) (omega arith)) now call ∙ ap (λ (c : Call). Some c) (call_of p q same);
     untaken = λ k q. find_last (takes u k) lines l (h.untaken k (omega arith)) ∙ rw (n k q) refl;
   }
     where
-      found : taken_call (lines ++ l ∷ []) u (last + 1) ≡ call_in l.event
-      found =
-          let here : find (takes u (last + 1)) (lines ++ l ∷ []) ≡ Some l = find_last (takes u (last + 1)) lines l (h.untaken (last + 1) (omega arith)) ∙ rw now refl in
-          ap (option_and_then (λ (line : Line). call_in line.event)) here
-
       call_of : (q r : Pending) → Some q ≡ Some r → q.call ≡ r.call
       call_of q r e = let same : q ≡ r = cc in ap (λ (p : Pending). p.call) same
 
