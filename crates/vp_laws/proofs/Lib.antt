@@ -130,3 +130,4 @@ pub mod ToldCalls
 pub mod TableTold
 pub mod ToldAt
 pub mod ToldMoves
+pub mod ToldRuns
