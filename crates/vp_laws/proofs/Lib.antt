@@ -118,16 +118,14 @@ pub mod FairStep
 pub mod FairAt
 pub mod FairMoves
 pub mod FairTold
--- the laws in the words of the contracts
-pub mod Words
-pub mod EntryWords
-pub mod SiteWords
-pub mod Readable
--- what is stated and not proved yet
-pub mod Remaining
--- what clients are told of operations
+-- the operations that clients are told of
 pub mod ToldCalls
 pub mod TableTold
 pub mod ToldAt
 pub mod ToldMoves
 pub mod ToldRuns
+-- the laws in the words of the contracts
+pub mod Words
+pub mod EntryWords
+pub mod SiteWords
+pub mod Readable
