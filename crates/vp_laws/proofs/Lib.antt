@@ -105,8 +105,6 @@ pub mod OrderSteps
 pub mod InvOrder
 -- the answers that transactions keep
 pub mod InvKept
-pub mod InvMatched
-pub mod DoneAlone
 -- moments of a schedule
 pub mod Moments
 pub mod EndsTrue

@@ -1,12 +1,12 @@
 -- What a site does with a call of a transaction: it refuses it early, or has the transaction live or finished here. A live one has answered
 -- the number; or the number is its next one and no call is pending, and after the step the call is pending or answered, or the
 -- transaction is over.
-use Rattle.std.proofs.Common.{◌≡◌, ◌⊎◌, ◌∙◌, ap, sym, subst, ℕ, ◌+◌, ◌≤◌, Bool, true, false, List, [], ◌∷◌, ◌++◌, refl, arith, inl, inr, ⊎_elim, length, length-append}
+use Rattle.std.proofs.Common.{◌≡◌, ◌⊎◌, ◌∙◌, ap, sym, subst, ℕ, ◌+◌, ◌≤◌, Bool, true, false, List, [], ◌∷◌, refl, arith, inl, inr, ⊎_elim, length, length-append}
 use Rattle.std.specs.Prelude.{Option, Some, None, is_some, nat_le, nat_lt, if◌then◌else◌}
 use Rattle.std.specs.Option.{option_map_or}
 use Rattle.std.proofs.lemmas.Bool.Decides.{nat_tests}
-use Rattle.vp_model.specs.Types.{TxnId, Stored, Op, Call, Answer, Reply, Pending, Live, Ending, Finished}
-use Rattle.vp_base.specs.declared.site.Ending.TheVariants.{Committed, Aborted, LockHeld}
+use Rattle.vp_model.specs.Types.{TxnId, Op, Call, Answer, Reply, Pending, Live, Ending, Finished}
+use Rattle.vp_base.specs.declared.site.Ending.TheVariants.{Aborted, LockHeld}
 use Rattle.vp_model.specs.Types.answer
 use Rattle.vp_model.specs.Types.call
 use Rattle.vp_model.specs.Types.input
@@ -14,14 +14,14 @@ use Rattle.vp_model.specs.Types.op
 use Rattle.vp_model.specs.Words.{same_txn, change_first, without_first, first, is_empty, value_at, for_some}
 use Rattle.vp_model.specs.Catalogue.{Catalogue, find_record, inside, total}
 use Rattle.vp_model.specs.Site.{CoordinatorState, SiteState, Lent, lent_reply}
-use Rattle.vp_model.specs.Transactions.{finished_of, last_writes, keep_writes, decided, close, decide, complete}
+use Rattle.vp_model.specs.Transactions.{finished_of, last_writes, keep_writes, close, decide, complete}
 use Rattle.vp_model.specs.Refresh.{members_in, is_usable, other_holders}
 use Rattle.vp_model.specs.Calls.{handled, handling, with_record, take_lock, lock_here, answer_read, answer_write, read, read_at, write_elsewhere, write, write_at, commit, prepare_parts, new_call, live_call, finished_call, on_txn_call, own_call, on_call}
 use Rattle.vp_model.specs.Step.{on_input, step}
 use Rattle.vp_model.specs.Told.{is_early_refusal}
 use Rattle.vp_laws.proofs.Members.{Has, has_one, find_has, find_true}
 use Rattle.vp_laws.proofs.Apart.{same_txn-is, Apart, named, without_gone, change_cases}
-use Rattle.vp_laws.proofs.Frames.{Ends, close-ends, decided-ends, decide-cases}
+use Rattle.vp_laws.proofs.Frames.{close-ends, decided-ends, decide-cases}
 use Rattle.vp_laws.proofs.Table.{lent_at}
 use Rattle.vp_laws.proofs.TableSteps.{done, waiting, reading, writing}
 use Rattle.vp_laws.proofs.Coordinator.{by_option, by_test, live_of-has, live_of-is, next_number}

@@ -1,21 +1,21 @@
 -- What a step tells of operations: where each live transaction comes from, with what is reported of it, and that all other reports repeat
 -- kept answers.
-use Rattle.std.proofs.Common.{◌≡◌, ◌≢◌, ◌⊎◌, ◌∙◌, ap, sym, subst, ℕ, ◌+◌, Bool, true, false, cond, List, [], ◌∷◌, ◌++◌, map, refl, arith, inl, inr, ⊎_elim}
-use Rattle.std.specs.Prelude.{Option, Some, None, is_some, option_map, option_to_list, option_and_then, filter_map}
+use Rattle.std.proofs.Common.{◌≡◌, ◌≢◌, ◌⊎◌, ◌∙◌, ap, sym, subst, ℕ, true, false, List, [], ◌∷◌, ◌++◌, map, refl, arith, inl, inr, ⊎_elim}
+use Rattle.std.specs.Prelude.{Option, Some, None, option_map, option_to_list, filter_map}
 use Rattle.std.proofs.lemmas.Bool.Decides.{nat_tests}
 use Rattle.std.proofs.lemmas.List.{map-append, append-nil}
 use Rattle.std.proofs.lemmas.List.Elements.{filter_map-append}
-use Rattle.vp_model.specs.Types.{TxnId, View, Op, Call, Answer, Reply, Commit, Input, Pending, Live, Ending, Finished}
-use Rattle.vp_base.specs.declared.site.Ending.TheVariants.{Committed, Aborted, LockHeld, ViewChanged, TimedOut}
+use Rattle.vp_model.specs.Types.{TxnId, View, Op, Answer, Reply, Commit, Input, Pending, Live, Ending, Finished}
+use Rattle.vp_base.specs.declared.site.Ending.TheVariants.{Committed}
 use Rattle.vp_model.specs.Types.answer
 use Rattle.vp_model.specs.Types.call
 use Rattle.vp_model.specs.Types.input
 use Rattle.vp_model.specs.Types.op
 use Rattle.vp_model.specs.Words.{same_txn}
-use Rattle.vp_model.specs.Catalogue.{Catalogue, find_record}
+use Rattle.vp_model.specs.Catalogue.{Catalogue}
 use Rattle.vp_model.specs.Site.{CoordinatorState, SiteState, Lent}
 use Rattle.vp_model.specs.Transactions.{answer_of, put_live, with_finished}
-use Rattle.vp_model.specs.Calls.{begun, with_begun}
+use Rattle.vp_model.specs.Calls.{begun}
 use Rattle.vp_model.specs.Answers.{with_acknowledged}
 use Rattle.vp_model.specs.Step.{mark, step}
 use Rattle.vp_model.specs.Told.{reported, is_early_refusal, told_by}
@@ -25,10 +25,10 @@ use Rattle.vp_laws.proofs.Members.{Has, has_none, has_first, has_more, has_one_i
 use Rattle.vp_laws.proofs.Lists.{without_first_has}
 use Rattle.vp_laws.proofs.Apart.{Apart, named, change_cases}
 use Rattle.vp_laws.proofs.Table.{next_view, next_name, Reads, Writes, Completes}
-use Rattle.vp_laws.proofs.TableSteps.{done, waiting, reading, writing}
+use Rattle.vp_laws.proofs.TableSteps.{done, waiting}
 use Rattle.vp_laws.proofs.TableEnds.{kept_has}
 use Rattle.vp_laws.proofs.TableEndings.{NotLive}
-use Rattle.vp_laws.proofs.Reasons.{Takes, Awaits, Why, Tells, is_plain, told_to, last_reply, IsDone, Goes, Front}
+use Rattle.vp_laws.proofs.Reasons.{Takes, Tells, is_plain, told_to, last_reply, IsDone, Goes, Front}
 use Rattle.vp_laws.proofs.FrontSteps.{step-front}
 use Rattle.vp_laws.proofs.ToldCalls.{SameCall}
 

@@ -1,39 +1,39 @@
 -- What the lines so far tell, in the world after them: of each live transaction its operations, and its pending call; of each entry its
 -- operations; of a name that was never given, nothing; and each answer that a site keeps was reported.
-use Rattle.std.proofs.Common.{◌≡◌, ◌≢◌, ◌⊎◌, ◌∙◌, ap, sym, subst, ℕ, ◌+◌, ◌<◌, ◌≤◌, Bool, true, false, cond, List, [], ◌∷◌, ◌++◌, map, refl, arith, inl, inr, ⊎_elim, length}
-use Rattle.std.specs.Prelude.{Option, Some, None, is_some, ◌==◌, ◌&&◌, not, filter_map}
+use Rattle.std.proofs.Common.{◌≡◌, ◌≢◌, ◌∙◌, ap, subst, ℕ, Bool, true, false, List, [], ◌∷◌, refl, arith, length}
+use Rattle.std.specs.Prelude.{Option, Some, None, is_some, ◌==◌, ◌&&◌, not}
 use Rattle.std.specs.Option.{option_map_or}
 use Rattle.std.specs.List.{list_any, cons_option}
 use Rattle.std.proofs.lemmas.Bool.Decides.{nat_tests}
 use Rattle.std.proofs.lemmas.Bool.{eqb-true}
-use Rattle.vp_model.specs.Types.{TxnId, Call, Answer, Reply, Commit, Event, Input, Line, Shown, Live, Finished}
+use Rattle.vp_model.specs.Types.{TxnId, Call, Answer, Reply, Commit, Event, Input, Line, Live}
 use Rattle.vp_model.specs.Types.call
 use Rattle.vp_model.specs.Types.event
 use Rattle.vp_model.specs.Types.input
 use Rattle.vp_model.specs.Words.{same_txn, first, value_at, for_each}
 use Rattle.vp_model.specs.Catalogue.{Catalogue, holders}
 use Rattle.vp_model.specs.Site.{SiteState}
-use Rattle.vp_model.specs.Refresh.{members_in, is_usable, other_holders, other_holders_in}
+use Rattle.vp_model.specs.Refresh.{members_in, other_holders}
 use Rattle.vp_model.specs.World.{WorldState}
-use Rattle.vp_model.specs.Told.{answers_in, is_step, call_in, reported, put_first, reports, is_early_refusal, is_call, takes}
-use Rattle.vp_one_site.proofs.ToldLines.{Report, reports-last, reports-silent, IsReported, reported_lasts, Tells, IsUnheard, tells_on, unheard_on}
+use Rattle.vp_model.specs.Told.{answers_in, is_step, call_in, reported, put_first, is_early_refusal, is_call, takes}
+use Rattle.vp_one_site.proofs.ToldLines.{Report, IsReported, Tells, IsUnheard}
 use Rattle.vp_laws.proofs.Members.{Has, has_none, has_first, has_more, filter_keeps, both_true, any_false}
 use Rattle.vp_laws.proofs.Apart.{same_txn-is}
-use Rattle.vp_laws.proofs.Scenes.{Scene, plain_at, kept_at}
+use Rattle.vp_laws.proofs.Scenes.{Scene, plain_at}
 use Rattle.vp_laws.proofs.Stopping.{shared_holder}
 use Rattle.vp_laws.proofs.InvEntered.{has_test}
 use Rattle.vp_laws.proofs.InvHeld.{holds_copy}
 use Rattle.vp_laws.proofs.TableLocks.{not_copied}
-use Rattle.vp_laws.proofs.InvNames.{UsedTxn, Grows, used_lasts}
-use Rattle.vp_laws.proofs.InvMatched.{TwentySecond}
+use Rattle.vp_laws.proofs.InvNames.{UsedTxn}
+use Rattle.vp_laws.proofs.InvListed.{Seventeenth}
 use Rattle.vp_laws.proofs.TableCalls.{IsCallOf, HasHolders}
 use Rattle.vp_laws.proofs.TableTold.{IsKept, told_of}
-use Rattle.vp_laws.proofs.ToldCalls.{TellsCall, call_on}
+use Rattle.vp_laws.proofs.ToldCalls.{TellsCall}
 use Rattle.vp_laws.proofs.Occurs.{Gives}
 use Rattle.vp_laws.proofs.Tower.{Known}
 
 pub record ToldAt (catalogue : Catalogue) (w : Scene) (lines : List Line) : Type 0 where
-  pub base : TwentySecond catalogue w
+  pub base : Seventeenth catalogue w
   pub live : (s : ℕ) (x : SiteState) (t : Live) → plain_at w s ≡ Some x → Has x.live t → TellsCall catalogue lines t.txn (length t.answers) t.pending t.ops
   pub entries : (e : Commit) → Has w.journal e → Tells catalogue lines e.txn e.ops
   pub fresh : (u : TxnId) → (UsedTxn w u → ⊥) → IsUnheard lines u

@@ -4,11 +4,11 @@ use Rattle.std.specs.Prelude.{Option, Some, None, is_some, ◌==◌, nat_lt, fil
 use Rattle.std.specs.List.{AllByRecursion}
 use Rattle.std.proofs.lemmas.Bool.{ne_eqb, le-ltb}
 use Rattle.std.proofs.lemmas.List.Elements.{filter_map-append}
-use Rattle.vp_model.specs.Types.{TxnId, Op, Call, Answer, Line, Pending}
+use Rattle.vp_model.specs.Types.{TxnId, Op, Call, Line, Pending}
 use Rattle.vp_model.specs.Words.{value_at, put_at}
 use Rattle.vp_model.specs.Catalogue.{Catalogue}
-use Rattle.vp_model.specs.Told.{answers_in, reported, put_first, reports, takes, taken_call, call_in, told_by}
-use Rattle.vp_one_site.proofs.ToldLines.{Report, collected, reports-last, collected_one, find_last, Tells, TellsLive, IsDoneBy, tells_on, tells_more}
+use Rattle.vp_model.specs.Told.{put_first, reports, takes, taken_call, call_in, told_by}
+use Rattle.vp_one_site.proofs.ToldLines.{Report, find_last, Tells, TellsLive, tells_on}
 
 -- the last number that a call has taken
 abbrev pub reach : ℕ → Option Pending → ℕ

@@ -2,44 +2,41 @@
 use Rattle.std.proofs.Common.{◌≡◌, ◌≢◌, ◌⊎◌, ◌∙◌, ap, sym, subst, ℕ, ◌+◌, ◌<◌, ◌≤◌, Bool, true, false, cond, List, [], ◌∷◌, ◌++◌, map, refl, arith, inl, inr, ⊎_elim, length, length-append}
 use Rattle.std.specs.Prelude.{Option, Some, None, is_some, option_map, option_to_list, find, ◌==◌}
 use Rattle.std.proofs.lemmas.Bool.{eq-eqb}
-use Rattle.vp_model.specs.Types.{TxnId, View, Op, Call, Answer, Reply, Commit, Input, Line, Pending, Live, Ending, Finished}
+use Rattle.vp_model.specs.Types.{TxnId, Op, Call, Answer, Reply, Commit, Input, Line, Pending, Live, Finished}
 use Rattle.vp_model.specs.Types.call
 use Rattle.vp_model.specs.Types.input
 use Rattle.vp_model.specs.Words.{same_txn, value_at, put_at, for_each}
 use Rattle.vp_model.specs.Catalogue.{Catalogue}
 use Rattle.vp_model.specs.Durable.{DurableState}
-use Rattle.vp_model.specs.Site.{CoordinatorState, SiteState, Stepped, Lent}
-use Rattle.vp_model.specs.Transactions.{answer_of, answers_after}
-use Rattle.vp_model.specs.Calls.{begun}
+use Rattle.vp_model.specs.Site.{SiteState, Stepped}
+use Rattle.vp_model.specs.Transactions.{answer_of}
 use Rattle.vp_model.specs.Step.{step}
 use Rattle.vp_model.specs.World.{WorldState, Moment}
-use Rattle.vp_model.specs.Told.{answers_in, is_step, call_in, reported, put_first, reports, is_early_refusal, is_call, takes, taken_call}
+use Rattle.vp_model.specs.Told.{answers_in, call_in, reported, put_first, reports, is_call, takes, taken_call}
 use Rattle.vp_one_site.proofs.ToldLines.{Report, collected, reports-last, IsReported, reported_lasts, Tells, IsUnheard, begins, tells_on, unheard_on}
 use Rattle.vp_one_site.proofs.Play.{value_put}
 use Rattle.vp_one_site.proofs.KeptTold.{end_unreported}
 use Rattle.vp_laws.proofs.Members.{Has, has_none, has_cases, has_one_is, map_has}
 use Rattle.vp_laws.proofs.Lists.{mapped_has}
 use Rattle.vp_laws.proofs.Apart.{same_txn-is, same_txn-not, Apart, apart_unique}
-use Rattle.vp_laws.proofs.Table.{next_name, Handled, Completes}
-use Rattle.vp_laws.proofs.TableSteps.{done, EnteredFor}
+use Rattle.vp_laws.proofs.Table.{next_name}
 use Rattle.vp_laws.proofs.TableLed.{Led}
 use Rattle.vp_laws.proofs.TableEndings.{NotLive, Settled}
 use Rattle.vp_laws.proofs.TableFinished.{EndsNow}
-use Rattle.vp_laws.proofs.TableCalls.{IsTaken, CallSays, call_said}
+use Rattle.vp_laws.proofs.TableCalls.{CallSays, call_said}
 use Rattle.vp_laws.proofs.TableTold.{SaysDone, completed_says, told_of, IsKept, Repeats, AreLate, LiveTold, ToldNow, told-step}
 use Rattle.vp_laws.proofs.Scenes.{Scene, scene_of, plain_at, kept_at, acted}
-use Rattle.vp_laws.proofs.Events.{Arrives, Lasts}
+use Rattle.vp_laws.proofs.Events.{Arrives}
 use Rattle.vp_laws.proofs.Worlds.{NowIs, now_is}
 use Rattle.vp_laws.proofs.InvViews.{SiteOk}
 use Rattle.vp_laws.proofs.InvNames.{UsedTxn, used_lasts, own_used}
 use Rattle.vp_laws.proofs.InvEndings.{fresh}
-use Rattle.vp_laws.proofs.InvMatched.{TwentySecond, matched_last}
+use Rattle.vp_laws.proofs.InvListed.{Seventeenth, listed_last}
 use Rattle.vp_laws.proofs.Tower.{Known, known, Does, does}
-use Rattle.vp_laws.proofs.Reasons.{Takes, Awaits, IsDone, told_to}
+use Rattle.vp_laws.proofs.Reasons.{Takes, IsDone, told_to}
 use Rattle.vp_laws.proofs.FairStep.{IsStep}
-use Rattle.vp_laws.proofs.Occurs.{Gives}
-use Rattle.vp_laws.proofs.ToldCalls.{reach, TellsCall, SameCall, idle, as_pending, call_on, call_taken, taken_on, taken_now, untaken_on, IsDoneNow, done_next}
-use Rattle.vp_laws.proofs.ToldAt.{ToldAt, same_reports, IsTaking, taking, takes_now, call_of, gives_call, call_gives, has_holders}
+use Rattle.vp_laws.proofs.ToldCalls.{reach, TellsCall, SameCall, idle, as_pending, call_on, call_taken, taken_on, taken_now, untaken_on, done_next}
+use Rattle.vp_laws.proofs.ToldAt.{ToldAt, same_reports, taking, takes_now, call_of, gives_call, call_gives, has_holders}
 
 by_false : (b : Bool) → (b ≡ true → ⊥) → b ≡ false
 by_false true h = absurd (h refl)
@@ -100,14 +97,14 @@ module _ (catalogue : Catalogue) (world : WorldState) (lines : List Line) (m0 : 
   abbrev more : List Line
   more = lines ++ line ∷ []
 
-  base : TwentySecond catalogue new
-  base = (matched_last catalogue).acts w s x given up arrives told.base
+  base : Seventeenth catalogue new
+  base = (listed_last catalogue).acts w s x given up arrives told.base
 
   k : Known catalogue w
-  k = known catalogue w told.base.lower.lower.lower.lower.lower
+  k = known catalogue w told.base
 
   d : Does catalogue w new s x given o
-  d = does catalogue w s x given up arrives k (known catalogue new base.lower.lower.lower.lower.lower)
+  d = does catalogue w s x given up arrives k (known catalogue new base)
 
   apart : Apart x.live
   apart = k.votes.site s x up

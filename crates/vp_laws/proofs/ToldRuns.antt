@@ -1,26 +1,26 @@
 -- In every schedule each transaction is committed with the operations that its client was told of; and with it, each schedule over a
 -- catalogue whose sites are different numbers is one copy.
-use Rattle.std.proofs.Common.{◌≡◌, ◌∙◌, ap, sym, subst, ℕ, ◌+◌, ◌<◌, ◌≤◌, Bool, true, false, List, [], ◌∷◌, ◌++◌, map, length, refl, arith, inl, inr}
+use Rattle.std.proofs.Common.{◌≡◌, ap, sym, subst, ℕ, ◌<◌, false, List, [], ◌∷◌, ◌++◌, map, length, refl, inr}
 use Rattle.std.specs.Prelude.{Some, All}
 use Rattle.std.proofs.lemmas.List.Elements.{All-from_recursion}
-use Rattle.vp_model.specs.Types.{TxnId, Answer, Commit, Event, Input, Line, Reply, Live, Finished}
+use Rattle.vp_model.specs.Types.{TxnId, Answer, Commit, Event, Input, Line, Reply, Live}
 use Rattle.vp_model.specs.Catalogue.{Catalogue, sites_of, start_copies}
-use Rattle.vp_model.specs.Durable.{DurableState, empty_durable}
+use Rattle.vp_model.specs.Durable.{empty_durable}
 use Rattle.vp_model.specs.Site.{SiteState}
 use Rattle.vp_model.specs.Step.{start, step}
-use Rattle.vp_model.specs.Told.{is_step, answers_in, reports, takes, told}
+use Rattle.vp_model.specs.Told.{is_step, reports, told}
 use Rattle.vp_model.specs.Headline.{IsOneCopy}
-use Rattle.vp_model.specs.World.{WorldState, Moved, Moment, Run, Schedule, moment, next, one_step, run_of, site_of, site_step, start_world, lines_of, journal_of}
+use Rattle.vp_model.specs.World.{WorldState, Moved, Moment, Run, Schedule, moment, next, one_step, site_of, site_step, start_world, lines_of, journal_of}
 use Rattle.vp_one_site.proofs.ToldLines.{reports-silent, reported_lasts, IsReported, tells_on, IsUnheard, unheard_on}
 use Rattle.vp_one_site.proofs.Invariant.{lines_in}
 use Rattle.vp_one_site.proofs.Called.{lines_last}
 use Rattle.vp_laws.specs.Catalogues.{AreApart}
-use Rattle.vp_laws.proofs.Members.{Has, has_none, all_of}
+use Rattle.vp_laws.proofs.Members.{Has, all_of}
 use Rattle.vp_laws.proofs.Scenes.{Scene, scene_of, plain_at, kept_at, acted}
-use Rattle.vp_laws.proofs.Events.{Arrives, Lasts, crashed, restarted}
+use Rattle.vp_laws.proofs.Events.{Arrives, crashed, restarted}
 use Rattle.vp_laws.proofs.Worlds.{Quiet, QuietIs, quiet_is, crash_quiet, restart_quiet, started, start_entered}
 use Rattle.vp_laws.proofs.InvNames.{UsedTxn, Grows, used_lasts, start_life}
-use Rattle.vp_laws.proofs.InvMatched.{TwentySecond, matched_last}
+use Rattle.vp_laws.proofs.InvListed.{Seventeenth, listed_last}
 use Rattle.vp_laws.proofs.Tower.{known, Does, does}
 use Rattle.vp_laws.proofs.Occurs.{Gives, Occurs, occurs, run-keeps}
 use Rattle.vp_laws.proofs.EndsTold.{no_replies}
@@ -60,7 +60,7 @@ module _ (catalogue : Catalogue) (w new : Scene) (lines : List Line) (l : Line) 
   }
 
   -- a site goes down or starts again
-  quiet_told : (s : ℕ) → Quiet catalogue w new s → TwentySecond catalogue new → ToldAt catalogue new more
+  quiet_told : (s : ℕ) → Quiet catalogue w new s → Seventeenth catalogue new → ToldAt catalogue new more
   quiet_told s q base = record {
     base = base;
     live = λ j y t up h. live_at j y t h (quiet_is catalogue w new s q j y up);
@@ -93,11 +93,11 @@ stepped catalogue lines number e w v s x given same up arrives gives told_so_far
     m0 : Moment
     m0 = moment number w e (site_step catalogue s x given v)
 
-    base : TwentySecond catalogue (acted (scene_of w) s x (step catalogue x given))
-    base = (matched_last catalogue).acts (scene_of w) s x given up arrives told_so_far.base
+    base : Seventeenth catalogue (acted (scene_of w) s x (step catalogue x given))
+    base = (listed_last catalogue).acts (scene_of w) s x given up arrives told_so_far.base
 
     d : Does catalogue (scene_of w) (acted (scene_of w) s x (step catalogue x given)) s x given (step catalogue x given)
-    d = does catalogue (scene_of w) s x given up arrives (known catalogue (scene_of w) told_so_far.base.lower.lower.lower.lower.lower) (known catalogue (acted (scene_of w) s x (step catalogue x given)) base.lower.lower.lower.lower.lower)
+    d = does catalogue (scene_of w) s x given up arrives (known catalogue (scene_of w) told_so_far.base) (known catalogue (acted (scene_of w) s x (step catalogue x given)) base)
 
     is : IsStep m0 w s x given (step catalogue x given)
     is = record {
@@ -113,9 +113,9 @@ occurred : (catalogue : Catalogue) (lines : List Line) (number : ℕ) (e : Event
 occurred catalogue lines number e w m told_so_far (Occurs.stands same none) =
     rw same (same_told catalogue (scene_of w) (scene_of w) lines (moment number w e m).line none told_so_far)
 occurred catalogue lines number e w m told_so_far (Occurs.crashes s same none) =
-    rw same (quiet_told catalogue (scene_of w) (crashed (scene_of w) s) lines (moment number w e m).line none told_so_far s (crash_quiet catalogue (scene_of w) s) ((matched_last catalogue).crashes (scene_of w) s told_so_far.base))
+    rw same (quiet_told catalogue (scene_of w) (crashed (scene_of w) s) lines (moment number w e m).line none told_so_far s (crash_quiet catalogue (scene_of w) s) ((listed_last catalogue).crashes (scene_of w) s told_so_far.base))
 occurred catalogue lines number e w m told_so_far (Occurs.restarts s place at down id same none) =
-    rw same (quiet_told catalogue (scene_of w) (restarted catalogue (scene_of w) s) lines (moment number w e m).line none told_so_far s (restart_quiet catalogue (scene_of w) s place at id) ((matched_last catalogue).restarts (scene_of w) s place at down id told_so_far.base))
+    rw same (quiet_told catalogue (scene_of w) (restarted catalogue (scene_of w) s) lines (moment number w e m).line none told_so_far s (restart_quiet catalogue (scene_of w) s place at id) ((listed_last catalogue).restarts (scene_of w) s place at down id told_so_far.base))
 occurred catalogue lines number e w m told_so_far (Occurs.acts s x given v same up arrives gives is) =
     subst (λ (m : Moved). ToldAt catalogue (scene_of m.world) (lines ++ (moment number w e m).line ∷ [])) (sym is) (stepped catalogue lines number e w v s x given same up arrives gives told_so_far)
 
@@ -136,7 +136,7 @@ starts_none catalogue s a (IsKept.finished f h there) = none_finished catalogue 
 
 start_told : (catalogue : Catalogue) → ToldAt catalogue (scene_of (start_world catalogue)) []
 start_told catalogue = record {
-  base = (matched_last catalogue).starts;
+  base = (listed_last catalogue).starts;
   live = λ s x t h k. absurd (none_live catalogue s (empty_durable (start_copies catalogue s)) t (subst (λ (x : SiteState). Has x.live t) (sym (started catalogue s x h)) k));
   entries = λ e h. absurd (start_entered catalogue e h);
   fresh = λ u unused. record { unreported = refl; untaken = λ k. refl };
