@@ -105,8 +105,6 @@ pub mod OrderSteps
 pub mod InvOrder
 -- the answers that transactions keep
 pub mod InvKept
-pub mod InvMatched
-pub mod DoneAlone
 -- moments of a schedule
 pub mod Moments
 pub mod EndsTrue
@@ -118,10 +116,14 @@ pub mod FairStep
 pub mod FairAt
 pub mod FairMoves
 pub mod FairTold
+-- the operations that clients are told of
+pub mod ToldCalls
+pub mod TableTold
+pub mod ToldAt
+pub mod ToldMoves
+pub mod ToldRuns
 -- the laws in the words of the contracts
 pub mod Words
 pub mod EntryWords
 pub mod SiteWords
 pub mod Readable
--- what is stated and not proved yet
-pub mod Remaining

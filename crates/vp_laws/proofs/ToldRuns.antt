@@ -1,0 +1,152 @@
+-- In every schedule each transaction is committed with the operations that its client was told of; and with it, each schedule over a
+-- catalogue whose sites are different numbers is one copy.
+use Rattle.std.proofs.Common.{◌≡◌, ap, sym, subst, ℕ, ◌<◌, false, List, [], ◌∷◌, ◌++◌, map, length, refl, inr}
+use Rattle.std.specs.Prelude.{Some, All}
+use Rattle.std.proofs.lemmas.List.Elements.{All-from_recursion}
+use Rattle.vp_model.specs.Types.{TxnId, Answer, Commit, Event, Input, Line, Reply, Live}
+use Rattle.vp_model.specs.Catalogue.{Catalogue, sites_of, start_copies}
+use Rattle.vp_model.specs.Durable.{empty_durable}
+use Rattle.vp_model.specs.Site.{SiteState}
+use Rattle.vp_model.specs.Step.{start, step}
+use Rattle.vp_model.specs.Told.{is_step, reports, told}
+use Rattle.vp_model.specs.Headline.{IsOneCopy}
+use Rattle.vp_model.specs.World.{WorldState, Moved, Moment, Run, Schedule, moment, next, one_step, site_of, site_step, start_world, lines_of, journal_of}
+use Rattle.vp_one_site.proofs.ToldLines.{reports-silent, reported_lasts, IsReported, tells_on, IsUnheard, unheard_on}
+use Rattle.vp_one_site.proofs.Invariant.{lines_in}
+use Rattle.vp_one_site.proofs.Called.{lines_last}
+use Rattle.vp_laws.specs.Catalogues.{AreApart}
+use Rattle.vp_laws.proofs.Members.{Has, all_of}
+use Rattle.vp_laws.proofs.Scenes.{Scene, scene_of, plain_at, kept_at, acted}
+use Rattle.vp_laws.proofs.Events.{Arrives, crashed, restarted}
+use Rattle.vp_laws.proofs.Worlds.{Quiet, QuietIs, quiet_is, crash_quiet, restart_quiet, started, start_entered}
+use Rattle.vp_laws.proofs.InvNames.{UsedTxn, Grows, used_lasts, start_life}
+use Rattle.vp_laws.proofs.InvListed.{Seventeenth, listed_last}
+use Rattle.vp_laws.proofs.Tower.{known, Does, does}
+use Rattle.vp_laws.proofs.Occurs.{Gives, Occurs, occurs, run-keeps}
+use Rattle.vp_laws.proofs.EndsTold.{no_replies}
+use Rattle.vp_laws.proofs.FairStep.{IsStep}
+use Rattle.vp_laws.proofs.FairMoves.{none_live, none_finished}
+use Rattle.vp_laws.proofs.FairTold.{refusals_justified}
+use Rattle.vp_laws.proofs.OneCopy.{one_copy_from}
+use Rattle.vp_laws.proofs.TableTold.{IsKept}
+use Rattle.vp_laws.proofs.ToldCalls.{TellsCall, call_on}
+use Rattle.vp_laws.proofs.ToldAt.{ToldAt, unstepped}
+use Rattle.vp_laws.proofs.ToldMoves.{step_told}
+
+-- a line that shows no step
+module _ (catalogue : Catalogue) (w new : Scene) (lines : List Line) (l : Line) (none : is_step l.shown ≡ false) (told_so_far : ToldAt catalogue w lines) where
+  abbrev more : List Line
+  more = lines ++ l ∷ []
+
+  silent : (u : TxnId) → reports more u ≡ reports lines u
+  silent u = reports-silent lines l u (ap (map (λ (r : Reply). r.answer)) (no_replies l.shown none))
+
+  still_told : (s : ℕ) (x : SiteState) (t : Live) → plain_at w s ≡ Some x → Has x.live t → TellsCall catalogue more t.txn (length t.answers) t.pending t.ops
+  still_told s x t up h = call_on catalogue lines l t.txn (length t.answers) t.ops t.pending (told_so_far.live s x t up h) (silent t.txn) (λ k above. unstepped t.txn k l none)
+
+  still_unheard : (u : TxnId) → (UsedTxn w u → ⊥) → IsUnheard more u
+  still_unheard u unused = unheard_on catalogue lines l u (told_so_far.fresh u unused) (silent u) (λ k. unstepped u k l none)
+
+  still_kept : (s : ℕ) (x : SiteState) (a : Answer) → plain_at w s ≡ Some x → IsKept x a → IsReported more a
+  still_kept s x a up h = reported_lasts lines l a (told_so_far.kept s x a up h)
+
+  same_told : ToldAt catalogue w more
+  same_told = record {
+    base = told_so_far.base;
+    live = still_told;
+    entries = λ e h. tells_on catalogue lines l e.txn e.ops (told_so_far.entries e h) (silent e.txn);
+    fresh = still_unheard;
+    kept = still_kept;
+  }
+
+  -- a site goes down or starts again
+  quiet_told : (s : ℕ) → Quiet catalogue w new s → Seventeenth catalogue new → ToldAt catalogue new more
+  quiet_told s q base = record {
+    base = base;
+    live = λ j y t up h. live_at j y t h (quiet_is catalogue w new s q j y up);
+    entries = λ e h. tells_on catalogue lines l e.txn e.ops (told_so_far.entries e (rw q.journal at h)) (silent e.txn);
+    fresh = λ u unused. still_unheard u (λ used. unused (used_lasts w new s q.moved grows u used));
+    kept = λ j y a up h. kept_at_site j y a h (quiet_is catalogue w new s q j y up);
+  }
+    where
+      grows : Grows w new s
+      grows = record { life = q.life; seq = λ y h. inr (subst (λ (y : SiteState). (kept_at w s).life < y.life) (q.now y h) (start_life catalogue s (kept_at w s))) }
+
+      live_at : (j : ℕ) (y : SiteState) (t : Live) → Has y.live t → QuietIs catalogue w s j y → TellsCall catalogue more t.txn (length t.answers) t.pending t.ops
+      live_at j y t h (QuietIs.other n old) = still_told j y t old h
+      live_at j y t h (QuietIs.here e same) = absurd (none_live catalogue s (kept_at w s) t (subst (λ (y : SiteState). Has y.live t) (sym same) h))
+
+      starts_none : (a : Answer) → IsKept (start catalogue s (kept_at w s)) a → IsReported more a
+      starts_none a (IsKept.live t h there) = absurd (none_live catalogue s (kept_at w s) t h)
+      starts_none a (IsKept.finished f h there) = absurd (none_finished catalogue s (kept_at w s) f h)
+
+      kept_at_site : (j : ℕ) (y : SiteState) (a : Answer) → IsKept y a → QuietIs catalogue w s j y → IsReported more a
+      kept_at_site j y a h (QuietIs.other n old) = still_kept j y a old h
+      kept_at_site j y a h (QuietIs.here e same) = starts_none a (subst (λ (y : SiteState). IsKept y a) (sym same) h)
+
+-- the moment of a step
+stepped : (catalogue : Catalogue) (lines : List Line) (number : ℕ) (e : Event) (w v : WorldState) (s : ℕ) (x : SiteState) (given : Input) → scene_of v ≡ scene_of w → site_of w s ≡ Some x → Arrives (scene_of w) s given → Gives e w s given → ToldAt catalogue (scene_of w) lines → ToldAt catalogue (scene_of (site_step catalogue s x given v).world) (lines ++ (moment number w e (site_step catalogue s x given v)).line ∷ [])
+unfolding site_step
+stepped catalogue lines number e w v s x given same up arrives gives told_so_far =
+    subst (λ (z : Scene). ToldAt catalogue (acted z s x (step catalogue x given)) (lines ++ m0.line ∷ [])) (sym same) (step_told catalogue w lines m0 s x given up arrives is told_so_far)
+  where
+    m0 : Moment
+    m0 = moment number w e (site_step catalogue s x given v)
+
+    base : Seventeenth catalogue (acted (scene_of w) s x (step catalogue x given))
+    base = (listed_last catalogue).acts (scene_of w) s x given up arrives told_so_far.base
+
+    d : Does catalogue (scene_of w) (acted (scene_of w) s x (step catalogue x given)) s x given (step catalogue x given)
+    d = does catalogue (scene_of w) s x given up arrives (known catalogue (scene_of w) told_so_far.base) (known catalogue (acted (scene_of w) s x (step catalogue x given)) base)
+
+    is : IsStep m0 w s x given (step catalogue x given)
+    is = record {
+      before = refl;
+      first = _;
+      shown = refl;
+      gives = gives;
+      up = up;
+      after = subst (λ (z : Scene). plain_at (acted z s x (step catalogue x given)) s ≡ Some (step catalogue x given).site) (sym same) d.st.now;
+    }
+
+occurred : (catalogue : Catalogue) (lines : List Line) (number : ℕ) (e : Event) (w : WorldState) (m : Moved) → ToldAt catalogue (scene_of w) lines → Occurs catalogue e w m → ToldAt catalogue (scene_of m.world) (lines ++ (moment number w e m).line ∷ [])
+occurred catalogue lines number e w m told_so_far (Occurs.stands same none) =
+    rw same (same_told catalogue (scene_of w) (scene_of w) lines (moment number w e m).line none told_so_far)
+occurred catalogue lines number e w m told_so_far (Occurs.crashes s same none) =
+    rw same (quiet_told catalogue (scene_of w) (crashed (scene_of w) s) lines (moment number w e m).line none told_so_far s (crash_quiet catalogue (scene_of w) s) ((listed_last catalogue).crashes (scene_of w) s told_so_far.base))
+occurred catalogue lines number e w m told_so_far (Occurs.restarts s place at down id same none) =
+    rw same (quiet_told catalogue (scene_of w) (restarted catalogue (scene_of w) s) lines (moment number w e m).line none told_so_far s (restart_quiet catalogue (scene_of w) s place at id) ((listed_last catalogue).restarts (scene_of w) s place at down id told_so_far.base))
+occurred catalogue lines number e w m told_so_far (Occurs.acts s x given v same up arrives gives is) =
+    subst (λ (m : Moved). ToldAt catalogue (scene_of m.world) (lines ++ (moment number w e m).line ∷ [])) (sym is) (stepped catalogue lines number e w v s x given same up arrives gives told_so_far)
+
+-- of a run so far
+abbrev RunTold : Catalogue → Run → Type 0
+RunTold catalogue run = ToldAt catalogue (scene_of run.world) (lines_in run.moments)
+
+one_step-told : (catalogue : Catalogue) (number : ℕ) (e : Event) (run : Run) → RunTold catalogue run → RunTold catalogue (one_step catalogue number e run)
+unfolding one_step
+one_step-told catalogue number e run h =
+    let moved = next catalogue e run.world in
+    let m0 = moment number run.world e moved in
+    subst (ToldAt catalogue (scene_of moved.world)) (sym (lines_last run.moments m0)) (occurred catalogue (lines_in run.moments) number e run.world moved h (occurs catalogue e run.world))
+
+starts_none : (catalogue : Catalogue) (s : ℕ) (a : Answer) → IsKept (start catalogue s (empty_durable (start_copies catalogue s))) a → ⊥
+starts_none catalogue s a (IsKept.live t h there) = none_live catalogue s (empty_durable (start_copies catalogue s)) t h
+starts_none catalogue s a (IsKept.finished f h there) = none_finished catalogue s (empty_durable (start_copies catalogue s)) f h
+
+start_told : (catalogue : Catalogue) → ToldAt catalogue (scene_of (start_world catalogue)) []
+start_told catalogue = record {
+  base = (listed_last catalogue).starts;
+  live = λ s x t h k. absurd (none_live catalogue s (empty_durable (start_copies catalogue s)) t (subst (λ (x : SiteState). Has x.live t) (sym (started catalogue s x h)) k));
+  entries = λ e h. absurd (start_entered catalogue e h);
+  fresh = λ u unused. record { unreported = refl; untaken = λ k. refl };
+  kept = λ s x a h k. absurd (starts_none catalogue s a (subst (λ (x : SiteState). IsKept x a) (sym (started catalogue s x h)) k));
+}
+
+pub operations_told : (s : Schedule) → All (λ (commit : Commit). commit.ops ≡ told s.catalogue (lines_of s) commit.txn) (journal_of s)
+operations_told s =
+    let h = run-keeps s.catalogue (RunTold s.catalogue) (record { starts = start_told s.catalogue; steps = λ number e run h. one_step-told s.catalogue number e run h }) s.events in
+    All-from_recursion _ (journal_of s) (all_of (λ (e : Commit). e.ops ≡ told s.catalogue (lines_of s) e.txn) (journal_of s) (λ e there. sym (h.entries e there).tells))
+
+pub one_copy_told : (s : Schedule) → AreApart (sites_of s.catalogue) → IsOneCopy s
+one_copy_told s apart = one_copy_from s apart (operations_told s) (refusals_justified s)

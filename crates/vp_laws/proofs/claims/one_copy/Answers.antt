@@ -1,0 +1,5 @@
+use Rattle.vp_laws.proofs.ToldRuns.{one_copy_told}
+use Rattle.vp_laws.proofs.claims.one_copy.Goals as goal
+
+pub returns : goal.returns
+returns c = one_copy_told
