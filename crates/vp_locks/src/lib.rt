@@ -1,12 +1,14 @@
 //! The lock table of a site. A contract sees the list of its locks, in the order in which they were taken.
 #![tactic(auto)]
 
-ghost use Rattle.std.specs.Prelude.{◌≡◌, [], is_ok, if◌then◌else◌, map, true, false};
+ghost use Rattle.std.specs.Prelude.{◌≡◌, ◌++◌, ◌∷◌, ◌≤◌, [], is_ok, length, slice_get, not, ◌&&◌, ◌||◌, Some, option_copied, if◌then◌else◌, map, true, false};
+ghost use Rattle.std.specs.Option.{option_map_or};
 ghost use Rattle.vp_base.specs.declared.entry.Owner.TheVariants as owner;
 ghost use Rattle.vp_locks.specs.Faults.{holder_in};
 ghost use Rattle.vp_model.specs.Locks.{conflict, conflicting, least_owner, holds, with_lock, with_guard, without_owner, without_guard, without_shared, lesser, raised};
 ghost use Rattle.vp_model.specs.Words.{same_owner, owner_before};
 
+use memchr::memchr_iter;
 use std::alloc::Global;
 use std::marker::Model;
 use vp_base::{CopyOf, Lock, NoMemory, Owner, RecId, TxnId};
@@ -45,25 +47,62 @@ fn lesser_of(best: Option<Owner>, owner: &Owner) -> Owner
     }
 }
 
-/// The locks at a site.
+fn lock_at(items: &[Lock], place: usize) -> Option<&Lock>
+    ensures { option_copied result ≡ slice_get items.now place }
+{
+    items.get(place)
+}
+
+/// The least owner so far, or that of a lock of the record which forbids this owner one.
+fn least_with(
+    best: Option<Owner>,
+    lock: Option<&Lock>,
+    exclusive: bool,
+    owner: &Owner,
+) -> Option<Owner>
+    ensures { result ≡ option_map_or (λ lock. if (exclusive || lock.exclusive) && not (same_owner lock.owner owner.now) then Some (lesser best lock.owner) else best) (option_copied lock.entry) best }
+{
+    match lock {
+        Some(lock) if (exclusive || lock.exclusive) && !is_same_owner(&lock.owner, owner) => {
+            Some(lesser_of(best, &lock.owner))
+        }
+        _ => best,
+    }
+}
+
+/// Whether the lock of the record is this owner's, and exclusive where that is asked.
+fn is_own(lock: Option<&Lock>, exclusive: bool, owner: &Owner) -> bool
+    ensures { result ≡ option_map_or (λ lock. (not exclusive || lock.exclusive) && same_owner lock.owner owner.now) (option_copied lock.entry) false }
+{
+    match lock {
+        Some(lock) => (!exclusive || lock.exclusive) && is_same_owner(&lock.owner, owner),
+        None => false,
+    }
+}
+
+/// The locks at a site. Beside them stands the record of each, so that a search passes quickly over the others.
 #[derive(Drop)]
 pub struct Locks {
     items: Vec<Lock>,
+    recs: Vec<u8>,
 }
 
 impl Model for Locks {
-    ghost use Rattle.std.specs.Prelude.{List};
+    ghost use Rattle.std.specs.Prelude.{◌≡◌, List, map};
     ghost use Rattle.vp_base.specs.declared.site.Lock.{Lock};
 
     ghost Value = { List Lock };
 
     ghost view = { λ a. a.items.items };
+
+    ghost invariant = { λ a. a.recs.items ≡ map (λ lock. lock.rec) a.items.items };
 }
 
 impl CopyOf for Locks {
     fn copy_of(&self) -> Result<Locks, NoMemory> {
         let items = copy_all(*self.items.allocator(), &self.items)?;
-        Ok(Locks { items })
+        let recs = self.recs.clone()?;
+        Ok(Locks { items, recs })
     }
 }
 
@@ -74,6 +113,7 @@ impl Locks {
     {
         Locks {
             items: Vec::new(alloc),
+            recs: Vec::new(alloc),
         }
     }
 
@@ -81,36 +121,46 @@ impl Locks {
     fn blocker(&self, rec: RecId, exclusive: bool, owner: &Owner) -> Option<Owner>
         ensures { result ≡ least_owner (conflicting rec exclusive owner.now self.now) }
     {
-        self.items
-            .iter()
-            .filter(|lock| {
-                lock.rec == rec
-                    && (exclusive || lock.exclusive)
-                    && !is_same_owner(&lock.owner, owner)
-            })
-            .fold(None, |best, lock| Some(lesser_of(best, &lock.owner)))
+        let mut best = None;
+        for place in memchr_iter(rec.get(), &self.recs) {
+            best = least_with(best, lock_at(&self.items, place), exclusive, owner);
+        }
+        best
     }
 
     fn has(&self, rec: RecId, exclusive: bool, owner: &Owner) -> bool
         ensures { result ≡ holds rec exclusive owner.now self.now }
     {
-        self.items.iter().any(|lock| {
-            lock.rec == rec && (!exclusive || lock.exclusive) && is_same_owner(&lock.owner, owner)
-        })
+        for place in memchr_iter(rec.get(), &self.recs) {
+            if is_own(lock_at(&self.items, place), exclusive, owner) {
+                return true;
+            }
+        }
+        false
     }
 
+    #[tactic(auto, using(crate::proofs::Records::raised_records))]
     fn put(&mut self, rec: RecId, exclusive: bool, owner: &Owner) -> Result<(), NoMemory>
         ensures { self.new ≡ (if is_ok result then with_lock rec exclusive owner.now self.old else self.old) }
     {
         if self.has(rec, false, owner) {
             raise(&mut self.items, rec, exclusive, owner);
         } else {
-            self.items.push(Lock {
-                rec,
-                exclusive,
-                owner: *owner,
-            })?;
+            self.add(rec, exclusive, owner)?;
         }
+        Ok(())
+    }
+
+    fn add(&mut self, rec: RecId, exclusive: bool, owner: &Owner) -> Result<(), NoMemory>
+        ensures { self.new ≡ (if is_ok result then self.old ++ (record { rec = rec; exclusive = exclusive; owner = owner.now }) ∷ [] else self.old) }
+    {
+        self.recs.reserve(1)?;
+        self.items.push(Lock {
+            rec,
+            exclusive,
+            owner: *owner,
+        })?;
+        self.recs.push(rec.get())?;
         Ok(())
     }
 
@@ -177,6 +227,7 @@ impl Locks {
         ensures { self.new ≡ without_guard rec self.old }
     {
         self.items.retain(|lock| !(lock.rec == rec && is_same_owner(&lock.owner, &Owner::Refresh)));
+        read_records(&mut self.recs, &self.items);
     }
 
     /// All locks of the transaction go.
@@ -186,6 +237,7 @@ impl Locks {
         let owner = Owner::Txn(txn);
         self.items
             .retain(|lock| !is_same_owner(&lock.owner, &owner));
+        read_records(&mut self.recs, &self.items);
     }
 
     /// The shared locks of the transaction go, and its exclusive ones stay.
@@ -194,6 +246,25 @@ impl Locks {
     {
         let owner = Owner::Txn(txn);
         self.items.retain(|lock| lock.exclusive || !is_same_owner(&lock.owner, &owner));
+        read_records(&mut self.recs, &self.items);
+    }
+}
+
+/// The records are again those of the locks, some of which went.
+fn read_records(recs: &mut Vec<u8>, items: &[Lock])
+    requires { length items.now ≤ length recs.old.items }
+    ensures { recs.new.items ≡ map (λ lock. lock.rec) items.now }
+{
+    recs.truncate(items.len());
+    write_records(recs, items);
+}
+
+fn write_records(recs: &mut [u8], items: &[Lock])
+    requires { length recs.old ≡ length items.now }
+    ensures { recs.new ≡ map (λ lock. lock.rec) items.now }
+{
+    for (place, lock) in items.iter().enumerate() {
+        recs[place] = lock.rec.get();
     }
 }
 
@@ -206,7 +277,13 @@ fn raised_one(lock: &mut Lock, rec: RecId, exclusive: bool, owner: &Owner)
 }
 
 /// The owner's lock on the record becomes exclusive where that is asked.
-fn raise(items: &mut [Lock], rec: RecId, exclusive: bool, owner: &Owner)
+fn raise(items: &mut Vec<Lock>, rec: RecId, exclusive: bool, owner: &Owner)
+    ensures { items.new.items ≡ map (raised rec exclusive owner.now) items.old.items }
+{
+    raise_each(items, rec, exclusive, owner);
+}
+
+fn raise_each(items: &mut [Lock], rec: RecId, exclusive: bool, owner: &Owner)
     ensures { items.new ≡ map (raised rec exclusive owner.now) items.old }
 {
     for lock in items.iter_mut() {
