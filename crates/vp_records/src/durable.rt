@@ -1,0 +1,250 @@
+//! The durable part, and what each kind of log record does to it.
+
+ghost use Rattle.std.specs.Prelude.{◌≡◌, OnOk, OnErr, is_some, true, option_copied};
+ghost use Rattle.vp_base.specs.declared.entry.LogRecord.TheVariants as entry;
+ghost use Rattle.vp_model.specs.Words.{has, keys, value_at, for_each, replace_at};
+ghost use Rattle.vp_model.specs.Durable.{empty_durable, apply, doubt_of, with_outcome, put_doubt, with_writes, with_decision};
+
+use crate::copies::{committed, replaced, restored, written};
+use crate::decisions::{acknowledge, with_decision};
+use crate::doubts::{drop_doubt, with_doubt};
+use std::marker::Model;
+use vp_base::{
+    Copies, CopyOf, Decisions, InDoubt, LogRecord, NoMemory, RecId, SiteId, Sites, Stored, TxnId,
+    ViewId, Writes,
+};
+use vp_lists::{find_txn, value_at};
+
+/// What a site has after a crash: its promise, its life, its copies, the transactions in doubt, and the decisions that
+/// some site has not acknowledged.
+#[derive(Drop)]
+pub struct Durable {
+    promise: ViewId,
+    life: u32,
+    copies: Copies,
+    doubts: InDoubt,
+    decisions: Decisions,
+}
+
+impl Model for Durable {
+    ghost use Rattle.vp_model.specs.Durable.{DurableState};
+
+    ghost Value = { DurableState };
+
+    ghost view = { λ d. record { promise = d.promise; life = d.life; copies = d.copies; doubts = d.doubts; decisions = d.decisions } };
+}
+
+impl CopyOf for Durable {
+    fn copy_of(&self) -> Result<Durable, NoMemory> {
+        Ok(Durable {
+            promise: self.promise,
+            life: self.life,
+            copies: self.copies.copy_of()?,
+            doubts: self.doubts.copy_of()?,
+            decisions: self.decisions.copy_of()?,
+        })
+    }
+}
+
+impl Durable {
+    /// The durable part of a site that never ran, with these copies. It takes no memory.
+    pub fn empty(copies: Copies) -> Durable
+        ensures { result ≡ empty_durable copies }
+    {
+        let alloc = copies.allocator();
+        Durable {
+            promise: ViewId { number: 0, site: 0 },
+            life: 0,
+            copies,
+            doubts: InDoubt::new(alloc),
+            decisions: Decisions::new(alloc),
+        }
+    }
+
+    /// The highest view that the site has promised to.
+    pub fn promise(&self) -> ViewId
+        ensures { result ≡ self.now.promise }
+    {
+        self.promise
+    }
+
+    /// The number of the site's last life, 0 where it never ran.
+    pub fn life(&self) -> u32
+        ensures { result ≡ self.now.life }
+    {
+        self.life
+    }
+
+    /// The copy of the record; none exactly where the site has no copy of it.
+    #[tactic(auto, using(crate::proofs::Held::found_there))]
+    pub fn stored(&self, rec: RecId) -> Option<&Stored>
+        ensures copy { option_copied result ≡ value_at rec self.now.copies }
+        ensures there { is_some result ≡ has (keys self.now.copies) rec }
+    {
+        value_at(self.copies.as_slice(), rec)
+    }
+
+    /// The transactions that the site voted yes on and knows no outcome of.
+    pub fn doubts(&self) -> &InDoubt
+        ensures { result.now ≡ self.now.doubts }
+    {
+        &self.doubts
+    }
+
+    /// The transactions that the site committed and that some site has not acknowledged.
+    pub fn decisions(&self) -> &Decisions
+        ensures { result.now ≡ self.now.decisions }
+    {
+        &self.decisions
+    }
+
+    #[tactic(auto, unfolding(vp_model::specs::Durable::apply))]
+    fn start(&mut self, life: u32)
+        ensures { self.new ≡ apply (entry.Start life) self.old }
+    {
+        self.life = life;
+    }
+
+    #[tactic(auto, unfolding(vp_model::specs::Durable::apply))]
+    fn promise_to(&mut self, view: ViewId)
+        ensures { self.new ≡ apply (entry.Promise view) self.old }
+    {
+        self.promise = view;
+    }
+
+    /// The site voted yes.
+    #[tactic(auto, unfolding(vp_model::specs::Durable::apply))]
+    fn vote(&mut self, txn: &TxnId, view: &ViewId, writes: &Writes) -> Result<(), NoMemory>
+        ensures ok { OnOk result (self.new ≡ apply (entry.Yes txn.now view.now writes.now) self.old) }
+        ensures err { OnErr result (self.new ≡ self.old) }
+    {
+        self.doubts = with_doubt(&self.doubts, txn, view, writes)?;
+        Ok(())
+    }
+
+    /// What the transaction in doubt writes becomes copies, with its view as their date.
+    fn write_doubt(&mut self, txn: &TxnId) -> Result<(), NoMemory>
+        ensures ok { OnOk result (self.new ≡ record self.old { copies = with_outcome (doubt_of txn.now self.old.doubts) true self.old.copies }) }
+        ensures err { OnErr result (self.new ≡ self.old) }
+    {
+        let doubt = find_txn(self.doubts.as_slice(), txn);
+        self.copies = committed(&self.copies, doubt)?;
+        Ok(())
+    }
+
+    /// The doubt ends: only a commit makes its writes copies.
+    #[tactic(auto, unfolding(vp_model::specs::Durable::apply))]
+    fn end_doubt(&mut self, txn: &TxnId, commit: bool) -> Result<(), NoMemory>
+        ensures ok { OnOk result (self.new ≡ apply (entry.Outcome txn.now commit) self.old) }
+        ensures err { OnErr result (self.new ≡ self.old) }
+    {
+        if commit {
+            self.write_doubt(txn)?;
+        }
+        drop_doubt(&mut self.doubts, txn);
+        Ok(())
+    }
+
+    /// The site committed a transaction of its own.
+    #[tactic(auto, unfolding(vp_model::specs::Durable::apply))]
+    fn commit(
+        &mut self,
+        txn: &TxnId,
+        view: &ViewId,
+        writes: &Writes,
+        waiting: &Sites,
+    ) -> Result<(), NoMemory>
+        ensures ok { OnOk result (self.new ≡ apply (entry.Commit txn.now view.now writes.now waiting.now) self.old) }
+        ensures err { OnErr result (self.new ≡ self.old) }
+    {
+        let copies = written(&self.copies, view, writes.as_slice())?;
+        self.decisions = with_decision(&self.decisions, txn, waiting)?;
+        self.copies = copies;
+        Ok(())
+    }
+
+    #[tactic(auto, unfolding(vp_model::specs::Durable::apply))]
+    fn set_copy(&mut self, rec: RecId, stored: &Stored) -> Result<(), NoMemory>
+        ensures ok { OnOk result (self.new ≡ apply (entry.Copy rec stored.now) self.old) }
+        ensures err { OnErr result (self.new ≡ self.old) }
+    {
+        self.copies = replaced(&self.copies, rec, stored)?;
+        Ok(())
+    }
+
+    #[tactic(auto, unfolding(vp_model::specs::Durable::apply))]
+    fn acknowledge(&mut self, txn: &TxnId, site: SiteId)
+        ensures { self.new ≡ apply (entry.Acked txn.now site) self.old }
+    {
+        acknowledge(&mut self.decisions, txn, site);
+    }
+
+    /// All is as it was saved, but for the copies that were not.
+    fn restore(
+        &mut self,
+        life: u32,
+        promise: &ViewId,
+        copies: &Copies,
+        doubts: &InDoubt,
+        decisions: &Decisions,
+    ) -> Result<(), NoMemory>
+        ensures ok { OnOk result (self.new ≡ record {
+          promise = promise.now;
+          life = life;
+          copies = for_each copies.now (λ c. replace_at c.0 c.1) self.old.copies;
+          doubts = doubts.now;
+          decisions = decisions.now;
+        }) }
+        ensures err { OnErr result (self.new ≡ self.old) }
+    {
+        let restored = Durable {
+            promise: *promise,
+            life,
+            copies: restored(&self.copies, copies.as_slice())?,
+            doubts: doubts.copy_of()?,
+            decisions: decisions.copy_of()?,
+        };
+        *self = restored;
+        Ok(())
+    }
+
+    /// What one record of the log does. Without memory nothing changes.
+    #[tactic(auto, unfolding(vp_model::specs::Durable::apply))]
+    pub fn apply(&mut self, entry: &LogRecord) -> Result<(), NoMemory>
+        ensures applied { OnOk result (self.new ≡ apply entry.now self.old) }
+        ensures unchanged { OnErr result (self.new ≡ self.old) }
+        ensures held { keys self.new.copies ≡ keys self.old.copies }
+    {
+        match entry {
+            LogRecord::Start { life } => {
+                self.start(*life);
+                Ok(())
+            }
+            LogRecord::Promise { view } => {
+                self.promise_to(*view);
+                Ok(())
+            }
+            LogRecord::Yes { txn, view, writes } => self.vote(txn, view, writes),
+            LogRecord::Outcome { txn, commit } => self.end_doubt(txn, *commit),
+            LogRecord::Commit {
+                txn,
+                view,
+                writes,
+                waiting,
+            } => self.commit(txn, view, writes, waiting),
+            LogRecord::Copy { rec, stored } => self.set_copy(*rec, stored),
+            LogRecord::Acked { txn, site } => {
+                self.acknowledge(txn, *site);
+                Ok(())
+            }
+            LogRecord::Checkpoint {
+                generation: _,
+                life,
+                promise,
+                copies,
+                doubts,
+                decisions,
+            } => self.restore(*life, promise, copies, doubts, decisions),
+        }
+    }
+}
