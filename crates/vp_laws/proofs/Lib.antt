@@ -122,6 +122,8 @@ pub mod TableTold
 pub mod ToldAt
 pub mod ToldMoves
 pub mod ToldRuns
+-- how sites in doubt end it
+pub mod TableOutcomes
 -- the laws in the words of the contracts
 pub mod Words
 pub mod EntryWords
