@@ -124,6 +124,7 @@ pub mod ToldMoves
 pub mod ToldRuns
 -- how sites in doubt end it
 pub mod TableOutcomes
+pub mod Decisions
 -- the laws in the words of the contracts
 pub mod Words
 pub mod EntryWords
