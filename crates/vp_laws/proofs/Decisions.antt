@@ -1,13 +1,12 @@
 -- Sites that are in doubt about a transaction end the doubt as the journal says.
-use Rattle.std.proofs.Common.{◌≡◌, ◌≢◌, ◌∙◌, ap, sym, subst, ℕ, Bool, true, false, List}
+use Rattle.std.proofs.Common.{◌≡◌, ◌∙◌, sym, subst, ℕ, true, false}
 use Rattle.std.specs.Prelude.{Some}
 use Rattle.std.specs.List.{Contains}
-use Rattle.vp_model.specs.Types.{TxnId, Commit, Message, Input}
+use Rattle.vp_model.specs.Types.{TxnId, Message, Input}
 use Rattle.vp_model.specs.Types.entry
-use Rattle.vp_model.specs.Types.input
 use Rattle.vp_model.specs.Types.message
 use Rattle.vp_model.specs.Catalogue.{Catalogue}
-use Rattle.vp_model.specs.Durable.{Doubt, DurableState}
+use Rattle.vp_model.specs.Durable.{DurableState}
 use Rattle.vp_model.specs.Site.{SiteState}
 use Rattle.vp_model.specs.Step.{step}
 use Rattle.vp_model.specs.World.{WorldState, Schedule, Moment, site_of, moments_of, journal_of}
@@ -16,12 +15,11 @@ use Rattle.vp_laws.specs.Decisions.{MayCome, DecisionsAgree}
 use Rattle.vp_laws.proofs.Members.{Has, has_of}
 use Rattle.vp_laws.proofs.LocalViews.{letter}
 use Rattle.vp_laws.proofs.Table.{Comes}
-use Rattle.vp_laws.proofs.TableOutcomes.{OutcomeFor, outcomes-step}
-use Rattle.vp_laws.proofs.Scenes.{Scene, scene_of, kept_at}
+use Rattle.vp_laws.proofs.TableOutcomes.{outcomes-step}
+use Rattle.vp_laws.proofs.Scenes.{scene_of, kept_at}
 use Rattle.vp_laws.proofs.Events.{in_each}
 use Rattle.vp_laws.proofs.Moments.{moment_of, later_on}
 use Rattle.vp_laws.proofs.InvKept.{TwentyFirst, kept_last}
-use Rattle.vp_laws.proofs.InvEndings.{HasEntry, Over}
 use Rattle.vp_laws.proofs.Tower.{Known, known}
 use Rattle.vp_laws.proofs.EndsTrue.{entry_found, entry_none, EndedAt, ended_keeps}
 

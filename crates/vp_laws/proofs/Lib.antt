@@ -110,7 +110,6 @@ pub mod Moments
 pub mod EndsTrue
 pub mod OneCopy
 -- what clients are told, in every schedule
-pub mod EndsTold
 pub mod Fair
 pub mod FairStep
 pub mod FairAt

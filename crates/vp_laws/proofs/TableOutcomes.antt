@@ -1,7 +1,7 @@
 -- A step forces the outcome of a transaction only as that outcome comes, at a site that is in doubt about it.
-use Rattle.std.proofs.Common.{◌≡◌, ◌∙◌, ap, sym, subst, ℕ, Bool, true, false, cond, List, [], ◌∷◌, ◌++◌, refl, ⊎_elim}
+use Rattle.std.proofs.Common.{◌≡◌, ◌∙◌, ap, subst, ℕ, Bool, true, false, cond, List, [], ◌∷◌, ◌++◌, refl, ⊎_elim}
 use Rattle.std.specs.Prelude.{Option, Some, None}
-use Rattle.vp_model.specs.Types.{ViewId, TxnId, Stored, LogRecord, Input, Live, Ending, Refreshing}
+use Rattle.vp_model.specs.Types.{TxnId, Stored, LogRecord, Input, Live, Ending, Refreshing}
 use Rattle.vp_base.specs.declared.site.Ending.TheVariants.{Committed}
 use Rattle.vp_model.specs.Types.entry
 use Rattle.vp_model.specs.Types.input
@@ -51,10 +51,12 @@ module _ (catalogue : Catalogue) (x : SiteState) (given : Input) where
   alike o e is p = record { come = λ txn commit h. p.come txn commit (rw is at h) }
 
   more : (o e : Stepped) (r : LogRecord) → is_outcome r ≡ false → e.effects.records ≡ o.effects.records ++ r ∷ [] → P o → P e
-  more o e r other is p = record { come = λ txn commit h. ⊎_elim
-      (λ old. p.come txn commit old)
-      (λ new. absurd (let z : is_outcome (entry.Outcome txn commit) ≡ false = subst (λ (r : LogRecord). is_outcome r ≡ false) (has_one_is r (entry.Outcome txn commit) new) other in cc))
-      (has_cases o.effects.records (r ∷ []) (entry.Outcome txn commit) (rw is at h)) }
+  more o e r other is p = record {
+    come = λ txn commit h. ⊎_elim
+        (λ old. p.come txn commit old)
+        (λ new. absurd (let z : is_outcome (entry.Outcome txn commit) ≡ false = subst (λ (r : LogRecord). is_outcome r ≡ false) (has_one_is r (entry.Outcome txn commit) new) other in cc))
+        (has_cases o.effects.records (r ∷ []) (entry.Outcome txn commit) (rw is at h));
+  }
 
   takes_newer : (rec : ℕ) (own best : Stored) (o : Stepped) → P o → P (take_newer rec own best o)
   unfolding take_newer
