@@ -1,5 +1,5 @@
 -- Answers that may be repeated, in every world.
-use Rattle.std.proofs.Common.{◌≡◌, ap, sym, subst, ℕ}
+use Rattle.std.proofs.Common.{◌≡◌, subst, ℕ}
 use Rattle.std.specs.Prelude.{Some}
 use Rattle.vp_model.specs.Types.{Input}
 use Rattle.vp_model.specs.Catalogue.{Catalogue, start_copies}
@@ -9,10 +9,9 @@ use Rattle.vp_model.specs.Step.{start, step}
 use Rattle.vp_laws.proofs.Members.{has_none}
 use Rattle.vp_laws.proofs.Scenes.{Scene, plain_at, kept_at, Acted, acted, stepping}
 use Rattle.vp_laws.proofs.TableViews.{local-step}
-use Rattle.vp_laws.proofs.TableLed.{Led, Leads, led-step}
-use Rattle.vp_laws.proofs.TableEndings.{Endings, endings-step}
-use Rattle.vp_laws.proofs.InvEndings.{Fifth, fresh, endings_last}
-use Rattle.vp_laws.proofs.TableEnds.{AnswersKept, Ends, ends-step}
+use Rattle.vp_laws.proofs.TableLed.{Led}
+use Rattle.vp_laws.proofs.InvEndings.{Fifth, endings_last}
+use Rattle.vp_laws.proofs.TableKept.{AnswersKept, kept-step}
 use Rattle.vp_laws.proofs.Events.{Lasts}
 use Rattle.vp_laws.proofs.Worlds.{NowIs, now_is, QuietIs, quiet_is, started, With, Above, with_last}
 
@@ -30,10 +29,7 @@ none_kept catalogue s d = record { live = λ t h. absurd (has_none t h); finishe
 -- what one step does, with what it keeps of the invariants below
 pub record Does (catalogue : Catalogue) (w : Scene) (s : ℕ) (x : SiteState) (given : Input) : Type 0 where
   pub id : x.id ≡ s
-  pub life : (kept_at w s).life ≡ x.life
   pub led : Led x
-  pub leads : Leads x (step catalogue x given)
-  pub endings : let o = step catalogue x given in Endings x given o.site.coordinator o.effects.messages o.effects.commits
   pub st : Acted w (acted w s x (step catalogue x given)) s x (step catalogue x given)
 
 pub does : (catalogue : Catalogue) (w : Scene) (s : ℕ) (x : SiteState) (given : Input) → plain_at w s ≡ Some x → Fifth catalogue w → Does catalogue w s x given
@@ -43,16 +39,9 @@ does catalogue w s x given up five =
     let led = low.third.second.first.led.site s x up in
     record {
       id = ok.id;
-      life = ap (λ (d : DurableState). d.life) (sym ok.kept);
       led = led;
-      leads = led-step catalogue x given ok.tidy led;
-      endings = (endings-step catalogue x given led (low.votes.site s x up) (five.upper.settled s x up) (λ d h. fresh w s x up ok.id d.0 ((low.third.names.site s x up).decisions d h))).kept;
       st = stepping catalogue w s x given up ok.kept (local-step catalogue x given ok.tidy);
     }
-
--- what a step answers
-pub ends_of : (catalogue : Catalogue) (w : Scene) (s : ℕ) (x : SiteState) (given : Input) → plain_at w s ≡ Some x → Kept catalogue w → let o = step catalogue x given in Ends x o.site.coordinator o.effects.replies o.effects.commits
-ends_of catalogue w s x given up inv = ends-step catalogue x given (inv.lower.lower.third.second.first.led.site s x up) (inv.lower.lower.votes.site s x up) (inv.upper.site s x up)
 
 kept_above : (catalogue : Catalogue) → Above catalogue (Fifth catalogue) InvKept
 kept_above catalogue = record {
@@ -63,7 +52,7 @@ kept_above catalogue = record {
   where
     acts : (w : Scene) (s : ℕ) (x : SiteState) (given : Input) → plain_at w s ≡ Some x → Fifth catalogue w → InvKept w → (k : ℕ) (y : SiteState) → NowIs w s (step catalogue x given).site k y → AnswersKept y.coordinator
     acts w s x given up low inv k y (NowIs.other n old) = inv.site k y old
-    acts w s x given up low inv k y (NowIs.here e same) = subst (λ (y : SiteState). AnswersKept y.coordinator) same (ends_of catalogue w s x given up (record { lower = low; upper = inv })).kept
+    acts w s x given up low inv k y (NowIs.here e same) = subst (λ (y : SiteState). AnswersKept y.coordinator) same (kept-step catalogue x given (inv.site s x up))
 
     quiet : (w : Scene) (s : ℕ) → InvKept w → (k : ℕ) (y : SiteState) → QuietIs catalogue w s k y → AnswersKept y.coordinator
     quiet w s inv k y (QuietIs.other n old) = inv.site k y old

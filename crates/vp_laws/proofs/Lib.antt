@@ -27,7 +27,7 @@ pub mod TableSteps
 pub mod Reasons
 pub mod FrontRows
 pub mod FrontSteps
-pub mod TableEnds
+pub mod TableKept
 pub mod TableRefusals
 pub mod TableFair
 pub mod TableShares

@@ -26,7 +26,7 @@ use Rattle.vp_laws.proofs.Lists.{without_first_has}
 use Rattle.vp_laws.proofs.Apart.{Apart, named, change_cases}
 use Rattle.vp_laws.proofs.Table.{next_view, next_name, Reads, Writes, Completes}
 use Rattle.vp_laws.proofs.TableSteps.{done, waiting}
-use Rattle.vp_laws.proofs.TableEnds.{kept_has}
+use Rattle.vp_laws.proofs.TableKept.{kept_has}
 use Rattle.vp_laws.proofs.TableEndings.{NotLive}
 use Rattle.vp_laws.proofs.Reasons.{Takes, Tells, is_plain, told_to, last_reply, IsDone, Goes, Front}
 use Rattle.vp_laws.proofs.FrontSteps.{step-front}
