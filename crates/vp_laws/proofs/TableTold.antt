@@ -19,6 +19,7 @@ use Rattle.vp_model.specs.Calls.{begun}
 use Rattle.vp_model.specs.Answers.{with_acknowledged}
 use Rattle.vp_model.specs.Step.{mark, step}
 use Rattle.vp_model.specs.Told.{reported, is_early_refusal, told_by}
+use Rattle.vp_one_site.proofs.LockTables.{same_txn-self}
 use Rattle.vp_one_site.proofs.ToldLines.{Report}
 use Rattle.vp_one_site.proofs.KeptTold.{end_unreported, end_late}
 use Rattle.vp_laws.proofs.Members.{Has, has_none, has_first, has_more, has_one_is, has_cases, map_has}
@@ -39,9 +40,6 @@ pub record SaysDone (catalogue : Catalogue) (txn : TxnId) (p : Pending) (operati
   pub others : (u : TxnId) → txn ≢ u → reported u words ≡ None
   pub tells : told_by catalogue report p.call ≡ Some operation
   pub late : is_early_refusal words ≡ false
-
-same_txn-self : (t : TxnId) → same_txn t t ≡ true
-same_txn-self t = grind (arith, nat_tests)
 
 same_txn-other : (t u : TxnId) → t ≢ u → same_txn t u ≡ false
 same_txn-other t u n = grind (arith, nat_tests, n)
