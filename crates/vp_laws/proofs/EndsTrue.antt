@@ -66,10 +66,10 @@ agrees_abort by last txn number (ViewChanged at held now) e none = rw none refl
 agrees_abort by last txn number (TimedOut at) e none = rw none refl
 
 -- the transaction is over without an entry, and gets none later
-record EndedAt (w : Scene) (txn : TxnId) : Type 0 where
-  used : UsedTxn w txn
-  over : Over w txn
-  none : (e : Commit) → Has w.journal e → e.txn ≢ txn
+pub record EndedAt (w : Scene) (txn : TxnId) : Type 0 where
+  pub used : UsedTxn w txn
+  pub over : Over w txn
+  pub none : (e : Commit) → Has w.journal e → e.txn ≢ txn
 
 module _ (catalogue : Catalogue) where
   abbrev I : Scene → Type 0
@@ -111,7 +111,7 @@ module _ (catalogue : Catalogue) where
       over_at y (QuietIs.other m old) t live same = h.over y old t live same
       over_at y (QuietIs.here z is) t live same = no_live s (kept_at w s) t (subst (λ (y : SiteState). Has y.live t) (sym is) live)
 
-  ended_keeps : (txn : TxnId) (w : Scene) (what : Shown) (new : Scene) → MomentOf catalogue w what new → I w → I new → EndedAt w txn → EndedAt new txn
+  pub ended_keeps : (txn : TxnId) (w : Scene) (what : Shown) (new : Scene) → MomentOf catalogue w what new → I w → I new → EndedAt w txn → EndedAt new txn
   ended_keeps txn w what new (MomentOf.same e rs cs) inv now h = subst (λ (w : Scene). EndedAt w txn) (sym e) h
   ended_keeps txn w what new (MomentOf.quiet s q rs cs) inv now h = ended_quiet w new s q txn h
   ended_keeps txn w what new (MomentOf.steps s x given first up r is e) inv now h =

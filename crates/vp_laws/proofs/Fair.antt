@@ -14,8 +14,7 @@ use Rattle.vp_model.specs.World.{Moment}
 use Rattle.vp_model.specs.Told.{answers_in}
 use Rattle.vp_model.specs.Justified.{Request, is_request, request_of, handles, is_step_of, was_blocked, held_other, left_then, is_begun, begun_in, justified}
 use Rattle.vp_one_site.proofs.KeptAnswers.{blocked_larger}
-use Rattle.vp_laws.proofs.Members.{Has, has_left}
-use Rattle.vp_laws.proofs.EndsTold.{any_of}
+use Rattle.vp_laws.proofs.Members.{Has, has_left, any_of}
 
 -- the transaction was begun in the view
 pub record WasBegun (past : List Moment) (txn : TxnId) (view : ViewId) : Type 0 where

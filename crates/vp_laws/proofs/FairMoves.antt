@@ -21,7 +21,7 @@ use Rattle.vp_model.specs.World.{WorldState, Moment}
 use Rattle.vp_model.specs.Justified.{site_named, justified, held_other, left_then, is_begun, weighs}
 use Rattle.vp_one_site.proofs.Outcome.{is_report}
 use Rattle.vp_one_site.proofs.KeptAnswers.{blocked_larger}
-use Rattle.vp_laws.proofs.Members.{Has, has_none, has_one, has_left, has_right, has_cases, has_one_is, map_has}
+use Rattle.vp_laws.proofs.Members.{Has, has_none, has_one, has_left, has_right, has_cases, has_one_is, map_has, any_of}
 use Rattle.vp_laws.proofs.Table.{Comes, Handled, Reads, Writes, Requests, Asks}
 use Rattle.vp_laws.proofs.LocalViews.{letter}
 use Rattle.vp_laws.proofs.Scenes.{Scene, scene_of, plain_at, kept_at, acted}
@@ -34,7 +34,6 @@ use Rattle.vp_model.specs.Durable.{DurableState}
 use Rattle.vp_laws.proofs.Reasons.{Operates, Takes, Awaits, Why, told_to}
 use Rattle.vp_laws.proofs.TableRefusals.{Refused, RefuseSays, refusals-step}
 use Rattle.vp_laws.proofs.TableFair.{finished_as, LiveFrom, FinishedFrom, ReplyFrom, Causes, causes-step}
-use Rattle.vp_laws.proofs.EndsTold.{any_of}
 use Rattle.vp_laws.proofs.Fair.{WasBegun, Once, OtherView, Fair, begun_more, fair_more, fair_larger, fair_justified}
 use Rattle.vp_laws.proofs.FairStep.{IsStep, named_site, tested_x, replied, blocked_here, blocked_there, other_there, left_now, same_txn-self, same_view-self, eq_self}
 use Rattle.vp_laws.proofs.FairAt.{IsAsked, RefuseFair, RefuseOk, FairEnd, FairAt, refuse_on, end_more, free_justified, report_fair}

@@ -21,13 +21,12 @@ use Rattle.vp_model.specs.Messages.{held_id}
 use Rattle.vp_model.specs.Told.{answers_in, messages_in}
 use Rattle.vp_model.specs.Justified.{Request, call_request, message_request, request_of, site_named, is_step_of, is_request, tested_before, tested_after, blocks, is_named, says_held, gave_held, was_blocked, refuses, is_held_by, is_other_view, is_same_view, handles, held_other, left_then}
 use Rattle.vp_one_site.proofs.LockTables.{same_owner-self, least_any}
-use Rattle.vp_laws.proofs.Members.{Has, both_true}
+use Rattle.vp_laws.proofs.Members.{Has, both_true, any_of}
 use Rattle.vp_laws.proofs.Lists.{mapped_has}
 use Rattle.vp_laws.proofs.Apart.{same_txn-is}
 use Rattle.vp_laws.proofs.Table.{Comes, Requests, Asks}
 use Rattle.vp_laws.proofs.LocalViews.{letter}
 use Rattle.vp_laws.proofs.Occurs.{Gives}
-use Rattle.vp_laws.proofs.EndsTold.{any_of}
 use Rattle.vp_laws.proofs.Reasons.{Called, Operates, told_to}
 
 -- the moment is a step of the site s, from x to o

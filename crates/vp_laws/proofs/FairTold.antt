@@ -12,13 +12,13 @@ use Rattle.vp_model.specs.Headline.{RefusalsAreJustified}
 use Rattle.vp_model.specs.World.{WorldState, Moved, Moment, Run, Schedule, moment, next, one_step, site_of, site_step, start_world}
 use Rattle.vp_one_site.proofs.KeptAnswers.{all_justified-last}
 use Rattle.vp_laws.proofs.Members.{Has, has_none}
+use Rattle.vp_laws.proofs.Lists.{all_from}
 use Rattle.vp_laws.proofs.Scenes.{Scene, scene_of, plain_at, acted}
 use Rattle.vp_laws.proofs.Events.{Arrives, crashed, restarted}
 use Rattle.vp_laws.proofs.Worlds.{crash_quiet, restart_quiet, started, start_sent}
 use Rattle.vp_laws.proofs.InvAnswers.{answers_last}
 use Rattle.vp_laws.proofs.InvRepeated.{kept_last, Does, does}
-use Rattle.vp_laws.proofs.Occurs.{Gives, Occurs, occurs, run-keeps}
-use Rattle.vp_laws.proofs.EndsTold.{all_of, true_is, no_replies}
+use Rattle.vp_laws.proofs.Occurs.{no_replies, Gives, Occurs, occurs, run-keeps}
 use Rattle.vp_laws.proofs.FairStep.{IsStep}
 use Rattle.vp_laws.proofs.FairAt.{FairAt}
 use Rattle.vp_laws.proofs.FairMoves.{step_fair, replies_justified, quiet_fair, same_fair, none_live, none_finished}
@@ -82,7 +82,7 @@ one_step-fair catalogue number e run h =
     let j = justifies catalogue run.moments number e run.world moved h.at (occurs catalogue e run.world) in
     record {
       at = j.at;
-      justified = all_justified-last catalogue [] run.moments m0 h.justified (all_of (justified catalogue (run.moments ++ m0 ∷ []) m0) (answers_in m0.line) j.answers);
+      justified = all_justified-last catalogue [] run.moments m0 h.justified (all_from (justified catalogue (run.moments ++ m0 ∷ []) m0) (answers_in m0.line) j.answers);
     }
 
 start_fair : (catalogue : Catalogue) → FairAt catalogue (scene_of (start_world catalogue)) []
@@ -95,7 +95,7 @@ start_fair catalogue = record {
 }
 
 pub refusals_justified : (s : Schedule) → RefusalsAreJustified s
-refusals_justified s = true_is _ (run-keeps s.catalogue (FairHold s.catalogue) (record {
+refusals_justified s = (run-keeps s.catalogue (FairHold s.catalogue) (record {
   starts = record { at = start_fair s.catalogue; justified = refl };
   steps = λ number e run h. one_step-fair s.catalogue number e run h;
 }) s.events).justified

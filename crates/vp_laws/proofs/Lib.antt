@@ -27,7 +27,7 @@ pub mod TableSteps
 pub mod Reasons
 pub mod FrontRows
 pub mod FrontSteps
-pub mod TableEnds
+pub mod TableKept
 pub mod TableRefusals
 pub mod TableFair
 pub mod TableShares
@@ -110,7 +110,6 @@ pub mod Moments
 pub mod EndsTrue
 pub mod OneCopy
 -- what clients are told, in every schedule
-pub mod EndsTold
 pub mod Fair
 pub mod FairStep
 pub mod FairAt
@@ -122,6 +121,9 @@ pub mod TableTold
 pub mod ToldAt
 pub mod ToldMoves
 pub mod ToldRuns
+-- how sites in doubt end it
+pub mod TableOutcomes
+pub mod Decisions
 -- the laws in the words of the contracts
 pub mod Words
 pub mod EntryWords

@@ -2,19 +2,24 @@
 use Rattle.std.proofs.Common.{◌≡◌, ◌++◌, ℕ, zero, suc, ◌+◌, ◌-◌, ◌^◌, Bool, true, false, cond, List, [], ◌∷◌, refl}
 use Rattle.std.specs.Prelude.{Option, Some, None, ◌==◌, slice_get}
 use Rattle.std.proofs.lemmas.Option.{slice_get_within, get_or_from_slice_get}
-use Rattle.vp_model.specs.Types.{Event, Input, Sent, Call}
+use Rattle.vp_model.specs.Types.{Event, Input, Sent, Call, Shown}
 use Rattle.vp_model.specs.Types.event
 use Rattle.vp_model.specs.Types.input
 use Rattle.vp_model.specs.Types.shown
 use Rattle.vp_model.specs.Catalogue.{Catalogue}
 use Rattle.vp_model.specs.Site.{SiteState}
-use Rattle.vp_model.specs.Told.{is_step}
+use Rattle.vp_model.specs.Told.{is_step, replies_in}
 use Rattle.vp_model.specs.World.{Place, WorldState, Moved, Run, place_of, site_of, message_at, is_cut, site_step, at_site, deliver, crash, restart, restart_place, restart_from, happens, next, start_run, one_step, flow, one_event, run_from, run_of, flowing, shows, change_place}
 use Rattle.vp_laws.proofs.Members.{Has, has_of}
 use Rattle.vp_laws.proofs.Keeps.{for_some-keeps}
 use Rattle.vp_laws.proofs.Coordinator.{by_option, by_test}
 use Rattle.vp_laws.proofs.Scenes.{scene_of, place-id}
 use Rattle.vp_laws.proofs.Events.{Arrives, crashed, restarted}
+
+-- what is no step shows no reply
+pub no_replies : (what : Shown) → is_step what ≡ false → replies_in what ≡ []
+no_replies (shown.Step commits first messages replies) e = cc
+no_replies _ e = refl
 
 -- the event gives this input to the site
 pub data Gives (e : Event) (w : WorldState) (s : ℕ) : Input → Type 0 where

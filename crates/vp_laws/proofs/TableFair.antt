@@ -17,7 +17,7 @@ use Rattle.vp_laws.proofs.Lists.{without_first_has, change_first_has}
 use Rattle.vp_laws.proofs.Apart.{named}
 use Rattle.vp_laws.proofs.Table.{next_view, next_name, Handled}
 use Rattle.vp_laws.proofs.TableSteps.{done, waiting, reading, writing}
-use Rattle.vp_laws.proofs.TableEnds.{AnswersKept, kept_has, at_most_has, completed}
+use Rattle.vp_laws.proofs.TableKept.{AnswersKept, kept_has, at_most_has, completed}
 use Rattle.vp_laws.proofs.Reasons.{Takes, Why, Tells, is_plain, told_to, last_reply, Goes, Front}
 use Rattle.vp_laws.proofs.FrontSteps.{step-front}
 

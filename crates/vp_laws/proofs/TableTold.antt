@@ -19,6 +19,7 @@ use Rattle.vp_model.specs.Calls.{begun}
 use Rattle.vp_model.specs.Answers.{with_acknowledged}
 use Rattle.vp_model.specs.Step.{mark, step}
 use Rattle.vp_model.specs.Told.{reported, is_early_refusal, told_by}
+use Rattle.vp_one_site.proofs.LockTables.{same_txn-self}
 use Rattle.vp_one_site.proofs.ToldLines.{Report}
 use Rattle.vp_one_site.proofs.KeptTold.{end_unreported, end_late}
 use Rattle.vp_laws.proofs.Members.{Has, has_none, has_first, has_more, has_one_is, has_cases, map_has}
@@ -26,7 +27,7 @@ use Rattle.vp_laws.proofs.Lists.{without_first_has}
 use Rattle.vp_laws.proofs.Apart.{Apart, named, change_cases}
 use Rattle.vp_laws.proofs.Table.{next_view, next_name, Reads, Writes, Completes}
 use Rattle.vp_laws.proofs.TableSteps.{done, waiting}
-use Rattle.vp_laws.proofs.TableEnds.{kept_has}
+use Rattle.vp_laws.proofs.TableKept.{kept_has}
 use Rattle.vp_laws.proofs.TableEndings.{NotLive}
 use Rattle.vp_laws.proofs.Reasons.{Takes, Tells, is_plain, told_to, last_reply, IsDone, Goes, Front}
 use Rattle.vp_laws.proofs.FrontSteps.{step-front}
@@ -39,9 +40,6 @@ pub record SaysDone (catalogue : Catalogue) (txn : TxnId) (p : Pending) (operati
   pub others : (u : TxnId) → txn ≢ u → reported u words ≡ None
   pub tells : told_by catalogue report p.call ≡ Some operation
   pub late : is_early_refusal words ≡ false
-
-same_txn-self : (t : TxnId) → same_txn t t ≡ true
-same_txn-self t = grind (arith, nat_tests)
 
 same_txn-other : (t u : TxnId) → t ≢ u → same_txn t u ≡ false
 same_txn-other t u n = grind (arith, nat_tests, n)

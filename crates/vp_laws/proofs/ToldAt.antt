@@ -91,23 +91,14 @@ unstepped u k l e = go (option_map_or (is_call u k) (call_in l.event) false) (is
     go true b c e = rw e refl
     go false b c e = refl
 
+called : (u t : TxnId) (k n : ℕ) → (same_txn t u && (n == k)) ≡ true → ◌≡◌ {A = TxnId × ℕ} (u, k) (t, n)
+called u t k n e = let p = both_true (same_txn t u) (n == k) e in rw (same_txn-is t u p.0, eqb-true n k p.1) refl
+
 pub call_of : (u : TxnId) (k : ℕ) (words : Call) → is_call u k words ≡ true → IsCallOf u k words
-call_of u k (call.Read t n name) e = let q = named t n e in subst (λ (p : TxnId × ℕ). IsCallOf u k (call.Read p.0 p.1 name)) q (IsCallOf.of_read name)
-  where
-    named : (t : TxnId) (n : ℕ) → (same_txn t u && (n == k)) ≡ true → ◌≡◌ {A = TxnId × ℕ} (u, k) (t, n)
-    named t n e = let p = both_true (same_txn t u) (n == k) e in rw (same_txn-is t u p.0, eqb-true n k p.1) refl
-call_of u k (call.Write t n name value) e = let q = named t n e in subst (λ (p : TxnId × ℕ). IsCallOf u k (call.Write p.0 p.1 name value)) q (IsCallOf.of_write name value)
-  where
-    named : (t : TxnId) (n : ℕ) → (same_txn t u && (n == k)) ≡ true → ◌≡◌ {A = TxnId × ℕ} (u, k) (t, n)
-    named t n e = let p = both_true (same_txn t u) (n == k) e in rw (same_txn-is t u p.0, eqb-true n k p.1) refl
-call_of u k (call.Commit t n) e = let q = named t n e in subst (λ (p : TxnId × ℕ). IsCallOf u k (call.Commit p.0 p.1)) q IsCallOf.of_commit
-  where
-    named : (t : TxnId) (n : ℕ) → (same_txn t u && (n == k)) ≡ true → ◌≡◌ {A = TxnId × ℕ} (u, k) (t, n)
-    named t n e = let p = both_true (same_txn t u) (n == k) e in rw (same_txn-is t u p.0, eqb-true n k p.1) refl
-call_of u k (call.Abort t n) e = let q = named t n e in subst (λ (p : TxnId × ℕ). IsCallOf u k (call.Abort p.0 p.1)) q IsCallOf.of_abort
-  where
-    named : (t : TxnId) (n : ℕ) → (same_txn t u && (n == k)) ≡ true → ◌≡◌ {A = TxnId × ℕ} (u, k) (t, n)
-    named t n e = let p = both_true (same_txn t u) (n == k) e in rw (same_txn-is t u p.0, eqb-true n k p.1) refl
+call_of u k (call.Read t n name) e = subst (λ (p : TxnId × ℕ). IsCallOf u k (call.Read p.0 p.1 name)) (called u t k n e) (IsCallOf.of_read name)
+call_of u k (call.Write t n name value) e = subst (λ (p : TxnId × ℕ). IsCallOf u k (call.Write p.0 p.1 name value)) (called u t k n e) (IsCallOf.of_write name value)
+call_of u k (call.Commit t n) e = subst (λ (p : TxnId × ℕ). IsCallOf u k (call.Commit p.0 p.1)) (called u t k n e) IsCallOf.of_commit
+call_of u k (call.Abort t n) e = subst (λ (p : TxnId × ℕ). IsCallOf u k (call.Abort p.0 p.1)) (called u t k n e) IsCallOf.of_abort
 call_of u k call.Begin e = cc
 call_of u k call.Regroup e = cc
 

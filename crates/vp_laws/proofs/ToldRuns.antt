@@ -22,8 +22,7 @@ use Rattle.vp_laws.proofs.Worlds.{Quiet, QuietIs, quiet_is, crash_quiet, restart
 use Rattle.vp_laws.proofs.InvNames.{UsedTxn, Grows, used_lasts, start_life}
 use Rattle.vp_laws.proofs.InvListed.{Seventeenth, listed_last}
 use Rattle.vp_laws.proofs.Tower.{known, Does, does}
-use Rattle.vp_laws.proofs.Occurs.{Gives, Occurs, occurs, run-keeps}
-use Rattle.vp_laws.proofs.EndsTold.{no_replies}
+use Rattle.vp_laws.proofs.Occurs.{no_replies, Gives, Occurs, occurs, run-keeps}
 use Rattle.vp_laws.proofs.FairStep.{IsStep}
 use Rattle.vp_laws.proofs.FairMoves.{none_live, none_finished}
 use Rattle.vp_laws.proofs.FairTold.{refusals_justified}

@@ -1,0 +1,35 @@
+-- How a site that is in doubt about a transaction ends the doubt.
+use Rattle.std.specs.Prelude.{◌≡◌, ◌⊎◌, ℕ, Bool, true, false, Some, List}
+use Rattle.std.specs.List.{Contains}
+use Rattle.vp_model.specs.Types.{TxnId, Commit, Input}
+use Rattle.vp_model.specs.Types.entry
+use Rattle.vp_model.specs.Types.input
+use Rattle.vp_model.specs.Catalogue.{Catalogue}
+use Rattle.vp_model.specs.Durable.{Doubt}
+use Rattle.vp_model.specs.Site.{SiteState}
+use Rattle.vp_model.specs.Step.{step}
+use Rattle.vp_model.specs.World.{WorldState, site_of}
+use Rattle.vp_model.specs.Headline.{has_entry}
+
+-- the input may come to the site next: a message only where it was sent to the site
+abbrev pub MayCome : WorldState → ℕ → Input → Type 0
+MayCome w site (input.Message from m) = Contains w.sent (record { from = from; to = site; message = m })
+MayCome w site given = Unit {0}
+
+-- the step forces this outcome of the transaction to the log
+abbrev pub Forces : Catalogue → SiteState → Input → TxnId → Bool → Type 0
+Forces catalogue x given txn commit = Contains (step catalogue x given).effects.records (entry.Outcome txn commit)
+
+-- by: the journal before the step; last: the journal in the end
+pub record EndsByJournal (catalogue : Catalogue) (by last : List Commit) (x : SiteState) (given : Input) : Type 0 where
+  -- a doubt is there after the step, or ends by an outcome
+  pub ends : (d : Doubt) → Contains x.doubts d → Contains (step catalogue x given).site.doubts d ⊎ ((commit : Bool) × Forces catalogue x given d.0 commit)
+  -- by a commit, which makes its writes copies, only where the transaction has an entry
+  pub commits : (txn : TxnId) → Forces catalogue x given txn true → has_entry by txn ≡ true
+  -- by an abort, which drops it, only where the transaction never has one
+  pub aborts : (txn : TxnId) → Forces catalogue x given txn false → has_entry last txn ≡ false
+
+-- whatever comes next to a site, it ends its doubts as the journal says
+abbrev pub DecisionsAgree : Catalogue → List Commit → WorldState → Type 0
+DecisionsAgree catalogue last w =
+    (site : ℕ) (x : SiteState) (given : Input) → site_of w site ≡ Some x → MayCome w site given → EndsByJournal catalogue w.journal last x given
