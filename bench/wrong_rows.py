@@ -1,0 +1,90 @@
+#!/usr/bin/env python3
+"""Tries wrong rows of the protocol's definitions against the laws over every schedule.
+
+Each wrong row is put into a copy of the repository, whose worked schedules are taken out so that they don't refuse it
+first; then the laws are checked there. What is printed is the row, and the first declarations that are refused.
+
+    bench/wrong_rows.py [WORD..]      only the rows whose name has one of the words
+"""
+import pathlib
+import re
+import shutil
+import subprocess
+import sys
+import tempfile
+
+TOP = pathlib.Path(__file__).resolve().parent.parent
+SPECS = "crates/vp_model/specs/"
+
+# name, file, the line as it stands, the wrong line
+ROWS = [
+    ("a refresh request is answered in doubt", "Messages.antt",
+     "if holds_view o.site view && not (is_doubtful o.site rec)", "if holds_view o.site view"),
+    ("a refresh takes the last answer, not the newest", "Refresh.antt",
+     "newer best next = if view_before best.date next.date then next else best", "newer best next = next"),
+    ("a site serves and votes in a view that it has left", "Messages.antt",
+     "holds_view site id = is_view (held_id site) id", "holds_view site id = true"),
+    ("a site joins on a repeated view commit", "Messages.antt",
+     "if is_view o.site.waiting id && has members o.site.id", "if has members o.site.id"),
+    ("exactly half of the weight is enough", "Catalogue.antt",
+     "accessible catalogue rec members = nat_lt (total catalogue rec) (2 * inside catalogue rec members)",
+     "accessible catalogue rec members = not (nat_lt (2 * inside catalogue rec members) (total catalogue rec))"),
+    ("one vote commits", "Answers.antt",
+     "(call.Commit txn number) l = count_in from t p (decide catalogue id t) l",
+     "(call.Commit txn number) l = decide catalogue id t l"),
+    ("the order of the journal alone", "OneCopy.antt",
+     "order journal = flat_map (in_view journal) (views_of journal)", "order journal = journal"),
+    ("an inquiry about a live transaction is answered", "Answers.antt",
+     "if (txn.site == id) && not (is_live txn l.live)", "if txn.site == id"),
+]
+IMPORTS = {"Catalogue.antt": ("Prelude.{ℕ, ◌*◌, Bool, nat_lt,", "Prelude.{ℕ, ◌*◌, Bool, not, nat_lt,")}
+
+
+def replaced(path, old, new):
+    text = path.read_text()
+    assert text.count(old) == 1, (path, old, text.count(old))
+    path.write_text(text.replace(old, new))
+
+
+def without_worked_schedules(copy):
+    crate = copy / "crates/vp_model"
+    (crate / "src/lib.rt").write_text((crate / "src/lib.rt").read_text().replace("pub mod rows;", ""))
+    lib = crate / "proofs/Lib.antt"
+    kept = [line for line in lib.read_text().splitlines() if "RunGrows" in line or not line.startswith("pub mod")]
+    lib.write_text("\n".join(kept) + "\n")
+    for name in ("rows", "Worked"):
+        shutil.rmtree(crate / "proofs" / name)
+    for name in ("Worked", "GeneratedRuns", "FinishedCalls"):
+        (crate / f"proofs/{name}.antt").unlink()
+    (crate / "src/rows.rt").unlink()
+    shutil.rmtree(crate / "must-fail", ignore_errors=True)
+    theorem = copy / "crates/vp_one_site/proofs"
+    (theorem / "Worked.antt").unlink()
+    replaced(theorem / "Lib.antt", "pub mod Worked\n", "")
+
+
+def refusals(copy):
+    done = subprocess.run(["rt", "check", "vp_laws", "--jobs", "1"], cwd=copy / "crates/vp_laws",
+                          stdout=subprocess.PIPE, stderr=subprocess.STDOUT, text=True)
+    lines = [line for line in done.stdout.splitlines() if re.search(r": error: (in )?`", line)]
+    return lines or [done.stdout.splitlines()[-1]]
+
+
+def main(words):
+    for name, file, old, new in ROWS:
+        if words and not any(word in name for word in words):
+            continue
+        with tempfile.TemporaryDirectory() as folder:
+            copy = pathlib.Path(folder) / "copy"
+            shutil.copytree(TOP, copy, ignore=shutil.ignore_patterns(".git"))
+            without_worked_schedules(copy)
+            replaced(copy / SPECS / file, old, new)
+            if file in IMPORTS:
+                replaced(copy / SPECS / file, *IMPORTS[file])
+            print(name, flush=True)
+            for line in refusals(copy)[:4]:
+                print("   ", line[:160], flush=True)
+
+
+if __name__ == "__main__":
+    main(sys.argv[1:])
