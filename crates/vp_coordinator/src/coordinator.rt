@@ -8,6 +8,7 @@ use crate::here::Here;
 use crate::sites::At;
 use crate::transactions::Transactions;
 use std::alloc::Global;
+use std::collections::VecDeque;
 use std::marker::Model;
 use vp_base::{Call, Effects, NoMemory, SiteId, View, ViewId};
 use vp_catalog::Catalog;
@@ -39,7 +40,7 @@ impl Coordinator {
             transactions: Transactions {
                 seq: 0,
                 live: Vec::new(alloc),
-                finished: Vec::new(alloc),
+                finished: VecDeque::new(alloc),
                 decisions: Vec::new(alloc),
             },
         }

@@ -13,6 +13,7 @@ use crate::effects::{commit, force, reply, send_all};
 use crate::here::Here;
 use crate::writes::{last_writes, writes_held, writing_parts};
 use std::alloc::Global;
+use std::collections::VecDeque;
 use std::marker::Model;
 use std::mem;
 use vp_base::{
@@ -20,14 +21,14 @@ use vp_base::{
     Ops, Pending, Seq, SiteId, Sites, TxnId, ViewId, Writes,
 };
 use vp_catalog::Catalog;
-use vp_lists::{find_txn, put, replace_txn, take_txn, write_copies};
+use vp_lists::{OfTxn, put, replace_txn, take_txn, write_copies};
 
 /// The live transactions, the ends of those that have ended, and the decisions that some site has not acknowledged.
 #[derive(Drop)]
 pub struct Transactions {
     pub seq: u32,
     pub live: Vec<Live>,
-    pub finished: Vec<Finished>,
+    pub finished: VecDeque<Finished>,
     pub decisions: Vec<(TxnId, Sites)>,
 }
 
@@ -173,13 +174,13 @@ impl Transactions {
         let mut t = t;
         answer_pending(&mut t, &why, effects)?;
         self.drop_live(&t.txn);
-        self.finished.push(Finished {
+        self.finished.push_back(Finished {
             txn: t.txn,
             answers: t.answers,
             ending: why,
         })?;
         if self.finished.len() > 1024 {
-            self.finished.remove(0);
+            let _ = self.finished.pop_front();
         }
         Ok(())
     }
@@ -301,10 +302,20 @@ impl Transactions {
     }
 }
 
-fn told_in(finished: &[Finished], txn: &TxnId, number: CallNo) -> Result<Option<Answer>, NoMemory>
-    ensures { IfOk result (λ told. told ≡ told_after txn.now number (finished_of txn.now finished.now)) }
+fn find_finished<'a>(finished: &'a VecDeque<Finished>, txn: &TxnId) -> Option<&'a Finished>
+    ensures { option_copied result ≡ finished_of txn.now finished.now.items }
 {
-    match find_txn(finished, txn) {
+    finished.iter().find(|f| f.is_of(txn))
+}
+
+fn told_in(
+    finished: &VecDeque<Finished>,
+    txn: &TxnId,
+    number: CallNo,
+) -> Result<Option<Answer>, NoMemory>
+    ensures { IfOk result (λ told. told ≡ told_after txn.now number (finished_of txn.now finished.now.items)) }
+{
+    match find_finished(finished, txn) {
         None => Ok(Some(Answer::Unknown { txn: *txn })),
         Some(f) => told_by(f, number),
     }

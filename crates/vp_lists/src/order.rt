@@ -17,10 +17,11 @@ pub fn view_comes_before(a: &ViewId, b: &ViewId) -> bool
     a.number < b.number || (a.number == b.number && a.site < b.site)
 }
 
+/// The place is compared first, since transactions of one life differ only there.
 pub fn is_same_txn(a: &TxnId, b: &TxnId) -> bool
     ensures { result ≡ same_txn a.now b.now }
 {
-    *a == *b
+    a.seq == b.seq && a.life == b.life && a.site == b.site
 }
 
 pub fn txn_comes_before(a: &TxnId, b: &TxnId) -> bool
@@ -33,7 +34,11 @@ pub fn txn_comes_before(a: &TxnId, b: &TxnId) -> bool
 pub fn is_same_owner(a: &Owner, b: &Owner) -> bool
     ensures { result ≡ same_owner a.now b.now }
 {
-    *a == *b
+    match (a, b) {
+        (Owner::Txn(t), Owner::Txn(u)) => is_same_txn(t, u),
+        (Owner::Refresh, Owner::Refresh) => true,
+        _ => false,
+    }
 }
 
 /// Refresh comes after every transaction.
