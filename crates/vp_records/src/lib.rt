@@ -8,5 +8,7 @@ mod copies;
 mod decisions;
 mod doubts;
 mod durable;
+#[cfg(test)]
+mod tests;
 
 pub use durable::Durable;
