@@ -1,0 +1,11 @@
+//! Frames, which are the datagrams of sites and clients: each one has one spelling in bytes.
+#![tactic(auto)]
+
+mod answers;
+mod calls;
+mod fields;
+mod frame;
+mod writing;
+
+pub use frame::{Body, Frame};
+pub use writing::encode;
