@@ -1,3 +1,4 @@
 pub mod Numbers
 pub mod Free
 pub mod Digits
+pub mod NumberBytes

@@ -5,6 +5,8 @@ mod answers;
 mod calls;
 mod fields;
 mod frame;
+#[cfg(test)]
+mod tests;
 mod writing;
 
 pub use frame::{Body, Frame};
