@@ -2,3 +2,4 @@ pub mod Numbers
 pub mod Free
 pub mod Digits
 pub mod NumberBytes
+pub mod Taken

@@ -1,6 +1,8 @@
 -- Reading bytes from left to right.
-use Rattle.std.specs.Prelude.{ℕ, zero, suc, ◌+◌, ◌*◌, List, [], ◌∷◌, length, Bool, ◌&&◌, ◌||◌, not, Result, Ok, Err, nat_lt, if◌then◌else◌}
+use Rattle.std.specs.Prelude.{ℕ, zero, suc, ◌+◌, ◌*◌, List, [], ◌∷◌, length, Bool, ◌&&◌, ◌||◌, not, true, false, Result, Ok, Err, nat_lt, nat_le, if◌then◌else◌}
 use Rattle.vp_text.specs.Reading.{◌>>=◌}
+use Rattle.vp_base.specs.Reading.{least_site, most_site, view_of}
+use Rattle.vp_base.specs.declared.ids.ViewId.{ViewId}
 
 abbrev pub is_byte : ℕ → Bool
 is_byte c = nat_lt c 256
@@ -18,3 +20,22 @@ digit_fits some n front c = is_byte c && (not some || (nat_lt 0 n || nat_lt 0 (f
 abbrev pub digits_at : Bool → ℕ → ℕ → List ℕ → Result (ℕ × List ℕ) ℕ
 digits_at some zero front bytes = Ok (front, bytes)
 digits_at some (suc n) front bytes = byte_at (digit_fits some n front) bytes >>= λ c. digits_at some n (front * 256 + c.0) c.1
+
+-- a byte from least to most
+abbrev pub within : ℕ → ℕ → ℕ → Bool
+within least most c = nat_le least c && nat_le c most
+
+-- a number of 64 bits
+unfoldable pub u64_at : List ℕ → Result (ℕ × List ℕ) ℕ
+u64_at bytes = digits_at false 8 0 bytes
+
+-- a number of 32 bits
+unfoldable pub u32_at : List ℕ → Result (ℕ × List ℕ) ℕ
+u32_at bytes = digits_at false 4 0 bytes
+
+-- a view
+unfoldable pub view_at : List ℕ → Result (ViewId × List ℕ) ℕ
+view_at bytes = do
+  number ← u64_at bytes
+  site ← byte_at (within (least_site number.0) (most_site number.0)) number.1
+  Ok (view_of number.0 site.0, site.1)

@@ -5,6 +5,7 @@ mod answers;
 mod calls;
 mod fields;
 mod frame;
+mod reading;
 #[cfg(test)]
 mod tests;
 mod writing;

@@ -37,7 +37,10 @@ fn numbers_stand_with_their_highest_byte_first(rt: HostRuntime) -> Result<(), No
         body: Body::Reply(Answer::Spent { number: 258 }),
     };
     encode(&spent, &mut out)?;
-    assert_eq!(rt; out.as_slice(), b"\x56\x01\x21\x10\x00\x11\x00\x00\x00\x00\x00\x00\x01\x02".as_slice());
+    assert_eq!(rt;
+        out.as_slice(),
+        b"\x56\x01\x21\x10\x00\x11\x00\x00\x00\x00\x00\x00\x01\x02".as_slice()
+    );
     Ok(())
 }
 
@@ -58,6 +61,9 @@ fn a_copy_has_its_bytes(rt: HostRuntime) -> Result<(), NoMemory> {
         }),
     };
     encode(&copy, &mut out)?;
-    assert_eq!(rt; out.as_slice(), b"\x56\x01\x10\x03\x02\x00\x00\x00\x00\x00\x00\x00\x01\x02\x00\x0211\x00\x00\x00\x00\x00\x00\x00\x00\x00".as_slice());
+    assert_eq!(rt;
+        out.as_slice(),
+        b"\x56\x01\x10\x03\x02\x00\x00\x00\x00\x00\x00\x00\x01\x02\x00\x0211\x00\x00\x00\x00\x00\x00\x00\x00\x00".as_slice()
+    );
     Ok(())
 }

@@ -1,0 +1,87 @@
+//! Reading the fields of frames.
+
+ghost use Rattle.std.specs.Prelude.{◌≡◌, ◌≤◌, IfOk, drop, length};
+ghost use Rattle.vp_text.specs.Reading.{Reads};
+ghost use Rattle.vp_base.specs.Reading.{least_site, most_site};
+ghost use Rattle.vp_wire.specs.Reading.{byte_at, within, u32_at, u64_at, view_at};
+
+use byteorder::{BigEndian, ByteOrder};
+use vp_base::ViewId;
+use vp_text::{Cursor, Unexpected};
+
+/// Takes a byte from `least` to `most`.
+pub fn take_byte(cursor: &mut Cursor, least: u8, most: u8) -> Result<u8, Unexpected>
+    ensures { Reads (λ x. x) (λ e. e.left) result cursor.new (byte_at (within least most) cursor.old) }
+{
+    let rest = cursor.rest();
+    if rest.is_empty() {
+        return Err(Unexpected { left: 0 });
+    }
+    let byte = rest[0];
+    if byte < least || most < byte {
+        return Err(Unexpected { left: rest.len() });
+    }
+    cursor.advance(1);
+    Ok(byte)
+}
+
+/// Takes a number of 32 bits.
+pub fn take_u32(cursor: &mut Cursor) -> Result<u32, Unexpected>
+    ensures { Reads (λ x. x) (λ e. e.left) result cursor.new (u32_at cursor.old) }
+{
+    let number = first_u32(cursor.rest())?;
+    cursor.advance(4);
+    Ok(number)
+}
+
+/// The number in the first 4 bytes.
+fn first_u32(bytes: &[u8]) -> Result<u32, Unexpected>
+    ensures read { Reads (λ x. x) (λ e. e.left) result (drop 4 bytes.now) (u32_at bytes.now) }
+    ensures enough { IfOk result (λ _. 4 ≤ length bytes.now) }
+{
+    if bytes.len() < 4 {
+        return Err(Unexpected { left: 0 });
+    }
+    Ok(BigEndian::read_u32(bytes))
+}
+
+/// Takes a number of 64 bits.
+pub fn take_u64(cursor: &mut Cursor) -> Result<u64, Unexpected>
+    ensures { Reads (λ x. x) (λ e. e.left) result cursor.new (u64_at cursor.old) }
+{
+    let number = first_u64(cursor.rest())?;
+    cursor.advance(8);
+    Ok(number)
+}
+
+/// The number in the first 8 bytes.
+fn first_u64(bytes: &[u8]) -> Result<u64, Unexpected>
+    ensures read { Reads (λ x. x) (λ e. e.left) result (drop 8 bytes.now) (u64_at bytes.now) }
+    ensures enough { IfOk result (λ _. 8 ≤ length bytes.now) }
+{
+    if bytes.len() < 8 {
+        return Err(Unexpected { left: 0 });
+    }
+    Ok(BigEndian::read_u64(bytes))
+}
+
+/// Takes a view: 0 at site 0, or a number of 1 or more at a site from 1 to 16.
+#[tactic(auto, unfolding(crate::specs::Reading::view_at))]
+pub fn take_view(cursor: &mut Cursor) -> Result<ViewId, Unexpected>
+    ensures { Reads (λ v. v) (λ e. e.left) result cursor.new (view_at cursor.old) }
+{
+    let number = take_u64(cursor)?;
+    let site = take_view_site(cursor, number)?;
+    Ok(ViewId { number, site })
+}
+
+/// Takes the site of a view with this number.
+fn take_view_site(cursor: &mut Cursor, number: u64) -> Result<u8, Unexpected>
+    ensures { Reads (λ x. x) (λ e. e.left) result cursor.new (byte_at (within (least_site number) (most_site number)) cursor.old) }
+{
+    if number == 0 {
+        take_byte(cursor, 0, 0)
+    } else {
+        take_byte(cursor, 1, 16)
+    }
+}
