@@ -3,3 +3,4 @@ pub mod Free
 pub mod Digits
 pub mod NumberBytes
 pub mod Taken
+pub mod Identifiers

@@ -3,7 +3,8 @@ use Rattle.std.proofs.Common.{◌≡◌, ℕ, zero, suc, ◌+◌, ◌*◌, ◌^�
 use Rattle.std.proofs.lemmas.Bool.{lt-ltb, or_left, or_right, and_from}
 use Rattle.std.specs.List.{AllByRecursion}
 use Rattle.byteorder.specs.Endian.{big_number}
-use Rattle.byteorder.specs.Numbers.{big_from-append}
+use Rattle.std.proofs.Math.Nat.{add-mul, one-le-pow}
+use Rattle.byteorder.specs.Numbers.{big_from-append, big_from-cons}
 use Rattle.vp_text.proofs.Exact.{Apart, Exact}
 use Rattle.vp_wire.specs.Reading.{is_byte, digit_fits, digits_at}
 use Rattle.vp_wire.proofs.Numbers.{IsByte, number_fits, own_bytes}
@@ -51,3 +52,22 @@ number_short some (suc n) front (x ∷ xs) each lt =
     let fits : digit_fits some n front x ≡ true =
     and_from (is_byte x) _ (lt-ltb x 256 (each 0)) (or_right (not some) (nat_lt 0 n || nat_lt 0 (front * 256 + x)) (or_left (nat_lt 0 n) (nat_lt 0 (front * 256 + x)) (lt-ltb 0 n more))) in
     rw fits (number_short some n (front * 256 + x) xs (λ i. each (suc i)) (omega (arith, lt)))
+
+-- where the number is 0, its last byte is at fault
+pub number_none : (n : ℕ) (xs : List ℕ) (left : ℕ) → 1 ≤ n → n ≤ length xs → left + n ≡ length xs + 1 → big_number n xs ≡ 0 → digits_at true n 0 xs ≡ Err left
+number_none zero xs left least le at none = absurd (omega (arith, least))
+number_none (suc n) [] left least le at none = absurd (omega (arith, le))
+number_none (suc n) (suc y ∷ xs) left least le at none =
+    let cons : big_number (suc n) (suc y ∷ xs) ≡ suc y * 256 ^ n + big_number n xs = ap (λ (r : ℕ). suc y * 256 ^ n + r) (big_from-cons 0 n (suc y) xs) in
+    let spread : (y + 1) * 256 ^ n ≡ y * 256 ^ n + 1 * 256 ^ n = add-mul y 1 (256 ^ n) in
+    let power = one-le-pow n 256 (omega arith) in
+    let whole : suc y * 256 ^ n ≡ (y + 1) * 256 ^ n = ap (λ (k : ℕ). k * 256 ^ n) (omega arith) in
+    absurd (omega (arith, cons, spread, power, whole, none))
+number_none (suc zero) (zero ∷ xs) left least le at none =
+    let here : length (zero ∷ xs) ≡ left = omega (arith, at) in
+    ap (λ (k : ℕ). Err k) here
+number_none (suc (suc m)) (zero ∷ xs) left least le at none =
+    let cons : big_number (suc (suc m)) (zero ∷ xs) ≡ 0 * 256 ^ suc m + big_number (suc m) xs = ap (λ (r : ℕ). 0 * 256 ^ suc m + r) (big_from-cons 0 (suc m) 0 xs) in
+    let fits : digit_fits true (suc m) 0 0 ≡ true =
+    or_right (not true) (nat_lt 0 (suc m) || nat_lt 0 (0 * 256 + 0)) (or_left (nat_lt 0 (suc m)) (nat_lt 0 (0 * 256 + 0)) (lt-ltb 0 (suc m) (omega arith))) in
+    rw fits (number_none (suc m) xs left (omega arith) (omega (arith, le)) (omega (arith, at)) (omega (arith, cons, none)))

@@ -268,3 +268,13 @@ IsFrame frame = IsBody frame.from frame.to frame.body
 pub record IsSpelling (frame : Frame) (bytes : List ℕ) : Type 0 where
   pub is : bytes ≡ frame_bytes frame
   pub allowed : IsFrame frame
+
+-- ---- fields, for the readers of frames
+
+pub record IsViewBytes (view : ViewId) (bytes : List ℕ) : Type 0 where
+  pub is : bytes ≡ view_bytes view
+  pub allowed : IsView view
+
+pub record IsTxnBytes (txn : TxnId) (bytes : List ℕ) : Type 0 where
+  pub is : bytes ≡ txn_bytes txn
+  pub allowed : IsTxn txn

@@ -1,8 +1,9 @@
 -- Reading bytes from left to right.
 use Rattle.std.specs.Prelude.{ℕ, zero, suc, ◌+◌, ◌*◌, List, [], ◌∷◌, length, Bool, ◌&&◌, ◌||◌, not, true, false, Result, Ok, Err, nat_lt, nat_le, if◌then◌else◌}
 use Rattle.vp_text.specs.Reading.{◌>>=◌}
-use Rattle.vp_base.specs.Reading.{least_site, most_site, view_of}
+use Rattle.vp_base.specs.Reading.{least_site, most_site, view_of, txn_of}
 use Rattle.vp_base.specs.declared.ids.ViewId.{ViewId}
+use Rattle.vp_base.specs.declared.ids.TxnId.{TxnId}
 
 abbrev pub is_byte : ℕ → Bool
 is_byte c = nat_lt c 256
@@ -39,3 +40,15 @@ view_at bytes = do
   number ← u64_at bytes
   site ← byte_at (within (least_site number.0) (most_site number.0)) number.1
   Ok (view_of number.0 site.0, site.1)
+
+-- a number of 32 bits that isn't 0
+unfoldable pub some_u32_at : List ℕ → Result (ℕ × List ℕ) ℕ
+some_u32_at bytes = digits_at true 4 0 bytes
+
+-- a transaction
+unfoldable pub txn_at : List ℕ → Result (TxnId × List ℕ) ℕ
+txn_at bytes = do
+  site ← byte_at (within 1 16) bytes
+  life ← some_u32_at site.1
+  seq ← some_u32_at life.1
+  Ok (txn_of site.0 life.0 seq.0, seq.1)

@@ -3,15 +3,16 @@
 ghost use Rattle.std.specs.Prelude.{◌≡◌, ◌≤◌, IfOk, drop, length};
 ghost use Rattle.vp_text.specs.Reading.{Reads};
 ghost use Rattle.vp_base.specs.Reading.{least_site, most_site};
-ghost use Rattle.vp_wire.specs.Reading.{byte_at, within, u32_at, u64_at, view_at};
+ghost use Rattle.vp_wire.specs.Reading.{byte_at, within, some_u32_at, txn_at, u32_at, u64_at, view_at};
 
 use byteorder::{BigEndian, ByteOrder};
-use vp_base::ViewId;
+use vp_base::{SiteId, TxnId, ViewId};
 use vp_text::{Cursor, Unexpected};
 
 /// Takes a byte from `least` to `most`.
 pub fn take_byte(cursor: &mut Cursor, least: u8, most: u8) -> Result<u8, Unexpected>
-    ensures { Reads (λ x. x) (λ e. e.left) result cursor.new (byte_at (within least most) cursor.old) }
+    ensures read { Reads (λ x. x) (λ e. e.left) result cursor.new (byte_at (within least most) cursor.old) }
+    ensures range { IfOk result (λ x. (least ≤ x) × (x ≤ most)) }
 {
     let rest = cursor.rest();
     if rest.is_empty() {
@@ -84,4 +85,49 @@ fn take_view_site(cursor: &mut Cursor, number: u64) -> Result<u8, Unexpected>
     } else {
         take_byte(cursor, 1, 16)
     }
+}
+
+/// Takes a number of 32 bits that isn't 0.
+pub fn take_some_u32(cursor: &mut Cursor) -> Result<u32, Unexpected>
+    ensures { Reads (λ x. x) (λ e. e.left) result cursor.new (some_u32_at cursor.old) }
+{
+    let number = first_some_u32(cursor.rest())?;
+    cursor.advance(4);
+    Ok(number)
+}
+
+/// The number in the first 4 bytes, which isn't 0.
+fn first_some_u32(bytes: &[u8]) -> Result<u32, Unexpected>
+    ensures read { Reads (λ x. x) (λ e. e.left) result (drop 4 bytes.now) (some_u32_at bytes.now) }
+    ensures enough { IfOk result (λ _. 4 ≤ length bytes.now) }
+{
+    if bytes.len() < 4 {
+        return Err(Unexpected { left: 0 });
+    }
+    let number = BigEndian::read_u32(bytes);
+    if number == 0 {
+        return Err(Unexpected {
+            left: bytes.len() - 3,
+        });
+    }
+    Ok(number)
+}
+
+/// Takes a site, from 1 to 16.
+pub fn take_site(cursor: &mut Cursor) -> Result<SiteId, Unexpected>
+    ensures { Reads (λ s. s) (λ e. e.left) result cursor.new (byte_at (within 1 16) cursor.old) }
+{
+    let number = take_byte(cursor, 1, 16)?;
+    Ok(SiteId::of(number))
+}
+
+/// Takes a transaction.
+#[tactic(auto, unfolding(crate::specs::Reading::txn_at))]
+pub fn take_txn(cursor: &mut Cursor) -> Result<TxnId, Unexpected>
+    ensures { Reads (λ t. t) (λ e. e.left) result cursor.new (txn_at cursor.old) }
+{
+    let site = take_site(cursor)?;
+    let life = take_some_u32(cursor)?;
+    let seq = take_some_u32(cursor)?;
+    Ok(TxnId { site, life, seq })
 }
