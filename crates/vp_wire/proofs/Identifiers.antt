@@ -1,5 +1,7 @@
 -- Views and transactions are read exactly.
-use Rattle.std.proofs.Common.{◌≡◌, ℕ, ◌^◌, ◌≤◌, ◌<◌, Bool, true, false, cond, eqb, List, [], ◌∷◌, ◌++◌, refl, sym, subst, ◌∙◌, ap, arith, inl, inr, nat_le, ◌&&◌}
+use Rattle.std.proofs.lemmas.List.{length-append}
+use Rattle.byteorder.specs.Numbers.{length-bytes_high_first}
+use Rattle.std.proofs.Common.{length, ◌+◌, suc, ◌≡◌, ℕ, ◌^◌, ◌≤◌, ◌<◌, Bool, true, false, cond, eqb, List, [], ◌∷◌, ◌++◌, refl, sym, subst, ◌∙◌, ap, arith, inl, inr, nat_le, ◌&&◌}
 use Rattle.std.proofs.lemmas.Bool.{cases_eq, eq-eqb, ne_eqb, and_from, and_parts, le-leb, leb-true}
 use Rattle.byteorder.specs.Endian.{big_bytes}
 use Rattle.vp_text.proofs.Exact.{Exact, Then, Made, made_exact, exact_as}
@@ -7,10 +9,10 @@ use Rattle.vp_base.specs.declared.ids.ViewId.{ViewId}
 use Rattle.vp_base.specs.declared.ids.TxnId.{TxnId}
 use Rattle.vp_base.specs.Identifiers.{IsView, IsTxn}
 use Rattle.vp_base.specs.Reading.{view_of, txn_of, least_site, most_site}
-use Rattle.vp_wire.specs.Grammar.{number_bytes, view_bytes, txn_bytes, IsViewBytes, IsTxnBytes}
-use Rattle.vp_wire.specs.Reading.{byte_at, within, u64_at, u32_at, some_u32_at, view_at, txn_at}
-use Rattle.vp_wire.proofs.Free.{IsByteOf, byte_free, byte_exact, free_then}
-use Rattle.vp_wire.proofs.NumberBytes.{IsNumberBytes, number_exact, number_free}
+use Rattle.vp_wire.specs.Grammar.{number_bytes, view_bytes, txn_bytes, IsViewBytes, IsTxnBytes, IsNumberedBytes}
+use Rattle.vp_wire.specs.Reading.{byte_at, within, u64_at, u32_at, some_u32_at, view_at, txn_at, numbered_at}
+use Rattle.vp_wire.proofs.Free.{IsFree, IsByteOf, even_free, byte_free, byte_exact, free_then}
+use Rattle.vp_wire.proofs.NumberBytes.{IsNumberBytes, number_exact, number_even, number_free}
 
 pub u64_exact : Exact (IsNumberBytes false 8) u64_at
 unfolding u64_at
@@ -141,3 +143,39 @@ txn_from v t h =
 pub txn_exact : Exact IsTxnBytes txn_at
 unfolding txn_at
 txn_exact = exact_as txn_to txn_from (free_then byte_free (within_exact 1 16 (omega arith)) (λ site. free_then (number_free true 4) some_u32_exact (λ life. made_exact (txn_of site life) some_u32_exact)))
+
+txn_even : (v : TxnId) (t : List ℕ) → IsTxnBytes v t → length t ≡ 9
+txn_even v t h =
+    let spread : v.site ∷ (number_bytes 4 v.life ++ number_bytes 4 v.seq) ≡ v.site ∷ (big_bytes 4 v.life ++ big_bytes 4 v.seq) = rw (number_spelled 4 v.life, number_spelled 4 v.seq) refl in
+    let whole : t ≡ v.site ∷ (big_bytes 4 v.life ++ big_bytes 4 v.seq) = h.is ∙ txn_spelled v ∙ spread in
+    ap length whole
+
+pub txn_free : IsFree IsTxnBytes
+txn_free = even_free {L = IsTxnBytes} 9 txn_even
+
+-- ---- a transaction and the number of a call
+
+abbrev NumberedParts : TxnId × ℕ → List ℕ → Type 0
+NumberedParts = Then IsTxnBytes (λ txn. Made (IsNumberBytes true 4) (λ number. (txn, number)))
+
+numbered_to : (v : TxnId × ℕ) (t : List ℕ) → NumberedParts v t → IsNumberedBytes v t
+numbered_to v t h =
+    let number = h.after in
+    subst (λ (v : TxnId × ℕ). IsNumberedBytes v t) (sym number.is) (record {
+      is = rw (h.parts, h.before.is, number.spelled.is, number_spelled 4 number.from) refl;
+      allowed = (h.before.allowed, (number.spelled.above refl, number.spelled.fits));
+    })
+
+numbered_from : (v : TxnId × ℕ) (t : List ℕ) → IsNumberedBytes v t → NumberedParts v t
+numbered_from v t h = record {
+  first = v.0;
+  front = txn_bytes v.0;
+  back = number_bytes 4 v.1;
+  before = record { is = refl; allowed = h.allowed.0 };
+  after = record { from = v.1; spelled = record { is = number_spelled 4 v.1; fits = h.allowed.1.1; above = λ s. h.allowed.1.0 }; is = refl };
+  parts = h.is;
+}
+
+pub numbered_exact : Exact IsNumberedBytes numbered_at
+unfolding numbered_at
+numbered_exact = exact_as numbered_to numbered_from (free_then txn_free txn_exact (λ txn. made_exact (λ number. (txn, number)) some_u32_exact))

@@ -278,3 +278,7 @@ pub record IsViewBytes (view : ViewId) (bytes : List ℕ) : Type 0 where
 pub record IsTxnBytes (txn : TxnId) (bytes : List ℕ) : Type 0 where
   pub is : bytes ≡ txn_bytes txn
   pub allowed : IsTxn txn
+
+pub record IsNumberedBytes (call : TxnId × ℕ) (bytes : List ℕ) : Type 0 where
+  pub is : bytes ≡ numbered_bytes call.0 call.1
+  pub allowed : IsNumbered call.0 call.1

@@ -52,3 +52,10 @@ txn_at bytes = do
   life ← some_u32_at site.1
   seq ← some_u32_at life.1
   Ok (txn_of site.0 life.0 seq.0, seq.1)
+
+-- the transaction and the number of a call
+unfoldable pub numbered_at : List ℕ → Result ((TxnId × ℕ) × List ℕ) ℕ
+numbered_at bytes = do
+  txn ← txn_at bytes
+  number ← some_u32_at txn.1
+  Ok ((txn.0, number.0), number.1)

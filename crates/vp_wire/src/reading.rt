@@ -3,10 +3,10 @@
 ghost use Rattle.std.specs.Prelude.{◌≡◌, ◌≤◌, IfOk, drop, length};
 ghost use Rattle.vp_text.specs.Reading.{Reads};
 ghost use Rattle.vp_base.specs.Reading.{least_site, most_site};
-ghost use Rattle.vp_wire.specs.Reading.{byte_at, within, some_u32_at, txn_at, u32_at, u64_at, view_at};
+ghost use Rattle.vp_wire.specs.Reading.{byte_at, within, numbered_at, some_u32_at, txn_at, u32_at, u64_at, view_at};
 
 use byteorder::{BigEndian, ByteOrder};
-use vp_base::{SiteId, TxnId, ViewId};
+use vp_base::{CallNo, SiteId, TxnId, ViewId};
 use vp_text::{Cursor, Unexpected};
 
 /// Takes a byte from `least` to `most`.
@@ -89,7 +89,8 @@ fn take_view_site(cursor: &mut Cursor, number: u64) -> Result<u8, Unexpected>
 
 /// Takes a number of 32 bits that isn't 0.
 pub fn take_some_u32(cursor: &mut Cursor) -> Result<u32, Unexpected>
-    ensures { Reads (λ x. x) (λ e. e.left) result cursor.new (some_u32_at cursor.old) }
+    ensures read { Reads (λ x. x) (λ e. e.left) result cursor.new (some_u32_at cursor.old) }
+    ensures some { IfOk result (λ x. 1 ≤ x) }
 {
     let number = first_some_u32(cursor.rest())?;
     cursor.advance(4);
@@ -100,6 +101,7 @@ pub fn take_some_u32(cursor: &mut Cursor) -> Result<u32, Unexpected>
 fn first_some_u32(bytes: &[u8]) -> Result<u32, Unexpected>
     ensures read { Reads (λ x. x) (λ e. e.left) result (drop 4 bytes.now) (some_u32_at bytes.now) }
     ensures enough { IfOk result (λ _. 4 ≤ length bytes.now) }
+    ensures some { IfOk result (λ x. 1 ≤ x) }
 {
     if bytes.len() < 4 {
         return Err(Unexpected { left: 0 });
@@ -130,4 +132,25 @@ pub fn take_txn(cursor: &mut Cursor) -> Result<TxnId, Unexpected>
     let life = take_some_u32(cursor)?;
     let seq = take_some_u32(cursor)?;
     Ok(TxnId { site, life, seq })
+}
+
+/// Takes the number of a call.
+pub fn take_number(cursor: &mut Cursor) -> Result<CallNo, Unexpected>
+    ensures { Reads (λ n. n) (λ e. e.left) result cursor.new (some_u32_at cursor.old) }
+{
+    let number = take_some_u32(cursor)?;
+    match CallNo::new(number) {
+        Some(number) => Ok(number),
+        None => unreachable!(),
+    }
+}
+
+/// Takes the transaction and the number of a call.
+#[tactic(auto, unfolding(crate::specs::Reading::numbered_at))]
+pub fn take_numbered(cursor: &mut Cursor) -> Result<(TxnId, CallNo), Unexpected>
+    ensures { Reads (λ x. (x.0, x.1)) (λ e. e.left) result cursor.new (numbered_at cursor.old) }
+{
+    let txn = take_txn(cursor)?;
+    let number = take_number(cursor)?;
+    Ok((txn, number))
 }
