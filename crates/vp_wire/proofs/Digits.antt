@@ -10,7 +10,7 @@ abbrev pub HasDigits : Bool → ℕ → ℕ → ℕ → List ℕ → Type 0
 HasDigits some zero front x text = (text ≡ []) × (x ≡ front)
 HasDigits some (suc n) front x text = Then (IsByteOf (digit_fits some n front)) (λ c. HasDigits some n (front * 256 + c)) x text
 
-nothing_more : (r rest : List ℕ) → r ≡ [] → Apart r rest
+pub nothing_more : (r rest : List ℕ) → r ≡ [] → Apart r rest
 nothing_more [] rest h = tt
 nothing_more (x ∷ r) rest h = absurd (omega (arith, ap length h))
 

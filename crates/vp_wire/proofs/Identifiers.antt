@@ -1,18 +1,16 @@
 -- Views and transactions are read exactly.
-use Rattle.std.proofs.lemmas.List.{length-append}
-use Rattle.byteorder.specs.Numbers.{length-bytes_high_first}
-use Rattle.std.proofs.Common.{length, ◌+◌, suc, ◌≡◌, ℕ, ◌^◌, ◌≤◌, ◌<◌, Bool, true, false, cond, eqb, List, [], ◌∷◌, ◌++◌, refl, sym, subst, ◌∙◌, ap, arith, inl, inr, nat_le, ◌&&◌}
+use Rattle.std.proofs.Common.{length, ◌≡◌, ℕ, ◌^◌, ◌≤◌, ◌<◌, Bool, true, false, cond, eqb, List, [], ◌∷◌, ◌++◌, refl, sym, subst, ◌∙◌, ap, arith, inl, inr, nat_le}
 use Rattle.std.proofs.lemmas.Bool.{cases_eq, eq-eqb, ne_eqb, and_from, and_parts, le-leb, leb-true}
 use Rattle.byteorder.specs.Endian.{big_bytes}
 use Rattle.vp_text.proofs.Exact.{Exact, Then, Made, made_exact, exact_as}
 use Rattle.vp_base.specs.declared.ids.ViewId.{ViewId}
 use Rattle.vp_base.specs.declared.ids.TxnId.{TxnId}
-use Rattle.vp_base.specs.Identifiers.{IsView, IsTxn}
+use Rattle.vp_base.specs.Identifiers.{IsView}
 use Rattle.vp_base.specs.Reading.{view_of, txn_of, least_site, most_site}
 use Rattle.vp_wire.specs.Grammar.{number_bytes, view_bytes, txn_bytes, IsViewBytes, IsTxnBytes, IsNumberedBytes}
 use Rattle.vp_wire.specs.Reading.{byte_at, within, u64_at, u32_at, some_u32_at, view_at, txn_at, numbered_at}
 use Rattle.vp_wire.proofs.Free.{IsFree, IsByteOf, even_free, byte_free, byte_exact, free_then}
-use Rattle.vp_wire.proofs.NumberBytes.{IsNumberBytes, number_exact, number_even, number_free}
+use Rattle.vp_wire.proofs.NumberBytes.{IsNumberBytes, number_exact, number_free}
 
 pub u64_exact : Exact (IsNumberBytes false 8) u64_at
 unfolding u64_at
@@ -30,10 +28,10 @@ some_u32_exact = number_exact true 4 (omega arith)
 pub within_exact : (least most : ℕ) → least ≤ most → Exact (IsByteOf (within least most)) (byte_at (within least most))
 within_exact least most some = byte_exact (within least most) least (and_from (nat_le least least) (nat_le least most) (le-leb least least (omega arith)) (le-leb least most some))
 
-within_from : (least most c : ℕ) → least ≤ c → c ≤ most → within least most c ≡ true
+pub within_from : (least most c : ℕ) → least ≤ c → c ≤ most → within least most c ≡ true
 within_from least most c above below = and_from (nat_le least c) (nat_le c most) (le-leb least c above) (le-leb c most below)
 
-within_to : (least most c : ℕ) → within least most c ≡ true → (least ≤ c) × (c ≤ most)
+pub within_to : (least most c : ℕ) → within least most c ≡ true → (least ≤ c) × (c ≤ most)
 within_to least most c h = let w = and_parts (nat_le least c) (nat_le c most) h in (leb-true least c w.0, leb-true c most w.1)
 
 number_spelled : (n x : ℕ) → number_bytes n x ≡ big_bytes n x

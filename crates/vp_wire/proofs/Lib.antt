@@ -4,3 +4,4 @@ pub mod Digits
 pub mod NumberBytes
 pub mod Taken
 pub mod Identifiers
+pub mod Marked

@@ -1,12 +1,12 @@
 -- The digits that are read of a number are its bytes.
-use Rattle.std.proofs.Common.{◌≡◌, ℕ, zero, suc, ◌+◌, ◌*◌, ◌^◌, ◌≤◌, ◌<◌, List, [], ◌∷◌, ◌++◌, length, Bool, true, false, refl, sym, ap, subst, ◌∙◌, arith, not, nat_lt, ◌||◌, ◌&&◌, inl, inr, ◌⊎◌}
+use Rattle.std.proofs.Common.{◌≡◌, ℕ, zero, suc, ◌+◌, ◌*◌, ◌^◌, ◌≤◌, ◌<◌, List, [], ◌∷◌, ◌++◌, length, Bool, true, false, refl, sym, ap, subst, ◌∙◌, arith, not, nat_lt, ◌||◌}
 use Rattle.std.proofs.lemmas.List.{append-nil}
 use Rattle.std.proofs.lemmas.Bool.{lt-ltb, ltb-true, or_left, or_right, and_from, and_parts}
 use Rattle.std.proofs.Math.Nat.{add-mul, mul_assoc, pow-succ'}
 use Rattle.std.specs.List.{AllByRecursion}
-use Rattle.byteorder.specs.Endian.{big_from, big_number, big_bytes}
+use Rattle.byteorder.specs.Endian.{big_number, big_bytes}
 use Rattle.byteorder.specs.Numbers.{big_from-cons, big_number-reads_back, length-bytes_high_first}
-use Rattle.vp_text.proofs.Exact.{Exact, Then, exact_as}
+use Rattle.vp_text.proofs.Exact.{Exact, exact_as}
 use Rattle.vp_wire.specs.Reading.{is_byte, digit_fits, digits_at}
 use Rattle.vp_wire.proofs.Numbers.{IsByte, number_fits, are_bytes, own_bytes}
 use Rattle.vp_wire.proofs.Digits.{HasDigits, digits_exact}

@@ -1,15 +1,15 @@
 -- What is read of a number's bytes in one go is what is read byte by byte.
-use Rattle.std.proofs.Common.{◌≡◌, ℕ, zero, suc, ◌+◌, ◌*◌, ◌^◌, ◌≤◌, ◌<◌, List, [], ◌∷◌, ◌++◌, length, take, drop, slice_index, Bool, true, false, Result, Ok, Err, refl, sym, ap, subst, ◌∙◌, arith, not, nat_lt, ◌||◌, ◌&&◌}
+use Rattle.std.proofs.Common.{◌≡◌, ℕ, zero, suc, ◌+◌, ◌*◌, ◌^◌, ◌≤◌, ◌<◌, List, [], ◌∷◌, ◌++◌, length, drop, slice_index, Bool, true, Ok, Err, refl, ap, ◌∙◌, arith, not, nat_lt, ◌||◌}
 use Rattle.std.proofs.lemmas.Bool.{lt-ltb, or_left, or_right, and_from}
 use Rattle.std.specs.List.{AllByRecursion}
 use Rattle.byteorder.specs.Endian.{big_number}
 use Rattle.std.proofs.Math.Nat.{add-mul, one-le-pow}
 use Rattle.byteorder.specs.Numbers.{big_from-append, big_from-cons}
-use Rattle.vp_text.proofs.Exact.{Apart, Exact}
+use Rattle.vp_text.proofs.Exact.{Apart}
 use Rattle.vp_wire.specs.Reading.{is_byte, digit_fits, digits_at}
 use Rattle.vp_wire.proofs.Numbers.{IsByte, number_fits, own_bytes}
 use Rattle.vp_wire.proofs.Free.{IsFree}
-use Rattle.vp_wire.proofs.NumberBytes.{IsNumberBytes, number_exact, number_even, number_free}
+use Rattle.vp_wire.proofs.NumberBytes.{IsNumberBytes, number_exact, number_free}
 
 -- the first n bytes, and the rest
 record Split (n : ℕ) (xs : List ℕ) : Type 0 where

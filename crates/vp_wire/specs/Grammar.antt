@@ -282,3 +282,11 @@ pub record IsTxnBytes (txn : TxnId) (bytes : List ℕ) : Type 0 where
 pub record IsNumberedBytes (call : TxnId × ℕ) (bytes : List ℕ) : Type 0 where
   pub is : bytes ≡ numbered_bytes call.0 call.1
   pub allowed : IsNumbered call.0 call.1
+
+pub record IsMaybeViewBytes (view : Option ViewId) (bytes : List ℕ) : Type 0 where
+  pub is : bytes ≡ maybe_view_bytes view
+  pub allowed : IsMaybeView view
+
+pub record IsOwnerBytes (who : Owner) (bytes : List ℕ) : Type 0 where
+  pub is : bytes ≡ owner_bytes who
+  pub allowed : IsOwner who

@@ -1,9 +1,11 @@
 -- Reading bytes from left to right.
-use Rattle.std.specs.Prelude.{ℕ, zero, suc, ◌+◌, ◌*◌, List, [], ◌∷◌, length, Bool, ◌&&◌, ◌||◌, not, true, false, Result, Ok, Err, nat_lt, nat_le, if◌then◌else◌}
+use Rattle.std.specs.Prelude.{ℕ, zero, suc, ◌+◌, ◌*◌, List, [], ◌∷◌, length, Bool, ◌&&◌, ◌||◌, not, true, false, Option, Some, None, Result, Ok, Err, nat_lt, nat_le, cond, ◌==◌, if◌then◌else◌}
 use Rattle.vp_text.specs.Reading.{◌>>=◌}
 use Rattle.vp_base.specs.Reading.{least_site, most_site, view_of, txn_of}
 use Rattle.vp_base.specs.declared.ids.ViewId.{ViewId}
 use Rattle.vp_base.specs.declared.ids.TxnId.{TxnId}
+use Rattle.vp_base.specs.declared.entry.Owner.{Owner}
+use Rattle.vp_base.specs.declared.entry.Owner.TheVariants as owner
 
 abbrev pub is_byte : ℕ → Bool
 is_byte c = nat_lt c 256
@@ -59,3 +61,15 @@ numbered_at bytes = do
   txn ← txn_at bytes
   number ← some_u32_at txn.1
   Ok ((txn.0, number.0), number.1)
+
+-- a view, or 0 for none
+unfoldable pub maybe_view_at : List ℕ → Result (Option ViewId × List ℕ) ℕ
+maybe_view_at bytes = do
+  flag ← byte_at (within 0 1) bytes
+  cond (flag.0 == 0) (Ok (None, flag.1)) (view_at flag.1 >>= λ v. Ok (Some v.0, v.1))
+
+-- a transaction, or 0 for a refresh
+unfoldable pub owner_at : List ℕ → Result (Owner × List ℕ) ℕ
+owner_at bytes = do
+  flag ← byte_at (within 0 1) bytes
+  cond (flag.0 == 0) (Ok (owner.Refresh, flag.1)) (txn_at flag.1 >>= λ t. Ok (owner.Txn t.0, t.1))

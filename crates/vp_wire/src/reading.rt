@@ -3,10 +3,10 @@
 ghost use Rattle.std.specs.Prelude.{◌≡◌, ◌≤◌, IfOk, drop, length};
 ghost use Rattle.vp_text.specs.Reading.{Reads};
 ghost use Rattle.vp_base.specs.Reading.{least_site, most_site};
-ghost use Rattle.vp_wire.specs.Reading.{byte_at, within, numbered_at, some_u32_at, txn_at, u32_at, u64_at, view_at};
+ghost use Rattle.vp_wire.specs.Reading.{byte_at, within, maybe_view_at, numbered_at, owner_at, some_u32_at, txn_at, u32_at, u64_at, view_at};
 
 use byteorder::{BigEndian, ByteOrder};
-use vp_base::{CallNo, SiteId, TxnId, ViewId};
+use vp_base::{CallNo, Owner, SiteId, TxnId, ViewId};
 use vp_text::{Cursor, Unexpected};
 
 /// Takes a byte from `least` to `most`.
@@ -153,4 +153,30 @@ pub fn take_numbered(cursor: &mut Cursor) -> Result<(TxnId, CallNo), Unexpected>
     let txn = take_txn(cursor)?;
     let number = take_number(cursor)?;
     Ok((txn, number))
+}
+
+/// Takes a view, or 0 for none.
+#[tactic(auto, unfolding(crate::specs::Reading::maybe_view_at))]
+pub fn take_maybe_view(cursor: &mut Cursor) -> Result<Option<ViewId>, Unexpected>
+    ensures { Reads (λ v. v) (λ e. e.left) result cursor.new (maybe_view_at cursor.old) }
+{
+    let flag = take_byte(cursor, 0, 1)?;
+    if flag == 0 {
+        return Ok(None);
+    }
+    let view = take_view(cursor)?;
+    Ok(Some(view))
+}
+
+/// Takes an owner: a transaction, or 0 for a refresh.
+#[tactic(auto, unfolding(crate::specs::Reading::owner_at))]
+pub fn take_owner(cursor: &mut Cursor) -> Result<Owner, Unexpected>
+    ensures { Reads (λ o. o) (λ e. e.left) result cursor.new (owner_at cursor.old) }
+{
+    let flag = take_byte(cursor, 0, 1)?;
+    if flag == 0 {
+        return Ok(Owner::Refresh);
+    }
+    let txn = take_txn(cursor)?;
+    Ok(Owner::Txn(txn))
 }

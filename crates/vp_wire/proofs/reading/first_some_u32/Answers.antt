@@ -1,4 +1,4 @@
-use Rattle.std.proofs.Common.{◌≡◌, ℕ, length, true, arith}
+use Rattle.std.proofs.Common.{true, arith}
 use Rattle.vp_wire.specs.Reading.{some_u32_at}
 use Rattle.vp_wire.proofs.Taken.{number_taken, number_short, number_none}
 use Rattle.vp_wire.proofs.reading.first_some_u32.Goals as goal

@@ -1,4 +1,4 @@
-use Rattle.std.proofs.Common.{◌≡◌, ℕ, length, false, sym, arith}
+use Rattle.std.proofs.Common.{false, arith}
 use Rattle.std.proofs.lemmas.Bool.{false≢true}
 use Rattle.vp_wire.specs.Reading.{u32_at}
 use Rattle.vp_wire.proofs.Taken.{number_taken, number_short}
