@@ -47,6 +47,9 @@ pub record IsByteOf (has : ℕ → Bool) (c : ℕ) (text : List ℕ) : Type 0 wh
 pub byte_free : {has : ℕ → Bool} → IsFree (IsByteOf has)
 byte_free {has = has} = even_free {L = IsByteOf has} 1 (λ a t h. ap length h.is)
 
+pub byte_one : {has : ℕ → Bool} → IsOne (IsByteOf has)
+byte_one a b t h k = let same : a ∷ [] ≡ b ∷ [] = sym h.is ∙ k.is in cc
+
 byte_ends : {has : ℕ → Bool} (c : ℕ) (rest : List ℕ) (b : ℕ) (r : List ℕ) → IsByteOf has b (c ∷ r) → Apart r rest
 byte_ends c rest b [] h = tt
 byte_ends c rest b (x ∷ r) h = absurd (omega (arith, ap length h.is))

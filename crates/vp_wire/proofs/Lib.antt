@@ -5,3 +5,5 @@ pub mod NumberBytes
 pub mod Taken
 pub mod Identifiers
 pub mod Marked
+pub mod Pairs
+pub mod Runs

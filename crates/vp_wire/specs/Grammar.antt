@@ -264,29 +264,46 @@ IsBody from to body.Stop = (from ≡ 0) × IsSite to
 abbrev pub IsFrame : Frame → Type 0
 IsFrame frame = IsBody frame.from frame.to frame.body
 
+-- The text is the bytes of the value, which is an allowed one.
+pub record Spelled {A : Type 0} (bytes : A → List ℕ) (Allowed : A → Type 0) (value : A) (text : List ℕ) : Type 0 where
+  pub is : text ≡ bytes value
+  pub allowed : Allowed value
+
 -- The bytes are the spelling of the frame.
-pub record IsSpelling (frame : Frame) (bytes : List ℕ) : Type 0 where
-  pub is : bytes ≡ frame_bytes frame
-  pub allowed : IsFrame frame
+abbrev pub IsSpelling : Frame → List ℕ → Type 0
+IsSpelling = Spelled frame_bytes IsFrame
 
 -- ---- fields, for the readers of frames
 
-pub record IsViewBytes (view : ViewId) (bytes : List ℕ) : Type 0 where
-  pub is : bytes ≡ view_bytes view
-  pub allowed : IsView view
+abbrev pub IsViewBytes : ViewId → List ℕ → Type 0
+IsViewBytes = Spelled view_bytes IsView
 
-pub record IsTxnBytes (txn : TxnId) (bytes : List ℕ) : Type 0 where
-  pub is : bytes ≡ txn_bytes txn
-  pub allowed : IsTxn txn
+abbrev pub IsTxnBytes : TxnId → List ℕ → Type 0
+IsTxnBytes = Spelled txn_bytes IsTxn
 
-pub record IsNumberedBytes (call : TxnId × ℕ) (bytes : List ℕ) : Type 0 where
-  pub is : bytes ≡ numbered_bytes call.0 call.1
-  pub allowed : IsNumbered call.0 call.1
+abbrev pub IsNumberedBytes : TxnId × ℕ → List ℕ → Type 0
+IsNumberedBytes = Spelled (λ call. numbered_bytes call.0 call.1) (λ call. IsNumbered call.0 call.1)
 
-pub record IsMaybeViewBytes (view : Option ViewId) (bytes : List ℕ) : Type 0 where
-  pub is : bytes ≡ maybe_view_bytes view
-  pub allowed : IsMaybeView view
+abbrev pub IsRequestBytes : TxnId × ViewId × ℕ → List ℕ → Type 0
+IsRequestBytes = Spelled (λ asked. request_bytes asked.0 asked.1 asked.2) (λ asked. IsRequest asked.0 asked.1 asked.2)
 
-pub record IsOwnerBytes (who : Owner) (bytes : List ℕ) : Type 0 where
-  pub is : bytes ≡ owner_bytes who
-  pub allowed : IsOwner who
+abbrev pub IsMaybeViewBytes : Option ViewId → List ℕ → Type 0
+IsMaybeViewBytes = Spelled maybe_view_bytes IsMaybeView
+
+abbrev pub IsOwnerBytes : Owner → List ℕ → Type 0
+IsOwnerBytes = Spelled owner_bytes IsOwner
+
+abbrev pub IsNameBytes : List ℕ → List ℕ → Type 0
+IsNameBytes = Spelled counted_bytes (λ name. IsName name name)
+
+abbrev pub IsValueBytes : List ℕ → List ℕ → Type 0
+IsValueBytes = Spelled counted_bytes (λ value. IsValue value value)
+
+abbrev pub IsSitesBytes : List ℕ → List ℕ → Type 0
+IsSitesBytes = Spelled counted_bytes IsSites
+
+abbrev pub IsRecsBytes : List ℕ → List ℕ → Type 0
+IsRecsBytes = Spelled counted_bytes IsRecs
+
+abbrev pub IsWritesBytes : List (ℕ × List ℕ) → List ℕ → Type 0
+IsWritesBytes = Spelled writes_bytes IsWrites

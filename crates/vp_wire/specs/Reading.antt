@@ -1,6 +1,9 @@
 -- Reading bytes from left to right.
 use Rattle.std.specs.Prelude.{ℕ, zero, suc, ◌+◌, ◌*◌, List, [], ◌∷◌, length, Bool, ◌&&◌, ◌||◌, not, true, false, Option, Some, None, Result, Ok, Err, nat_lt, nat_le, cond, ◌==◌, if◌then◌else◌}
 use Rattle.vp_text.specs.Reading.{◌>>=◌}
+use Rattle.vp_text.specs.Classes.{has, most}
+use Rattle.vp_text.specs.declared.class.Class.{Class}
+use Rattle.vp_text.specs.declared.class.Class.TheVariants.{Name, Value}
 use Rattle.vp_base.specs.Reading.{least_site, most_site, view_of, txn_of}
 use Rattle.vp_base.specs.declared.ids.ViewId.{ViewId}
 use Rattle.vp_base.specs.declared.ids.TxnId.{TxnId}
@@ -73,3 +76,54 @@ unfoldable pub owner_at : List ℕ → Result (Owner × List ℕ) ℕ
 owner_at bytes = do
   flag ← byte_at (within 0 1) bytes
   cond (flag.0 == 0) (Ok (owner.Refresh, flag.1)) (txn_at flag.1 >>= λ t. Ok (owner.Txn t.0, t.1))
+
+-- Items, so many as said: each is read with the count of those behind it and the least that its key may be, which is more
+-- than the key before it.
+unfoldable pub run_at : {X : Type 0} → (X → ℕ) → (ℕ → ℕ → List ℕ → Result (X × List ℕ) ℕ) → ℕ → ℕ → List ℕ → Result (List X × List ℕ) ℕ
+run_at key item zero least bytes = Ok ([], bytes)
+run_at key item (suc n) least bytes = item n least bytes >>= λ x. run_at key item n (suc (key x.0)) x.1 >>= λ xs. Ok (x.0 ∷ xs.0, xs.1)
+
+-- items behind their count, which is from few to many
+unfoldable pub counted_at : {X : Type 0} → (X → ℕ) → (ℕ → ℕ → List ℕ → Result (X × List ℕ) ℕ) → ℕ → ℕ → ℕ → List ℕ → Result (List X × List ℕ) ℕ
+counted_at key item few many least bytes = byte_at (within few many) bytes >>= λ n. run_at key item n.0 least n.1
+
+-- a number from least on that n others above it can follow, up to most
+abbrev pub leaves_room : ℕ → ℕ → ℕ → ℕ → Bool
+leaves_room most n least c = nat_le least c && nat_le (c + n) most
+
+abbrev pub ascending_byte_at : ℕ → ℕ → ℕ → List ℕ → Result (ℕ × List ℕ) ℕ
+ascending_byte_at most n least bytes = byte_at (leaves_room most n least) bytes
+
+-- a word of the class
+abbrev pub word_at : Class → List ℕ → Result (List ℕ × List ℕ) ℕ
+word_at class bytes = counted_at (λ c. c) (λ _ _ bytes. byte_at (has class) bytes) 1 (most class) 0 bytes
+
+unfoldable pub name_at : List ℕ → Result (List ℕ × List ℕ) ℕ
+name_at bytes = word_at Name bytes
+
+unfoldable pub value_at : List ℕ → Result (List ℕ × List ℕ) ℕ
+value_at bytes = word_at Value bytes
+
+unfoldable pub sites_at : List ℕ → Result (List ℕ × List ℕ) ℕ
+sites_at bytes = counted_at (λ c. c) (ascending_byte_at 16) 1 16 1 bytes
+
+unfoldable pub recs_at : List ℕ → Result (List ℕ × List ℕ) ℕ
+recs_at bytes = counted_at (λ c. c) (ascending_byte_at 255) 0 64 0 bytes
+
+-- a record and its value
+unfoldable pub write_at : ℕ → ℕ → List ℕ → Result ((ℕ × List ℕ) × List ℕ) ℕ
+write_at n least bytes = do
+  rec ← ascending_byte_at 255 n least bytes
+  value ← value_at rec.1
+  Ok ((rec.0, value.0), value.1)
+
+unfoldable pub writes_at : List ℕ → Result (List (ℕ × List ℕ) × List ℕ) ℕ
+writes_at bytes = counted_at (λ write. write.0) write_at 0 64 0 bytes
+
+-- what asks a part for a lock or a vote
+unfoldable pub request_at : List ℕ → Result ((TxnId × ViewId × ℕ) × List ℕ) ℕ
+request_at bytes = do
+  txn ← txn_at bytes
+  view ← view_at txn.1
+  number ← some_u32_at view.1
+  Ok ((txn.0, view.0, number.0), number.1)
