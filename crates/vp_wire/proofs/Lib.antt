@@ -7,3 +7,4 @@ pub mod Identifiers
 pub mod Marked
 pub mod Pairs
 pub mod Runs
+pub mod Items

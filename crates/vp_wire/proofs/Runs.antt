@@ -51,7 +51,7 @@ module _ {X : Type 0} (key : X → ℕ) (L : ℕ → ℕ → X → List ℕ → 
     pub exact : (n least : ℕ) → may (suc n) least ≡ true → Exact (L n least) (item n least)
     pub free : (n least : ℕ) → IsFree (L n least)
     pub one : (n least : ℕ) → IsOne (L n least)
-    pub on : (n least : ℕ) (x : X) (t : List ℕ) → L n least x t → may n (suc (key x)) ≡ true
+    pub on : (n least : ℕ) (x : X) (t : List ℕ) → may (suc n) least ≡ true → L n least x t → may n (suc (key x)) ≡ true
 
   nothing_exact : Exact {A = List X} (λ xs text. (text ≡ []) × (xs ≡ [])) (λ bytes. Ok ([], bytes))
   nothing_exact = record {
@@ -66,7 +66,7 @@ module _ {X : Type 0} (key : X → ℕ) (L : ℕ → ℕ → X → List ℕ → 
   unfolding run_at
   run_exact w zero least m = nothing_exact
   run_exact w (suc n) least m =
-      then_where (λ x. may n (suc (key x))) (λ x. Made (HasRun n (suc (key x))) (λ xs. x ∷ xs)) (w.on n least) [] (w.free n least) (w.exact n least m) (λ x on. made_exact (λ xs. x ∷ xs) (run_exact w n (suc (key x)) on))
+      then_where (λ x. may n (suc (key x))) (λ x. Made (HasRun n (suc (key x))) (λ xs. x ∷ xs)) (λ x t l. w.on n least x t m l) [] (w.free n least) (w.exact n least m) (λ x on. made_exact (λ xs. x ∷ xs) (run_exact w n (suc (key x)) on))
 
   pub run_free : Runs → (n least : ℕ) → IsFree (HasRun n least)
   run_free w zero least = even_free {L = HasRun 0 least} 0 (λ xs t h. ap length h.0)

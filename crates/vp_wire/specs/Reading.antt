@@ -1,5 +1,5 @@
 -- Reading bytes from left to right.
-use Rattle.std.specs.Prelude.{ℕ, zero, suc, ◌+◌, ◌*◌, List, [], ◌∷◌, length, Bool, ◌&&◌, ◌||◌, not, true, false, Option, Some, None, Result, Ok, Err, nat_lt, nat_le, cond, ◌==◌, if◌then◌else◌}
+use Rattle.std.specs.Prelude.{ℕ, zero, suc, ◌+◌, ◌*◌, ◌-◌, List, [], ◌∷◌, length, Bool, ◌&&◌, ◌||◌, not, true, false, Option, Some, None, Result, Ok, Err, nat_lt, nat_le, cond, ◌==◌, if◌then◌else◌}
 use Rattle.vp_text.specs.Reading.{◌>>=◌}
 use Rattle.vp_text.specs.Classes.{has, most}
 use Rattle.vp_text.specs.declared.class.Class.{Class}
@@ -88,15 +88,16 @@ unfoldable pub counted_at : {X : Type 0} → (X → ℕ) → (ℕ → ℕ → Li
 counted_at key item few many least bytes = byte_at (within few many) bytes >>= λ n. run_at key item n.0 least n.1
 
 -- a number from least on that n others above it can follow, up to most
-abbrev pub leaves_room : ℕ → ℕ → ℕ → ℕ → Bool
-leaves_room most n least c = nat_le least c && nat_le (c + n) most
+abbrev pub ascending_at : ℕ → ℕ → ℕ → List ℕ → Result (ℕ × List ℕ) ℕ
+ascending_at most n least bytes = byte_at (within least (most - n)) bytes
 
-abbrev pub ascending_byte_at : ℕ → ℕ → ℕ → List ℕ → Result (ℕ × List ℕ) ℕ
-ascending_byte_at most n least bytes = byte_at (leaves_room most n least) bytes
+-- so many bytes of the class
+abbrev pub word_run_at : Class → ℕ → List ℕ → Result (List ℕ × List ℕ) ℕ
+word_run_at class n bytes = run_at (λ _. 0) (λ _ _ bytes. byte_at (has class) bytes) n 1 bytes
 
 -- a word of the class
 abbrev pub word_at : Class → List ℕ → Result (List ℕ × List ℕ) ℕ
-word_at class bytes = counted_at (λ c. c) (λ _ _ bytes. byte_at (has class) bytes) 1 (most class) 0 bytes
+word_at class bytes = counted_at (λ _. 0) (λ _ _ bytes. byte_at (has class) bytes) 1 (most class) 1 bytes
 
 unfoldable pub name_at : List ℕ → Result (List ℕ × List ℕ) ℕ
 name_at bytes = word_at Name bytes
@@ -105,15 +106,15 @@ unfoldable pub value_at : List ℕ → Result (List ℕ × List ℕ) ℕ
 value_at bytes = word_at Value bytes
 
 unfoldable pub sites_at : List ℕ → Result (List ℕ × List ℕ) ℕ
-sites_at bytes = counted_at (λ c. c) (ascending_byte_at 16) 1 16 1 bytes
+sites_at bytes = counted_at (λ c. c) (ascending_at 16) 1 16 1 bytes
 
 unfoldable pub recs_at : List ℕ → Result (List ℕ × List ℕ) ℕ
-recs_at bytes = counted_at (λ c. c) (ascending_byte_at 255) 0 64 0 bytes
+recs_at bytes = counted_at (λ c. c) (ascending_at 255) 0 64 0 bytes
 
 -- a record and its value
 unfoldable pub write_at : ℕ → ℕ → List ℕ → Result ((ℕ × List ℕ) × List ℕ) ℕ
 write_at n least bytes = do
-  rec ← ascending_byte_at 255 n least bytes
+  rec ← ascending_at 255 n least bytes
   value ← value_at rec.1
   Ok ((rec.0, value.0), value.1)
 
