@@ -1,5 +1,5 @@
 -- Names, values, sites, records and writes are read exactly.
-use Rattle.std.proofs.Common.{◌≡◌, ℕ, zero, suc, ◌+◌, ◌-◌, ◌≤◌, Bool, true, List, [], ◌∷◌, ◌++◌, length, flat_map, nat_le, refl, sym, ap, subst, ◌∙◌, arith}
+use Rattle.std.proofs.Common.{◌≡◌, ℕ, zero, suc, ◌+◌, ◌-◌, ◌≤◌, Bool, true, List, [], ◌∷◌, ◌++◌, length, flat_map, nat_le, Ok, refl, sym, ap, subst, ◌∙◌, arith}
 use Rattle.std.proofs.lemmas.Bool.{le-leb, leb-true}
 use Rattle.std.proofs.lemmas.List.{length-append}
 use Rattle.std.specs.List.{AllByRecursion}
@@ -10,10 +10,10 @@ use Rattle.vp_text.specs.declared.class.Class.TheVariants as classes
 use Rattle.vp_text.proofs.Exact.{Exact, Then, Made, made_exact, exact_as, one_value, IsOne}
 use Rattle.vp_base.specs.Words.{IsName, IsValue}
 use Rattle.vp_wire.specs.Grammar.{Spelled, counted_bytes, write_bytes, writes_bytes, IsAscending, IsAscendingWrites, IsNameBytes, IsValueBytes, IsSites, IsSitesBytes, IsRecs, IsRecsBytes, IsWrites, IsWritesBytes}
-use Rattle.vp_wire.specs.Reading.{byte_at, within, run_at, counted_at, ascending_at, word_at, name_at, value_at, sites_at, recs_at, write_at, writes_at}
+use Rattle.vp_wire.specs.Reading.{byte_at, within, run_at, counted_at, ascending_at, word_at, word_run_at, name_at, value_at, sites_at, recs_at, write_at, writes_at}
 use Rattle.vp_wire.proofs.Free.{IsFree, IsByteOf, byte_free, byte_one, byte_exact, free_then, then_free, made_free, free_as}
 use Rattle.vp_wire.proofs.Identifiers.{within_exact, within_from, within_to}
-use Rattle.vp_wire.proofs.Runs.{HasRun, Runs, Counted, counted_exact, counted_free}
+use Rattle.vp_wire.proofs.Runs.{HasRun, Runs, run_exact, Counted, counted_exact, counted_free}
 
 -- ---- words
 
@@ -99,6 +99,14 @@ value_exact = class_exact classes.Value (omega arith)
 
 pub value_free : IsFree IsValueBytes
 value_free = class_free classes.Value
+
+-- what is read of a word's bytes
+pub word_allowed : (class : Class) (count : ℕ) (bytes w rest : List ℕ) → 1 ≤ count → count ≤ most class → word_run_at class count bytes ≡ Ok (w, rest) → IsWord (has class) (most class) w w
+unfolding always
+word_allowed class count bytes w rest some short read =
+    let p = (run_exact (λ _. 0) (Byte class) (λ n least bytes. byte_at (has class) bytes) always (word_runs class) count 1 refl).ok bytes w rest read in
+    let k = word_to class count 1 w p.text p.spelled in
+    record { is = refl; some = omega (arith, some, k.1); short = omega (arith, short, k.1); each = k.2 }
 
 -- ---- numbers, ascending
 

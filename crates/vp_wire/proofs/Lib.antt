@@ -8,3 +8,4 @@ pub mod Marked
 pub mod Pairs
 pub mod Runs
 pub mod Items
+pub mod Turns

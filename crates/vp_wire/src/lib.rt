@@ -5,9 +5,11 @@ mod answers;
 mod calls;
 mod fields;
 mod frame;
+mod lists;
 mod reading;
 #[cfg(test)]
 mod tests;
+mod words;
 mod writing;
 
 pub use frame::{Body, Frame};
