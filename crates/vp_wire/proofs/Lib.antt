@@ -9,3 +9,8 @@ pub mod Pairs
 pub mod Runs
 pub mod Items
 pub mod Turns
+pub mod Singles
+pub mod Codes
+pub mod EachMessage
+pub mod EachCall
+pub mod EachAnswer

@@ -30,13 +30,13 @@ module _ {A B : Type 0} (valid : A → Bool) (M : A → B → List ℕ → Type 
   unfolding If
   then_where {L = L} {P = P} {Q = Q} ok none free e f =
       exact_as
-        (λ b t h. record { first = h.first; front = h.front; back = h.back; before = h.before; after = h.after (ok h.first h.front h.before); parts = h.parts })
-        (λ b t h. record { first = h.first; front = h.front; back = h.back; before = h.before; after = λ _. h.after; parts = h.parts })
-        (exact_from {L = Then L If} (λ bytes.
-          then_right {M = If} {Q = Q} (one_value e) (λ a a2 text x r b t before longer after. absurd (free a a2 text x r before longer)) (if_has none (λ a v. inhabited (f a v))) (right e bytes) (λ a mid h.
-            let p = e.ok bytes a mid h in
-            let v = ok a p.text p.spelled in
-            right_as {L = M a} (λ b t m _. m) (λ b t m. m v) (right (f a v) mid))))
+      (λ b t h. record { first = h.first; front = h.front; back = h.back; before = h.before; after = h.after (ok h.first h.front h.before); parts = h.parts })
+      (λ b t h. record { first = h.first; front = h.front; back = h.back; before = h.before; after = λ _. h.after; parts = h.parts })
+      (exact_from {L = Then L If} (λ bytes.
+      then_right {M = If} {Q = Q} (one_value e) (λ a a2 text x r b t before longer after. absurd (free a a2 text x r before longer)) (if_has none (λ a v. inhabited (f a v))) (right e bytes) (λ a mid h.
+      let p = e.ok bytes a mid h in
+      let v = ok a p.text p.spelled in
+      right_as {L = M a} (λ b t m _. m) (λ b t m. m v) (right (f a v) mid))))
 
 -- ---- items
 

@@ -1,2 +1,6 @@
 pub mod Grammar
 pub mod Reading
+pub mod Kinds
+pub mod Messages
+pub mod Calls
+pub mod Answers

@@ -9,6 +9,8 @@ use Rattle.vp_base.specs.declared.ids.ViewId.{ViewId}
 use Rattle.vp_base.specs.declared.ids.TxnId.{TxnId}
 use Rattle.vp_base.specs.declared.entry.Owner.{Owner}
 use Rattle.vp_base.specs.declared.entry.Owner.TheVariants as owner
+use Rattle.vp_base.specs.declared.message.Obstacle.{Obstacle}
+use Rattle.vp_base.specs.declared.message.Obstacle.TheVariants as obstacle
 
 abbrev pub is_byte : ℕ → Bool
 is_byte c = nat_lt c 256
@@ -128,3 +130,13 @@ request_at bytes = do
   view ← view_at txn.1
   number ← some_u32_at view.1
   Ok ((txn.0, view.0, number.0), number.1)
+
+-- 1 for commit, 0 for abort
+unfoldable pub outcome_at : List ℕ → Result (Bool × List ℕ) ℕ
+outcome_at bytes = byte_at (within 0 1) bytes >>= λ flag. Ok (flag.0 == 1, flag.1)
+
+-- 1 and an owner, or 2 and a view or none
+unfoldable pub obstacle_at : List ℕ → Result (Obstacle × List ℕ) ℕ
+obstacle_at bytes = do
+  mark ← byte_at (within 1 2) bytes
+  cond (mark.0 == 1) (owner_at mark.1 >>= λ x. Ok (obstacle.Held x.0, x.1)) (maybe_view_at mark.1 >>= λ x. Ok (obstacle.OtherView x.0, x.1))

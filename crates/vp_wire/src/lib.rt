@@ -5,7 +5,11 @@ mod answers;
 mod calls;
 mod fields;
 mod frame;
+mod kind;
 mod lists;
+mod read_answers;
+mod read_calls;
+mod read_messages;
 mod reading;
 #[cfg(test)]
 mod tests;

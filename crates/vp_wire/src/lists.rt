@@ -56,7 +56,7 @@ fn take_some_recs(alloc: Global, cursor: &mut Cursor, count: u8) -> Result<Recs,
     let mut least = 0;
     while left > 0 {
         left -= 1;
-        let rec = take_rec(cursor, least, left)?;
+        let rec = take_rec_from(cursor, least, left)?;
         recs.push(RecId::new(rec))?;
         least = u16::from(rec) + 1;
     }
@@ -64,7 +64,7 @@ fn take_some_recs(alloc: Global, cursor: &mut Cursor, count: u8) -> Result<Recs,
 }
 
 /// Takes a record from `least` on that so many others can follow.
-fn take_rec(cursor: &mut Cursor, least: u16, behind: u8) -> Result<u8, Unexpected>
+fn take_rec_from(cursor: &mut Cursor, least: u16, behind: u8) -> Result<u8, Unexpected>
     requires { least + behind ≤ 255 }
     ensures read { Reads (λ x. x) (λ e. e.left) result cursor.new (ascending_at 255 behind least cursor.old) }
     ensures range { IfOk result (λ x. (least ≤ x) × (x ≤ 255 - behind)) }
@@ -110,7 +110,7 @@ fn take_write(
     ensures read { Tries (λ w. w) line_left result cursor.new (write_at behind least cursor.old) }
     ensures range { IfOk result (λ w. (least ≤ w.0) × (w.0 ≤ 255 - behind)) }
 {
-    let rec = take_rec(cursor, least, behind)?;
+    let rec = take_rec_from(cursor, least, behind)?;
     let value = take_value(alloc, cursor)?;
     Ok((RecId::new(rec), value))
 }

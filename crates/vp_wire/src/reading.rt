@@ -3,10 +3,10 @@
 ghost use Rattle.std.specs.Prelude.{◌≡◌, ◌≤◌, IfOk, drop, length};
 ghost use Rattle.vp_text.specs.Reading.{Reads};
 ghost use Rattle.vp_base.specs.Reading.{least_site, most_site};
-ghost use Rattle.vp_wire.specs.Reading.{byte_at, within, maybe_view_at, numbered_at, owner_at, some_u32_at, txn_at, u32_at, u64_at, view_at};
+ghost use Rattle.vp_wire.specs.Reading.{byte_at, within, maybe_view_at, numbered_at, obstacle_at, outcome_at, owner_at, request_at, some_u32_at, txn_at, u32_at, u64_at, view_at};
 
 use byteorder::{BigEndian, ByteOrder};
-use vp_base::{CallNo, Owner, SiteId, TxnId, ViewId};
+use vp_base::{CallNo, Obstacle, Owner, RecId, SiteId, TxnId, ViewId};
 use vp_text::{Cursor, Unexpected};
 
 /// Takes a byte from `least` to `most`.
@@ -179,4 +179,47 @@ pub fn take_owner(cursor: &mut Cursor) -> Result<Owner, Unexpected>
     }
     let txn = take_txn(cursor)?;
     Ok(Owner::Txn(txn))
+}
+
+/// Takes a record.
+pub fn take_rec(cursor: &mut Cursor) -> Result<RecId, Unexpected>
+    ensures { Reads (λ r. r) (λ e. e.left) result cursor.new (byte_at (within 0 255) cursor.old) }
+{
+    let place = take_byte(cursor, 0, 255)?;
+    Ok(RecId::new(place))
+}
+
+/// Takes what asks a part for a lock or a vote.
+#[tactic(auto, unfolding(crate::specs::Reading::request_at))]
+pub fn take_request(cursor: &mut Cursor) -> Result<(TxnId, ViewId, CallNo), Unexpected>
+    ensures { Reads (λ x. (x.0, x.1, x.2)) (λ e. e.left) result cursor.new (request_at cursor.old) }
+{
+    let txn = take_txn(cursor)?;
+    let view = take_view(cursor)?;
+    let number = take_number(cursor)?;
+    Ok((txn, view, number))
+}
+
+/// Takes an outcome: whether it is commit.
+#[tactic(auto, unfolding(crate::specs::Reading::outcome_at))]
+pub fn take_outcome(cursor: &mut Cursor) -> Result<bool, Unexpected>
+    ensures { Reads (λ b. b) (λ e. e.left) result cursor.new (outcome_at cursor.old) }
+{
+    let flag = take_byte(cursor, 0, 1)?;
+    Ok(flag == 1)
+}
+
+/// Takes why a site refuses a request.
+#[tactic(auto, unfolding(crate::specs::Reading::obstacle_at))]
+pub fn take_obstacle(cursor: &mut Cursor) -> Result<Obstacle, Unexpected>
+    ensures { Reads (λ o. o) (λ e. e.left) result cursor.new (obstacle_at cursor.old) }
+{
+    let mark = take_byte(cursor, 1, 2)?;
+    if mark == 1 {
+        let owner = take_owner(cursor)?;
+        Ok(Obstacle::Held { owner })
+    } else {
+        let now = take_maybe_view(cursor)?;
+        Ok(Obstacle::OtherView { now })
+    }
 }

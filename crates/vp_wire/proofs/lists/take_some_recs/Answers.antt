@@ -11,10 +11,10 @@ loop-left-preserved c =
     let total = run_at (λ c. c) (ascending_at 255) c.args.count 0 c.args.cursor.now in
     let left : c.loop-left.left ≡ suc (c.loop-left.left - 1) = omega (arith, c.loop-left-test.true) in
     let so_far = subst (λ (n : ℕ). with_front c.loop-left.recs.items (run_at (λ c. c) (ascending_at 255) n c.loop-left.least c.loop-left.cursor) ≡ total) left c.loop-left.invariant.2 in
-    let step = run_goes (λ c. c) (ascending_at 255) c.loop-left.recs.items (c.loop-left.left - 1) c.loop-left.least c.loop-left.cursor c.in_ok-rec.rec c.take_rec.new.cursor total c.in_ok-rec.ensures.read so_far in
+    let step = run_goes (λ c. c) (ascending_at 255) c.loop-left.recs.items (c.loop-left.left - 1) c.loop-left.least c.loop-left.cursor c.in_ok-rec.rec c.take_rec_from.new.cursor total c.in_ok-rec.ensures.read so_far in
     let least : suc c.in_ok-rec.rec ≡ c.from-least.result + 1 = omega (arith, c.from-least.ensures) in
     let items : c.loop-left.recs.items ++ c.in_ok-rec.rec ∷ [] ≡ c.push.new.self.items = ap (λ (x : ℕ). c.loop-left.recs.items ++ x ∷ []) (sym c.new.ensures) ∙ sym c.in_ok-push.ensures.items in
-    (omega (arith, c.loop-left.invariant.0), omega (arith, c.in_ok-rec.ensures.range, c.loop-left-test.true, c.loop-left.invariant.1, c.from-least.ensures), subst (λ (xs : List ℕ). with_front xs (run_at (λ c. c) (ascending_at 255) (c.loop-left.left - 1) (c.from-least.result + 1) c.take_rec.new.cursor) ≡ total) items (subst (λ (k : ℕ). with_front (c.loop-left.recs.items ++ c.in_ok-rec.rec ∷ []) (run_at (λ c. c) (ascending_at 255) (c.loop-left.left - 1) k c.take_rec.new.cursor) ≡ total) least step))
+    (omega (arith, c.loop-left.invariant.0), omega (arith, c.in_ok-rec.ensures.range, c.loop-left-test.true, c.loop-left.invariant.1, c.from-least.ensures), subst (λ (xs : List ℕ). with_front xs (run_at (λ c. c) (ascending_at 255) (c.loop-left.left - 1) (c.from-least.result + 1) c.take_rec_from.new.cursor) ≡ total) items (subst (λ (k : ℕ). with_front (c.loop-left.recs.items ++ c.in_ok-rec.rec ∷ []) (run_at (λ c. c) (ascending_at 255) (c.loop-left.left - 1) k c.take_rec_from.new.cursor) ≡ total) least step))
 
 pub returns : goal.returns
 returns c =
