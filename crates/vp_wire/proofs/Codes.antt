@@ -4,13 +4,15 @@ use Rattle.std.proofs.lemmas.Bool.{eqb-true}
 use Rattle.std.proofs.lemmas.List.{length-append}
 use Rattle.std.specs.List.{AllByRecursion}
 use Rattle.vp_text.proofs.Exact.{Apart, Parts, IsRight, IsOne, Exact, exact_from, done, ok_value}
-use Rattle.vp_wire.specs.Kinds.{find_code, code_at, message_kinds, message_kind, call_kinds, call_kind, answer_kinds, answer_kind}
+use Rattle.vp_wire.specs.Kinds.{find_code, code_at, message_kinds, message_kind, call_kinds, call_kind, answer_kinds, answer_kind, frame_kinds, frame_kind}
 use Rattle.vp_wire.specs.declared.kind.MessageKind.{MessageKind}
 use Rattle.vp_wire.specs.declared.kind.MessageKind.TheVariants as messages
 use Rattle.vp_wire.specs.declared.kind.CallKind.{CallKind}
 use Rattle.vp_wire.specs.declared.kind.CallKind.TheVariants as calls
 use Rattle.vp_wire.specs.declared.kind.AnswerKind.{AnswerKind}
 use Rattle.vp_wire.specs.declared.kind.AnswerKind.TheVariants as answers
+use Rattle.vp_wire.specs.declared.kind.Kind.{Kind}
+use Rattle.vp_wire.specs.declared.kind.Kind.TheVariants as frames
 use Rattle.vp_wire.proofs.Digits.{nothing_more}
 use Rattle.vp_wire.proofs.Free.{IsFree, even_free}
 
@@ -242,3 +244,38 @@ answer_found answers.TooManyLive = refl
 
 pub answer_codes : Codes answer_code answer_kind
 answer_codes = record { found = answer_found; only = found_only answer_code answer_kinds (refl, (refl, (refl, (refl, (refl, (refl, (refl, (refl, (refl, (refl, (refl, (refl, (refl, (refl, (refl, (refl, (refl, (refl, tt)))))))))))))))))); some = answers.Begun }
+
+abbrev pub frame_code : Kind → ℕ
+frame_code (frames.Message kind) = message_code kind
+frame_code frames.Call = 32
+frame_code frames.Reply = 33
+frame_code frames.Tick = 34
+frame_code frames.ProbeNow = 35
+frame_code frames.Stop = 36
+
+frame_found : (kind : Kind) → frame_kind (frame_code kind) ≡ Some kind
+frame_found (frames.Message messages.Invite) = refl
+frame_found (frames.Message messages.Accept) = refl
+frame_found (frames.Message messages.Stale) = refl
+frame_found (frames.Message messages.ViewCommit) = refl
+frame_found (frames.Message messages.ReadRequest) = refl
+frame_found (frames.Message messages.ReadAnswer) = refl
+frame_found (frames.Message messages.WriteRequest) = refl
+frame_found (frames.Message messages.WriteAnswer) = refl
+frame_found (frames.Message messages.Refuse) = refl
+frame_found (frames.Message messages.Prepare) = refl
+frame_found (frames.Message messages.Vote) = refl
+frame_found (frames.Message messages.Outcome) = refl
+frame_found (frames.Message messages.Ack) = refl
+frame_found (frames.Message messages.Inquire) = refl
+frame_found (frames.Message messages.RefreshRequest) = refl
+frame_found (frames.Message messages.RefreshAnswer) = refl
+frame_found (frames.Message messages.Probe) = refl
+frame_found frames.Call = refl
+frame_found frames.Reply = refl
+frame_found frames.Tick = refl
+frame_found frames.ProbeNow = refl
+frame_found frames.Stop = refl
+
+pub frame_codes : Codes frame_code frame_kind
+frame_codes = record { found = frame_found; only = found_only frame_code frame_kinds (refl, (refl, (refl, (refl, (refl, (refl, (refl, (refl, (refl, (refl, (refl, (refl, (refl, (refl, (refl, (refl, (refl, (refl, (refl, (refl, (refl, (refl, tt)))))))))))))))))))))); some = frames.Tick }

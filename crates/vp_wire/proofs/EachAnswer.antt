@@ -128,3 +128,24 @@ answer_from (answer.ViewChanged txn number at held now) a = record { from = ((tx
 answer_from (answer.TimedOut txn number at) a = record { from = ((txn, number), at); spelled = record { is = refl; allowed = (a.0, a.1) }; is = refl }
 answer_from (answer.Spent number) a = record { from = number; spelled = record { is = refl; allowed = a }; is = refl }
 answer_from answer.TooManyLive a = (refl, refl)
+
+-- the code in front, and the fields behind it
+pub answer_coded : (m : Answer) → answer_bytes m ≡ answer_code (answer_form m) ∷ answer_fields m
+answer_coded (answer.Begun txn view) = refl
+answer_coded (answer.Value txn number value) = refl
+answer_coded (answer.Written txn number) = refl
+answer_coded (answer.Committed txn number) = refl
+answer_coded (answer.Aborted txn number) = refl
+answer_coded (answer.Inviting view) = refl
+answer_coded (answer.NoView promise) = refl
+answer_coded (answer.Unknown txn) = refl
+answer_coded (answer.Skipped txn expected) = refl
+answer_coded (answer.Busy txn number) = refl
+answer_coded (answer.NoRecord txn number) = refl
+answer_coded (answer.TooManyOps txn number) = refl
+answer_coded (answer.Inaccessible txn number name inside total) = refl
+answer_coded (answer.LockHeld txn number name at owner) = refl
+answer_coded (answer.ViewChanged txn number at held now) = refl
+answer_coded (answer.TimedOut txn number at) = refl
+answer_coded (answer.Spent number) = refl
+answer_coded answer.TooManyLive = refl

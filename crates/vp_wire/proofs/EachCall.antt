@@ -68,3 +68,12 @@ call_from (call.Read txn number name) a = record { from = ((txn, number), name);
 call_from (call.Write txn number name value) a = record { from = ((txn, number), (name, value)); spelled = record { is = refl; allowed = (a.0, (a.1, a.2)) }; is = refl }
 call_from (call.Commit txn number) a = record { from = (txn, number); spelled = record { is = refl; allowed = a }; is = refl }
 call_from (call.Abort txn number) a = record { from = (txn, number); spelled = record { is = refl; allowed = a }; is = refl }
+
+-- the code in front, and the fields behind it
+pub call_coded : (m : Call) → call_bytes m ≡ call_code (call_form m) ∷ call_fields m
+call_coded call.Begin = refl
+call_coded call.Regroup = refl
+call_coded (call.Read txn number name) = refl
+call_coded (call.Write txn number name value) = refl
+call_coded (call.Commit txn number) = refl
+call_coded (call.Abort txn number) = refl

@@ -122,3 +122,22 @@ message_from (message.Inquire txn) a = record { from = txn; spelled = record { i
 message_from (message.RefreshRequest view rec) a = record { from = (view, rec); spelled = record { is = refl; allowed = (a.0, a.1) }; is = refl }
 message_from (message.RefreshAnswer view rec value date) a = record { from = (view, (rec, (value, date))); spelled = record { is = refl; allowed = (a.0, (a.1, (a.2, a.3))) }; is = refl }
 message_from (message.Probe view) a = record { from = view; spelled = record { is = refl; allowed = a }; is = refl }
+
+pub message_coded : (m : Message) → message_code (message_form m) ≡ message_kind m
+message_coded (message.Invite id) = refl
+message_coded (message.Accept id) = refl
+message_coded (message.Stale id promise) = refl
+message_coded (message.ViewCommit id members) = refl
+message_coded (message.ReadRequest txn view number rec) = refl
+message_coded (message.ReadAnswer txn number value) = refl
+message_coded (message.WriteRequest txn view number rec) = refl
+message_coded (message.WriteAnswer txn number) = refl
+message_coded (message.Refuse txn number why) = refl
+message_coded (message.Prepare txn view number reads writes) = refl
+message_coded (message.Vote txn) = refl
+message_coded (message.Outcome txn commit) = refl
+message_coded (message.Ack txn) = refl
+message_coded (message.Inquire txn) = refl
+message_coded (message.RefreshRequest view rec) = refl
+message_coded (message.RefreshAnswer view rec value date) = refl
+message_coded (message.Probe view) = refl

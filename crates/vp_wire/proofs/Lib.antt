@@ -14,3 +14,4 @@ pub mod Codes
 pub mod EachMessage
 pub mod EachCall
 pub mod EachAnswer
+pub mod Frames

@@ -6,6 +6,8 @@ use Rattle.vp_wire.specs.declared.kind.CallKind.{CallKind}
 use Rattle.vp_wire.specs.declared.kind.CallKind.TheVariants as calls
 use Rattle.vp_wire.specs.declared.kind.AnswerKind.{AnswerKind}
 use Rattle.vp_wire.specs.declared.kind.AnswerKind.TheVariants as answers
+use Rattle.vp_wire.specs.declared.kind.Kind.{Kind}
+use Rattle.vp_wire.specs.declared.kind.Kind.TheVariants as frames
 
 -- the kind that stands with this code
 abbrev pub find_code : {K : Type 0} → List (ℕ × K) → ℕ → Option K
@@ -34,3 +36,9 @@ answer_kinds = (1, answers.Begun) ∷ (2, answers.Value) ∷ (3, answers.Written
 
 abbrev pub answer_kind : ℕ → Option AnswerKind
 answer_kind c = find_code answer_kinds c
+
+abbrev pub frame_kinds : List (ℕ × Kind)
+frame_kinds = (1, frames.Message messages.Invite) ∷ (2, frames.Message messages.Accept) ∷ (3, frames.Message messages.Stale) ∷ (4, frames.Message messages.ViewCommit) ∷ (5, frames.Message messages.ReadRequest) ∷ (6, frames.Message messages.ReadAnswer) ∷ (7, frames.Message messages.WriteRequest) ∷ (8, frames.Message messages.WriteAnswer) ∷ (9, frames.Message messages.Refuse) ∷ (10, frames.Message messages.Prepare) ∷ (11, frames.Message messages.Vote) ∷ (12, frames.Message messages.Outcome) ∷ (13, frames.Message messages.Ack) ∷ (14, frames.Message messages.Inquire) ∷ (15, frames.Message messages.RefreshRequest) ∷ (16, frames.Message messages.RefreshAnswer) ∷ (17, frames.Message messages.Probe) ∷ (32, frames.Call) ∷ (33, frames.Reply) ∷ (34, frames.Tick) ∷ (35, frames.ProbeNow) ∷ (36, frames.Stop) ∷ []
+
+abbrev pub frame_kind : ℕ → Option Kind
+frame_kind c = find_code frame_kinds c

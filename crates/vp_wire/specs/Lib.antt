@@ -4,3 +4,5 @@ pub mod Kinds
 pub mod Messages
 pub mod Calls
 pub mod Answers
+pub mod Faults
+pub mod Frames

@@ -1,7 +1,7 @@
 //! Which message, call or answer stands in a frame.
 
 ghost use Rattle.std.specs.Prelude.{◌≡◌};
-ghost use Rattle.vp_wire.specs.Kinds.{answer_kind, call_kind, message_kind};
+ghost use Rattle.vp_wire.specs.Kinds.{answer_kind, call_kind, frame_kind, message_kind};
 
 /// Which message.
 #[derive(Clone, Copy, Drop)]
@@ -128,6 +128,50 @@ impl AnswerKind {
             16 => Some(AnswerKind::TimedOut),
             17 => Some(AnswerKind::Spent),
             18 => Some(AnswerKind::TooManyLive),
+            _ => None,
+        }
+    }
+}
+
+/// Which frame.
+#[derive(Clone, Copy, Drop)]
+pub enum Kind {
+    Message(MessageKind),
+    Call,
+    Reply,
+    Tick,
+    ProbeNow,
+    Stop,
+}
+
+impl Kind {
+    /// The frame of this kind byte.
+    pub fn of(byte: u8) -> Option<Kind>
+        ensures { result ≡ frame_kind byte }
+    {
+        match byte {
+            1 => Some(Kind::Message(MessageKind::Invite)),
+            2 => Some(Kind::Message(MessageKind::Accept)),
+            3 => Some(Kind::Message(MessageKind::Stale)),
+            4 => Some(Kind::Message(MessageKind::ViewCommit)),
+            5 => Some(Kind::Message(MessageKind::ReadRequest)),
+            6 => Some(Kind::Message(MessageKind::ReadAnswer)),
+            7 => Some(Kind::Message(MessageKind::WriteRequest)),
+            8 => Some(Kind::Message(MessageKind::WriteAnswer)),
+            9 => Some(Kind::Message(MessageKind::Refuse)),
+            10 => Some(Kind::Message(MessageKind::Prepare)),
+            11 => Some(Kind::Message(MessageKind::Vote)),
+            12 => Some(Kind::Message(MessageKind::Outcome)),
+            13 => Some(Kind::Message(MessageKind::Ack)),
+            14 => Some(Kind::Message(MessageKind::Inquire)),
+            15 => Some(Kind::Message(MessageKind::RefreshRequest)),
+            16 => Some(Kind::Message(MessageKind::RefreshAnswer)),
+            17 => Some(Kind::Message(MessageKind::Probe)),
+            32 => Some(Kind::Call),
+            33 => Some(Kind::Reply),
+            34 => Some(Kind::Tick),
+            35 => Some(Kind::ProbeNow),
+            36 => Some(Kind::Stop),
             _ => None,
         }
     }

@@ -3,6 +3,8 @@
 
 mod answers;
 mod calls;
+mod decoding;
+mod fault;
 mod fields;
 mod frame;
 mod kind;
@@ -16,5 +18,7 @@ mod tests;
 mod words;
 mod writing;
 
+pub use decoding::decode;
+pub use fault::WireFault;
 pub use frame::{Body, Frame};
 pub use writing::encode;
