@@ -29,14 +29,14 @@ use Rattle.vp_wire.proofs.EachAnswer.{AnswerOf, IsAnswerOf, answer_fields_exact,
 
 -- ---- calls and answers, by their codes
 
-abbrev CallParts : Body → List ℕ → Type 0
+abbrev pub CallParts : Body → List ℕ → Type 0
 CallParts = Then (IsCode call_code call_kind) (λ kind. Made (CallOf kind) (λ call. body.Call call))
 
 call_parts_exact : Exact CallParts coded_call_at
 unfolding coded_call_at
 call_parts_exact = free_then (code_free call_code call_kind) (code_exact call_code call_kind call_codes) (λ kind. made_exact (λ call. body.Call call) (call_fields_exact kind))
 
-abbrev AnswerParts : Body → List ℕ → Type 0
+abbrev pub AnswerParts : Body → List ℕ → Type 0
 AnswerParts = Then (IsCode answer_code answer_kind) (λ kind. Made (AnswerOf kind) (λ answer. body.Reply answer))
 
 answer_parts_exact : Exact AnswerParts coded_answer_at
@@ -45,7 +45,7 @@ answer_parts_exact = free_then (code_free answer_code answer_kind) (code_exact a
 
 -- ---- bodies
 
-abbrev BodyOf : Kind → Body → List ℕ → Type 0
+abbrev pub BodyOf : Kind → Body → List ℕ → Type 0
 BodyOf (kinds.Message kind) = Made (MessageOf kind) (λ message. body.Message message)
 BodyOf kinds.Call = CallParts
 BodyOf kinds.Reply = AnswerParts
@@ -120,7 +120,7 @@ body_from from to body.Stop a = record { code = refl; from_range = (omega arith,
 
 -- ---- frames
 
-abbrev FrameParts : Frame → List ℕ → Type 0
+abbrev pub FrameParts : Frame → List ℕ → Type 0
 FrameParts =
     Then (IsByteOf (within 86 86)) (λ _. Then (IsByteOf (within 1 1)) (λ _. Then (IsCode frame_code frame_kind) (λ k. Then (IsByteOf (within (least_from k) (most_from k))) (λ from. Then (IsByteOf (within (least_to k) (most_to k))) (λ to. Made (BodyOf k) (frame_of from to))))))
 
@@ -141,7 +141,7 @@ frame_to f t h =
       allowed = b.2;
     })
 
-frame_from : (f : Frame) (t : List ℕ) → IsSpelling f t → FrameParts f t
+pub frame_from : (f : Frame) (t : List ℕ) → IsSpelling f t → FrameParts f t
 frame_from f t h =
     let b = body_from f.from f.to f.body h.allowed in
     let k = form f.body in

@@ -202,6 +202,12 @@ unfolding sites_at
 sites_exact =
     exact_as (λ xs t h. record { is = h.is; allowed = (h.allowed.some, h.allowed.short, h.allowed.ascending) }) (λ xs t h. record { is = h.is; allowed = record { some = h.allowed.0; short = h.allowed.1; ascending = h.allowed.2 } }) (list_exact 16 1 16 1 (omega arith) (omega arith))
 
+sites_from : (xs t : List ℕ) → IsSitesBytes xs t → Spelled counted_bytes (IsList 16 1 16 1) xs t
+sites_from xs t h = record { is = h.is; allowed = record { some = h.allowed.0; short = h.allowed.1; ascending = h.allowed.2 } }
+
+pub sites_free : IsFree IsSitesBytes
+sites_free = free_as sites_from (list_free 16 1 16 1)
+
 recs_from : (xs t : List ℕ) → IsRecsBytes xs t → Spelled counted_bytes (IsList 255 0 64 0) xs t
 recs_from xs t h = record { is = h.is; allowed = record { some = omega arith; short = h.allowed.0; ascending = h.allowed.1 } }
 
@@ -300,3 +306,6 @@ counted_writes_from ws t h = record {
 pub writes_exact : Exact IsWritesBytes writes_at
 unfolding writes_at
 writes_exact = exact_as counted_writes_to counted_writes_from (counted_exact (λ write. write.0) Write write_at (fits 255) write_runs 0 64 0 (omega arith) (λ n h. fits_from 255 n 0 (omega (arith, (within_to 0 64 n h).1))))
+
+pub writes_free : IsFree IsWritesBytes
+writes_free = free_as counted_writes_from (counted_free (λ write. write.0) Write write_at (fits 255) write_runs 0 64 0)

@@ -15,3 +15,5 @@ pub mod EachMessage
 pub mod EachCall
 pub mod EachAnswer
 pub mod Frames
+pub mod Apart
+pub mod Told

@@ -1,5 +1,5 @@
 -- Fields that begin with a mark are read exactly: 0 for a value of its own, or 1 and a field.
-use Rattle.std.proofs.Common.{◌≡◌, ℕ, zero, suc, ◌≤◌, ◌==◌, Bool, true, false, cond, List, [], ◌∷◌, ◌++◌, Option, Some, None, Result, Ok, Err, refl, sym, subst, ◌∙◌, ap, arith}
+use Rattle.std.proofs.Common.{◌≡◌, ℕ, zero, suc, ◌≤◌, ◌==◌, Bool, true, false, cond, List, [], ◌∷◌, ◌++◌, length, Option, Some, None, Result, Ok, Err, refl, sym, subst, ◌∙◌, ap, arith}
 use Rattle.vp_text.specs.Reading.{◌>>=◌}
 use Rattle.vp_text.proofs.Exact.{Exact, Then, Made, made_exact, exact_as, done, ok_value}
 use Rattle.vp_base.specs.declared.ids.ViewId.{ViewId}
@@ -8,8 +8,8 @@ use Rattle.vp_base.specs.declared.entry.Owner.TheVariants as owner
 use Rattle.vp_wire.specs.Grammar.{view_bytes, txn_bytes, IsViewBytes, IsTxnBytes, IsMaybeViewBytes, IsOwnerBytes}
 use Rattle.vp_wire.specs.Reading.{byte_at, within, maybe_view_at, owner_at}
 use Rattle.vp_wire.proofs.Digits.{nothing_more}
-use Rattle.vp_wire.proofs.Free.{IsByteOf, byte_free, free_then}
-use Rattle.vp_wire.proofs.Identifiers.{within_exact, within_to, view_exact, txn_exact}
+use Rattle.vp_wire.proofs.Free.{IsFree, IsByteOf, byte_free, byte_one, free_then, then_free, made_free, free_as, even_free}
+use Rattle.vp_wire.proofs.Identifiers.{within_exact, within_to, view_exact, txn_exact, txn_free}
 
 -- behind the mark 0 nothing stands, and behind 1 a field
 abbrev pub Behind : {A B : Type 0} → (A → List ℕ → Type 0) → (A → B) → B → Bool → B → List ℕ → Type 0
@@ -68,3 +68,15 @@ owner_from (owner.Txn x) t h = record { first = 1; front = 1 ∷ []; back = txn_
 pub owner_exact : Exact IsOwnerBytes owner_at
 unfolding owner_at
 owner_exact = exact_as owner_to owner_from (marked_exact (λ x. owner.Txn x) owner.Refresh txn_exact)
+
+-- ---- none of them goes on to another
+
+behind_free : {A B : Type 0} {L : A → List ℕ → Type 0} (make : A → B) (none : B) → IsFree L → (b : Bool) → IsFree (Behind L make none b)
+behind_free {L = L} make none free true = even_free {L = Behind L make none true} 0 (λ b t h. ap length h.0)
+behind_free make none free false = made_free free
+
+pub maybe_view_free : IsFree IsViewBytes → IsFree IsMaybeViewBytes
+maybe_view_free free = free_as maybe_view_from (then_free {M = λ flag. Behind IsViewBytes (λ v. Some v) None (flag == 0)} byte_one byte_free (λ flag. behind_free (λ v. Some v) None free (flag == 0)))
+
+pub owner_free : IsFree IsOwnerBytes
+owner_free = free_as owner_from (then_free {M = λ flag. Behind IsTxnBytes (λ x. owner.Txn x) owner.Refresh (flag == 0)} byte_one byte_free (λ flag. behind_free (λ x. owner.Txn x) owner.Refresh txn_free (flag == 0)))

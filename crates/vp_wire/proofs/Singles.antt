@@ -9,10 +9,10 @@ use Rattle.vp_base.specs.declared.message.Obstacle.{Obstacle}
 use Rattle.vp_base.specs.declared.message.Obstacle.TheVariants as obstacle
 use Rattle.vp_wire.specs.Grammar.{Spelled, number_bytes, view_bytes, txn_bytes, outcome_byte, obstacle_bytes, IsSite, IsRecord, IsCallNumber, IsObstacle, IsViewBytes, IsTxnBytes, IsNumberedBytes, IsRequestBytes, IsMaybeViewBytes, IsOwnerBytes}
 use Rattle.vp_wire.specs.Reading.{byte_at, within, u32_at, u64_at, some_u32_at, view_at, txn_at, numbered_at, request_at, outcome_at, obstacle_at, owner_at, maybe_view_at}
-use Rattle.vp_wire.proofs.Free.{IsFree, IsByteOf, even_free, free_as, byte_free, free_then}
+use Rattle.vp_wire.proofs.Free.{IsFree, IsByteOf, even_free, free_as, byte_free, byte_one, free_then, then_free, made_free}
 use Rattle.vp_wire.proofs.NumberBytes.{IsNumberBytes, number_exact, number_free}
 use Rattle.vp_wire.proofs.Identifiers.{u64_exact, u32_exact, some_u32_exact, within_exact, within_from, within_to, view_exact, txn_exact, txn_free, numbered_exact}
-use Rattle.vp_wire.proofs.Marked.{owner_exact, maybe_view_exact}
+use Rattle.vp_wire.proofs.Marked.{owner_exact, owner_free, maybe_view_exact, maybe_view_free}
 use Rattle.vp_wire.proofs.Pairs.{then_field, pair_free}
 
 abbrev pub IsSiteByte : ℕ → List ℕ → Type 0
@@ -150,3 +150,16 @@ obstacle_from (obstacle.OtherView now) t h = record { first = 2; front = 2 ∷ [
 pub obstacle_exact : Exact IsObstacleBytes obstacle_at
 unfolding obstacle_at
 obstacle_exact = exact_as obstacle_to obstacle_from (free_then byte_free (within_exact 1 2 (omega arith)) (λ mark. behind_exact (mark == 1)))
+
+obstacle_behind_free : (held : Bool) → IsFree (Behind held)
+obstacle_behind_free true = made_free owner_free
+obstacle_behind_free false = made_free (maybe_view_free view_free)
+
+pub obstacle_free : IsFree IsObstacleBytes
+obstacle_free = free_as obstacle_from (then_free {M = λ mark. Behind (mark == 1)} byte_one byte_free (λ mark. obstacle_behind_free (mark == 1)))
+
+pub outcome_free : IsFree IsOutcomeByte
+outcome_free = even_free {L = IsOutcomeByte} 1 (λ b t h. ap length h.is)
+
+pub number8_free : IsFree IsNumber8
+number8_free = even_free {L = IsNumber8} 8 (λ x t h. ap length (h.is ∙ spelled 8 x))

@@ -6,3 +6,4 @@ pub mod Calls
 pub mod Answers
 pub mod Faults
 pub mod Frames
+pub mod Laws
