@@ -1,0 +1,151 @@
+-- The fields of an answer are read exactly, by its kind.
+use Rattle.std.proofs.Common.{◌≡◌, ℕ, ◌<◌, ◌^◌, Bool, List, [], ◌∷◌, ◌++◌, drop, Result, Ok, Err, refl, sym, ap, subst, ◌∙◌}
+use Rattle.vp_text.proofs.Exact.{Exact, Made, made_exact}
+use Rattle.vp_base.specs.Words.{IsName, IsValue}
+use Rattle.vp_base.specs.Identifiers.{IsView, IsTxn}
+use Rattle.vp_base.specs.declared.ids.ViewId.{ViewId}
+use Rattle.vp_base.specs.declared.ids.TxnId.{TxnId}
+use Rattle.vp_base.specs.declared.answer.Answer.{Answer}
+use Rattle.vp_base.specs.declared.answer.Answer.TheVariants as answer
+use Rattle.vp_wire.specs.declared.kind.AnswerKind.{AnswerKind}
+use Rattle.vp_wire.specs.declared.kind.AnswerKind.TheVariants as kinds
+use Rattle.vp_wire.specs.Grammar.{Spelled, number_bytes, view_bytes, txn_bytes, numbered_bytes, request_bytes, counted_bytes, writes_bytes, obstacle_bytes, outcome_byte, owner_bytes, maybe_view_bytes, answer_bytes, IsNumbered, IsRequest, IsRecord, IsSite, IsSites, IsRecs, IsWrites, IsObstacle, IsOwner, IsMaybeView, IsAnswer}
+use Rattle.vp_wire.specs.Reading.{byte_at, within}
+use Rattle.vp_wire.specs.Answers.{answer_at}
+use Rattle.vp_wire.proofs.Codes.{Nothing, nothing_exact, answer_code}
+use Rattle.vp_wire.proofs.Pairs.{pair_bytes, PairAllowed, then_field}
+use Rattle.vp_wire.proofs.Identifiers.{view_exact, txn_exact, txn_free, numbered_exact, u64_exact}
+use Rattle.vp_wire.proofs.Marked.{owner_exact, maybe_view_exact}
+use Rattle.vp_wire.proofs.Singles.{view_free, numbered_free, request_exact, request_free, site_exact, site_free, rec_exact, rec_free, number4_exact, number4_free, number8_exact, outcome_exact, obstacle_exact}
+use Rattle.vp_wire.proofs.Items.{name_exact, name_free, value_exact, value_free, sites_exact, recs_exact, recs_free, writes_exact}
+
+-- the fields of an answer of this kind
+abbrev pub AnswerOf : AnswerKind → Answer → List ℕ → Type 0
+AnswerOf kinds.Begun = Made (Spelled (pair_bytes txn_bytes view_bytes) (PairAllowed IsTxn IsView)) (λ p. answer.Begun p.0 p.1)
+AnswerOf kinds.Value = Made (Spelled (pair_bytes (λ (numbered : TxnId × ℕ). numbered_bytes numbered.0 numbered.1) counted_bytes) (PairAllowed (λ (numbered : TxnId × ℕ). IsNumbered numbered.0 numbered.1) (λ (value : List ℕ). IsValue value value))) (λ p. answer.Value p.0.0 p.0.1 p.1)
+AnswerOf kinds.Written = Made (Spelled (λ (numbered : TxnId × ℕ). numbered_bytes numbered.0 numbered.1) (λ (numbered : TxnId × ℕ). IsNumbered numbered.0 numbered.1)) (λ p. answer.Written p.0 p.1)
+AnswerOf kinds.Committed = Made (Spelled (λ (numbered : TxnId × ℕ). numbered_bytes numbered.0 numbered.1) (λ (numbered : TxnId × ℕ). IsNumbered numbered.0 numbered.1)) (λ p. answer.Committed p.0 p.1)
+AnswerOf kinds.Aborted = Made (Spelled (λ (numbered : TxnId × ℕ). numbered_bytes numbered.0 numbered.1) (λ (numbered : TxnId × ℕ). IsNumbered numbered.0 numbered.1)) (λ p. answer.Aborted p.0 p.1)
+AnswerOf kinds.Inviting = Made (Spelled view_bytes IsView) (λ p. answer.Inviting p)
+AnswerOf kinds.NoView = Made (Spelled view_bytes IsView) (λ p. answer.NoView p)
+AnswerOf kinds.Unknown = Made (Spelled txn_bytes IsTxn) (λ p. answer.Unknown p)
+AnswerOf kinds.Skipped = Made (Spelled (λ (numbered : TxnId × ℕ). numbered_bytes numbered.0 numbered.1) (λ (numbered : TxnId × ℕ). IsNumbered numbered.0 numbered.1)) (λ p. answer.Skipped p.0 p.1)
+AnswerOf kinds.Busy = Made (Spelled (λ (numbered : TxnId × ℕ). numbered_bytes numbered.0 numbered.1) (λ (numbered : TxnId × ℕ). IsNumbered numbered.0 numbered.1)) (λ p. answer.Busy p.0 p.1)
+AnswerOf kinds.NoRecord = Made (Spelled (λ (numbered : TxnId × ℕ). numbered_bytes numbered.0 numbered.1) (λ (numbered : TxnId × ℕ). IsNumbered numbered.0 numbered.1)) (λ p. answer.NoRecord p.0 p.1)
+AnswerOf kinds.TooManyOps = Made (Spelled (λ (numbered : TxnId × ℕ). numbered_bytes numbered.0 numbered.1) (λ (numbered : TxnId × ℕ). IsNumbered numbered.0 numbered.1)) (λ p. answer.TooManyOps p.0 p.1)
+AnswerOf kinds.Inaccessible = Made (Spelled (pair_bytes (λ (numbered : TxnId × ℕ). numbered_bytes numbered.0 numbered.1) (pair_bytes counted_bytes (pair_bytes (λ (number : ℕ). number_bytes 4 number) (λ (number : ℕ). number_bytes 4 number)))) (PairAllowed (λ (numbered : TxnId × ℕ). IsNumbered numbered.0 numbered.1) (PairAllowed (λ (name : List ℕ). IsName name name) (PairAllowed (λ (number : ℕ). number < 2 ^ 32) (λ (number : ℕ). number < 2 ^ 32))))) (λ p. answer.Inaccessible p.0.0 p.0.1 p.1.0 p.1.1.0 p.1.1.1)
+AnswerOf kinds.LockHeld = Made (Spelled (pair_bytes (λ (numbered : TxnId × ℕ). numbered_bytes numbered.0 numbered.1) (pair_bytes counted_bytes (pair_bytes (λ (site : ℕ). site ∷ []) owner_bytes))) (PairAllowed (λ (numbered : TxnId × ℕ). IsNumbered numbered.0 numbered.1) (PairAllowed (λ (name : List ℕ). IsName name name) (PairAllowed IsSite IsOwner)))) (λ p. answer.LockHeld p.0.0 p.0.1 p.1.0 p.1.1.0 p.1.1.1)
+AnswerOf kinds.ViewChanged = Made (Spelled (pair_bytes (λ (numbered : TxnId × ℕ). numbered_bytes numbered.0 numbered.1) (pair_bytes (λ (site : ℕ). site ∷ []) (pair_bytes view_bytes maybe_view_bytes))) (PairAllowed (λ (numbered : TxnId × ℕ). IsNumbered numbered.0 numbered.1) (PairAllowed IsSite (PairAllowed IsView IsMaybeView)))) (λ p. answer.ViewChanged p.0.0 p.0.1 p.1.0 p.1.1.0 p.1.1.1)
+AnswerOf kinds.TimedOut = Made (Spelled (pair_bytes (λ (numbered : TxnId × ℕ). numbered_bytes numbered.0 numbered.1) (λ (site : ℕ). site ∷ [])) (PairAllowed (λ (numbered : TxnId × ℕ). IsNumbered numbered.0 numbered.1) IsSite)) (λ p. answer.TimedOut p.0.0 p.0.1 p.1)
+AnswerOf kinds.Spent = Made (Spelled (λ (number : ℕ). number_bytes 8 number) (λ (number : ℕ). number < 2 ^ 64)) (λ p. answer.Spent p)
+AnswerOf kinds.TooManyLive = Nothing answer.TooManyLive
+
+pub answer_fields_exact : (kind : AnswerKind) → Exact (AnswerOf kind) (answer_at kind)
+unfolding answer_at
+answer_fields_exact kinds.Begun = then_field (λ txn p. answer.Begun txn p) txn_free txn_exact (λ txn. made_exact (λ view. answer.Begun txn view) view_exact)
+answer_fields_exact kinds.Value = then_field (λ numbered p. answer.Value numbered.0 numbered.1 p) numbered_free numbered_exact (λ numbered. made_exact (λ value. answer.Value numbered.0 numbered.1 value) value_exact)
+answer_fields_exact kinds.Written = made_exact (λ numbered. answer.Written numbered.0 numbered.1) numbered_exact
+answer_fields_exact kinds.Committed = made_exact (λ numbered. answer.Committed numbered.0 numbered.1) numbered_exact
+answer_fields_exact kinds.Aborted = made_exact (λ numbered. answer.Aborted numbered.0 numbered.1) numbered_exact
+answer_fields_exact kinds.Inviting = made_exact (λ view. answer.Inviting view) view_exact
+answer_fields_exact kinds.NoView = made_exact (λ promise. answer.NoView promise) view_exact
+answer_fields_exact kinds.Unknown = made_exact (λ txn. answer.Unknown txn) txn_exact
+answer_fields_exact kinds.Skipped = made_exact (λ numbered. answer.Skipped numbered.0 numbered.1) numbered_exact
+answer_fields_exact kinds.Busy = made_exact (λ numbered. answer.Busy numbered.0 numbered.1) numbered_exact
+answer_fields_exact kinds.NoRecord = made_exact (λ numbered. answer.NoRecord numbered.0 numbered.1) numbered_exact
+answer_fields_exact kinds.TooManyOps = made_exact (λ numbered. answer.TooManyOps numbered.0 numbered.1) numbered_exact
+answer_fields_exact kinds.Inaccessible = then_field (λ numbered p. answer.Inaccessible numbered.0 numbered.1 p.0 p.1.0 p.1.1) numbered_free numbered_exact (λ numbered. then_field (λ name p. answer.Inaccessible numbered.0 numbered.1 name p.0 p.1) name_free name_exact (λ name. then_field (λ inside p. answer.Inaccessible numbered.0 numbered.1 name inside p) number4_free number4_exact (λ inside. made_exact (λ total. answer.Inaccessible numbered.0 numbered.1 name inside total) number4_exact)))
+answer_fields_exact kinds.LockHeld = then_field (λ numbered p. answer.LockHeld numbered.0 numbered.1 p.0 p.1.0 p.1.1) numbered_free numbered_exact (λ numbered. then_field (λ name p. answer.LockHeld numbered.0 numbered.1 name p.0 p.1) name_free name_exact (λ name. then_field (λ at p. answer.LockHeld numbered.0 numbered.1 name at p) site_free site_exact (λ at. made_exact (λ owner. answer.LockHeld numbered.0 numbered.1 name at owner) owner_exact)))
+answer_fields_exact kinds.ViewChanged = then_field (λ numbered p. answer.ViewChanged numbered.0 numbered.1 p.0 p.1.0 p.1.1) numbered_free numbered_exact (λ numbered. then_field (λ at p. answer.ViewChanged numbered.0 numbered.1 at p.0 p.1) site_free site_exact (λ at. then_field (λ held p. answer.ViewChanged numbered.0 numbered.1 at held p) view_free view_exact (λ held. made_exact (λ now. answer.ViewChanged numbered.0 numbered.1 at held now) maybe_view_exact)))
+answer_fields_exact kinds.TimedOut = then_field (λ numbered p. answer.TimedOut numbered.0 numbered.1 p) numbered_free numbered_exact (λ numbered. made_exact (λ at. answer.TimedOut numbered.0 numbered.1 at) site_exact)
+answer_fields_exact kinds.Spent = made_exact (λ number. answer.Spent number) number8_exact
+answer_fields_exact kinds.TooManyLive = nothing_exact answer.TooManyLive
+
+abbrev pub answer_form : Answer → AnswerKind
+answer_form (answer.Begun txn view) = kinds.Begun
+answer_form (answer.Value txn number value) = kinds.Value
+answer_form (answer.Written txn number) = kinds.Written
+answer_form (answer.Committed txn number) = kinds.Committed
+answer_form (answer.Aborted txn number) = kinds.Aborted
+answer_form (answer.Inviting view) = kinds.Inviting
+answer_form (answer.NoView promise) = kinds.NoView
+answer_form (answer.Unknown txn) = kinds.Unknown
+answer_form (answer.Skipped txn expected) = kinds.Skipped
+answer_form (answer.Busy txn number) = kinds.Busy
+answer_form (answer.NoRecord txn number) = kinds.NoRecord
+answer_form (answer.TooManyOps txn number) = kinds.TooManyOps
+answer_form (answer.Inaccessible txn number name inside total) = kinds.Inaccessible
+answer_form (answer.LockHeld txn number name at owner) = kinds.LockHeld
+answer_form (answer.ViewChanged txn number at held now) = kinds.ViewChanged
+answer_form (answer.TimedOut txn number at) = kinds.TimedOut
+answer_form (answer.Spent number) = kinds.Spent
+answer_form answer.TooManyLive = kinds.TooManyLive
+
+-- The answer is one of this kind, with these fields.
+abbrev pub IsAnswerOf : AnswerKind → Answer → List ℕ → Type 0
+IsAnswerOf kind m text = (answer_code kind ∷ text ≡ answer_bytes m) × IsAnswer m
+
+-- what stands behind its code
+abbrev pub answer_fields : Answer → List ℕ
+answer_fields m = drop 1 (answer_bytes m)
+
+pub answer_to : (kind : AnswerKind) (m : Answer) (t : List ℕ) → AnswerOf kind m t → IsAnswerOf kind m t
+answer_to kinds.Begun m t h = subst (λ (m : Answer). IsAnswerOf kinds.Begun m t) (sym h.is) (ap (λ (b : List ℕ). 1 ∷ b) h.spelled.is, (h.spelled.allowed.0, h.spelled.allowed.1))
+answer_to kinds.Value m t h = subst (λ (m : Answer). IsAnswerOf kinds.Value m t) (sym h.is) (ap (λ (b : List ℕ). 2 ∷ b) h.spelled.is, (h.spelled.allowed.0, h.spelled.allowed.1))
+answer_to kinds.Written m t h = subst (λ (m : Answer). IsAnswerOf kinds.Written m t) (sym h.is) (ap (λ (b : List ℕ). 3 ∷ b) h.spelled.is, h.spelled.allowed)
+answer_to kinds.Committed m t h = subst (λ (m : Answer). IsAnswerOf kinds.Committed m t) (sym h.is) (ap (λ (b : List ℕ). 4 ∷ b) h.spelled.is, h.spelled.allowed)
+answer_to kinds.Aborted m t h = subst (λ (m : Answer). IsAnswerOf kinds.Aborted m t) (sym h.is) (ap (λ (b : List ℕ). 5 ∷ b) h.spelled.is, h.spelled.allowed)
+answer_to kinds.Inviting m t h = subst (λ (m : Answer). IsAnswerOf kinds.Inviting m t) (sym h.is) (ap (λ (b : List ℕ). 6 ∷ b) h.spelled.is, h.spelled.allowed)
+answer_to kinds.NoView m t h = subst (λ (m : Answer). IsAnswerOf kinds.NoView m t) (sym h.is) (ap (λ (b : List ℕ). 7 ∷ b) h.spelled.is, h.spelled.allowed)
+answer_to kinds.Unknown m t h = subst (λ (m : Answer). IsAnswerOf kinds.Unknown m t) (sym h.is) (ap (λ (b : List ℕ). 8 ∷ b) h.spelled.is, h.spelled.allowed)
+answer_to kinds.Skipped m t h = subst (λ (m : Answer). IsAnswerOf kinds.Skipped m t) (sym h.is) (ap (λ (b : List ℕ). 9 ∷ b) h.spelled.is, h.spelled.allowed)
+answer_to kinds.Busy m t h = subst (λ (m : Answer). IsAnswerOf kinds.Busy m t) (sym h.is) (ap (λ (b : List ℕ). 10 ∷ b) h.spelled.is, h.spelled.allowed)
+answer_to kinds.NoRecord m t h = subst (λ (m : Answer). IsAnswerOf kinds.NoRecord m t) (sym h.is) (ap (λ (b : List ℕ). 11 ∷ b) h.spelled.is, h.spelled.allowed)
+answer_to kinds.TooManyOps m t h = subst (λ (m : Answer). IsAnswerOf kinds.TooManyOps m t) (sym h.is) (ap (λ (b : List ℕ). 12 ∷ b) h.spelled.is, h.spelled.allowed)
+answer_to kinds.Inaccessible m t h = subst (λ (m : Answer). IsAnswerOf kinds.Inaccessible m t) (sym h.is) (ap (λ (b : List ℕ). 13 ∷ b) h.spelled.is, (h.spelled.allowed.0, h.spelled.allowed.1.0, h.spelled.allowed.1.1.0, h.spelled.allowed.1.1.1))
+answer_to kinds.LockHeld m t h = subst (λ (m : Answer). IsAnswerOf kinds.LockHeld m t) (sym h.is) (ap (λ (b : List ℕ). 14 ∷ b) h.spelled.is, (h.spelled.allowed.0, h.spelled.allowed.1.0, h.spelled.allowed.1.1.0, h.spelled.allowed.1.1.1))
+answer_to kinds.ViewChanged m t h = subst (λ (m : Answer). IsAnswerOf kinds.ViewChanged m t) (sym h.is) (ap (λ (b : List ℕ). 15 ∷ b) h.spelled.is, (h.spelled.allowed.0, h.spelled.allowed.1.0, h.spelled.allowed.1.1.0, h.spelled.allowed.1.1.1))
+answer_to kinds.TimedOut m t h = subst (λ (m : Answer). IsAnswerOf kinds.TimedOut m t) (sym h.is) (ap (λ (b : List ℕ). 16 ∷ b) h.spelled.is, (h.spelled.allowed.0, h.spelled.allowed.1))
+answer_to kinds.Spent m t h = subst (λ (m : Answer). IsAnswerOf kinds.Spent m t) (sym h.is) (ap (λ (b : List ℕ). 17 ∷ b) h.spelled.is, h.spelled.allowed)
+answer_to kinds.TooManyLive m t h = rw (h.0, h.1) (refl, tt)
+
+pub answer_from : (m : Answer) → IsAnswer m → AnswerOf (answer_form m) m (answer_fields m)
+answer_from (answer.Begun txn view) a = record { from = (txn, view); spelled = record { is = refl; allowed = (a.0, a.1) }; is = refl }
+answer_from (answer.Value txn number value) a = record { from = ((txn, number), value); spelled = record { is = refl; allowed = (a.0, a.1) }; is = refl }
+answer_from (answer.Written txn number) a = record { from = (txn, number); spelled = record { is = refl; allowed = a }; is = refl }
+answer_from (answer.Committed txn number) a = record { from = (txn, number); spelled = record { is = refl; allowed = a }; is = refl }
+answer_from (answer.Aborted txn number) a = record { from = (txn, number); spelled = record { is = refl; allowed = a }; is = refl }
+answer_from (answer.Inviting view) a = record { from = view; spelled = record { is = refl; allowed = a }; is = refl }
+answer_from (answer.NoView promise) a = record { from = promise; spelled = record { is = refl; allowed = a }; is = refl }
+answer_from (answer.Unknown txn) a = record { from = txn; spelled = record { is = refl; allowed = a }; is = refl }
+answer_from (answer.Skipped txn expected) a = record { from = (txn, expected); spelled = record { is = refl; allowed = a }; is = refl }
+answer_from (answer.Busy txn number) a = record { from = (txn, number); spelled = record { is = refl; allowed = a }; is = refl }
+answer_from (answer.NoRecord txn number) a = record { from = (txn, number); spelled = record { is = refl; allowed = a }; is = refl }
+answer_from (answer.TooManyOps txn number) a = record { from = (txn, number); spelled = record { is = refl; allowed = a }; is = refl }
+answer_from (answer.Inaccessible txn number name inside total) a = record { from = ((txn, number), (name, (inside, total))); spelled = record { is = refl; allowed = (a.0, (a.1, (a.2, a.3))) }; is = refl }
+answer_from (answer.LockHeld txn number name at owner) a = record { from = ((txn, number), (name, (at, owner))); spelled = record { is = refl; allowed = (a.0, (a.1, (a.2, a.3))) }; is = refl }
+answer_from (answer.ViewChanged txn number at held now) a = record { from = ((txn, number), (at, (held, now))); spelled = record { is = refl; allowed = (a.0, (a.1, (a.2, a.3))) }; is = refl }
+answer_from (answer.TimedOut txn number at) a = record { from = ((txn, number), at); spelled = record { is = refl; allowed = (a.0, a.1) }; is = refl }
+answer_from (answer.Spent number) a = record { from = number; spelled = record { is = refl; allowed = a }; is = refl }
+answer_from answer.TooManyLive a = (refl, refl)
+
+-- the code in front, and the fields behind it
+pub answer_coded : (m : Answer) → answer_bytes m ≡ answer_code (answer_form m) ∷ answer_fields m
+answer_coded (answer.Begun txn view) = refl
+answer_coded (answer.Value txn number value) = refl
+answer_coded (answer.Written txn number) = refl
+answer_coded (answer.Committed txn number) = refl
+answer_coded (answer.Aborted txn number) = refl
+answer_coded (answer.Inviting view) = refl
+answer_coded (answer.NoView promise) = refl
+answer_coded (answer.Unknown txn) = refl
+answer_coded (answer.Skipped txn expected) = refl
+answer_coded (answer.Busy txn number) = refl
+answer_coded (answer.NoRecord txn number) = refl
+answer_coded (answer.TooManyOps txn number) = refl
+answer_coded (answer.Inaccessible txn number name inside total) = refl
+answer_coded (answer.LockHeld txn number name at owner) = refl
+answer_coded (answer.ViewChanged txn number at held now) = refl
+answer_coded (answer.TimedOut txn number at) = refl
+answer_coded (answer.Spent number) = refl
+answer_coded answer.TooManyLive = refl

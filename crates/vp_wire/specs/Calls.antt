@@ -1,0 +1,27 @@
+-- Reading the fields of a call, by its kind.
+use Rattle.std.specs.Prelude.{ℕ, List, Result, Ok, Err}
+use Rattle.vp_text.specs.Reading.{◌>>=◌}
+use Rattle.vp_base.specs.declared.event.Call.{Call}
+use Rattle.vp_base.specs.declared.event.Call.TheVariants as call
+use Rattle.vp_wire.specs.declared.kind.CallKind.{CallKind}
+use Rattle.vp_wire.specs.declared.kind.CallKind.TheVariants as kinds
+use Rattle.vp_wire.specs.Reading.{byte_at, within, view_at, txn_at, numbered_at, request_at, value_at, name_at, sites_at, recs_at, writes_at, u32_at, u64_at, obstacle_at, outcome_at, owner_at, maybe_view_at}
+
+unfoldable pub call_at : CallKind → List ℕ → Result (Call × List ℕ) ℕ
+call_at kinds.Begin bytes = Ok (call.Begin, bytes)
+call_at kinds.Regroup bytes = Ok (call.Regroup, bytes)
+call_at kinds.Read bytes = do
+  numbered ← numbered_at bytes
+  name ← name_at numbered.1
+  Ok (call.Read numbered.0.0 numbered.0.1 name.0, name.1)
+call_at kinds.Write bytes = do
+  numbered ← numbered_at bytes
+  name ← name_at numbered.1
+  value ← value_at name.1
+  Ok (call.Write numbered.0.0 numbered.0.1 name.0 value.0, value.1)
+call_at kinds.Commit bytes = do
+  numbered ← numbered_at bytes
+  Ok (call.Commit numbered.0.0 numbered.0.1, numbered.1)
+call_at kinds.Abort bytes = do
+  numbered ← numbered_at bytes
+  Ok (call.Abort numbered.0.0 numbered.0.1, numbered.1)

@@ -1,0 +1,9 @@
+pub mod Grammar
+pub mod Reading
+pub mod Kinds
+pub mod Messages
+pub mod Calls
+pub mod Answers
+pub mod Faults
+pub mod Frames
+pub mod Laws

@@ -1,0 +1,74 @@
+-- Reading the fields of a message, by its kind.
+use Rattle.std.specs.Prelude.{ℕ, List, Result, Ok, Err}
+use Rattle.vp_text.specs.Reading.{◌>>=◌}
+use Rattle.vp_base.specs.declared.message.Message.{Message}
+use Rattle.vp_base.specs.declared.message.Message.TheVariants as message
+use Rattle.vp_wire.specs.declared.kind.MessageKind.{MessageKind}
+use Rattle.vp_wire.specs.declared.kind.MessageKind.TheVariants as kinds
+use Rattle.vp_wire.specs.Reading.{byte_at, within, view_at, txn_at, numbered_at, request_at, value_at, name_at, sites_at, recs_at, writes_at, u32_at, u64_at, obstacle_at, outcome_at, owner_at, maybe_view_at}
+
+unfoldable pub message_at : MessageKind → List ℕ → Result (Message × List ℕ) ℕ
+message_at kinds.Invite bytes = do
+  id ← view_at bytes
+  Ok (message.Invite id.0, id.1)
+message_at kinds.Accept bytes = do
+  id ← view_at bytes
+  Ok (message.Accept id.0, id.1)
+message_at kinds.Stale bytes = do
+  id ← view_at bytes
+  promise ← view_at id.1
+  Ok (message.Stale id.0 promise.0, promise.1)
+message_at kinds.ViewCommit bytes = do
+  id ← view_at bytes
+  members ← sites_at id.1
+  Ok (message.ViewCommit id.0 members.0, members.1)
+message_at kinds.ReadRequest bytes = do
+  asked ← request_at bytes
+  rec ← byte_at (within 0 255) asked.1
+  Ok (message.ReadRequest asked.0.0 asked.0.1 asked.0.2 rec.0, rec.1)
+message_at kinds.ReadAnswer bytes = do
+  numbered ← numbered_at bytes
+  value ← value_at numbered.1
+  Ok (message.ReadAnswer numbered.0.0 numbered.0.1 value.0, value.1)
+message_at kinds.WriteRequest bytes = do
+  asked ← request_at bytes
+  rec ← byte_at (within 0 255) asked.1
+  Ok (message.WriteRequest asked.0.0 asked.0.1 asked.0.2 rec.0, rec.1)
+message_at kinds.WriteAnswer bytes = do
+  numbered ← numbered_at bytes
+  Ok (message.WriteAnswer numbered.0.0 numbered.0.1, numbered.1)
+message_at kinds.Refuse bytes = do
+  numbered ← numbered_at bytes
+  why ← obstacle_at numbered.1
+  Ok (message.Refuse numbered.0.0 numbered.0.1 why.0, why.1)
+message_at kinds.Prepare bytes = do
+  asked ← request_at bytes
+  reads ← recs_at asked.1
+  writes ← writes_at reads.1
+  Ok (message.Prepare asked.0.0 asked.0.1 asked.0.2 reads.0 writes.0, writes.1)
+message_at kinds.Vote bytes = do
+  txn ← txn_at bytes
+  Ok (message.Vote txn.0, txn.1)
+message_at kinds.Outcome bytes = do
+  txn ← txn_at bytes
+  commit ← outcome_at txn.1
+  Ok (message.Outcome txn.0 commit.0, commit.1)
+message_at kinds.Ack bytes = do
+  txn ← txn_at bytes
+  Ok (message.Ack txn.0, txn.1)
+message_at kinds.Inquire bytes = do
+  txn ← txn_at bytes
+  Ok (message.Inquire txn.0, txn.1)
+message_at kinds.RefreshRequest bytes = do
+  view ← view_at bytes
+  rec ← byte_at (within 0 255) view.1
+  Ok (message.RefreshRequest view.0 rec.0, rec.1)
+message_at kinds.RefreshAnswer bytes = do
+  view ← view_at bytes
+  rec ← byte_at (within 0 255) view.1
+  value ← value_at rec.1
+  date ← view_at value.1
+  Ok (message.RefreshAnswer view.0 rec.0 value.0 date.0, date.1)
+message_at kinds.Probe bytes = do
+  view ← view_at bytes
+  Ok (message.Probe view.0, view.1)

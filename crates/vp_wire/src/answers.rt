@@ -1,0 +1,168 @@
+//! Writing answers.
+
+ghost use Rattle.std.specs.Prelude.{◌≡◌, ◌++◌, ◌∷◌, [], OnOk};
+ghost use Rattle.vp_wire.specs.Grammar.{answer_bytes, number_bytes, counted_bytes, numbered_bytes, txn_bytes, view_bytes, owner_bytes, maybe_view_bytes};
+
+use crate::calls::put_coded;
+use crate::fields::{
+    put_byte, put_maybe_view, put_name, put_owner, put_txn, put_u32, put_u64, put_value, put_view,
+};
+use bytes::BytesMut;
+use vp_base::{Answer, CallNo, Name, NoMemory, Owner, SiteId, TxnId, Value, ViewId};
+
+pub fn put_answer(out: &mut BytesMut, answer: &Answer) -> Result<(), NoMemory>
+    ensures { OnOk result (out.new.items ≡ out.old.items ++ answer_bytes answer.now) }
+{
+    match answer {
+        Answer::Begun { txn, view } => put_begun(out, txn, view),
+        Answer::Value { txn, number, value } => put_value_read(out, txn, *number, value),
+        Answer::Written { txn, number } => put_coded(out, 3, txn, *number),
+        Answer::Committed { txn, number } => put_coded(out, 4, txn, *number),
+        Answer::Aborted { txn, number } => put_coded(out, 5, txn, *number),
+        Answer::Inviting { view } => put_coded_view(out, 6, view),
+        Answer::NoView { promise } => put_coded_view(out, 7, promise),
+        Answer::Unknown { txn } => put_coded_txn(out, 8, txn),
+        Answer::Skipped { txn, expected } => put_coded(out, 9, txn, *expected),
+        Answer::Busy { txn, number } => put_coded(out, 10, txn, *number),
+        Answer::NoRecord { txn, number } => put_coded(out, 11, txn, *number),
+        Answer::TooManyOps { txn, number } => put_coded(out, 12, txn, *number),
+        Answer::Inaccessible {
+            txn,
+            number,
+            name,
+            inside,
+            total,
+        } => put_inaccessible(out, txn, *number, name, *inside, *total),
+        Answer::LockHeld {
+            txn,
+            number,
+            name,
+            at,
+            owner,
+        } => put_lock_held(out, txn, *number, name, *at, owner),
+        Answer::ViewChanged {
+            txn,
+            number,
+            at,
+            held,
+            now,
+        } => put_view_changed(out, txn, *number, *at, held, now),
+        Answer::TimedOut { txn, number, at } => put_coded_site(out, 16, txn, *number, *at),
+        Answer::Spent { number } => put_spent(out, *number),
+        Answer::TooManyLive => put_byte(out, 18),
+    }
+}
+
+fn put_coded_txn(out: &mut BytesMut, code: u8, txn: &TxnId) -> Result<(), NoMemory>
+    ensures { OnOk result (out.new.items ≡ out.old.items ++ code ∷ txn_bytes txn.now) }
+{
+    put_byte(out, code)?;
+    put_txn(out, txn)
+}
+
+fn put_coded_view(out: &mut BytesMut, code: u8, view: &ViewId) -> Result<(), NoMemory>
+    ensures { OnOk result (out.new.items ≡ out.old.items ++ code ∷ view_bytes view.now) }
+{
+    put_byte(out, code)?;
+    put_view(out, view)
+}
+
+fn put_coded_site(
+    out: &mut BytesMut,
+    code: u8,
+    txn: &TxnId,
+    number: CallNo,
+    at: SiteId,
+) -> Result<(), NoMemory>
+    ensures { OnOk result (out.new.items ≡ out.old.items ++ code ∷ (numbered_bytes txn.now number ++ at ∷ [])) }
+{
+    put_coded(out, code, txn, number)?;
+    put_byte(out, at.get())
+}
+
+fn put_coded_name(
+    out: &mut BytesMut,
+    code: u8,
+    txn: &TxnId,
+    number: CallNo,
+    name: &Name,
+) -> Result<(), NoMemory>
+    ensures { OnOk result (out.new.items ≡ out.old.items ++ code ∷ (numbered_bytes txn.now number ++ counted_bytes name.now)) }
+{
+    put_coded(out, code, txn, number)?;
+    put_name(out, name)
+}
+
+fn put_begun(out: &mut BytesMut, txn: &TxnId, view: &ViewId) -> Result<(), NoMemory>
+    ensures { OnOk result (out.new.items ≡ out.old.items ++ 1 ∷ (txn_bytes txn.now ++ view_bytes view.now)) }
+{
+    put_coded_txn(out, 1, txn)?;
+    put_view(out, view)
+}
+
+fn put_value_read(
+    out: &mut BytesMut,
+    txn: &TxnId,
+    number: CallNo,
+    value: &Value,
+) -> Result<(), NoMemory>
+    ensures { OnOk result (out.new.items ≡ out.old.items ++ 2 ∷ (numbered_bytes txn.now number ++ counted_bytes value.now)) }
+{
+    put_coded(out, 2, txn, number)?;
+    put_value(out, value)
+}
+
+fn put_inaccessible(
+    out: &mut BytesMut,
+    txn: &TxnId,
+    number: CallNo,
+    name: &Name,
+    inside: u32,
+    total: u32,
+) -> Result<(), NoMemory>
+    ensures { OnOk result (out.new.items ≡ out.old.items
+        ++ 13 ∷ (numbered_bytes txn.now number ++ (counted_bytes name.now ++ (number_bytes 4 inside ++ number_bytes 4 total)))) }
+{
+    put_coded_name(out, 13, txn, number, name)?;
+    put_u32(out, inside)?;
+    put_u32(out, total)
+}
+
+fn put_lock_held(
+    out: &mut BytesMut,
+    txn: &TxnId,
+    number: CallNo,
+    name: &Name,
+    at: SiteId,
+    owner: &Owner,
+) -> Result<(), NoMemory>
+    ensures { OnOk result (out.new.items ≡ out.old.items
+        ++ 14 ∷ (numbered_bytes txn.now number ++ (counted_bytes name.now ++ at ∷ owner_bytes owner.now))) }
+{
+    put_coded_name(out, 14, txn, number, name)?;
+    put_byte(out, at.get())?;
+    put_owner(out, owner)
+}
+
+fn put_view_changed(
+    out: &mut BytesMut,
+    txn: &TxnId,
+    number: CallNo,
+    at: SiteId,
+    held: &ViewId,
+    now: &Option<ViewId>,
+) -> Result<(), NoMemory>
+    ensures { OnOk result (out.new.items ≡ out.old.items
+        ++ 15 ∷ (numbered_bytes txn.now number ++ at ∷ (view_bytes held.now ++ maybe_view_bytes now.now))) }
+{
+    put_coded_site(out, 15, txn, number, at)?;
+    put_view(out, held)?;
+    put_maybe_view(out, now)
+}
+
+fn put_spent(out: &mut BytesMut, number: u64) -> Result<(), NoMemory>
+    ensures { OnOk result (out.new.items ≡ out.old.items ++ 17 ∷ number_bytes 8 number) }
+{
+    put_byte(out, 17)?;
+    put_u64(out, number)
+}

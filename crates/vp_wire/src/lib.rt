@@ -1,0 +1,26 @@
+//! Frames, which are the datagrams of sites and clients: each one has one spelling in bytes.
+#![tactic(auto)]
+
+mod answers;
+mod calls;
+mod decoding;
+mod fault;
+mod fields;
+mod frame;
+mod kind;
+mod laws;
+mod lists;
+mod read_answers;
+mod read_calls;
+mod read_messages;
+mod reading;
+#[cfg(test)]
+mod tests;
+mod words;
+mod writing;
+
+pub use decoding::decode;
+pub use fault::WireFault;
+pub use frame::{Body, Frame};
+pub use laws::{encoded_is_decoded, spellings_are_of_one_frame};
+pub use writing::encode;
