@@ -38,6 +38,19 @@ ROWS = [
      "if (txn.site == id) && not (is_live txn l.live)", "if txn.site == id"),
 ]
 IMPORTS = {"Catalogue.antt": ("Prelude.{ℕ, ◌*◌, Bool, nat_lt,", "Prelude.{ℕ, ◌*◌, Bool, not, nat_lt,")}
+# lemmas of the library below that have to be proved in another way for the laws to be reached
+HELPED = {
+    "exactly half of the weight is enough": [
+        ("Copies.antt", "nat_lt (0 + n) (2 * (0 + n)) ≡ true", "not (nat_lt (2 * (0 + n)) (0 + n)) ≡ true"),
+        ("Copies.antt", "Prelude.{Some, None, ◌==◌, nat_lt,", "Prelude.{Some, None, not, ◌==◌, nat_lt,"),
+    ],
+    "the order of the journal alone": [
+        ("OneView.antt", """own_order (e ∷ es) h =
+    let views : views_of (e ∷ es) ≡ opening ∷ [] = rw h.0 (one_view es h.1) in
+    ap (flat_map (in_view (e ∷ es))) views ∙ append-nil (in_view (e ∷ es) opening) ∙ all_in (e ∷ es) h
+""", "own_order (e ∷ es) h = refl\n"),
+    ],
+}
 
 
 def replaced(path, old, new):
@@ -81,6 +94,8 @@ def main(words):
             replaced(copy / SPECS / file, old, new)
             if file in IMPORTS:
                 replaced(copy / SPECS / file, *IMPORTS[file])
+            for below, was, now in HELPED.get(name, []):
+                replaced(copy / "crates/vp_one_site/proofs" / below, was, now)
             print(name, flush=True)
             for line in refusals(copy)[:4]:
                 print("   ", line[:160], flush=True)
