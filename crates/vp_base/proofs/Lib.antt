@@ -2,3 +2,4 @@ pub mod Words
 pub mod Views
 pub mod Txns
 pub mod Among
+pub mod OwnBytes

@@ -13,6 +13,7 @@ mod ids;
 mod lists;
 mod memory;
 mod message;
+mod numbers;
 mod places;
 mod seq;
 mod site;
@@ -33,6 +34,7 @@ pub use lists::{
 };
 pub use memory::NoMemory;
 pub use message::{Message, Obstacle, Sent};
+pub use numbers::only_its_own_bytes_read_as_a_number;
 pub use places::{place, take_place};
 pub use seq::{CopyOf, Seq};
 pub use site::{Ending, Finished, Live, Lock, Part, Pending, Refreshing};

@@ -1,0 +1,12 @@
+-- Numbers in a fixed count of bytes, the highest byte first.
+use Rattle.std.specs.Prelude.{◌≡◌, ℕ, ◌<◌, List, length}
+use Rattle.std.specs.List.{AllByRecursion}
+use Rattle.byteorder.specs.Endian.{big_number, big_bytes}
+
+abbrev pub IsByte : ℕ → Type 0
+IsByte c = c < 256
+
+-- As many bytes that read as the number are its own bytes.
+abbrev pub OnlyItsOwnBytesReadAsANumber : Type 0
+OnlyItsOwnBytesReadAsANumber =
+    (n x : ℕ) (bytes : List ℕ) → length bytes ≡ n → AllByRecursion IsByte bytes → big_number n bytes ≡ x → bytes ≡ big_bytes n x
