@@ -29,8 +29,8 @@ pub use event::{Call, Effects, Event, Input, Line, Shown};
 pub use fault::{BadName, LineFault, NameFault};
 pub use ids::{CallNo, RecId, SiteId, TxnId, ViewId};
 pub use lists::{
-    Batch, Commits, Copies, Decisions, Events, InDoubt, Messages, Names, Ops, Recs, Replies, Sites,
-    Txns, Writes,
+    Batch, Batches, Commits, Copies, Decisions, Events, InDoubt, Messages, Names, Ops, Recs,
+    Replies, Sites, Txns, Word, Writes,
 };
 pub use memory::NoMemory;
 pub use message::{Message, Obstacle, Sent};

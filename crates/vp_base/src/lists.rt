@@ -36,3 +36,7 @@ pub type Copies = Seq<(RecId, Stored)>;
 pub type InDoubt = Seq<(TxnId, ViewId, Writes)>;
 /// Decided transactions with the sites that have not acknowledged, ascending.
 pub type Decisions = Seq<(TxnId, Sites)>;
+/// Batches of log records, in the order in which they were appended.
+pub type Batches = Seq<Batch>;
+/// One word of a command line, as its bytes; the program's name is no word.
+pub type Word = Seq<u8>;

@@ -12,7 +12,7 @@ mod words;
 
 pub use program::{MOST_BYTES, run};
 pub use status::Status;
-pub use words::{Command, Word};
+pub use words::Command;
 
 #[cfg(test)]
 mod tests;

@@ -7,10 +7,10 @@ ghost use Rattle.vp_top.specs.Program.{IsAnswer};
 ghost use Rattle.vp_top.specs.Ends.{Defines, Ends};
 
 use crate::status::{Defined, Status, limit_line, usage_line};
-use crate::words::{Command, Word};
+use crate::words::Command;
 use crate::{check, replay};
 use std::alloc::{AllocError, Global};
-use vp_base::NoMemory;
+use vp_base::{NoMemory, Word};
 use vp_outside::{InputFault, OutFault, Sink, Source, read_to_end, write_all};
 
 /// The most bytes that an input has.

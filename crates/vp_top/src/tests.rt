@@ -1,8 +1,9 @@
 //! Runs of the program over sources and sinks in memory.
 
-use crate::{Status, Word, run};
+use crate::{Status, run};
 use std::alloc::{AllocError, Global};
 use std::test::Fail;
+use vp_base::Word;
 use vp_outside::{SureSink, SureSource, TextSink, TextSource};
 use vp_text::print_number;
 

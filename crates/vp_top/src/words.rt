@@ -3,10 +3,7 @@
 ghost use Rattle.std.specs.Prelude.{◌≡◌};
 ghost use Rattle.std.specs.Str.{bytes_eq};
 
-use vp_base::Seq;
-
-/// One word of the command line, as its bytes. The program's name is no word.
-pub type Word = Seq<u8>;
+use vp_base::Word;
 
 /// What the program is asked to do.
 #[derive(Clone, Copy, Debug, PartialEq, Eq)]

@@ -4,8 +4,9 @@
 use std::alloc::AllocError;
 use std::process::ExitCode;
 use std::{env, io};
+use vp_base::Word;
 use vp_outside::{Reading, Writing};
-use vp_top::{Status, Word, run};
+use vp_top::{Status, run};
 
 /// The words of the command line, without the program's name.
 fn words_of(args: env::Args, words: &mut Vec<Word>) -> Result<(), AllocError> {
