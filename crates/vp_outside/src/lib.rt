@@ -2,6 +2,7 @@
 #![tactic(auto)]
 
 mod adapters;
+mod disk;
 mod fault_plan;
 mod sink;
 mod sinks;
@@ -9,6 +10,7 @@ mod source;
 mod sources;
 
 pub use adapters::{Reading, Writing};
+pub use disk::Disk;
 pub use fault_plan::FaultPlan;
 pub use sink::{OutFault, Sink, write_all};
 pub use sinks::{SureSink, TextSink};

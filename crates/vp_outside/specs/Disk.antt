@@ -1,0 +1,78 @@
+-- What the calls of a disk do to its logs, and what a crash between two syncs may leave of them.
+use Rattle.std.specs.Prelude.{◌≡◌, ◌⊎◌, ℕ, zero, suc, ◌+◌, ◌-◌, ◌≤◌, max, min, Bool, List, ◌++◌, length, take, drop, replicate, Option, Some, None, Result, IfOk}
+
+-- The two halves of a log.
+abbrev pub Halves : Type 0
+Halves = List ℕ × List ℕ
+
+abbrev pub half_of : ℕ → Halves → List ℕ
+half_of zero log = log.0
+half_of (suc n) log = log.1
+
+-- The half takes this step, and the other one stays.
+abbrev pub InHalf : ℕ → (List ℕ → List ℕ → Type 0) → Halves → Halves → Type 0
+InHalf zero step old new = step old.0 new.0 × (new.1 ≡ old.1)
+InHalf (suc n) step old new = step old.1 new.1 × (new.0 ≡ old.0)
+
+-- ---- what a call that is done leaves
+
+-- `new` is `old` with these bytes at this place; what lies between the old end and that place is 0
+abbrev pub Written : ℕ → List ℕ → List ℕ → List ℕ → Type 0
+Written at bytes old new = new ≡ take at (old ++ replicate (at - length old) 0) ++ bytes ++ drop (at + length bytes) old
+
+abbrev pub CutTo : ℕ → List ℕ → List ℕ → Type 0
+CutTo n old new = new ≡ take n old
+
+-- ---- what a call leaves that is cut short or isn't synced
+
+-- Any bytes in the written range and past the old end, with a length between the old one and the new one; the other bytes stay.
+pub record Torn (at n : ℕ) (old new : List ℕ) : Type 0 where
+  pub before : take (min at (length old)) new ≡ take at old
+  pub after : drop (at + n) new ≡ drop (at + n) old
+  pub no_shorter : length old ≤ length new
+  pub no_longer : length new ≤ max (length old) (at + n)
+
+-- It happened, or it didn't.
+abbrev pub MaybeCut : ℕ → List ℕ → List ℕ → Type 0
+MaybeCut n old new = (new ≡ old) ⊎ CutTo n old new
+
+-- ---- what is told
+
+-- A log whose content is told takes this step, and is told after it; of another one nothing is told then either.
+abbrev pub Becomes : (Halves → Halves → Type 0) → Option Halves → Option Halves → Type 0
+Becomes step (Some old) (Some new) = step old new
+Becomes step (Some old) None = ⊥
+Becomes step None (Some new) = ⊥
+Becomes step None None = Unit {0}
+
+-- A read gives the bytes from this place on, as far as the buffer has room.
+abbrev pub Gives : {E : Type 0} → List ℕ → ℕ → List ℕ → List ℕ → Result ℕ E → Type 0
+Gives half at old new result = IfOk result (λ n. (n ≡ min (length old) (length half - at)) × (new ≡ take n (drop at half) ++ drop n old))
+
+-- ---- which log it is
+
+-- The log that the calls speak of stays.
+pub record StaysAttached (asked asked' : Option (List ℕ)) (attached attached' : Bool) : Type 0 where
+  pub same_name : asked' ≡ asked
+  pub same_attached : attached' ≡ attached
+
+-- ---- the images that a crash may leave
+
+-- The log is told as before, and a crash leaves nothing of it that it might not have left before.
+pub record Untouched (log : Option (List ℕ)) (logs logs' : Option (List ℕ) → Option Halves) (images images' : Option (List ℕ) → Halves → Type 0) : Type 0 where
+  pub same : logs' log ≡ logs log
+  pub no_other : (image : Halves) → images' log image → images log image
+
+-- each image after a call is one from before it after this step
+abbrev pub Follows : (Halves → Halves → Type 0) → (Halves → Type 0) → (Halves → Type 0) → Type 0
+Follows step before after = (image : Halves) → after image → (old : Halves) × before old × step old image
+
+-- a crash leaves this and nothing else
+abbrev pub Only : Halves → (Halves → Type 0) → Type 0
+Only log images = (image : Halves) → images image → image ≡ log
+
+-- Time goes on: a crash since a moment might have left what it might have left before, or what it may leave now.
+pub record Elapses (before now : ℕ) (past since : ℕ → Halves → Type 0) (may_leave : Halves → Type 0) : Type 0 where
+  pub later : before ≤ now
+  pub nothing_else : (moment : ℕ) (image : Halves) → moment ≤ before → since moment image → past moment image ⊎ may_leave image
+  pub keeps : (moment : ℕ) (image : Halves) → moment ≤ before → past moment image → since moment image
