@@ -33,7 +33,7 @@ message_free : (kind : MessageKind) → IsFree (MessageOf kind)
 message_free messages.Invite = made_free view_free
 message_free messages.Accept = made_free view_free
 message_free messages.Stale = made_free (pair_free (one_value view_exact) view_free view_free)
-message_free messages.ViewCommit = made_free (pair_free (one_value view_exact) view_free sites_free)
+message_free messages.ViewCommit = made_free (pair_free (one_value view_exact) view_free (sites_free 1))
 message_free messages.ReadRequest = made_free (pair_free (one_value request_exact) request_free rec_free)
 message_free messages.ReadAnswer = made_free (pair_free (one_value numbered_exact) numbered_free value_free)
 message_free messages.WriteRequest = made_free (pair_free (one_value request_exact) request_free rec_free)
