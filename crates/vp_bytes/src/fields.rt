@@ -1,0 +1,173 @@
+//! Writing fields.
+
+ghost use Rattle.std.specs.Prelude.{◌≡◌, ◌≤◌, ◌++◌, ◌∷◌, [], OnOk, length, flat_map};
+ghost use Rattle.vp_bytes.specs.Fields.{number_bytes, view_bytes, maybe_view_bytes, txn_bytes, owner_bytes, counted_bytes, write_bytes, writes_bytes, numbered_bytes, request_bytes};
+
+use byteorder::{BigEndian, ByteOrder};
+use bytes::BufMut;
+use vp_base::{CallNo, Name, NoMemory, Owner, RecId, SiteId, TxnId, Value, ViewId};
+
+/// A byte.
+pub fn put_byte<B: BufMut>(out: &mut B, byte: u8) -> Result<(), NoMemory>
+    ensures { OnOk result (B.written out.new ≡ B.written out.old ++ byte ∷ []) }
+{
+    out.put_u8(byte)?;
+    Ok(())
+}
+
+/// A number of 32 bits.
+#[tactic(auto, unfolding(crate::specs::Fields::number_bytes))]
+pub fn put_u32<B: BufMut>(out: &mut B, number: u32) -> Result<(), NoMemory>
+    ensures { OnOk result (B.written out.new ≡ B.written out.old ++ number_bytes 4 number) }
+{
+    let mut bytes = [0; 4];
+    BigEndian::write_u32(&mut bytes, number);
+    out.put_slice(&bytes)?;
+    Ok(())
+}
+
+/// A number of 64 bits.
+#[tactic(auto, unfolding(crate::specs::Fields::number_bytes))]
+pub fn put_u64<B: BufMut>(out: &mut B, number: u64) -> Result<(), NoMemory>
+    ensures { OnOk result (B.written out.new ≡ B.written out.old ++ number_bytes 8 number) }
+{
+    let mut bytes = [0; 8];
+    BigEndian::write_u64(&mut bytes, number);
+    out.put_slice(&bytes)?;
+    Ok(())
+}
+
+/// Bytes behind their count, which a byte holds.
+pub fn put_counted<B: BufMut>(out: &mut B, bytes: &[u8]) -> Result<(), NoMemory>
+    requires { length bytes.now ≤ 64 }
+    ensures { OnOk result (B.written out.new ≡ B.written out.old ++ counted_bytes bytes.now) }
+{
+    put_byte(out, bytes.len() as u8)?;
+    out.put_slice(bytes)?;
+    Ok(())
+}
+
+/// A name behind the count of its bytes.
+pub fn put_name<B: BufMut>(out: &mut B, name: &Name) -> Result<(), NoMemory>
+    ensures { OnOk result (B.written out.new ≡ B.written out.old ++ counted_bytes name.now) }
+{
+    put_counted(out, name.as_bytes())
+}
+
+/// A value behind the count of its bytes.
+pub fn put_value<B: BufMut>(out: &mut B, value: &Value) -> Result<(), NoMemory>
+    ensures { OnOk result (B.written out.new ≡ B.written out.old ++ counted_bytes value.now) }
+{
+    put_counted(out, value.as_bytes())
+}
+
+/// A view.
+#[tactic(auto, unfolding(crate::specs::Fields::view_bytes))]
+pub fn put_view<B: BufMut>(out: &mut B, view: &ViewId) -> Result<(), NoMemory>
+    ensures { OnOk result (B.written out.new ≡ B.written out.old ++ view_bytes view.now) }
+{
+    put_u64(out, view.number)?;
+    put_byte(out, view.site)
+}
+
+/// 1 and a view, or 0 for none.
+pub fn put_maybe_view<B: BufMut>(out: &mut B, view: &Option<ViewId>) -> Result<(), NoMemory>
+    ensures { OnOk result (B.written out.new ≡ B.written out.old ++ maybe_view_bytes view.now) }
+{
+    match view {
+        None => put_byte(out, 0),
+        Some(view) => {
+            put_byte(out, 1)?;
+            put_view(out, view)
+        }
+    }
+}
+
+/// A transaction.
+#[tactic(auto, unfolding(crate::specs::Fields::txn_bytes))]
+pub fn put_txn<B: BufMut>(out: &mut B, txn: &TxnId) -> Result<(), NoMemory>
+    ensures { OnOk result (B.written out.new ≡ B.written out.old ++ txn_bytes txn.now) }
+{
+    put_byte(out, txn.site.get())?;
+    put_u32(out, txn.life)?;
+    put_u32(out, txn.seq)
+}
+
+/// 1 and a transaction, or 0 for a refresh.
+pub fn put_owner<B: BufMut>(out: &mut B, owner: &Owner) -> Result<(), NoMemory>
+    ensures { OnOk result (B.written out.new ≡ B.written out.old ++ owner_bytes owner.now) }
+{
+    match owner {
+        Owner::Refresh => put_byte(out, 0),
+        Owner::Txn(txn) => {
+            put_byte(out, 1)?;
+            put_txn(out, txn)
+        }
+    }
+}
+
+/// Sites behind their count.
+pub fn put_sites<B: BufMut>(out: &mut B, sites: &[SiteId]) -> Result<(), NoMemory>
+    requires { length sites.now ≤ 16 }
+    ensures { OnOk result (B.written out.new ≡ B.written out.old ++ counted_bytes sites.now) }
+{
+    put_byte(out, sites.len() as u8)?;
+    for site in sites {
+        put_byte(out, site.get())?;
+    }
+    Ok(())
+}
+
+/// Records behind their count.
+pub fn put_recs<B: BufMut>(out: &mut B, recs: &[RecId]) -> Result<(), NoMemory>
+    requires { length recs.now ≤ 64 }
+    ensures { OnOk result (B.written out.new ≡ B.written out.old ++ counted_bytes recs.now) }
+{
+    put_byte(out, recs.len() as u8)?;
+    for rec in recs {
+        put_byte(out, rec.get())?;
+    }
+    Ok(())
+}
+
+/// A record and its value.
+fn put_write<B: BufMut>(out: &mut B, rec: RecId, value: &Value) -> Result<(), NoMemory>
+    ensures { OnOk result (B.written out.new ≡ B.written out.old ++ write_bytes (rec, value.now)) }
+{
+    put_byte(out, rec.get())?;
+    put_value(out, value)
+}
+
+/// Writes behind their count.
+pub fn put_writes<B: BufMut>(out: &mut B, writes: &[(RecId, Value)]) -> Result<(), NoMemory>
+    requires { length writes.now ≤ 64 }
+    ensures { OnOk result (B.written out.new ≡ B.written out.old ++ writes_bytes writes.now) }
+{
+    put_byte(out, writes.len() as u8)?;
+    for write in writes {
+        put_write(out, write.0, &write.1)?;
+    }
+    Ok(())
+}
+
+/// The transaction and the number of a call.
+pub fn put_numbered<B: BufMut>(out: &mut B, txn: &TxnId, number: CallNo) -> Result<(), NoMemory>
+    ensures { OnOk result (B.written out.new ≡ B.written out.old ++ numbered_bytes txn.now number) }
+{
+    put_txn(out, txn)?;
+    put_u32(out, number.get())
+}
+
+/// What asks a part for a lock or a vote.
+pub fn put_request<B: BufMut>(
+    out: &mut B,
+    txn: &TxnId,
+    view: &ViewId,
+    number: CallNo,
+) -> Result<(), NoMemory>
+    ensures { OnOk result (B.written out.new ≡ B.written out.old ++ request_bytes txn.now view.now number) }
+{
+    put_txn(out, txn)?;
+    put_view(out, view)?;
+    put_u32(out, number.get())
+}
