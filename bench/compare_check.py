@@ -9,7 +9,7 @@ cut anywhere, a byte changed or put in, two lines swapped, a line twice, lines b
 """
 import sys
 
-from comparison import compare, with_byte_changed
+from comparison import compare, with_byte_changed, with_lines_moved
 
 NAMES = [b"x", b"y", b"ab", b"abcd", b"r0", b"r1", b"a_long_name_of16"]
 
@@ -43,15 +43,9 @@ def mutated(draw, text):
     if kind == 3:
         place = draw.randrange(len(text))
         return text[:place] + text[place + 1 :]
-    lines = text.split(b"\n")
-    one, two = draw.randrange(len(lines)), draw.randrange(len(lines))
-    if kind == 4:
-        lines[one], lines[two] = lines[two], lines[one]
-    elif kind == 5:
-        lines.insert(two, lines[one])
-    else:
-        lines[0:0] = draw.choice([[b""], [b"1 call 1 begin", b" reply begun 1.1.1 0@0"], [b"histor"], [b"history "]])
-    return b"\n".join(lines)
+    if kind < 6:
+        return with_lines_moved(draw, text, kind - 4)
+    return draw.choice([b"\n", b"1 call 1 begin\n reply begun 1.1.1 0@0\n", b"histor\n", b"history \n"]) + text
 
 
 def drawn(draw):

@@ -11,7 +11,7 @@ input is a schedule with another site or another event, PROGRAM has to answer st
 """
 import sys
 
-from comparison import compare, with_byte_changed
+from comparison import compare, with_byte_changed, with_lines_moved
 
 NAMES = ["x", "y", "ab", "abcd", "r0", "r1", "a_long_name_of16"]
 FOREIGN = ["tick %d", "probe %d", "crash %d", "restart %d", "call %d regroup", "deliver 1", "flow 3", "events", "site 16 9", "record x 1 %d:1"]
@@ -81,16 +81,12 @@ def mutated(draw, text):
     kind = draw.randrange(6)
     if kind < 3:
         return with_byte_changed(draw, text, kind, b"0 \n19x:")
+    if kind < 5:
+        return with_lines_moved(draw, text, kind - 3)
     lines = text.split(b"\n")
-    one, two = draw.randrange(len(lines)), draw.randrange(len(lines))
-    if kind == 3:
-        lines[one], lines[two] = lines[two], lines[one]
-    elif kind == 4:
-        lines.insert(two, lines[one])
-    else:
-        line = draw.choice(FOREIGN)
-        site = draw.choice([int(lines[0].split()[1]), 1, 16])
-        lines.insert(two, (line % site if "%" in line else line).encode())
+    line = draw.choice(FOREIGN)
+    site = draw.choice([int(lines[0].split()[1]), 1, 16])
+    lines.insert(draw.randrange(len(lines)), (line % site if "%" in line else line).encode())
     return b"\n".join(lines)
 
 

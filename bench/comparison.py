@@ -1,7 +1,33 @@
 """Runs a program and another one on random inputs, each made from its own seed, up to the first where they differ."""
+import importlib
+import pathlib
 import random
 import subprocess
 import sys
+
+# where the modules of the reference implementation stand, if nothing else is said
+REFERENCE = pathlib.Path(__file__).resolve().parent.parent.parent / "shared/oracle"
+
+
+def modules(folder, *names):
+    """Modules of the reference implementation."""
+    sys.path.insert(0, str(folder))
+    return [importlib.import_module(name) for name in names]
+
+
+def joined(pieces):
+    """The pieces of bytes, each behind the count of its bytes in 16 bits."""
+    return b"".join(len(piece).to_bytes(2, "big") + piece for piece in pieces)
+
+
+def split(data):
+    """The pieces that were joined."""
+    pieces, place = [], 0
+    while place < len(data):
+        end = place + 2 + int.from_bytes(data[place : place + 2], "big")
+        pieces.append(data[place + 2 : end])
+        place = end
+    return pieces
 
 
 def run(program, command, text):
@@ -42,3 +68,14 @@ def with_byte_changed(draw, text, kind, inserted):
     if kind == 1:
         return text[:place] + bytes([draw.randrange(256)]) + text[place + 1 :]
     return text[:place] + bytes([draw.choice(inserted)]) + text[place:]
+
+
+def with_lines_moved(draw, text, kind):
+    """The text with two of its lines swapped (kind 0), or one of them once more at another place (1)."""
+    lines = text.split(b"\n")
+    one, two = draw.randrange(len(lines)), draw.randrange(len(lines))
+    if kind == 0:
+        lines[one], lines[two] = lines[two], lines[one]
+    else:
+        lines.insert(two, lines[one])
+    return b"\n".join(lines)

@@ -1,0 +1,101 @@
+#!/usr/bin/env python3
+"""Compares `decode_batch` and `encode_batch` with the reference implementation, on random batches of log records and on damaged ones.
+
+usage: compare_batches.py PROGRAM [SEED [COUNT [REFERENCE]]]
+
+PROGRAM is built by `build.py answer_batches PROGRAM`; REFERENCE is the folder of the reference implementation's modules. A third
+of the inputs are batches of records of all kinds, with fields at the edges of their ranges; the others are damaged: cut, joined, a
+bit, a byte or a run of bytes changed, put in or taken out, a list disordered, a count changed. Then each cut of a short batch of each
+seed up to the twentieth is an input, and each of its bits flipped. Of each the answers have to agree: the place where it is no batch,
+or the text of its records with each of their fields, and the bytes that they are encoded to.
+"""
+import random
+import subprocess
+import sys
+
+from batch_draws import BatchDraws, damaged_batch
+from comparison import REFERENCE, joined, modules, split
+
+AT_ONCE, WHOLLY, SHORT = 5000, 20, 300
+
+
+def drawn(wire, records, seed):
+    """The bytes of the input of a seed."""
+    draw = random.Random(seed)
+    draws = BatchDraws(wire, records, draw)
+    batch = draws.batch()
+    return damaged_batch(records, draw, batch, draws.batch()) if draw.randrange(3) else records.encode_batch(batch)
+
+
+def each_damage(wire, records, seed):
+    """A short batch of records, cut at each place, and with each of its bits flipped."""
+    draws = BatchDraws(wire, records, random.Random(seed))
+    data = b""
+    while not 0 < len(data) <= SHORT:
+        data = records.encode_batch([draws.record() for _ in range(3)])
+    for place, byte in enumerate(data):
+        yield data[:place]
+        for bit in range(8):
+            yield data[:place] + bytes([byte ^ 1 << bit]) + data[place + 1 :]
+
+
+def words_of(field):
+    """The words that PROGRAM prints of a field: of a list the count of its rows, then the fields of each."""
+    if type(field) is tuple:
+        parts = [part for row in field for part in (row if type(row) is tuple else (row,))]
+        return [len(field)] + [word for part in parts for word in words_of(part)]
+    return [int(field) if type(field) is bool else field]
+
+
+def text_of(record):
+    words = [type(record).__name__.lower()] + [word for field in record for word in words_of(field)]
+    return " ".join(map(str, words))
+
+
+def wanted(records, fields, data):
+    """The two pieces that PROGRAM has to answer."""
+    try:
+        batch = records.decode_batch(data)
+    except fields.NotWhole as fault:
+        return b"bad %d" % fault.at, b""
+    return "".join(text_of(record) + "\n" for record in batch).encode(), records.encode_batch(batch)
+
+
+def answers(program, inputs):
+    done = subprocess.run([program], input=joined(inputs), capture_output=True, timeout=600, check=True)
+    return split(done.stdout)
+
+
+def difference(program, records, fields, inputs, places):
+    """The first of the inputs at which the answers differ, with both; the places of the faults are counted."""
+    said = answers(program, inputs)
+    assert len(said) == 2 * len(inputs), "another count of answers"
+    for data, *answer in zip(inputs, said[::2], said[1::2]):
+        right = wanted(records, fields, data)
+        if tuple(answer) != right:
+            return data.hex(), answer, right
+        if answer[0].startswith(b"bad "):
+            places[answer[0]] = places.get(answer[0], 0) + 1
+    return None
+
+
+def main():
+    program = sys.argv[1]
+    seed = int(sys.argv[2]) if len(sys.argv) > 2 else 1
+    count = int(sys.argv[3]) if len(sys.argv) > 3 else 30000
+    wire, records, fields = modules(sys.argv[4] if len(sys.argv) > 4 else REFERENCE, "wire", "records", "fields")
+    rounds = [[drawn(wire, records, k) for k in range(first, min(first + AT_ONCE, seed + count))]
+              for first in range(seed, seed + count, AT_ONCE)]
+    rounds += [list(each_damage(wire, records, k)) for k in range(seed, seed + WHOLLY)]
+    places = {}
+    for inputs in rounds:
+        if differs := difference(program, records, fields, inputs, places):
+            print("differs at", *differs)
+            return 1
+    inputs, refused = sum(map(len, rounds)), sum(places.values())
+    print(f"{inputs} inputs from seed {seed} agree: {inputs - refused} are batches, {refused} are refused, at {len(places)} different places")
+    return 0
+
+
+if __name__ == "__main__":
+    sys.exit(main())
