@@ -3,3 +3,5 @@ pub mod Input
 pub mod Output
 pub mod Plans
 pub mod Disk
+pub mod Changes
+pub mod NamedLogs

@@ -2,12 +2,15 @@
 #![tactic(auto)]
 
 mod adapters;
+mod changes;
 mod disk;
 mod fault_plan;
+mod log_bytes;
 mod sink;
 mod sinks;
 mod source;
 mod sources;
+mod sure_disk;
 
 pub use adapters::{Reading, Writing};
 pub use disk::Disk;
@@ -16,6 +19,7 @@ pub use sink::{OutFault, Sink, write_all};
 pub use sinks::{SureSink, TextSink};
 pub use source::{Failed, InputFault, Source, read_to_end};
 pub use sources::{SureSource, TextSource};
+pub use sure_disk::SureDisk;
 
 #[cfg(test)]
 mod tests;
