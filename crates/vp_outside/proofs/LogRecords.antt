@@ -5,7 +5,8 @@ use Rattle.vp_outside.specs.Disk.{Halves, InHalf, in_half, written, Torn, MaybeC
 use Rattle.vp_outside.specs.Changes.{asked_of, is_same_log, changes_of, content_of, MayLeave, MightHaveLeft}
 use Rattle.vp_outside.specs.declared.changes.Change.{Change}
 use Rattle.vp_outside.specs.declared.changes.Change.TheVariants.{Attached, Wrote, Cut, Synced, Laid}
-use Rattle.vp_outside.proofs.Torn.{Torn-written, Torn-refl}
+use Rattle.vp_outside.specs.DiskLaws.{MayLeave-content, Torn-written, InHalf-in_half}
+use Rattle.vp_outside.proofs.Torn.{Torn-refl}
 
 -- ---- which log
 
@@ -45,39 +46,11 @@ by_log log change earlier P here elsewhere =
 
 -- ---- one log
 
-pub InHalf-in_half : (half : ℕ) (step : List ℕ → List ℕ → Type 0) (f : List ℕ → List ℕ) (log : Halves) → ((old : List ℕ) → step old (f old)) → InHalf half step log (in_half half f log)
-InHalf-in_half zero step f log h = (h log.0, refl)
-InHalf-in_half (suc n) step f log h = (h log.1, refl)
-
 pub InHalf-refl : (half : ℕ) (step : List ℕ → List ℕ → Type 0) (log : Halves) → ((old : List ℕ) → step old old) → InHalf half step log log
 InHalf-refl zero step log h = (h log.0, refl)
 InHalf-refl (suc n) step log h = (h log.1, refl)
 
-pub MayLeave-content : (changes : List Change) → MayLeave changes (content_of changes)
-MayLeave-content [] = refl
-MayLeave-content (Attached name ∷ earlier) = MayLeave-content earlier
-MayLeave-content (Wrote half at piece ∷ earlier) =
-    (content_of earlier, MayLeave-content earlier, InHalf-in_half half (Torn at (length piece)) (written at piece) (content_of earlier) (Torn-written at piece))
-MayLeave-content (Cut half n ∷ earlier) =
-    (content_of earlier, MayLeave-content earlier, InHalf-in_half half (MaybeCut n) (take n) (content_of earlier) (λ old. inr refl))
-MayLeave-content (Synced ∷ earlier) = refl
-MayLeave-content (Laid first second ∷ earlier) = refl
-
 -- ---- moments
-
-MightHaveLeft-since : (log : Option (List ℕ)) (since : ℕ) (changes : List Change) (image : Halves) → MightHaveLeft log since changes image → since ≤ length changes
-MightHaveLeft-since log since [] image left = left.0
-MightHaveLeft-since log since (change ∷ earlier) image (inl now) = now.0
-MightHaveLeft-since log since (change ∷ earlier) image (inr past) = let le = MightHaveLeft-since log since earlier image past in omega arith
-
-pub MightHaveLeft-now : (log : Option (List ℕ)) (since : ℕ) (changes : List Change) (image : Halves) → since ≤ length changes → MayLeave (changes_of log changes) image → MightHaveLeft log since changes image
-MightHaveLeft-now log since [] image le now = (le, now)
-MightHaveLeft-now log since (change ∷ earlier) image le now = inl (le, now)
-
-pub MightHaveLeft-only_now : (log : Option (List ℕ)) (changes : List Change) (image : Halves) → MightHaveLeft log (length changes) changes image → MayLeave (changes_of log changes) image
-MightHaveLeft-only_now log [] image left = left.1
-MightHaveLeft-only_now log (change ∷ earlier) image (inl now) = now.1
-MightHaveLeft-only_now log (change ∷ earlier) image (inr past) = absurd (let le = MightHaveLeft-since log (length (change ∷ earlier)) earlier image past in omega arith)
 
 pub Elapses-next : (log : Option (List ℕ)) (change : Change) (earlier : List Change)
     → Elapses (length earlier) (length (change ∷ earlier)) (λ since. MightHaveLeft log since earlier) (λ since. MightHaveLeft log since (change ∷ earlier)) (MayLeave (changes_of log (change ∷ earlier)))
@@ -90,3 +63,14 @@ Elapses-next log change earlier = record {
 pub Elapses-still : (log : Option (List ℕ)) (changes : List Change)
     → Elapses (length changes) (length changes) (λ since. MightHaveLeft log since changes) (λ since. MightHaveLeft log since changes) (MayLeave (changes_of log changes))
 Elapses-still log changes = record { later = omega arith; nothing_else = λ since image le left. inl left; keeps = λ since image le left. left }
+
+-- a sync leaves no image that there wasn't before
+pub Untouched-Synced : (log : Option (List ℕ)) (earlier : List Change)
+    → Untouched log (λ l. Some (content_of (changes_of l earlier))) (λ l. Some (content_of (changes_of l (Synced ∷ earlier))))
+      (λ l. MayLeave (changes_of l earlier)) (λ l. MayLeave (changes_of l (Synced ∷ earlier)))
+Untouched-Synced log earlier = record {
+  same = ap (λ content. Some content) (by_log log Synced earlier (λ changes. content_of changes ≡ content_of (changes_of log earlier)) (λ _. refl) refl);
+  no_other = by_log log Synced earlier (λ changes. (image : Halves) → MayLeave changes image → MayLeave (changes_of log earlier) image)
+    (λ _ image (is : image ≡ content_of (changes_of log earlier)). subst (MayLeave (changes_of log earlier)) (sym is) (MayLeave-content (changes_of log earlier)))
+    (λ image left. left);
+}

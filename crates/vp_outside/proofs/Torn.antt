@@ -1,11 +1,8 @@
--- Bytes that are written over a half and past its end, and what a crash may leave of them.
+-- Bytes that are written over a half and past its end.
 use Rattle.std.proofs.Common.{◌≡◌, ◌∙◌, ℕ, zero, suc, ◌+◌, ◌-◌, ◌≤◌, ◌<◌, min, max, List, [], ◌∷◌, ◌++◌, length, take, drop, replicate, refl, sym, ap, arith, length-append, append-nil, append_assoc, ⊎_elim}
 use Rattle.std.proofs.lemmas.List.{take_at, drop_at, take_all, drop_all, take-append-le, drop-append-le, length-take, length-take-le, length-drop, length-replicate, replicate-append-replicate, take-take, take_min}
 use Rattle.vp_outside.specs.Disk.{written, Torn}
-
--- the bytes before that place, with 0 behind the old end, have its length
-pub length-front : (at : ℕ) (old : List ℕ) → length (take at (old ++ replicate (at - length old) 0)) ≡ at
-length-front at old = length-take-le at (old ++ replicate (at - length old) 0) (omega (arith, length-append old (replicate (at - length old) 0), length-replicate {A = ℕ} (at - length old) 0))
+use Rattle.vp_outside.specs.DiskLaws.{length-front}
 
 take-lengthened : (at k : ℕ) (old : List ℕ) → take at (old ++ replicate (at + k - length old) 0) ≡ take at (old ++ replicate (at - length old) 0)
 take-lengthened at k old =
@@ -32,28 +29,6 @@ written-lengthened at bytes old =
     ap (λ front. front ++ bytes ++ drop (at + length bytes) (old ++ replicate (at + length bytes - length old) 0)) (take-lengthened at (length bytes) old)
     ∙ ap (λ rest. take at (old ++ replicate (at - length old) 0) ++ bytes ++ rest) (drop-lengthened (at + length bytes) old)
 
-pub length-written : (at : ℕ) (bytes old : List ℕ) → length (written at bytes old) ≡ max (length old) (at + length bytes)
-length-written at bytes old =
-    let front = take at (old ++ replicate (at - length old) 0) in
-    omega (arith, length-append (front ++ bytes) (drop (at + length bytes) old), length-append front bytes, length-front at old, length-drop (at + length bytes) old)
-
--- a write that is done is one of those that a crash may leave of it
-pub Torn-written : (at : ℕ) (bytes old : List ℕ) → Torn at (length bytes) old (written at bytes old)
-Torn-written at bytes old =
-    let front = take at (old ++ replicate (at - length old) 0) in
-    let rest = drop (at + length bytes) old in
-    record {
-      before =
-        ap (take (min at (length old))) (append_assoc front bytes rest)
-        ∙ take-append-le (min at (length old)) front (bytes ++ rest) (omega (arith, length-front at old))
-        ∙ take-take (min at (length old)) at (old ++ replicate (at - length old) 0) (omega arith)
-        ∙ take-append-le (min at (length old)) old (replicate (at - length old) 0) (omega arith)
-        ∙ take_min at old;
-      after = drop_at (front ++ bytes) rest (at + length bytes) (omega (arith, length-append front bytes, length-front at old));
-      no_shorter = omega (arith, length-written at bytes old);
-      no_longer = omega (arith, length-written at bytes old);
-    }
-
--- and so is one that did nothing
+-- a write that did nothing is one of those that a crash may leave of it
 pub Torn-refl : (at n : ℕ) (old : List ℕ) → Torn at n old old
 Torn-refl at n old = record { before = take_min at old; after = refl; no_shorter = omega arith; no_longer = omega arith }

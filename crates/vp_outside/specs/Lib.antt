@@ -5,3 +5,4 @@ pub mod Plans
 pub mod Disk
 pub mod Changes
 pub mod NamedLogs
+pub mod DiskLaws

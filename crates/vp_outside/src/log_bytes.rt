@@ -1,6 +1,6 @@
 //! The bytes of a log in memory.
 
-ghost use Rattle.std.specs.Prelude.{◌≡◌, ◌+◌, ◌-◌, ◌^◌, ◌<◌, ◌≤◌, ◌++◌, [], IfOk, IfSome, List, ℕ, Some, OnErr, OnOk, drop, length, min, replicate, take, vec_len};
+ghost use Rattle.std.specs.Prelude.{◌≡◌, ◌↔◌, IsTrue, ◌+◌, ◌-◌, ◌^◌, ◌<◌, ◌≤◌, ◌++◌, [], IfOk, IfSome, List, ℕ, Some, OnErr, OnOk, drop, length, min, replicate, take, vec_len};
 ghost use Rattle.std.specs.List.{position};
 ghost use Rattle.std.specs.Str.{bytes_eq};
 ghost use Rattle.vp_outside.specs.NamedLogs.{is_named, halves_of};
@@ -150,6 +150,15 @@ pub fn give(bytes: &[u8], at: u64, buf: &mut [u8]) -> usize
     let count = buf.len().min(bytes.len() - from);
     buf[..count].copy_from_slice(&bytes[from..from + count]);
     count
+}
+
+/// Whether the piece ends at 2^62 or before.
+pub fn fits(at: u64, piece: &[u8]) -> bool
+    ensures { IsTrue result ↔ (at + length piece.now ≤ 2 ^ 62) }
+{
+    const LONGEST: u64 = 1 << 62;
+    let length = piece.len() as u64;
+    length <= LONGEST && at <= LONGEST - length
 }
 
 /// A copy of its own.

@@ -4,11 +4,12 @@ ghost use Rattle.std.specs.Prelude.{◌≡◌, ◌∷◌, [], ◌+◌, ◌≤◌
 ghost use Rattle.std.specs.Io.{ReadsAtMost};
 ghost use Rattle.vp_outside.specs.Disk.{half_of};
 ghost use Rattle.vp_outside.specs.Changes.{asked_of, changes_of, content_of, MayLeave, MightHaveLeft};
+ghost use Rattle.vp_outside.specs.DiskLaws.{MayLeave-told, MightHaveLeft-now, MightHaveLeft-only_now};
 ghost use Rattle.vp_outside.specs.declared.changes.Change.TheVariants.{Attached, Wrote, Cut, Synced, Laid};
 
 use crate::changes::Change;
 use crate::disk::Disk;
-use crate::log_bytes::{LogBytes, NamedLog, give, kept, take_place};
+use crate::log_bytes::{LogBytes, NamedLog, fits, give, kept, take_place};
 use crate::sink::OutFault;
 use crate::source::Failed;
 use std::alloc::Global;
@@ -70,7 +71,7 @@ impl SureDisk {
         }
     }
 
-    fn choose(&mut self, name: &Word) -> Result<(), NoMemory>
+    pub(crate) fn choose(&mut self, name: &Word) -> Result<(), NoMemory>
         ensures ok { OnOk result (self.new ≡ Attached name.now ∷ self.old) }
         ensures err { OnErr result (self.new ≡ self.old) }
     {
@@ -82,7 +83,7 @@ impl SureDisk {
         Ok(())
     }
 
-    fn put(&mut self, half: u8, at: u64, piece: &[u8]) -> Result<(), NoMemory>
+    pub(crate) fn put(&mut self, half: u8, at: u64, piece: &[u8]) -> Result<(), NoMemory>
         requires { at + length piece.now ≤ 2 ^ 62 }
         ensures ok { OnOk result (self.new ≡ Wrote half at piece.now ∷ self.old) }
         ensures err { OnErr result (self.new ≡ self.old) }
@@ -101,7 +102,7 @@ impl SureDisk {
         Ok(())
     }
 
-    fn shorten(&mut self, half: u8, length: u64) -> Result<(), NoMemory>
+    pub(crate) fn shorten(&mut self, half: u8, length: u64) -> Result<(), NoMemory>
         ensures ok { OnOk result (self.new ≡ Cut half length ∷ self.old) }
         ensures err { OnErr result (self.new ≡ self.old) }
     {
@@ -113,7 +114,7 @@ impl SureDisk {
         Ok(())
     }
 
-    fn settle(&mut self) -> Result<(), NoMemory>
+    pub(crate) fn settle(&mut self) -> Result<(), NoMemory>
         ensures ok { OnOk result (self.new ≡ Synced ∷ self.old) }
         ensures err { OnErr result (self.new ≡ self.old) }
     {
@@ -137,5 +138,60 @@ impl SureDisk {
             Some(place) => self.named[place].log = laid,
         }
         Ok(())
+    }
+}
+
+impl Disk for SureDisk {
+    ghost logs = { λ disk log. Some (content_of (changes_of log disk)) };
+
+    ghost asked = { λ disk. asked_of disk };
+
+    ghost attached = { λ _. true };
+
+    ghost honest = { λ _. Unit {0} };
+
+    ghost may_leave = { λ disk log. MayLeave (changes_of log disk) };
+
+    ghost moment = { λ disk. length disk };
+
+    ghost left_since = { λ disk log since. MightHaveLeft log since disk };
+
+    ghost faults = { λ _. 0 };
+
+    ghost as_read = { λ disk log content told. MayLeave-told (changes_of log disk) content told };
+
+    ghost counts_now = { λ disk log since image. MightHaveLeft-now log since disk image };
+
+    ghost only_now = { λ disk log image. MightHaveLeft-only_now log disk image };
+
+    fn faults(&self) -> u64 {
+        0
+    }
+
+    fn attach(&mut self, name: &Word) -> Result<(), OutFault> {
+        Ok(self.choose(name)?)
+    }
+
+    fn length(&mut self, half: u8) -> Result<u64, Failed> {
+        Ok(self.half(half).len() as u64)
+    }
+
+    fn read(&mut self, half: u8, at: u64, buf: &mut [u8]) -> Result<usize, Failed> {
+        Ok(give(self.half(half), at, buf))
+    }
+
+    fn write_at(&mut self, half: u8, at: u64, piece: &[u8]) -> Result<(), OutFault> {
+        if !fits(at, piece) {
+            return Err(OutFault::NoMemory);
+        }
+        Ok(self.put(half, at, piece)?)
+    }
+
+    fn cut(&mut self, half: u8, length: u64) -> Result<(), OutFault> {
+        Ok(self.shorten(half, length)?)
+    }
+
+    fn sync(&mut self) -> Result<(), OutFault> {
+        Ok(self.settle()?)
     }
 }
