@@ -65,12 +65,19 @@ pub Elapses-still : (log : Option (List ℕ)) (changes : List Change)
 Elapses-still log changes = record { later = omega arith; nothing_else = λ since image le left. inl left; keeps = λ since image le left. left }
 
 -- a sync leaves no image that there wasn't before
-pub Untouched-Synced : (log : Option (List ℕ)) (earlier : List Change)
+synced_alike : (log : Option (List ℕ)) (earlier : List Change)
     → Untouched log (λ l. Some (content_of (changes_of l earlier))) (λ l. Some (content_of (changes_of l (Synced ∷ earlier))))
       (λ l. MayLeave (changes_of l earlier)) (λ l. MayLeave (changes_of l (Synced ∷ earlier)))
-Untouched-Synced log earlier = record {
+synced_alike log earlier = record {
   same = ap (λ content. Some content) (by_log log Synced earlier (λ changes. content_of changes ≡ content_of (changes_of log earlier)) (λ _. refl) refl);
   no_other = by_log log Synced earlier (λ changes. (image : Halves) → MayLeave changes image → MayLeave (changes_of log earlier) image)
     (λ _ image (is : image ≡ content_of (changes_of log earlier)). subst (MayLeave (changes_of log earlier)) (sym is) (MayLeave-content (changes_of log earlier)))
     (λ image left. left);
 }
+
+pub Untouched-Synced : (log : Option (List ℕ)) (earlier later : List Change) → later ≡ Synced ∷ earlier
+    → Untouched log (λ l. Some (content_of (changes_of l earlier))) (λ l. Some (content_of (changes_of l later)))
+      (λ l. MayLeave (changes_of l earlier)) (λ l. MayLeave (changes_of l later))
+Untouched-Synced log earlier later is =
+    subst (λ (now : List Change). Untouched log (λ l. Some (content_of (changes_of l earlier))) (λ l. Some (content_of (changes_of l now)))
+      (λ l. MayLeave (changes_of l earlier)) (λ l. MayLeave (changes_of l now))) (sym is) (synced_alike log earlier)

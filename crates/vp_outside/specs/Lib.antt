@@ -6,3 +6,4 @@ pub mod Disk
 pub mod Changes
 pub mod NamedLogs
 pub mod DiskLaws
+pub mod MemDisks

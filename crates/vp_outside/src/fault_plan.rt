@@ -2,7 +2,6 @@
 
 ghost use Rattle.std.specs.Prelude.{if◌then◌else◌, ◌≡◌, ◌↔◌, Contains, IsTrue};
 ghost use Rattle.vp_outside.specs.Causes.{count_after};
-ghost use Rattle.vp_outside.specs.Plans.{CountsCall};
 
 /// The numbers of the calls that are to fail. The first call has number 1.
 #[derive(Drop)]
@@ -13,6 +12,8 @@ pub struct FaultPlan {
 }
 
 impl FaultPlan {
+    ghost use Rattle.vp_outside.specs.Plans.{CountsCall, FailsNext, failed, passed};
+
     pub fn new(failing: Vec<u64>) -> FaultPlan
         ensures { result ≡ record { failing = failing; calls = 0; faults = 0 } }
     {
@@ -25,21 +26,21 @@ impl FaultPlan {
 
     /// Whether the next call is to fail.
     pub fn fails_next(&self) -> bool
-        ensures { IsTrue result ↔ Contains self.now.failing.items (count_after self.now.calls 1) }
+        ensures { IsTrue result ↔ FailsNext self.now }
     {
         self.failing.contains(&self.calls.saturating_add(1))
     }
 
     /// Counts a call that is done.
     pub fn pass(&mut self)
-        ensures { self.new ≡ record self.old { calls = count_after self.old.calls 1 } }
+        ensures { self.new ≡ passed self.old }
     {
         self.calls = self.calls.saturating_add(1);
     }
 
     /// Counts a call that fails, and the fault.
     pub fn fail(&mut self)
-        ensures { self.new ≡ record self.old { calls = count_after self.old.calls 1; faults = count_after self.old.faults 1 } }
+        ensures { self.new ≡ failed self.old }
     {
         self.pass();
         self.faults = self.faults.saturating_add(1);
