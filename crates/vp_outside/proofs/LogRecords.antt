@@ -1,12 +1,11 @@
 -- What the record of a disk in memory tells of its logs, at one change more.
-use Rattle.std.proofs.Common.{◌≡◌, ◌∙◌, ◌⊎◌, inl, inr, ⊎_elim, ℕ, zero, suc, ◌≤◌, List, [], ◌∷◌, length, take, Bool, true, false, cond, refl, sym, ap, subst, arith, Option, Some, None, Decides}
+use Rattle.std.proofs.Common.{◌≡◌, ◌⊎◌, inl, inr, ⊎_elim, ℕ, zero, suc, List, ◌∷◌, length, Bool, true, false, cond, refl, sym, ap, subst, arith, Option, Some, None, Decides}
 use Rattle.std.proofs.lemmas.Slice.Eq.{bytes_eq-Decides}
-use Rattle.vp_outside.specs.Disk.{Halves, InHalf, in_half, written, Torn, MaybeCut, CutTo, Untouched, Follows, Only, Elapses}
+use Rattle.vp_outside.specs.Disk.{Halves, InHalf, Untouched, Elapses}
 use Rattle.vp_outside.specs.Changes.{asked_of, is_same_log, changes_of, content_of, MayLeave, MightHaveLeft}
 use Rattle.vp_outside.specs.declared.changes.Change.{Change}
-use Rattle.vp_outside.specs.declared.changes.Change.TheVariants.{Attached, Wrote, Cut, Synced, Laid}
-use Rattle.vp_outside.specs.DiskLaws.{MayLeave-content, Torn-written, InHalf-in_half}
-use Rattle.vp_outside.proofs.Torn.{Torn-refl}
+use Rattle.vp_outside.specs.declared.changes.Change.TheVariants.{Synced}
+use Rattle.vp_outside.specs.DiskLaws.{MayLeave-content}
 
 -- ---- which log
 
@@ -67,17 +66,17 @@ Elapses-still log changes = record { later = omega arith; nothing_else = λ sinc
 -- a sync leaves no image that there wasn't before
 synced_alike : (log : Option (List ℕ)) (earlier : List Change)
     → Untouched log (λ l. Some (content_of (changes_of l earlier))) (λ l. Some (content_of (changes_of l (Synced ∷ earlier))))
-      (λ l. MayLeave (changes_of l earlier)) (λ l. MayLeave (changes_of l (Synced ∷ earlier)))
+    (λ l. MayLeave (changes_of l earlier)) (λ l. MayLeave (changes_of l (Synced ∷ earlier)))
 synced_alike log earlier = record {
   same = ap (λ content. Some content) (by_log log Synced earlier (λ changes. content_of changes ≡ content_of (changes_of log earlier)) (λ _. refl) refl);
   no_other = by_log log Synced earlier (λ changes. (image : Halves) → MayLeave changes image → MayLeave (changes_of log earlier) image)
-    (λ _ image (is : image ≡ content_of (changes_of log earlier)). subst (MayLeave (changes_of log earlier)) (sym is) (MayLeave-content (changes_of log earlier)))
-    (λ image left. left);
+      (λ _ image (is : image ≡ content_of (changes_of log earlier)). subst (MayLeave (changes_of log earlier)) (sym is) (MayLeave-content (changes_of log earlier)))
+      (λ image left. left);
 }
 
 pub Untouched-Synced : (log : Option (List ℕ)) (earlier later : List Change) → later ≡ Synced ∷ earlier
     → Untouched log (λ l. Some (content_of (changes_of l earlier))) (λ l. Some (content_of (changes_of l later)))
-      (λ l. MayLeave (changes_of l earlier)) (λ l. MayLeave (changes_of l later))
+    (λ l. MayLeave (changes_of l earlier)) (λ l. MayLeave (changes_of l later))
 Untouched-Synced log earlier later is =
     subst (λ (now : List Change). Untouched log (λ l. Some (content_of (changes_of l earlier))) (λ l. Some (content_of (changes_of l now)))
-      (λ l. MayLeave (changes_of l earlier)) (λ l. MayLeave (changes_of l now))) (sym is) (synced_alike log earlier)
+    (λ l. MayLeave (changes_of l earlier)) (λ l. MayLeave (changes_of l now))) (sym is) (synced_alike log earlier)

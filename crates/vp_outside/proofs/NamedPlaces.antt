@@ -1,9 +1,8 @@
 -- The place of a log among those that are kept by name.
-use Rattle.std.proofs.Common.{◌≡◌, ◌∙◌, ◌≢◌, ◌⊎◌, ⊎_elim, ℕ, zero, suc, ◌+◌, ◌<◌, List, [], ◌∷◌, ◌++◌, length, get_or, set, Bool, true, false, cond, refl, sym, ap, subst, arith, lt-ltb, eq-eqb, not, ◌≤◌, eqb, nat_lt, Option, Some, None, Decides, find}
+use Rattle.std.proofs.Common.{◌≡◌, ◌∙◌, ⊎_elim, ℕ, zero, suc, ◌+◌, ◌<◌, List, [], ◌∷◌, ◌++◌, length, get_or, set, Bool, true, false, cond, refl, sym, ap, subst, arith, lt-ltb, eq-eqb, not, ◌≤◌, nat_lt, Option, Some, None, Decides, find}
 use Rattle.std.specs.List.{position, position_or_len}
 use Rattle.std.specs.Option.{option_map_or}
 use Rattle.std.specs.Str.{bytes_eq}
-use Rattle.std.specs.Prelude.{is_some}
 use Rattle.std.proofs.lemmas.List.{set-get_or, length-set, length_push, get_or-set_same}
 use Rattle.std.proofs.lemmas.List.Folds.{find-set, position_or_len-set, position_or_len_push}
 use Rattle.std.proofs.lemmas.List.Quantifiers.{position-Some}
@@ -14,7 +13,6 @@ use Rattle.vp_outside.specs.Disk.{Halves}
 use Rattle.vp_outside.specs.Changes.{asked_of, is_same_log, changes_of, content_of}
 use Rattle.vp_outside.specs.NamedLogs.{is_named, halves_of, StandsAt, Keeps}
 use Rattle.vp_outside.specs.declared.changes.Change.{Change}
-use Rattle.vp_outside.specs.declared.changes.Change.TheVariants.{Attached, Wrote, Cut, Synced, Laid}
 use Rattle.vp_outside.specs.declared.log_bytes.NamedLog.{NamedLog}
 use Rattle.vp_outside.proofs.LogRecords.{changes_of-same, changes_of-not_same, same_or_other}
 
@@ -34,9 +32,9 @@ module _ {X : Type 0} (p : X → Bool) where
   -- the item at that place is the one that is found
   pub find-at : (xs : List X) (i : ℕ) (x : X) → position p xs ≡ Some i → x ≡ get_or xs i x → find p xs ≡ Some x
   find-at xs i x e read =
-    let passes = position-Some p xs i x e in
-    ap (find p) (sym (set-get_or xs i x) ∙ ap (set xs i) (sym read))
-    ∙ find-set p xs i x (sym (place_is xs i e)) passes.0 (ap p read ∙ passes.1)
+      let passes = position-Some p xs i x e in
+      ap (find p) (sym (set-get_or xs i x) ∙ ap (set xs i) (sym read))
+      ∙ find-set p xs i x (sym (place_is xs i e)) passes.0 (ap p read ∙ passes.1)
 
   -- an item is put for another one, and neither is sought
   pub find-set_other : (xs : List X) (i : ℕ) (y d : X) → p y ≡ false → p (get_or xs i d) ≡ false → find p (set xs i y) ≡ find p xs
@@ -60,8 +58,8 @@ module _ {X : Type 0} (p : X → Bool) where
       let least : length xs ≤ n = ltb-false n (length xs) past in
       let end : n ≡ length xs = omega arith in
       let last : position_or_len p (xs ++ y ∷ []) ≡ length xs =
-        position_or_len_push p xs y ∙ ap (λ b. cond b (length xs + cond (p y) 0 1) n) (eq-eqb n (length xs) end)
-        ∙ ap (λ b. length xs + cond b 0 1) passes ∙ omega arith in
+      position_or_len_push p xs y ∙ ap (λ b. cond b (length xs + cond (p y) 0 1) n) (eq-eqb n (length xs) end)
+      ∙ ap (λ b. length xs + cond b 0 1) passes ∙ omega arith in
       place_of_len (xs ++ y ∷ []) (length xs) last (omega (arith, length_push xs y))
 
   pub find-push : {R : Type 0} (F : Option X → R) (xs : List X) (y : X) → F (Some y) ≡ F None → F (find p (xs ++ y ∷ [])) ≡ F (find p xs)
@@ -141,19 +139,19 @@ Keeps-changed unnamed named place changes keeps i at y there read same_name chan
     let stands : StandsAt asked named (Some i) = subst (StandsAt asked named) there keeps.attached in
     let stands' : StandsAt asked (set named i y) (Some i) = StandsAt-set unnamed named i at y read same_name asked stands in
     let here : y.log ≡ content_of (change ∷ changes_of asked changes) =
-        changed ∙ ap f (Keeps-at unnamed named place changes keeps i at there read) ∙ sym (content (changes_of asked changes)) in
+    changed ∙ ap f (Keeps-at unnamed named place changes keeps i at there read) ∙ sym (content (changes_of asked changes)) in
     let read' : y ≡ get_or (set named i y) i y = sym (get_or-set_same named i y y (within unnamed named i asked at stands)) in
     subst (Keeps unnamed (set named i y) place) (sym is) (record {
       contents = λ log. ⊎_elim
-        (λ (same : log ≡ asked). ap (λ l. halves_of l unnamed (set named i y)) same
+          (λ (same : log ≡ asked). ap (λ l. halves_of l unnamed (set named i y)) same
           ∙ halves_of-at unnamed (set named i y) i asked y stands' read'
           ∙ here
           ∙ ap (λ l. content_of (change ∷ changes_of l changes)) (sym same)
           ∙ ap content_of (sym (changes_of-same log change changes same)))
-        (λ (other : is_same_log log asked ≡ false). halves_of-set_other unnamed named i at y read same_name log asked stands other
+          (λ (other : is_same_log log asked ≡ false). halves_of-set_other unnamed named i at y read same_name log asked stands other
           ∙ keeps.contents log
           ∙ ap content_of (sym (changes_of-not_same log change changes other)))
-        (same_or_other log asked);
+          (same_or_other log asked);
       attached = subst (λ p. StandsAt (asked_of (change ∷ changes)) (set named i y) p) (sym there) (subst (λ l. StandsAt l (set named i y) (Some i)) (sym asks) stands');
     })
 
@@ -175,17 +173,17 @@ Keeps-changed_unnamed unnamed new named place changes keeps there change f chang
     let asked = asked_of changes in
     let stands : StandsAt asked named None = subst (StandsAt asked named) there keeps.attached in
     let here : new ≡ content_of (change ∷ changes_of asked changes) =
-        changed ∙ ap f (sym (halves_of-unnamed asked unnamed named stands) ∙ keeps.contents asked) ∙ sym (content (changes_of asked changes)) in
+    changed ∙ ap f (sym (halves_of-unnamed asked unnamed named stands) ∙ keeps.contents asked) ∙ sym (content (changes_of asked changes)) in
     subst (Keeps new named place) (sym is) (record {
       contents = λ log. ⊎_elim
-        (λ (same : log ≡ asked). ap (λ l. halves_of l new named) same
+          (λ (same : log ≡ asked). ap (λ l. halves_of l new named) same
           ∙ halves_of-unnamed asked new named stands
           ∙ here
           ∙ ap (λ l. content_of (change ∷ changes_of l changes)) (sym same)
           ∙ ap content_of (sym (changes_of-same log change changes same)))
-        (λ (other : is_same_log log asked ≡ false). halves_of-not_unnamed log asked unnamed new named stands other
+          (λ (other : is_same_log log asked ≡ false). halves_of-not_unnamed log asked unnamed new named stands other
           ∙ keeps.contents log
           ∙ ap content_of (sym (changes_of-not_same log change changes other)))
-        (same_or_other log asked);
+          (same_or_other log asked);
       attached = subst (λ p. StandsAt (asked_of (change ∷ changes)) named p) (sym there) (subst (λ l. StandsAt l named None) (sym asks) stands);
     })

@@ -1,8 +1,7 @@
 -- Bytes that are written over a half and past its end.
-use Rattle.std.proofs.Common.{◌≡◌, ◌∙◌, ℕ, zero, suc, ◌+◌, ◌-◌, ◌≤◌, ◌<◌, min, max, List, [], ◌∷◌, ◌++◌, length, take, drop, replicate, refl, sym, ap, arith, length-append, append-nil, append_assoc, ⊎_elim}
-use Rattle.std.proofs.lemmas.List.{take_at, drop_at, take_all, drop_all, take-append-le, drop-append-le, length-take, length-take-le, length-drop, length-replicate, replicate-append-replicate, take-take, take_min}
+use Rattle.std.proofs.Common.{◌≡◌, ◌∙◌, ℕ, zero, suc, ◌+◌, ◌-◌, List, [], ◌∷◌, ◌++◌, length, take, drop, replicate, refl, sym, ap, arith, length-append, append-nil, append_assoc}
+use Rattle.std.proofs.lemmas.List.{drop_all, take-append-le, length-replicate, replicate-append-replicate, take_min}
 use Rattle.vp_outside.specs.Disk.{written, Torn}
-use Rattle.vp_outside.specs.DiskLaws.{length-front}
 
 take-lengthened : (at k : ℕ) (old : List ℕ) → take at (old ++ replicate (at + k - length old) 0) ≡ take at (old ++ replicate (at - length old) 0)
 take-lengthened at k old =

@@ -1,5 +1,5 @@
 -- The laws of a disk in memory: what a read gives is one of the images, and which moments there are.
-use Rattle.std.proofs.Common.{◌≡◌, ◌∙◌, ◌⊎◌, inl, inr, ℕ, zero, suc, ◌+◌, ◌-◌, ◌≤◌, min, max, List, [], ◌∷◌, ◌++◌, length, take, drop, replicate, refl, subst, ap, arith, Option, Some, length-append, append_assoc}
+use Rattle.std.proofs.Common.{◌≡◌, ◌∙◌, inl, inr, ℕ, zero, suc, ◌+◌, ◌-◌, ◌≤◌, min, max, List, [], ◌∷◌, ◌++◌, length, take, drop, replicate, refl, subst, ap, arith, Option, Some, length-append, append_assoc}
 use Rattle.std.proofs.lemmas.List.{drop_at, take-append-le, length-take-le, length-drop, length-replicate, take-take, take_min}
 use Rattle.vp_outside.specs.Disk.{Halves, InHalf, in_half, written, Torn, MaybeCut}
 use Rattle.vp_outside.specs.Changes.{changes_of, content_of, MayLeave, MightHaveLeft}
@@ -22,11 +22,11 @@ Torn-written at bytes old =
     let rest = drop (at + length bytes) old in
     record {
       before =
-        ap (take (min at (length old))) (append_assoc front bytes rest)
-        ∙ take-append-le (min at (length old)) front (bytes ++ rest) (omega (arith, length-front at old))
-        ∙ take-take (min at (length old)) at (old ++ replicate (at - length old) 0) (omega arith)
-        ∙ take-append-le (min at (length old)) old (replicate (at - length old) 0) (omega arith)
-        ∙ take_min at old;
+          ap (take (min at (length old))) (append_assoc front bytes rest)
+          ∙ take-append-le (min at (length old)) front (bytes ++ rest) (omega (arith, length-front at old))
+          ∙ take-take (min at (length old)) at (old ++ replicate (at - length old) 0) (omega arith)
+          ∙ take-append-le (min at (length old)) old (replicate (at - length old) 0) (omega arith)
+          ∙ take_min at old;
       after = drop_at (front ++ bytes) rest (at + length bytes) (omega (arith, length-append front bytes, length-front at old));
       no_shorter = omega (arith, length-written at bytes old);
       no_longer = omega (arith, length-written at bytes old);

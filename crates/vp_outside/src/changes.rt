@@ -6,19 +6,9 @@ use vp_base::{Seq, Word};
 #[derive(Drop)]
 pub enum Change {
     Attached(Word),
-    Wrote {
-        half: u8,
-        at: u64,
-        piece: Seq<u8>,
-    },
-    Cut {
-        half: u8,
-        length: u64,
-    },
+    Wrote { half: u8, at: u64, piece: Seq<u8> },
+    Cut { half: u8, length: u64 },
     Synced,
     /// The log got these halves, as if they had always been there.
-    Laid {
-        first: Seq<u8>,
-        second: Seq<u8>,
-    },
+    Laid { first: Seq<u8>, second: Seq<u8> },
 }

@@ -44,18 +44,14 @@ impl MemDisk {
     }
 
     /// Puts these halves under a name, as if they had always been there. It is no call of the plan, and no log is attached after it.
-    pub fn lay(
-        &mut self,
-        name: &Word,
-        first: Vec<u8>,
-        second: Vec<u8>,
-    ) -> Result<(), NoMemory>
+    pub fn lay(&mut self, name: &Word, first: Vec<u8>, second: Vec<u8>) -> Result<(), NoMemory>
         ensures laid { OnOk result (record_of self.new ≡ Laid first.items second.items ∷ Attached name.now ∷ record_of self.old) }
+        ensures not_laid { OnErr result ((record_of self.new ≡ record_of self.old) ⊎ (record_of self.new ≡ Attached name.now ∷ record_of self.old)) }
         ensures attached { is_attached self.new ≡ false }
         ensures plan { self.new.plan ≡ self.old.plan }
     {
         self.attached = false;
-        self.disk.choose(name)?;
+        self.disk.attach_log(name)?;
         self.disk.lay(first, second)
     }
 
@@ -105,7 +101,7 @@ impl Disk for MemDisk {
         ensures plan { GoesByPlan self.old.plan self.new.plan result }
         ensures planned { IsErrOf result OutFault.Failed → FailsNext self.old.plan }
     {
-        self.disk.choose(name)?;
+        self.disk.attach_log(name)?;
         self.attached = !self.plan.fails_now();
         if !self.attached {
             return Err(OutFault::Failed);
@@ -153,7 +149,7 @@ impl Disk for MemDisk {
             self.plan.fail();
             return Err(OutFault::Failed);
         }
-        self.disk.put(half, at, piece)?;
+        self.disk.write_piece(half, at, piece)?;
         self.plan.pass();
         Ok(())
     }
@@ -169,7 +165,7 @@ impl Disk for MemDisk {
             self.plan.fail();
             return Err(OutFault::Failed);
         }
-        self.disk.shorten(half, length)?;
+        self.disk.cut_half(half, length)?;
         self.plan.pass();
         Ok(())
     }
@@ -186,7 +182,7 @@ impl Disk for MemDisk {
             self.plan.fail();
             return Err(OutFault::Failed);
         }
-        self.disk.settle()?;
+        self.disk.mark_synced()?;
         self.plan.pass();
         Ok(())
     }

@@ -71,7 +71,9 @@ impl SureDisk {
         }
     }
 
-    pub(crate) fn choose(&mut self, name: &Word) -> Result<(), NoMemory>
+    // The calls below do what the disk's calls do, and are put on record.
+
+    pub(crate) fn attach_log(&mut self, name: &Word) -> Result<(), NoMemory>
         ensures ok { OnOk result (self.new ≡ Attached name.now ∷ self.old) }
         ensures err { OnErr result (self.new ≡ self.old) }
     {
@@ -83,7 +85,7 @@ impl SureDisk {
         Ok(())
     }
 
-    pub(crate) fn put(&mut self, half: u8, at: u64, piece: &[u8]) -> Result<(), NoMemory>
+    pub(crate) fn write_piece(&mut self, half: u8, at: u64, piece: &[u8]) -> Result<(), NoMemory>
         requires { at + length piece.now ≤ 2 ^ 62 }
         ensures ok { OnOk result (self.new ≡ Wrote half at piece.now ∷ self.old) }
         ensures err { OnErr result (self.new ≡ self.old) }
@@ -102,7 +104,7 @@ impl SureDisk {
         Ok(())
     }
 
-    pub(crate) fn shorten(&mut self, half: u8, length: u64) -> Result<(), NoMemory>
+    pub(crate) fn cut_half(&mut self, half: u8, length: u64) -> Result<(), NoMemory>
         ensures ok { OnOk result (self.new ≡ Cut half length ∷ self.old) }
         ensures err { OnErr result (self.new ≡ self.old) }
     {
@@ -114,7 +116,7 @@ impl SureDisk {
         Ok(())
     }
 
-    pub(crate) fn settle(&mut self) -> Result<(), NoMemory>
+    pub(crate) fn mark_synced(&mut self) -> Result<(), NoMemory>
         ensures ok { OnOk result (self.new ≡ Synced ∷ self.old) }
         ensures err { OnErr result (self.new ≡ self.old) }
     {
@@ -169,7 +171,7 @@ impl Disk for SureDisk {
     }
 
     fn attach(&mut self, name: &Word) -> Result<(), OutFault> {
-        Ok(self.choose(name)?)
+        Ok(self.attach_log(name)?)
     }
 
     fn length(&mut self, half: u8) -> Result<u64, Failed> {
@@ -184,14 +186,14 @@ impl Disk for SureDisk {
         if !fits(at, piece) {
             return Err(OutFault::NoMemory);
         }
-        Ok(self.put(half, at, piece)?)
+        Ok(self.write_piece(half, at, piece)?)
     }
 
     fn cut(&mut self, half: u8, length: u64) -> Result<(), OutFault> {
-        Ok(self.shorten(half, length)?)
+        Ok(self.cut_half(half, length)?)
     }
 
     fn sync(&mut self) -> Result<(), OutFault> {
-        Ok(self.settle()?)
+        Ok(self.mark_synced()?)
     }
 }

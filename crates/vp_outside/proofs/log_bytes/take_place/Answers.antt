@@ -1,4 +1,4 @@
-use Rattle.std.proofs.Common.{◌≡◌, ◌∙◌, ap, subst, sym, Some, None, arith, length, vec_len, ◌++◌, ◌∷◌, [], true}
+use Rattle.std.proofs.Common.{◌≡◌, ◌∙◌, ap, sym, Some, None, arith, length, vec_len}
 use Rattle.std.specs.List.{position}
 use Rattle.std.proofs.lemmas.Slice.Eq.{bytes_eq-Decides}
 use Rattle.vp_outside.specs.NamedLogs.{is_named, halves_of}

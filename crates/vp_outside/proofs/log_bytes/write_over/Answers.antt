@@ -1,4 +1,4 @@
-use Rattle.std.proofs.Common.{arith, ◌≡◌, ◌∙◌, ◌++◌, length, take, drop}
+use Rattle.std.proofs.Common.{arith, ◌≡◌, ◌++◌, length, take, drop}
 use Rattle.std.proofs.lemmas.List.{take_at}
 use Rattle.vp_outside.proofs.Torn.{written-lengthened}
 use Rattle.vp_outside.proofs.log_bytes.write_over.Goals as goal

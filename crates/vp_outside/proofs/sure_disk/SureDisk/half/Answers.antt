@@ -1,4 +1,4 @@
-use Rattle.std.proofs.Common.{◌≡◌, ◌∙◌, ap, subst}
+use Rattle.std.proofs.Common.{◌∙◌, ap}
 use Rattle.vp_outside.specs.Disk.{half_of}
 use Rattle.vp_outside.specs.Changes.{asked_of, changes_of, content_of}
 use Rattle.vp_outside.proofs.NamedPlaces.{Keeps-at}

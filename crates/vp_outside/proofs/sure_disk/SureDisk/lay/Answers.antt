@@ -1,4 +1,4 @@
-use Rattle.std.proofs.Common.{◌≡◌, ◌∙◌, ◌∷◌, [], ap, refl, reverse}
+use Rattle.std.proofs.Common.{◌∙◌, ◌∷◌, [], ap, refl, reverse}
 use Rattle.std.proofs.lemmas.List.{reverse-append}
 use Rattle.vp_outside.specs.Disk.{Halves}
 use Rattle.vp_outside.specs.declared.changes.Change.TheVariants.{Laid}

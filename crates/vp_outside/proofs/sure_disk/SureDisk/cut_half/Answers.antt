@@ -1,9 +1,9 @@
-use Rattle.std.proofs.Common.{◌≡◌, ◌∙◌, ◌∷◌, [], ap, refl, reverse, take}
+use Rattle.std.proofs.Common.{◌∙◌, ◌∷◌, [], ap, refl, reverse, take}
 use Rattle.std.proofs.lemmas.List.{reverse-append}
 use Rattle.vp_outside.specs.Disk.{in_half}
 use Rattle.vp_outside.specs.declared.changes.Change.TheVariants.{Cut}
 use Rattle.vp_outside.proofs.NamedPlaces.{Keeps-changed}
-use Rattle.vp_outside.proofs.sure_disk.SureDisk.shorten.Goals as goal
+use Rattle.vp_outside.proofs.sure_disk.SureDisk.cut_half.Goals as goal
 
 pub invariant_of-self-in-Some : goal.invariant_of-self-in-Some
 invariant_of-self-in-Some c =
