@@ -9,6 +9,11 @@ abbrev pub half_of : ℕ → Halves → List ℕ
 half_of zero log = log.0
 half_of (suc n) log = log.1
 
+-- This half is changed, and the other one stays.
+abbrev pub in_half : ℕ → (List ℕ → List ℕ) → Halves → Halves
+in_half zero change log = (change log.0, log.1)
+in_half (suc n) change log = (log.0, change log.1)
+
 -- The half takes this step, and the other one stays.
 abbrev pub InHalf : ℕ → (List ℕ → List ℕ → Type 0) → Halves → Halves → Type 0
 InHalf zero step old new = step old.0 new.0 × (new.1 ≡ old.1)
@@ -16,9 +21,12 @@ InHalf (suc n) step old new = step old.1 new.1 × (new.0 ≡ old.0)
 
 -- ---- what a call that is done leaves
 
--- `new` is `old` with these bytes at this place; what lies between the old end and that place is 0
+-- a half with these bytes at this place; what lies between the old end and that place is 0
+abbrev pub written : ℕ → List ℕ → List ℕ → List ℕ
+written at bytes old = take at (old ++ replicate (at - length old) 0) ++ bytes ++ drop (at + length bytes) old
+
 abbrev pub Written : ℕ → List ℕ → List ℕ → List ℕ → Type 0
-Written at bytes old new = new ≡ take at (old ++ replicate (at - length old) 0) ++ bytes ++ drop (at + length bytes) old
+Written at bytes old new = new ≡ written at bytes old
 
 abbrev pub CutTo : ℕ → List ℕ → List ℕ → Type 0
 CutTo n old new = new ≡ take n old

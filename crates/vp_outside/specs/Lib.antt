@@ -3,3 +3,7 @@ pub mod Input
 pub mod Output
 pub mod Plans
 pub mod Disk
+pub mod Changes
+pub mod NamedLogs
+pub mod DiskLaws
+pub mod MemDisks

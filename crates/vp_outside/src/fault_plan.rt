@@ -1,8 +1,7 @@
 //! Which calls of an object in memory fail.
 
-ghost use Rattle.std.specs.Prelude.{if◌then◌else◌, ◌≡◌, IsTrue};
+ghost use Rattle.std.specs.Prelude.{if◌then◌else◌, ◌≡◌, ◌↔◌, Contains, IsTrue};
 ghost use Rattle.vp_outside.specs.Causes.{count_after};
-ghost use Rattle.vp_outside.specs.Plans.{CountsCall};
 
 /// The numbers of the calls that are to fail. The first call has number 1.
 #[derive(Drop)]
@@ -13,6 +12,8 @@ pub struct FaultPlan {
 }
 
 impl FaultPlan {
+    ghost use Rattle.vp_outside.specs.Plans.{CountsCall, FailsNext, failed, passed};
+
     pub fn new(failing: Vec<u64>) -> FaultPlan
         ensures { result ≡ record { failing = failing; calls = 0; faults = 0 } }
     {
@@ -23,15 +24,38 @@ impl FaultPlan {
         }
     }
 
+    /// Whether the next call is to fail.
+    pub fn fails_next(&self) -> bool
+        ensures { IsTrue result ↔ FailsNext self.now }
+    {
+        self.failing.contains(&self.calls.saturating_add(1))
+    }
+
+    /// Counts a call that is done.
+    pub fn pass(&mut self)
+        ensures { self.new ≡ passed self.old }
+    {
+        self.calls = self.calls.saturating_add(1);
+    }
+
+    /// Counts a call that fails, and the fault.
+    pub fn fail(&mut self)
+        ensures { self.new ≡ failed self.old }
+    {
+        self.pass();
+        self.faults = self.faults.saturating_add(1);
+    }
+
     /// Counts a call, and answers whether it is to fail. That is counted as a fault.
     pub fn fails_now(&mut self) -> bool
         ensures counted { CountsCall self.old self.new (IsTrue result) }
         ensures faults { self.new.faults ≡ (if result then count_after self.old.faults 1 else self.old.faults) }
     {
-        self.calls = self.calls.saturating_add(1);
-        let fails = self.failing.contains(&self.calls);
+        let fails = self.fails_next();
         if fails {
-            self.faults = self.faults.saturating_add(1);
+            self.fail();
+        } else {
+            self.pass();
         }
         fails
     }

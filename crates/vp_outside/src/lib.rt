@@ -2,20 +2,26 @@
 #![tactic(auto)]
 
 mod adapters;
+mod changes;
 mod disk;
 mod fault_plan;
+mod log_bytes;
+mod mem_disk;
 mod sink;
 mod sinks;
 mod source;
 mod sources;
+mod sure_disk;
 
 pub use adapters::{Reading, Writing};
 pub use disk::Disk;
 pub use fault_plan::FaultPlan;
+pub use mem_disk::MemDisk;
 pub use sink::{OutFault, Sink, write_all};
 pub use sinks::{SureSink, TextSink};
 pub use source::{Failed, InputFault, Source, read_to_end};
 pub use sources::{SureSource, TextSource};
+pub use sure_disk::SureDisk;
 
 #[cfg(test)]
 mod tests;

@@ -1,7 +1,11 @@
+ghost use Rattle.std.specs.Prelude.{◌≡◌, IfOk};
+
 use super::*;
+use std::alloc::AllocError;
 use std::io;
 use std::io::{Read, Write};
 use std::test::Fail;
+use vp_base::Word;
 
 const TEXT: &[u8] = b"abcdefgh";
 
@@ -156,5 +160,129 @@ fn an_error_of_a_device_is_counted(rt: HostRuntime) -> Result<(), Fail> {
     assert_eq!(rt; full.put(b""), Ok(0));
     assert_eq!(rt; full.put(TEXT), Err(OutFault::Failed));
     assert_eq!(rt; full.faults(), 1);
+    Ok(())
+}
+
+fn word(rt: &HostRuntime, text: &[u8]) -> Result<Word, AllocError>
+    ensures { IfOk result (λ word. word ≡ text.now) }
+{
+    Ok(Word::from_vec(text.to_vec(rt.alloc())?))
+}
+
+/// A change of half 1.
+#[derive(Clone, Copy, Drop)]
+enum Step {
+    Write(u64, &'static [u8]),
+    Cut(u64),
+}
+
+#[test]
+fn a_disk_reads_what_was_written_and_not_cut(rt: HostRuntime) -> Result<(), Fail> {
+    let steps = [
+        (Step::Write(0, b"abc"), b"abc".as_slice()),
+        (Step::Write(1, b"X"), b"aXc"),
+        (Step::Write(2, b"YZ"), b"aXYZ"),
+        (Step::Write(6, b"p"), b"aXYZ\0\0p"),
+        (Step::Write(9, b""), b"aXYZ\0\0p\0\0"),
+        (Step::Cut(20), b"aXYZ\0\0p\0\0"),
+        (Step::Cut(3), b"aXY"),
+        (Step::Write(3, b"end"), b"aXYend"),
+        (Step::Cut(0), b""),
+        (Step::Write(0, b""), b""),
+    ];
+    let mut disk = SureDisk::new(rt.alloc());
+    for (step, bytes) in steps {
+        match step {
+            Step::Write(at, piece) => disk.write_at(1, at, piece)?,
+            Step::Cut(length) => disk.cut(1, length)?,
+        }
+        assert_eq!(rt; disk.half(1), bytes);
+        assert_eq!(rt; disk.length(1), Ok(bytes.len() as u64));
+        assert_eq!(rt; disk.length(0), Ok(0), "the other half");
+        disk.sync()?;
+        assert_eq!(rt; disk.half(1), bytes, "a sync changes nothing");
+    }
+    Ok(())
+}
+
+#[test]
+fn a_disk_is_read_in_pieces(rt: HostRuntime) -> Result<(), Fail> {
+    let alloc = rt.alloc();
+    let mut disk = SureDisk::holding(alloc, TEXT.to_vec(alloc)?, b"xyz".to_vec(alloc)?)?;
+    let mut buf = [b'-'; 5];
+    assert_eq!(rt; disk.read(0, 0, &mut buf), Ok(5));
+    assert_eq!(rt; buf, *b"abcde");
+    assert_eq!(rt; disk.read(0, 5, &mut buf), Ok(3));
+    assert_eq!(rt; buf, *b"fghde");
+    assert_eq!(rt; disk.read(0, 8, &mut buf), Ok(0), "the end");
+    assert_eq!(rt; disk.read(1, 2, &mut buf), Ok(1));
+    assert_eq!(rt; buf, *b"zghde");
+    assert_eq!(rt; disk.read(1, u64::MAX, &mut buf), Ok(0));
+    assert_eq!(rt; disk.faults(), 0);
+    Ok(())
+}
+
+#[test]
+fn each_log_keeps_its_bytes_while_another_is_attached(rt: HostRuntime) -> Result<(), Fail> {
+    let alloc = rt.alloc();
+    let one = word(&rt, b"one")?;
+    let two = word(&rt, b"two")?;
+    let mut disk = MemDisk::new(alloc, Vec::new(alloc));
+    disk.attach(&one)?;
+    disk.write_at(0, 0, b"first")?;
+    disk.attach(&two)?;
+    assert_eq!(rt; disk.half(0), b"".as_slice());
+    disk.write_at(0, 0, b"other")?;
+    disk.write_at(1, 0, b"half")?;
+    disk.attach(&one)?;
+    assert_eq!(rt; disk.half(0), b"first".as_slice());
+    assert_eq!(rt; disk.half(1), b"".as_slice());
+    disk.cut(0, 1)?;
+    disk.sync()?;
+    disk.attach(&two)?;
+    assert_eq!(rt; disk.half(0), b"other".as_slice());
+    assert_eq!(rt; disk.half(1), b"half".as_slice());
+    assert_eq!(rt; disk.plan.calls, 9);
+    assert_eq!(rt; disk.faults(), 0);
+    Ok(())
+}
+
+#[test]
+fn a_planned_call_of_a_disk_fails_and_changes_nothing(rt: HostRuntime) -> Result<(), Fail> {
+    let alloc = rt.alloc();
+    let name = word(&rt, b"one")?;
+    let mut disk = MemDisk::new(alloc, vec![in alloc; 1, 3, 4, 5, 6, 7]?);
+    disk.lay(&name, TEXT.to_vec(alloc)?, Vec::new(alloc))?;
+    assert_eq!(rt; disk.attach(&name), Err(OutFault::Failed));
+    disk.attach(&name)?;
+    let mut buf = [b'-'; 3];
+    assert_eq!(rt; disk.length(0), Err(Failed));
+    assert_eq!(rt; disk.read(0, 0, &mut buf), Err(Failed));
+    assert_eq!(rt; buf, *b"---");
+    assert_eq!(rt; disk.write_at(0, 0, b"X"), Err(OutFault::Failed));
+    assert_eq!(rt; disk.cut(0, 1), Err(OutFault::Failed));
+    assert_eq!(rt; disk.sync(), Err(OutFault::Failed));
+    assert_eq!(rt; disk.faults(), 6);
+    assert_eq!(rt; disk.plan.calls, 7);
+    assert_eq!(rt; disk.half(0), TEXT);
+    assert_eq!(rt; disk.read(0, 6, &mut buf), Ok(2));
+    assert_eq!(rt; buf, *b"gh-");
+    Ok(())
+}
+
+#[test]
+fn a_piece_that_ends_behind_the_longest_half_is_refused(rt: HostRuntime) -> Result<(), Fail> {
+    let alloc = rt.alloc();
+    let name = word(&rt, b"one")?;
+    let mut sure = SureDisk::new(alloc);
+    let mut planned = MemDisk::new(alloc, Vec::new(alloc));
+    planned.attach(&name)?;
+    for at in [1 << 62, u64::MAX] {
+        assert_eq!(rt; sure.write_at(0, at, b"x"), Err(OutFault::NoMemory));
+    }
+    assert_eq!(rt; planned.write_at(0, 1 << 62, b"x"), Err(OutFault::Failed));
+    assert_eq!(rt; planned.write_at(0, u64::MAX, b"x"), Err(OutFault::Failed));
+    assert_eq!(rt; planned.faults(), 2);
+    assert_eq!(rt; planned.half(0), b"".as_slice());
     Ok(())
 }

@@ -1,0 +1,5 @@
+use Rattle.vp_outside.proofs.LogRecords.{Untouched-Synced}
+use Rattle.vp_outside.proofs.mem_disk.MemDiskDisk.sync.Goals as goal
+
+pub returns-clause-untouched : goal.returns-clause-untouched
+returns-clause-untouched c = λ log. Untouched-Synced log c.args.self.now.disk c.mark_synced.new.self c.in_ok-mark_synced.ensures.ok

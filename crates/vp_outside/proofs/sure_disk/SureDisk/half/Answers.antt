@@ -1,0 +1,11 @@
+use Rattle.std.proofs.Common.{◌∙◌, ap}
+use Rattle.vp_outside.specs.Disk.{half_of}
+use Rattle.vp_outside.specs.Changes.{asked_of, changes_of, content_of}
+use Rattle.vp_outside.proofs.NamedPlaces.{Keeps-at}
+use Rattle.vp_outside.proofs.sure_disk.SureDisk.half.Goals as goal
+
+pub returns-in-Some : goal.returns-in-Some
+returns-in-Some c =
+    let disk = c.self.inside in
+    let content = Keeps-at disk.unnamed disk.named.items disk.place _ c.self.invariant c.in-Some.place c.index.result.now c.in-Some.is c.index.ensures in
+    c.half-in-Some.ensures ∙ ap (half_of c.args.half) content ∙ ap (λ changes. half_of c.args.half (content_of (changes_of (asked_of changes) changes))) c.self.view_is

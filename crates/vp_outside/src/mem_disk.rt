@@ -1,0 +1,189 @@
+//! A disk in memory, some calls of which fail.
+
+ghost use Rattle.std.specs.Prelude.{◌≡◌, ◌⊎◌, ◌+◌, ◌<◌, ◌≤◌, ◌^◌, ◌∷◌, [], IfOk, IsErr, IsErrOf, List, ℕ, OnErr, OnOk, Some, false, is_ok, length};
+ghost use Rattle.vp_outside.specs.Causes.{HasCause};
+ghost use Rattle.vp_outside.specs.Disk.{Gives, Untouched, half_of};
+ghost use Rattle.std.specs.declared.option.Option.{Option};
+ghost use Rattle.vp_outside.specs.Changes.{asked_of, changes_of, content_of, MayLeave, MightHaveLeft};
+ghost use Rattle.vp_outside.specs.DiskLaws.{MayLeave-told, MightHaveLeft-now, MightHaveLeft-only_now};
+
+use crate::disk::Disk;
+use crate::fault_plan::FaultPlan;
+use crate::log_bytes::{fits, give};
+use crate::sink::OutFault;
+use crate::source::Failed;
+use crate::sure_disk::SureDisk;
+use std::alloc::Global;
+use vp_base::{NoMemory, Word};
+
+/// A disk in memory, with a plan of the calls that fail. It tells its logs, and keeps a record of the calls that changed them. At first
+/// no log is attached.
+#[derive(Drop)]
+pub struct MemDisk {
+    disk: SureDisk,
+    attached: bool,
+    /// The calls that fail. A call that finds no memory isn't counted there.
+    pub plan: FaultPlan,
+}
+
+impl MemDisk {
+    ghost use Rattle.vp_outside.specs.MemDisks.{attached_of, is_attached, record_of};
+    ghost use Rattle.vp_outside.specs.declared.changes.Change.TheVariants.{Attached, Laid};
+
+    /// The calls with these numbers will fail. The first call has number 1.
+    pub fn new(alloc: Global, failing: Vec<u64>) -> MemDisk
+        ensures record { record_of result ≡ [] }
+        ensures attached { is_attached result ≡ false }
+        ensures plan { result.plan ≡ record { failing = failing; calls = 0; faults = 0 } }
+    {
+        MemDisk {
+            disk: SureDisk::new(alloc),
+            attached: false,
+            plan: FaultPlan::new(failing),
+        }
+    }
+
+    /// Puts these halves under a name, as if they had always been there. It is no call of the plan, and no log is attached after it.
+    pub fn lay(&mut self, name: &Word, first: Vec<u8>, second: Vec<u8>) -> Result<(), NoMemory>
+        ensures laid { OnOk result (record_of self.new ≡ Laid first.items second.items ∷ Attached name.now ∷ record_of self.old) }
+        ensures not_laid { OnErr result ((record_of self.new ≡ record_of self.old) ⊎ (record_of self.new ≡ Attached name.now ∷ record_of self.old)) }
+        ensures attached { is_attached self.new ≡ false }
+        ensures plan { self.new.plan ≡ self.old.plan }
+    {
+        self.attached = false;
+        self.disk.attach_log(name)?;
+        self.disk.lay(first, second)
+    }
+
+    /// The bytes of a half of the log that `attach` was last asked for.
+    pub fn half(&self, half: u8) -> &[u8]
+        ensures { result.now ≡ half_of half (attached_of self.now) }
+    {
+        self.disk.half(half)
+    }
+}
+
+impl Disk for MemDisk {
+    ghost use Rattle.vp_outside.specs.MemDisks.{attached_of, is_attached, record_of};
+    ghost use Rattle.vp_outside.specs.Plans.{CountsCall, FailsNext, GoesByPlan};
+    ghost use Rattle.vp_outside.specs.declared.changes.Change.TheVariants.{Attached, Wrote, Cut, Synced};
+
+    ghost logs = { λ d log. Some (content_of (changes_of log d.disk)) };
+
+    ghost asked = { λ d. asked_of d.disk };
+
+    ghost attached = { λ d. d.attached };
+
+    ghost honest = { λ _. Unit {0} };
+
+    ghost may_leave = { λ d log. MayLeave (changes_of log d.disk) };
+
+    ghost moment = { λ d. length d.disk };
+
+    ghost left_since = { λ d log since. MightHaveLeft log since d.disk };
+
+    ghost faults = { λ d. d.plan.faults };
+
+    ghost as_read = { λ d log content told. MayLeave-told (changes_of log d.disk) content told };
+
+    ghost counts_now = { λ d log since image. MightHaveLeft-now log since d.disk image };
+
+    ghost only_now = { λ d log image. MightHaveLeft-only_now log d.disk image };
+
+    fn faults(&self) -> u64 {
+        self.plan.faults
+    }
+
+    fn attach(&mut self, name: &Word) -> Result<(), OutFault>
+        ensures asked { ¬ IsErrOf result OutFault.NoMemory → record_of self.new ≡ Attached name.now ∷ record_of self.old }
+        ensures attached { ¬ IsErrOf result OutFault.NoMemory → is_attached self.new ≡ is_ok result }
+        ensures none { IsErrOf result OutFault.NoMemory → (record_of self.new ≡ record_of self.old) × (is_attached self.new ≡ is_attached self.old) }
+        ensures plan { GoesByPlan self.old.plan self.new.plan result }
+        ensures planned { IsErrOf result OutFault.Failed → FailsNext self.old.plan }
+    {
+        self.disk.attach_log(name)?;
+        self.attached = !self.plan.fails_now();
+        if !self.attached {
+            return Err(OutFault::Failed);
+        }
+        Ok(())
+    }
+
+    fn length(&mut self, half: u8) -> Result<u64, Failed>
+        ensures told { IfOk result (λ n. n ≡ length (half_of half (attached_of self.old))) }
+        ensures same { record_of self.new ≡ record_of self.old }
+        ensures attached { is_attached self.new ≡ is_attached self.old }
+        ensures plan { CountsCall self.old.plan self.new.plan (IsErr result) }
+        ensures cause { HasCause self.old.plan.faults self.new.plan.faults result }
+    {
+        if self.plan.fails_now() {
+            return Err(Failed);
+        }
+        Ok(self.half(half).len() as u64)
+    }
+
+    fn read(&mut self, half: u8, at: u64, buf: &mut [u8]) -> Result<usize, Failed>
+        ensures told { Gives (half_of half (attached_of self.old)) at buf.old buf.new result }
+        ensures room { length buf.new ≡ length buf.old }
+        ensures kept { OnErr result (buf.new ≡ buf.old) }
+        ensures same { record_of self.new ≡ record_of self.old }
+        ensures attached { is_attached self.new ≡ is_attached self.old }
+        ensures plan { CountsCall self.old.plan self.new.plan (IsErr result) }
+        ensures cause { HasCause self.old.plan.faults self.new.plan.faults result }
+    {
+        if self.plan.fails_now() {
+            return Err(Failed);
+        }
+        Ok(give(self.half(half), at, buf))
+    }
+
+    fn write_at(&mut self, half: u8, at: u64, piece: &[u8]) -> Result<(), OutFault>
+        ensures done { OnOk result (record_of self.new ≡ Wrote half at piece.now ∷ record_of self.old) }
+        ensures fits { OnOk result (at + length piece.now ≤ 2 ^ 62) }
+        ensures not_done { OnErr result (record_of self.new ≡ record_of self.old) }
+        ensures attached { is_attached self.new ≡ is_attached self.old }
+        ensures plan { GoesByPlan self.old.plan self.new.plan result }
+        ensures planned { IsErrOf result OutFault.Failed → FailsNext self.old.plan ⊎ (2 ^ 62 < at + length piece.now) }
+    {
+        if self.plan.fails_next() || !fits(at, piece) {
+            self.plan.fail();
+            return Err(OutFault::Failed);
+        }
+        self.disk.write_piece(half, at, piece)?;
+        self.plan.pass();
+        Ok(())
+    }
+
+    fn cut(&mut self, half: u8, length: u64) -> Result<(), OutFault>
+        ensures done { OnOk result (record_of self.new ≡ Cut half length ∷ record_of self.old) }
+        ensures not_done { OnErr result (record_of self.new ≡ record_of self.old) }
+        ensures attached { is_attached self.new ≡ is_attached self.old }
+        ensures plan { GoesByPlan self.old.plan self.new.plan result }
+        ensures planned { IsErrOf result OutFault.Failed → FailsNext self.old.plan }
+    {
+        if self.plan.fails_next() {
+            self.plan.fail();
+            return Err(OutFault::Failed);
+        }
+        self.disk.cut_half(half, length)?;
+        self.plan.pass();
+        Ok(())
+    }
+
+    fn sync(&mut self) -> Result<(), OutFault>
+        ensures done { OnOk result (record_of self.new ≡ Synced ∷ record_of self.old) }
+        ensures not_done { OnErr result (record_of self.new ≡ record_of self.old) }
+        ensures untouched { (log : Option (List ℕ)) → Untouched log (⟦<MemDisk as Disk>⟧.logs self.old) (⟦<MemDisk as Disk>⟧.logs self.new) (⟦<MemDisk as Disk>⟧.may_leave self.old) (⟦<MemDisk as Disk>⟧.may_leave self.new) }
+        ensures attached { is_attached self.new ≡ is_attached self.old }
+        ensures plan { GoesByPlan self.old.plan self.new.plan result }
+        ensures planned { IsErrOf result OutFault.Failed → FailsNext self.old.plan }
+    {
+        if self.plan.fails_next() {
+            self.plan.fail();
+            return Err(OutFault::Failed);
+        }
+        self.disk.mark_synced()?;
+        self.plan.pass();
+        Ok(())
+    }
+}

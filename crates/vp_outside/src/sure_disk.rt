@@ -1,0 +1,199 @@
+//! A disk in memory that never fails.
+
+ghost use Rattle.std.specs.Prelude.{◌≡◌, ◌∷◌, [], ◌+◌, ◌≤◌, ◌^◌, IfOk, OnErr, OnOk, Some, length, true};
+ghost use Rattle.std.specs.Io.{ReadsAtMost};
+ghost use Rattle.vp_outside.specs.Disk.{half_of};
+ghost use Rattle.vp_outside.specs.Changes.{asked_of, changes_of, content_of, MayLeave, MightHaveLeft};
+ghost use Rattle.vp_outside.specs.DiskLaws.{MayLeave-told, MightHaveLeft-now, MightHaveLeft-only_now};
+ghost use Rattle.vp_outside.specs.declared.changes.Change.TheVariants.{Attached, Wrote, Cut, Synced, Laid};
+
+use crate::changes::Change;
+use crate::disk::Disk;
+use crate::log_bytes::{LogBytes, NamedLog, fits, give, kept, take_place};
+use crate::sink::OutFault;
+use crate::source::Failed;
+use std::alloc::Global;
+use std::marker::Model;
+use vp_base::{NoMemory, Word};
+
+/// A disk in memory that never fails but for want of it. It tells its logs, and keeps a record of the calls that changed them. It is
+/// made with an empty log attached, which has no name.
+#[derive(Drop)]
+pub struct SureDisk {
+    alloc: Global,
+    unnamed: LogBytes,
+    named: Vec<NamedLog>,
+    place: Option<usize>,
+    changes: Vec<Change>,
+}
+
+impl Model for SureDisk {
+    ghost use Rattle.std.specs.Prelude.{List, reverse};
+    ghost use Rattle.vp_outside.specs.declared.changes.Change.{Change};
+    ghost use Rattle.vp_outside.specs.NamedLogs.{Keeps};
+
+    ghost Value = { List Change };
+
+    ghost view = { λ disk. reverse disk.changes.items };
+
+    ghost invariant = { λ disk. Keeps disk.unnamed disk.named.items disk.place (reverse disk.changes.items) };
+}
+
+impl SureDisk {
+    pub fn new(alloc: Global) -> SureDisk
+        ensures { result ≡ [] }
+    {
+        SureDisk {
+            alloc,
+            unnamed: LogBytes::new(alloc),
+            named: Vec::new(alloc),
+            place: None,
+            changes: Vec::new(alloc),
+        }
+    }
+
+    /// A disk whose attached log has these halves, as if they had always been there.
+    pub fn holding(alloc: Global, first: Vec<u8>, second: Vec<u8>) -> Result<SureDisk, NoMemory>
+        ensures { IfOk result (λ disk. disk ≡ Laid first.items second.items ∷ []) }
+    {
+        let mut disk = SureDisk::new(alloc);
+        disk.lay(first, second)?;
+        Ok(disk)
+    }
+
+    /// The bytes of a half of the attached log.
+    pub fn half(&self, half: u8) -> &[u8]
+        ensures { result.now ≡ half_of half (content_of (changes_of (asked_of self.now) self.now)) }
+    {
+        match self.place {
+            None => self.unnamed.half(half),
+            Some(place) => self.named[place].log.half(half),
+        }
+    }
+
+    // The calls below do what the disk's calls do, and are put on record.
+
+    pub(crate) fn attach_log(&mut self, name: &Word) -> Result<(), NoMemory>
+        ensures ok { OnOk result (self.new ≡ Attached name.now ∷ self.old) }
+        ensures err { OnErr result (self.new ≡ self.old) }
+    {
+        self.changes.reserve(1)?;
+        let asked = kept(self.alloc, name.as_slice())?;
+        let place = take_place(self.alloc, &mut self.named, name)?;
+        self.changes.push(Change::Attached(asked))?;
+        self.place = Some(place);
+        Ok(())
+    }
+
+    pub(crate) fn write_piece(&mut self, half: u8, at: u64, piece: &[u8]) -> Result<(), NoMemory>
+        requires { at + length piece.now ≤ 2 ^ 62 }
+        ensures ok { OnOk result (self.new ≡ Wrote half at piece.now ∷ self.old) }
+        ensures err { OnErr result (self.new ≡ self.old) }
+    {
+        self.changes.reserve(1)?;
+        let piece_kept = kept(self.alloc, piece)?;
+        match self.place {
+            None => self.unnamed.write_at(half, at, piece)?,
+            Some(place) => self.named[place].log.write_at(half, at, piece)?,
+        }
+        self.changes.push(Change::Wrote {
+            half,
+            at,
+            piece: piece_kept,
+        })?;
+        Ok(())
+    }
+
+    pub(crate) fn cut_half(&mut self, half: u8, length: u64) -> Result<(), NoMemory>
+        ensures ok { OnOk result (self.new ≡ Cut half length ∷ self.old) }
+        ensures err { OnErr result (self.new ≡ self.old) }
+    {
+        self.changes.push(Change::Cut { half, length })?;
+        match self.place {
+            None => self.unnamed.cut(half, length),
+            Some(place) => self.named[place].log.cut(half, length),
+        }
+        Ok(())
+    }
+
+    pub(crate) fn mark_synced(&mut self) -> Result<(), NoMemory>
+        ensures ok { OnOk result (self.new ≡ Synced ∷ self.old) }
+        ensures err { OnErr result (self.new ≡ self.old) }
+    {
+        self.changes.push(Change::Synced)?;
+        Ok(())
+    }
+
+    /// Puts these halves into the attached log, as if they had always been there.
+    pub fn lay(&mut self, first: Vec<u8>, second: Vec<u8>) -> Result<(), NoMemory>
+        ensures ok { OnOk result (self.new ≡ Laid first.items second.items ∷ self.old) }
+        ensures err { OnErr result (self.new ≡ self.old) }
+    {
+        let change = Change::Laid {
+            first: kept(self.alloc, &first)?,
+            second: kept(self.alloc, &second)?,
+        };
+        self.changes.push(change)?;
+        let laid = LogBytes::of_halves(first, second);
+        match self.place {
+            None => self.unnamed = laid,
+            Some(place) => self.named[place].log = laid,
+        }
+        Ok(())
+    }
+}
+
+impl Disk for SureDisk {
+    ghost logs = { λ disk log. Some (content_of (changes_of log disk)) };
+
+    ghost asked = { λ disk. asked_of disk };
+
+    ghost attached = { λ _. true };
+
+    ghost honest = { λ _. Unit {0} };
+
+    ghost may_leave = { λ disk log. MayLeave (changes_of log disk) };
+
+    ghost moment = { λ disk. length disk };
+
+    ghost left_since = { λ disk log since. MightHaveLeft log since disk };
+
+    ghost faults = { λ _. 0 };
+
+    ghost as_read = { λ disk log content told. MayLeave-told (changes_of log disk) content told };
+
+    ghost counts_now = { λ disk log since image. MightHaveLeft-now log since disk image };
+
+    ghost only_now = { λ disk log image. MightHaveLeft-only_now log disk image };
+
+    fn faults(&self) -> u64 {
+        0
+    }
+
+    fn attach(&mut self, name: &Word) -> Result<(), OutFault> {
+        Ok(self.attach_log(name)?)
+    }
+
+    fn length(&mut self, half: u8) -> Result<u64, Failed> {
+        Ok(self.half(half).len() as u64)
+    }
+
+    fn read(&mut self, half: u8, at: u64, buf: &mut [u8]) -> Result<usize, Failed> {
+        Ok(give(self.half(half), at, buf))
+    }
+
+    fn write_at(&mut self, half: u8, at: u64, piece: &[u8]) -> Result<(), OutFault> {
+        if !fits(at, piece) {
+            return Err(OutFault::NoMemory);
+        }
+        Ok(self.write_piece(half, at, piece)?)
+    }
+
+    fn cut(&mut self, half: u8, length: u64) -> Result<(), OutFault> {
+        Ok(self.cut_half(half, length)?)
+    }
+
+    fn sync(&mut self) -> Result<(), OutFault> {
+        Ok(self.mark_synced()?)
+    }
+}
