@@ -13,13 +13,14 @@ use Rattle.vp_wire.specs.declared.frame.Body.TheVariants as body
 use Rattle.vp_wire.specs.Grammar.{IsSpelling}
 use Rattle.vp_wire.specs.Kinds.{frame_kind, call_kind, answer_kind}
 use Rattle.vp_wire.specs.Frames.{least_from, most_from, least_to, most_to, frame_of}
-use Rattle.vp_wire.proofs.Free.{IsFree, even_free, then_free, made_free, free_as, byte_free, byte_one}
-use Rattle.vp_wire.proofs.Pairs.{pair_free}
+use Rattle.vp_bytes.proofs.Free.{IsFree, even_free, then_free, made_free, free_as, byte_free, byte_one}
+use Rattle.vp_bytes.proofs.Pairs.{pair_free}
 use Rattle.vp_wire.proofs.Codes.{Nothing, IsCode, code_free, code_one, call_code, call_codes, answer_code, answer_codes, frame_code, frame_codes}
-use Rattle.vp_wire.proofs.Identifiers.{view_exact, txn_exact, txn_free, numbered_exact}
-use Rattle.vp_wire.proofs.Marked.{maybe_view_free, owner_free}
-use Rattle.vp_wire.proofs.Singles.{view_free, numbered_free, request_exact, request_free, site_exact, site_free, rec_exact, rec_free, number4_exact, number4_free, number8_free, outcome_free, obstacle_free}
-use Rattle.vp_wire.proofs.Items.{name_exact, name_free, value_exact, value_free, sites_free, recs_exact, recs_free, writes_free}
+use Rattle.vp_bytes.proofs.Identifiers.{view_exact, txn_exact, txn_free, numbered_exact}
+use Rattle.vp_bytes.proofs.Marked.{maybe_view_free, owner_free}
+use Rattle.vp_bytes.proofs.Singles.{view_free, numbered_free, request_exact, request_free, site_exact, site_free, rec_exact, rec_free, number4_exact, number4_free, number8_free, outcome_free}
+use Rattle.vp_wire.proofs.Obstacles.{obstacle_free}
+use Rattle.vp_bytes.proofs.Items.{name_exact, name_free, value_exact, value_free, sites_free, recs_exact, recs_free, writes_free}
 use Rattle.vp_wire.proofs.EachMessage.{MessageOf}
 use Rattle.vp_wire.proofs.EachCall.{CallOf}
 use Rattle.vp_wire.proofs.EachAnswer.{AnswerOf}

@@ -13,8 +13,8 @@ use Rattle.vp_wire.specs.declared.kind.AnswerKind.{AnswerKind}
 use Rattle.vp_wire.specs.declared.kind.AnswerKind.TheVariants as answers
 use Rattle.vp_wire.specs.declared.kind.Kind.{Kind}
 use Rattle.vp_wire.specs.declared.kind.Kind.TheVariants as frames
-use Rattle.vp_wire.proofs.Digits.{nothing_more}
-use Rattle.vp_wire.proofs.Free.{IsFree, even_free}
+use Rattle.vp_bytes.proofs.Digits.{nothing_more}
+use Rattle.vp_bytes.proofs.Free.{IsFree, even_free}
 
 -- ---- fields that are none
 

@@ -1,15 +1,4 @@
-pub mod Numbers
-pub mod Free
-pub mod Digits
-pub mod NumberBytes
-pub mod Taken
-pub mod Identifiers
-pub mod Marked
-pub mod Pairs
-pub mod Runs
-pub mod Items
-pub mod Turns
-pub mod Singles
+pub mod Obstacles
 pub mod Codes
 pub mod EachMessage
 pub mod EachCall

@@ -1,5 +1,4 @@
 pub mod Grammar
-pub mod Reading
 pub mod Kinds
 pub mod Messages
 pub mod Calls

@@ -5,7 +5,14 @@ use Rattle.vp_base.specs.declared.message.Message.{Message}
 use Rattle.vp_base.specs.declared.message.Message.TheVariants as message
 use Rattle.vp_wire.specs.declared.kind.MessageKind.{MessageKind}
 use Rattle.vp_wire.specs.declared.kind.MessageKind.TheVariants as kinds
-use Rattle.vp_wire.specs.Reading.{byte_at, within, view_at, txn_at, numbered_at, request_at, value_at, name_at, sites_at, recs_at, writes_at, u32_at, u64_at, obstacle_at, outcome_at, owner_at, maybe_view_at}
+use Rattle.vp_bytes.specs.Reading.{byte_at, within, view_at, txn_at, numbered_at, request_at, value_at, name_at, sites_at, recs_at, writes_at, u32_at, u64_at, outcome_at, owner_at, maybe_view_at}
+use Rattle.vp_wire.specs.Messages.{obstacle_at}
+
+-- 1 and an owner, or 2 and a view or none
+unfoldable pub obstacle_at : List ℕ → Result (Obstacle × List ℕ) ℕ
+obstacle_at bytes = do
+  mark ← byte_at (within 1 2) bytes
+  cond (mark.0 == 1) (owner_at mark.1 >>= λ x. Ok (obstacle.Held x.0, x.1)) (maybe_view_at mark.1 >>= λ x. Ok (obstacle.OtherView x.0, x.1))
 
 unfoldable pub message_at : MessageKind → List ℕ → Result (Message × List ℕ) ℕ
 message_at kinds.Invite bytes = do

@@ -1,14 +1,15 @@
 //! Writing answers.
 
 ghost use Rattle.std.specs.Prelude.{◌≡◌, ◌++◌, ◌∷◌, [], OnOk};
-ghost use Rattle.vp_wire.specs.Grammar.{answer_bytes, number_bytes, counted_bytes, numbered_bytes, txn_bytes, view_bytes, owner_bytes, maybe_view_bytes};
+ghost use Rattle.vp_wire.specs.Grammar.{answer_bytes};
+ghost use Rattle.vp_bytes.specs.Fields.{number_bytes, counted_bytes, numbered_bytes, txn_bytes, view_bytes, owner_bytes, maybe_view_bytes};
 
 use crate::calls::put_coded;
-use crate::fields::{
-    put_byte, put_maybe_view, put_name, put_owner, put_txn, put_u32, put_u64, put_value, put_view,
-};
 use bytes::BytesMut;
 use vp_base::{Answer, CallNo, Name, NoMemory, Owner, SiteId, TxnId, Value, ViewId};
+use vp_bytes::{
+    put_byte, put_maybe_view, put_name, put_owner, put_txn, put_u32, put_u64, put_value, put_view,
+};
 
 pub fn put_answer(out: &mut BytesMut, answer: &Answer) -> Result<(), NoMemory>
     ensures { OnOk result (out.new.items ≡ out.old.items ++ answer_bytes answer.now) }

@@ -1,11 +1,12 @@
 //! Writing calls.
 
 ghost use Rattle.std.specs.Prelude.{◌≡◌, ◌++◌, ◌∷◌, [], OnOk};
-ghost use Rattle.vp_wire.specs.Grammar.{call_bytes, counted_bytes, numbered_bytes};
+ghost use Rattle.vp_wire.specs.Grammar.{call_bytes};
+ghost use Rattle.vp_bytes.specs.Fields.{counted_bytes, numbered_bytes};
 
-use crate::fields::{put_byte, put_name, put_numbered, put_value};
 use bytes::BytesMut;
 use vp_base::{Call, CallNo, Name, NoMemory, TxnId, Value};
+use vp_bytes::{put_byte, put_name, put_numbered, put_value};
 
 pub fn put_call(out: &mut BytesMut, call: &Call) -> Result<(), NoMemory>
     ensures { OnOk result (out.new.items ≡ out.old.items ++ call_bytes call.now) }

@@ -7,7 +7,7 @@ ghost use Rattle.vp_wire.specs.Faults.{wire_place};
 ghost use Rattle.vp_wire.specs.Frames.{body_at, coded_answer_at, coded_call_at, frame_at, least_from, least_to, most_from, most_to};
 ghost use Rattle.vp_wire.specs.Grammar.{IsSpelling};
 ghost use Rattle.vp_wire.specs.Kinds.{answer_kind, call_kind, code_at, frame_kind};
-ghost use Rattle.vp_wire.specs.Reading.{byte_at, within};
+ghost use Rattle.vp_bytes.specs.Reading.{byte_at, within};
 
 use crate::fault::WireFault;
 use crate::frame::{Body, Frame};
@@ -15,9 +15,9 @@ use crate::kind::{AnswerKind, CallKind, Kind};
 use crate::read_answers::take_answer;
 use crate::read_calls::take_call;
 use crate::read_messages::take_message;
-use crate::reading::take_byte;
 use std::alloc::Global;
 use vp_base::LineFault;
+use vp_bytes::take_byte;
 use vp_text::{Cursor, Unexpected};
 
 /// The frame that the bytes are the spelling of. `BadFrame` says how many of them begin one.

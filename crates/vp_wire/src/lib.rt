@@ -5,18 +5,14 @@ mod answers;
 mod calls;
 mod decoding;
 mod fault;
-mod fields;
 mod frame;
 mod kind;
 mod laws;
-mod lists;
 mod read_answers;
 mod read_calls;
 mod read_messages;
-mod reading;
 #[cfg(test)]
 mod tests;
-mod words;
 mod writing;
 
 pub use decoding::decode;

@@ -6,12 +6,12 @@ ghost use Rattle.vp_wire.specs.declared.kind.AnswerKind.TheVariants as kinds;
 ghost use Rattle.vp_wire.specs.Answers.{answer_at};
 
 use crate::kind::AnswerKind;
-use crate::reading::{
-    take_maybe_view, take_numbered, take_owner, take_site, take_txn, take_u32, take_u64, take_view,
-};
-use crate::words::{take_name, take_value};
 use std::alloc::Global;
 use vp_base::{Answer, LineFault};
+use vp_bytes::{
+    take_maybe_view, take_name, take_numbered, take_owner, take_site, take_txn, take_u32, take_u64,
+    take_value, take_view,
+};
 use vp_text::Cursor;
 
 /// Takes the fields of an answer of this kind.

@@ -6,10 +6,9 @@ ghost use Rattle.vp_wire.specs.declared.kind.CallKind.TheVariants as kinds;
 ghost use Rattle.vp_wire.specs.Calls.{call_at};
 
 use crate::kind::CallKind;
-use crate::reading::take_numbered;
-use crate::words::{take_name, take_value};
 use std::alloc::Global;
 use vp_base::{Call, LineFault};
+use vp_bytes::{take_name, take_numbered, take_value};
 use vp_text::Cursor;
 
 /// Takes the fields of a call of this kind.

@@ -1,19 +1,18 @@
 //! Reading the fields of messages.
 
-ghost use Rattle.vp_text.specs.Reading.{Tries};
+ghost use Rattle.vp_text.specs.Reading.{Reads, Tries};
 ghost use Rattle.vp_base.specs.Faults.{line_left};
 ghost use Rattle.vp_wire.specs.declared.kind.MessageKind.TheVariants as kinds;
-ghost use Rattle.vp_wire.specs.Messages.{message_at};
+ghost use Rattle.vp_wire.specs.Messages.{message_at, obstacle_at};
 
 use crate::kind::MessageKind;
-use crate::lists::{take_recs, take_sites, take_writes};
-use crate::reading::{
-    take_numbered, take_obstacle, take_outcome, take_rec, take_request, take_txn, take_view,
-};
-use crate::words::take_value;
 use std::alloc::Global;
-use vp_base::{LineFault, Message};
-use vp_text::Cursor;
+use vp_base::{LineFault, Message, Obstacle};
+use vp_bytes::{
+    take_byte, take_maybe_view, take_numbered, take_outcome, take_owner, take_rec, take_recs,
+    take_request, take_sites, take_txn, take_value, take_view, take_writes,
+};
+use vp_text::{Cursor, Unexpected};
 
 /// Takes the fields of a message of this kind.
 #[tactic(auto, unfolding(crate::specs::Messages::message_at))]
@@ -122,6 +121,21 @@ fn take_write_answer(cursor: &mut Cursor) -> Result<Message, LineFault>
 {
     let (txn, number) = take_numbered(cursor)?;
     Ok(Message::WriteAnswer { txn, number })
+}
+
+/// Takes why a site refuses a request.
+#[tactic(auto, unfolding(crate::specs::Messages::obstacle_at))]
+fn take_obstacle(cursor: &mut Cursor) -> Result<Obstacle, Unexpected>
+    ensures { Reads (λ o. o) (λ e. e.left) result cursor.new (obstacle_at cursor.old) }
+{
+    let mark = take_byte(cursor, 1, 2)?;
+    if mark == 1 {
+        let owner = take_owner(cursor)?;
+        Ok(Obstacle::Held { owner })
+    } else {
+        let now = take_maybe_view(cursor)?;
+        Ok(Obstacle::OtherView { now })
+    }
 }
 
 #[tactic(auto, unfolding(crate::specs::Messages::message_at))]

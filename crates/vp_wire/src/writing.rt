@@ -1,17 +1,18 @@
 //! Writing frames.
 
 ghost use Rattle.std.specs.Prelude.{◌≡◌, ◌++◌, ◌∷◌, [], OnOk};
-ghost use Rattle.vp_wire.specs.Grammar.{IsSites, IsRecs, IsWrites, IsMessage, IsFrame, message_kind, message_bytes, kind, fields, frame_bytes, view_bytes, txn_bytes, counted_bytes, writes_bytes, numbered_bytes, request_bytes, obstacle_bytes, outcome_byte};
+ghost use Rattle.vp_bytes.specs.Fields.{IsSites, IsRecs, IsWrites, view_bytes, txn_bytes, counted_bytes, writes_bytes, numbered_bytes, request_bytes, outcome_byte};
+ghost use Rattle.vp_wire.specs.Grammar.{IsMessage, IsFrame, message_kind, message_bytes, kind, fields, frame_bytes, obstacle_bytes};
 
 use crate::answers::put_answer;
 use crate::calls::put_call;
-use crate::fields::{
-    put_byte, put_maybe_view, put_numbered, put_owner, put_recs, put_request, put_sites, put_txn,
-    put_value, put_view, put_writes,
-};
 use crate::frame::{Body, Frame};
 use bytes::BytesMut;
 use vp_base::{CallNo, Message, NoMemory, Obstacle, RecId, SiteId, TxnId, Value, ViewId};
+use vp_bytes::{
+    put_byte, put_maybe_view, put_numbered, put_owner, put_recs, put_request, put_sites, put_txn,
+    put_value, put_view, put_writes,
+};
 
 /// Appends the one spelling of the frame. Without memory a beginning of it may have been appended.
 pub fn encode(frame: &Frame, out: &mut BytesMut) -> Result<(), NoMemory>

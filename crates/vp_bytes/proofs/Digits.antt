@@ -1,0 +1,44 @@
+-- Numbers in a fixed count of bytes are read exactly: any number, or any but 0.
+use Rattle.std.proofs.Common.{◌≡◌, ℕ, zero, suc, ◌+◌, ◌*◌, List, [], ◌∷◌, ◌++◌, length, Bool, true, Err, refl, sym, ap, ◌∙◌, arith, not, nat_lt}
+use Rattle.std.proofs.lemmas.Bool.{lt-ltb, or_right}
+use Rattle.vp_text.proofs.Exact.{Apart, Exact, Then, done, ok_value}
+use Rattle.vp_bytes.specs.Reading.{digit_fits, digits_at}
+use Rattle.vp_bytes.proofs.Free.{IsFree, IsByteOf, byte_free, byte_exact, free_then, even_free}
+
+-- The text is n bytes, and with the front of its number before them they make the number x.
+abbrev pub HasDigits : Bool → ℕ → ℕ → ℕ → List ℕ → Type 0
+HasDigits some zero front x text = (text ≡ []) × (x ≡ front)
+HasDigits some (suc n) front x text = Then (IsByteOf (digit_fits some n front)) (λ c. HasDigits some n (front * 256 + c)) x text
+
+pub nothing_more : (r rest : List ℕ) → r ≡ [] → Apart r rest
+nothing_more [] rest h = tt
+nothing_more (x ∷ r) rest h = absurd (omega (arith, ap length h))
+
+nothing_exact : (some : Bool) (front : ℕ) → Exact (HasDigits some 0 front) (digits_at some 0 front)
+nothing_exact some front = record {
+  ok = λ bytes a rest h.
+      let same : (front, bytes) ≡ (a, rest) = ok_value (front, bytes) (a, rest) h in
+      record { text = []; spelled = (refl, sym (ap (λ (x : ℕ × List ℕ). x.0) same)); parts = ap (λ (x : ℕ × List ℕ). x.1) same; ends = λ b r l. nothing_more r rest l.0 };
+  err = λ bytes left h. absurd (let never : done (front, bytes) ≡ Err left = h in cc);
+  again = λ a text rest l ends. rw (l.0, l.1) refl;
+}
+
+-- the greatest byte always fits
+greatest_fits : (some : Bool) (n front : ℕ) → digit_fits some n front 255 ≡ true
+greatest_fits some n front =
+    or_right (not some) _ (or_right (nat_lt 0 n) (nat_lt 0 (front * 256 + 255)) (lt-ltb 0 (front * 256 + 255) (omega arith)))
+
+pub digits_exact : (some : Bool) (n front : ℕ) → Exact (HasDigits some n front) (digits_at some n front)
+digits_exact some zero front = nothing_exact some front
+digits_exact some (suc n) front =
+    free_then (byte_free {has = digit_fits some n front}) (byte_exact (digit_fits some n front) 255 (greatest_fits some n front)) (λ c. digits_exact some n (front * 256 + c))
+
+pub digits_length : (some : Bool) (n front x : ℕ) (text : List ℕ) → HasDigits some n front x text → length text ≡ n
+digits_length some zero front x text h = ap length h.0
+digits_length some (suc n) front x text h =
+    let back = digits_length some n (front * 256 + h.first) x h.back h.after in
+    let whole : length text ≡ suc (length h.back) = ap length (h.parts ∙ ap (λ (t : List ℕ). t ++ h.back) h.before.is) in
+    omega (arith, back, whole)
+
+pub digits_free : (some : Bool) (n front : ℕ) → IsFree (HasDigits some n front)
+digits_free some n front = even_free {L = HasDigits some n front} n (λ x t h. digits_length some n front x t h)

@@ -1,0 +1,11 @@
+pub mod Free
+pub mod Digits
+pub mod NumberBytes
+pub mod Taken
+pub mod Identifiers
+pub mod Marked
+pub mod Pairs
+pub mod Runs
+pub mod Items
+pub mod Turns
+pub mod Singles

@@ -1,0 +1,5 @@
+use Rattle.std.proofs.Common.{◌≡◌, ◌++◌, ◌∷◌, length, take}
+use Rattle.vp_bytes.proofs.fields.put_recs.Given as goal
+
+abbrev pub invariant-loop-rec : goal.invariant-loop-rec
+invariant-loop-rec l = l.out.items ≡ l.fn.out.items ++ length l.recs ∷ take l.rec-index l.recs

@@ -1,0 +1,13 @@
+use Rattle.std.proofs.Common.{false, arith}
+use Rattle.std.proofs.lemmas.Bool.{false≢true}
+use Rattle.vp_bytes.specs.Reading.{u32_at}
+use Rattle.vp_bytes.proofs.Taken.{number_taken, number_short}
+use Rattle.vp_bytes.proofs.reading.first_u32.Goals as goal
+
+pub returns-then-bytes-lt4-clause-read : goal.returns-then-bytes-lt4-clause-read
+unfolding u32_at
+returns-then-bytes-lt4-clause-read c = number_short false 4 0 c.args.bytes.now (λ i. let f = c.type_inv.bytes i in omega arith) c.if-bytes-lt4.true
+
+pub returns-clause-read : goal.returns-clause-read
+unfolding u32_at
+returns-clause-read c = rw c.read_u32.ensures (number_taken false 4 (omega arith) c.args.bytes.now (λ i. let f = c.type_inv.bytes i in omega arith) c.if-bytes-lt4.false (λ s. absurd (false≢true s)))

@@ -1,0 +1,23 @@
+//! The fields that frames and log records share: numbers, identifiers, names, values and lists, each with one spelling in bytes.
+//!
+//! A reader takes its field from a cursor, or says how many bytes are left at the fault: those before them begin a field, and
+//! one more of them doesn't. A writer appends the field to a buffer; without memory a beginning of it may have been appended.
+#![tactic(auto)]
+
+mod fields;
+mod lists;
+mod reading;
+#[cfg(test)]
+mod tests;
+mod words;
+
+pub use fields::{
+    put_byte, put_counted, put_maybe_view, put_name, put_numbered, put_owner, put_recs,
+    put_request, put_sites, put_txn, put_u32, put_u64, put_value, put_view, put_writes,
+};
+pub use lists::{take_recs, take_sites, take_writes};
+pub use reading::{
+    take_byte, take_maybe_view, take_number, take_numbered, take_outcome, take_owner, take_rec,
+    take_request, take_site, take_some_u32, take_txn, take_u32, take_u64, take_view,
+};
+pub use words::{take_name, take_value};

@@ -1,0 +1,116 @@
+//! Reading sites, records and writes.
+
+ghost use Rattle.std.specs.Prelude.{◌≤◌, ◌+◌, ◌-◌, IfOk};
+ghost use Rattle.vp_text.specs.Reading.{Reads, Tries};
+ghost use Rattle.vp_base.specs.Faults.{line_left};
+ghost use Rattle.vp_bytes.specs.Reading.{ascending_at, recs_at, run_at, sites_at, write_at, writes_at};
+
+use crate::reading::take_byte;
+use crate::words::take_value;
+use std::alloc::Global;
+use vp_base::{LineFault, RecId, Recs, SiteId, Sites, Value, Writes};
+use vp_text::{Cursor, Unexpected};
+
+/// Takes 1 to 16 sites, ascending, behind their count.
+#[tactic(auto, unfolding(crate::specs::Reading::sites_at, crate::specs::Reading::counted_at))]
+pub fn take_sites(alloc: Global, cursor: &mut Cursor) -> Result<Sites, LineFault>
+    ensures { Tries (λ s. s) line_left result cursor.new (sites_at cursor.old) }
+{
+    let count = take_byte(cursor, 1, 16)?;
+    take_some_sites(alloc, cursor, count)
+}
+
+/// Takes so many sites, ascending.
+fn take_some_sites(alloc: Global, cursor: &mut Cursor, count: u8) -> Result<Sites, LineFault>
+    requires { count ≤ 16 }
+    ensures { Tries (λ s. s) line_left result cursor.new (run_at (λ c. c) (ascending_at 16) count 1 cursor.old) }
+{
+    let mut sites = Vec::new(alloc);
+    let mut left = count;
+    let mut least = 1;
+    while left > 0 {
+        left -= 1;
+        let site = take_byte(cursor, least, 16 - left)?;
+        sites.push(SiteId::of(site))?;
+        least = site + 1;
+    }
+    Ok(Sites::from_vec(sites))
+}
+
+/// Takes up to 64 records, ascending, behind their count.
+#[tactic(auto, unfolding(crate::specs::Reading::recs_at, crate::specs::Reading::counted_at))]
+pub fn take_recs(alloc: Global, cursor: &mut Cursor) -> Result<Recs, LineFault>
+    ensures { Tries (λ r. r) line_left result cursor.new (recs_at cursor.old) }
+{
+    let count = take_byte(cursor, 0, 64)?;
+    take_some_recs(alloc, cursor, count)
+}
+
+/// Takes so many records, ascending.
+fn take_some_recs(alloc: Global, cursor: &mut Cursor, count: u8) -> Result<Recs, LineFault>
+    requires { count ≤ 64 }
+    ensures { Tries (λ r. r) line_left result cursor.new (run_at (λ c. c) (ascending_at 255) count 0 cursor.old) }
+{
+    let mut recs = Vec::new(alloc);
+    let mut left = count;
+    let mut least = 0;
+    while left > 0 {
+        left -= 1;
+        let rec = take_rec_from(cursor, least, left)?;
+        recs.push(RecId::new(rec))?;
+        least = u16::from(rec) + 1;
+    }
+    Ok(Recs::from_vec(recs))
+}
+
+/// Takes a record from `least` on that so many others can follow.
+fn take_rec_from(cursor: &mut Cursor, least: u16, behind: u8) -> Result<u8, Unexpected>
+    requires { least + behind ≤ 255 }
+    ensures read { Reads (λ x. x) (λ e. e.left) result cursor.new (ascending_at 255 behind least cursor.old) }
+    ensures range { IfOk result (λ x. (least ≤ x) × (x ≤ 255 - behind)) }
+{
+    take_byte(cursor, least as u8, 255 - behind)
+}
+
+/// Takes up to 64 writes, ascending by record, behind their count.
+#[tactic(auto, unfolding(crate::specs::Reading::writes_at, crate::specs::Reading::counted_at))]
+pub fn take_writes(alloc: Global, cursor: &mut Cursor) -> Result<Writes, LineFault>
+    ensures { Tries (λ w. w) line_left result cursor.new (writes_at cursor.old) }
+{
+    let count = take_byte(cursor, 0, 64)?;
+    take_some_writes(alloc, cursor, count)
+}
+
+/// Takes so many writes, ascending by record.
+fn take_some_writes(alloc: Global, cursor: &mut Cursor, count: u8) -> Result<Writes, LineFault>
+    requires { count ≤ 64 }
+    ensures { Tries (λ w. w) line_left result cursor.new (run_at (λ write. write.0) write_at count 0 cursor.old) }
+{
+    let mut writes = Vec::new(alloc);
+    let mut left = count;
+    let mut least = 0;
+    while left > 0 {
+        left -= 1;
+        let write = take_write(alloc, cursor, least, left)?;
+        least = u16::from(write.0.get()) + 1;
+        writes.push(write)?;
+    }
+    Ok(Writes::from_vec(writes))
+}
+
+/// Takes a record from `least` on that so many others can follow, and its value.
+#[tactic(auto, unfolding(crate::specs::Reading::write_at))]
+fn take_write(
+    alloc: Global,
+    cursor: &mut Cursor,
+    least: u16,
+    behind: u8,
+) -> Result<(RecId, Value), LineFault>
+    requires { least + behind ≤ 255 }
+    ensures read { Tries (λ w. w) line_left result cursor.new (write_at behind least cursor.old) }
+    ensures range { IfOk result (λ w. (least ≤ w.0) × (w.0 ≤ 255 - behind)) }
+{
+    let rec = take_rec_from(cursor, least, behind)?;
+    let value = take_value(alloc, cursor)?;
+    Ok((RecId::new(rec), value))
+}

@@ -1,0 +1,210 @@
+//! Reading numbers, identifiers and what is made of them.
+
+ghost use Rattle.std.specs.Prelude.{◌≡◌, ◌≤◌, IfOk, drop, length};
+ghost use Rattle.vp_text.specs.Reading.{Reads};
+ghost use Rattle.vp_base.specs.Reading.{least_site, most_site};
+ghost use Rattle.vp_bytes.specs.Reading.{byte_at, within, maybe_view_at, numbered_at, outcome_at, owner_at, request_at, some_u32_at, txn_at, u32_at, u64_at, view_at};
+
+use byteorder::{BigEndian, ByteOrder};
+use vp_base::{CallNo, Owner, RecId, SiteId, TxnId, ViewId};
+use vp_text::{Cursor, Unexpected};
+
+/// Takes a byte from `least` to `most`.
+pub fn take_byte(cursor: &mut Cursor, least: u8, most: u8) -> Result<u8, Unexpected>
+    ensures read { Reads (λ x. x) (λ e. e.left) result cursor.new (byte_at (within least most) cursor.old) }
+    ensures range { IfOk result (λ x. (least ≤ x) × (x ≤ most)) }
+{
+    let rest = cursor.rest();
+    if rest.is_empty() {
+        return Err(Unexpected { left: 0 });
+    }
+    let byte = rest[0];
+    if byte < least || most < byte {
+        return Err(Unexpected { left: rest.len() });
+    }
+    cursor.advance(1);
+    Ok(byte)
+}
+
+/// Takes a number of 32 bits.
+pub fn take_u32(cursor: &mut Cursor) -> Result<u32, Unexpected>
+    ensures { Reads (λ x. x) (λ e. e.left) result cursor.new (u32_at cursor.old) }
+{
+    let number = first_u32(cursor.rest())?;
+    cursor.advance(4);
+    Ok(number)
+}
+
+/// The number in the first 4 bytes.
+fn first_u32(bytes: &[u8]) -> Result<u32, Unexpected>
+    ensures read { Reads (λ x. x) (λ e. e.left) result (drop 4 bytes.now) (u32_at bytes.now) }
+    ensures enough { IfOk result (λ _. 4 ≤ length bytes.now) }
+{
+    if bytes.len() < 4 {
+        return Err(Unexpected { left: 0 });
+    }
+    Ok(BigEndian::read_u32(bytes))
+}
+
+/// Takes a number of 64 bits.
+pub fn take_u64(cursor: &mut Cursor) -> Result<u64, Unexpected>
+    ensures { Reads (λ x. x) (λ e. e.left) result cursor.new (u64_at cursor.old) }
+{
+    let number = first_u64(cursor.rest())?;
+    cursor.advance(8);
+    Ok(number)
+}
+
+/// The number in the first 8 bytes.
+fn first_u64(bytes: &[u8]) -> Result<u64, Unexpected>
+    ensures read { Reads (λ x. x) (λ e. e.left) result (drop 8 bytes.now) (u64_at bytes.now) }
+    ensures enough { IfOk result (λ _. 8 ≤ length bytes.now) }
+{
+    if bytes.len() < 8 {
+        return Err(Unexpected { left: 0 });
+    }
+    Ok(BigEndian::read_u64(bytes))
+}
+
+/// Takes a view: 0 at site 0, or a number of 1 or more at a site from 1 to 16.
+#[tactic(auto, unfolding(crate::specs::Reading::view_at))]
+pub fn take_view(cursor: &mut Cursor) -> Result<ViewId, Unexpected>
+    ensures { Reads (λ v. v) (λ e. e.left) result cursor.new (view_at cursor.old) }
+{
+    let number = take_u64(cursor)?;
+    let site = take_view_site(cursor, number)?;
+    Ok(ViewId { number, site })
+}
+
+/// Takes the site of a view with this number.
+fn take_view_site(cursor: &mut Cursor, number: u64) -> Result<u8, Unexpected>
+    ensures { Reads (λ x. x) (λ e. e.left) result cursor.new (byte_at (within (least_site number) (most_site number)) cursor.old) }
+{
+    if number == 0 {
+        take_byte(cursor, 0, 0)
+    } else {
+        take_byte(cursor, 1, 16)
+    }
+}
+
+/// Takes a number of 32 bits that isn't 0.
+pub fn take_some_u32(cursor: &mut Cursor) -> Result<u32, Unexpected>
+    ensures read { Reads (λ x. x) (λ e. e.left) result cursor.new (some_u32_at cursor.old) }
+    ensures some { IfOk result (λ x. 1 ≤ x) }
+{
+    let number = first_some_u32(cursor.rest())?;
+    cursor.advance(4);
+    Ok(number)
+}
+
+/// The number in the first 4 bytes, which isn't 0.
+fn first_some_u32(bytes: &[u8]) -> Result<u32, Unexpected>
+    ensures read { Reads (λ x. x) (λ e. e.left) result (drop 4 bytes.now) (some_u32_at bytes.now) }
+    ensures enough { IfOk result (λ _. 4 ≤ length bytes.now) }
+    ensures some { IfOk result (λ x. 1 ≤ x) }
+{
+    if bytes.len() < 4 {
+        return Err(Unexpected { left: 0 });
+    }
+    let number = BigEndian::read_u32(bytes);
+    if number == 0 {
+        return Err(Unexpected {
+            left: bytes.len() - 3,
+        });
+    }
+    Ok(number)
+}
+
+/// Takes a site, from 1 to 16.
+pub fn take_site(cursor: &mut Cursor) -> Result<SiteId, Unexpected>
+    ensures { Reads (λ s. s) (λ e. e.left) result cursor.new (byte_at (within 1 16) cursor.old) }
+{
+    let number = take_byte(cursor, 1, 16)?;
+    Ok(SiteId::of(number))
+}
+
+/// Takes a transaction.
+#[tactic(auto, unfolding(crate::specs::Reading::txn_at))]
+pub fn take_txn(cursor: &mut Cursor) -> Result<TxnId, Unexpected>
+    ensures { Reads (λ t. t) (λ e. e.left) result cursor.new (txn_at cursor.old) }
+{
+    let site = take_site(cursor)?;
+    let life = take_some_u32(cursor)?;
+    let seq = take_some_u32(cursor)?;
+    Ok(TxnId { site, life, seq })
+}
+
+/// Takes the number of a call.
+pub fn take_number(cursor: &mut Cursor) -> Result<CallNo, Unexpected>
+    ensures { Reads (λ n. n) (λ e. e.left) result cursor.new (some_u32_at cursor.old) }
+{
+    let number = take_some_u32(cursor)?;
+    match CallNo::new(number) {
+        Some(number) => Ok(number),
+        None => unreachable!(),
+    }
+}
+
+/// Takes the transaction and the number of a call.
+#[tactic(auto, unfolding(crate::specs::Reading::numbered_at))]
+pub fn take_numbered(cursor: &mut Cursor) -> Result<(TxnId, CallNo), Unexpected>
+    ensures { Reads (λ x. (x.0, x.1)) (λ e. e.left) result cursor.new (numbered_at cursor.old) }
+{
+    let txn = take_txn(cursor)?;
+    let number = take_number(cursor)?;
+    Ok((txn, number))
+}
+
+/// Takes a view, or 0 for none.
+#[tactic(auto, unfolding(crate::specs::Reading::maybe_view_at))]
+pub fn take_maybe_view(cursor: &mut Cursor) -> Result<Option<ViewId>, Unexpected>
+    ensures { Reads (λ v. v) (λ e. e.left) result cursor.new (maybe_view_at cursor.old) }
+{
+    let flag = take_byte(cursor, 0, 1)?;
+    if flag == 0 {
+        return Ok(None);
+    }
+    let view = take_view(cursor)?;
+    Ok(Some(view))
+}
+
+/// Takes an owner: a transaction, or 0 for a refresh.
+#[tactic(auto, unfolding(crate::specs::Reading::owner_at))]
+pub fn take_owner(cursor: &mut Cursor) -> Result<Owner, Unexpected>
+    ensures { Reads (λ o. o) (λ e. e.left) result cursor.new (owner_at cursor.old) }
+{
+    let flag = take_byte(cursor, 0, 1)?;
+    if flag == 0 {
+        return Ok(Owner::Refresh);
+    }
+    let txn = take_txn(cursor)?;
+    Ok(Owner::Txn(txn))
+}
+
+/// Takes a record.
+pub fn take_rec(cursor: &mut Cursor) -> Result<RecId, Unexpected>
+    ensures { Reads (λ r. r) (λ e. e.left) result cursor.new (byte_at (within 0 255) cursor.old) }
+{
+    let place = take_byte(cursor, 0, 255)?;
+    Ok(RecId::new(place))
+}
+
+/// Takes what asks a part for a lock or a vote.
+#[tactic(auto, unfolding(crate::specs::Reading::request_at))]
+pub fn take_request(cursor: &mut Cursor) -> Result<(TxnId, ViewId, CallNo), Unexpected>
+    ensures { Reads (λ x. (x.0, x.1, x.2)) (λ e. e.left) result cursor.new (request_at cursor.old) }
+{
+    let txn = take_txn(cursor)?;
+    let view = take_view(cursor)?;
+    let number = take_number(cursor)?;
+    Ok((txn, view, number))
+}
+
+/// Takes an outcome: whether it is commit.
+#[tactic(auto, unfolding(crate::specs::Reading::outcome_at))]
+pub fn take_outcome(cursor: &mut Cursor) -> Result<bool, Unexpected>
+    ensures { Reads (λ b. b) (λ e. e.left) result cursor.new (outcome_at cursor.old) }
+{
+    let flag = take_byte(cursor, 0, 1)?;
+    Ok(flag == 1)
+}

@@ -1,0 +1,81 @@
+//! Reading names and values.
+
+ghost use Rattle.std.specs.Prelude.{◌≤◌, IfOk, drop, length, take};
+ghost use Rattle.vp_text.specs.Classes.{has, most};
+ghost use Rattle.vp_text.specs.Reading.{Reads, Tries};
+ghost use Rattle.vp_text.specs.Tokens.{IsWord};
+ghost use Rattle.vp_base.specs.Faults.{line_left};
+ghost use Rattle.vp_bytes.specs.Reading.{byte_at, name_at, value_at, within, word_at, word_run_at};
+
+use crate::reading::take_byte;
+use std::alloc::Global;
+use vp_base::{LineFault, Name, NameFault, Value};
+use vp_text::{Class, Cursor, Unexpected};
+
+/// Takes a name behind its count.
+#[tactic(auto, unfolding(crate::specs::Reading::name_at))]
+pub fn take_name(alloc: Global, cursor: &mut Cursor) -> Result<Name, LineFault>
+    ensures { Tries (λ a. a) line_left result cursor.new (name_at cursor.old) }
+{
+    let word = take_word(cursor, Class::Name)?;
+    match Name::read(alloc, word) {
+        Ok(name) => Ok(name),
+        Err(NameFault::NoMemory) => Err(LineFault::NoMemory),
+        Err(NameFault::BadName { .. }) => unreachable!(),
+    }
+}
+
+/// Takes a value behind its count.
+#[tactic(auto, unfolding(crate::specs::Reading::value_at))]
+pub fn take_value(alloc: Global, cursor: &mut Cursor) -> Result<Value, LineFault>
+    ensures { Tries (λ a. a) line_left result cursor.new (value_at cursor.old) }
+{
+    let word = take_word(cursor, Class::Value)?;
+    match Value::read(alloc, word) {
+        Ok(value) => Ok(value),
+        Err(NameFault::NoMemory) => Err(LineFault::NoMemory),
+        Err(NameFault::BadName { .. }) => unreachable!(),
+    }
+}
+
+/// Takes a word of the class behind its count.
+#[tactic(auto, unfolding(crate::specs::Reading::counted_at))]
+fn take_word<'a>(cursor: &mut Cursor<'a>, class: Class) -> Result<&'a [u8], Unexpected>
+    ensures read { Reads (λ w. w.now) (λ e. e.left) result cursor.new (word_at class cursor.old) }
+    ensures allowed { IfOk result (λ w. IsWord (has class) (most class) w.now w.now) }
+{
+    let count = take_count(cursor, class)?;
+    let rest = cursor.rest();
+    check_word(rest, class, count)?;
+    cursor.advance(count);
+    Ok(&rest[..count])
+}
+
+/// Takes the count of a word's bytes.
+fn take_count(cursor: &mut Cursor, class: Class) -> Result<usize, Unexpected>
+    ensures read { Reads (λ n. n) (λ e. e.left) result cursor.new (byte_at (within 1 (most class)) cursor.old) }
+    ensures range { IfOk result (λ n. (1 ≤ n) × (n ≤ most class)) }
+{
+    let count = match class {
+        Class::Name => take_byte(cursor, 1, 16)?,
+        Class::Value => take_byte(cursor, 1, 64)?,
+    };
+    Ok(usize::from(count))
+}
+
+/// Whether so many bytes of the class stand first.
+fn check_word(bytes: &[u8], class: Class, count: usize) -> Result<(), Unexpected>
+    ensures read { Reads (λ _. take count bytes.now) (λ e. e.left) result (drop count bytes.now) (word_run_at class count bytes.now) }
+    ensures enough { IfOk result (λ _. count ≤ length bytes.now) }
+{
+    let mut good = 0;
+    while good < count {
+        if good == bytes.len() || !class.has(bytes[good]) {
+            return Err(Unexpected {
+                left: bytes.len() - good,
+            });
+        }
+        good += 1;
+    }
+    Ok(())
+}

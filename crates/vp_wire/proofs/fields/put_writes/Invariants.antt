@@ -1,7 +1,0 @@
-use Rattle.std.proofs.Common.{◌≡◌, ◌++◌, ◌∷◌, length, take}
-use Rattle.std.specs.List.{flat_map}
-use Rattle.vp_wire.specs.Grammar.{write_bytes}
-use Rattle.vp_wire.proofs.fields.put_writes.Given as goal
-
-abbrev pub invariant-loop-write : goal.invariant-loop-write
-invariant-loop-write l = l.out.items ≡ l.fn.out.items ++ length l.writes ∷ flat_map write_bytes (take l.write-index l.writes)
