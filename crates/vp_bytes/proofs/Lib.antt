@@ -10,3 +10,5 @@ pub mod Items
 pub mod Turns
 pub mod Singles
 pub mod NumbersWithin
+pub mod RangeSteps
+pub mod RangeTaken

@@ -1,16 +1,16 @@
 -- Numbers of a range are read exactly.
-use Rattle.std.proofs.Common.{◌≡◌, ℕ, zero, suc, ◌+◌, ◌*◌, ◌-◌, ◌/◌, ◌^◌, ◌≤◌, ◌<◌, List, [], ◌∷◌, ◌++◌, length, Bool, true, false, Ok, Err, Result, refl, sym, ap, subst, ◌∙◌, arith, not, nat_lt, ◌||◌}
+use Rattle.std.proofs.Common.{◌≡◌, ℕ, zero, suc, ◌+◌, ◌*◌, ◌-◌, ◌/◌, ◌^◌, ◌≤◌, ◌<◌, List, [], ◌∷◌, ◌++◌, Bool, true, false, Result, refl, sym, ap, subst, ◌∙◌, arith, not, nat_lt, ◌||◌}
 use Rattle.std.proofs.lemmas.Bool.{lt-ltb, ltb-true, and_from, and_parts, or_left}
 use Rattle.std.proofs.lemmas.List.{append-nil}
 use Rattle.std.proofs.lemmas.Nat.{div_below, le-div}
-use Rattle.std.proofs.Math.Nat.{add-mul, mul_assoc, mul_comm, pow-succ', div-one, div-div-eq-div-mul, mul-le-mul_right, div-mul-le_self, one-le-pow}
+use Rattle.std.proofs.Math.Nat.{mul_assoc, mul_comm, pow-succ', div-one, div-div-eq-div-mul, mul-le-mul_right, div-mul-le_self, one-le-pow}
 use Rattle.byteorder.specs.Endian.{big_bytes}
 use Rattle.vp_text.proofs.Exact.{Apart, Exact, exact_as, Then}
 use Rattle.vp_bytes.specs.Fields.{number_bytes}
-use Rattle.vp_bytes.specs.Reading.{is_byte, within, digit_fits}
+use Rattle.vp_bytes.specs.Reading.{is_byte, digit_fits}
 use Rattle.vp_bytes.specs.Ranges.{IsNumberWithin, range_fits, digits_within_at, number_within_at}
-use Rattle.vp_bytes.proofs.Digits.{HasDigits, digits_exact, nothing_more}
-use Rattle.vp_bytes.proofs.Free.{IsFree, IsByteOf, byte_free, byte_exact, even_free, free_as}
+use Rattle.vp_bytes.proofs.Digits.{HasDigits, digits_exact}
+use Rattle.vp_bytes.proofs.Free.{IsFree, IsByteOf, byte_free, byte_exact, free_as}
 use Rattle.vp_bytes.proofs.Identifiers.{within_from, within_to}
 use Rattle.vp_bytes.proofs.NumberBytes.{IsNumberBytes, number_exact, number_free}
 use Rattle.vp_bytes.proofs.Runs.{then_where}
@@ -48,7 +48,7 @@ next_fits low high n front le opens =
     let to : front ≤ high / 256 ^ n / 256 = subst (λ (q : ℕ). front ≤ q) (shorter high n) opens.1 in
     let order = quotients low high (256 ^ n) (power_some n) le in
     and_from (is_byte (low / 256 ^ n - front * 256)) _ (lt-ltb (low / 256 ^ n - front * 256) 256 (omega (arith, from)))
-        (within_from (low / 256 ^ n) (high / 256 ^ n) (front * 256 + (low / 256 ^ n - front * 256)) (omega arith) (omega (arith, to, order)))
+    (within_from (low / 256 ^ n) (high / 256 ^ n) (front * 256 + (low / 256 ^ n - front * 256)) (omega arith) (omega (arith, to, order)))
 
 fits_opens : (low high n front c : ℕ) → range_fits low high n front c ≡ true → Opens low high n (front * 256 + c)
 fits_opens low high n front c h = within_to (low / 256 ^ n) (high / 256 ^ n) (front * 256 + c) (and_parts (is_byte c) _ h).1
@@ -60,7 +60,7 @@ digits_within_exact : (low high : ℕ) → low ≤ high → (n front : ℕ) → 
 digits_within_exact low high le zero front opens = nothing_exact low high front
 digits_within_exact low high le (suc n) front opens =
     then_where (range_fits low high n front) (λ c. HasDigitsWithin low high n (front * 256 + c)) (λ c t h. h.admitted) 0 byte_free (byte_exact (range_fits low high n front) (low / 256 ^ n - front * 256) (next_fits low high n front le opens))
-        (λ c h. digits_within_exact low high le n (front * 256 + c) (fits_opens low high n front c h))
+    (λ c h. digits_within_exact low high le n (front * 256 + c) (fits_opens low high n front c h))
 
 -- ---- they are the digits of numbers from low to high
 
@@ -84,15 +84,18 @@ ranged : (low high n front x : ℕ) (text : List ℕ) → Opens low high n front
 ranged low high zero front x text opens h = (h, omega (arith, h.1, opens.0, div-one low), omega (arith, h.1, opens.1, div-one high))
 ranged low high (suc n) front x text opens h =
     let c = h.first in
-    let k = ranged low high n (front * 256 + c) x h.back (fits_opens low high n front c h.before.admitted) h.after in
-    (record {
-      first = c;
-      front = h.front;
-      back = h.back;
-      before = record { is = h.before.is; admitted = digit_from n front c (and_parts (is_byte c) _ h.before.admitted).0 };
-      after = k.0;
-      parts = h.parts;
-    }, k.1, k.2)
+    let k = ranged low high n (front * 256 + c) x h.back (fits_opens low high n front c h.before.admitted) h.after in (
+      record {
+        first = c;
+        front = h.front;
+        back = h.back;
+        before = record { is = h.before.is; admitted = digit_from n front c (and_parts (is_byte c) _ h.before.admitted).0 };
+        after = k.0;
+        parts = h.parts;
+      },
+      k.1,
+      k.2,
+    )
 
 opens_from : (low high n front x : ℕ) (text : List ℕ) → HasDigits false n front x text → low ≤ x → x ≤ high → Opens low high n front
 opens_from low high n front x text h above below =
@@ -125,13 +128,16 @@ whole_opens count low high fits =
     let none : low / 256 ^ count < 1 = div_below low (256 ^ count) 1 (power_some count) (omega (arith, fits)) in
     (omega (arith, none), omega arith)
 
+pub from_number : (count low high x : ℕ) (t : List ℕ) → IsNumberBytes false count x t → low ≤ x → x ≤ high → IsNumberWithin count low high x t
+from_number count low high x t h above below = record { is = h.is ∙ sym (number_spelled count x); allowed = (above, below) }
+
 within_as : (count low high : ℕ) → 1 ≤ count → low < 256 ^ count → (x : ℕ) (t : List ℕ) → HasDigitsWithin low high count 0 x t → IsNumberWithin count low high x t
 within_as count low high some fits x t h =
     let k = ranged low high count 0 x t (whole_opens count low high fits) h in
     let number = same_language (digits_exact false count 0) (number_exact false count some) x t k.0 in
-    record { is = number.is ∙ sym (number_spelled count x); allowed = (k.1, k.2) }
+    from_number count low high x t number k.1 k.2
 
-as_number : (count low high : ℕ) → high < 256 ^ count → (x : ℕ) (t : List ℕ) → IsNumberWithin count low high x t → IsNumberBytes false count x t
+pub as_number : (count low high : ℕ) → high < 256 ^ count → (x : ℕ) (t : List ℕ) → IsNumberWithin count low high x t → IsNumberBytes false count x t
 as_number count low high fits x t h = record { is = h.is ∙ number_spelled count x; fits = omega (arith, h.allowed.1); above = λ s. absurd cc }
 
 as_within : (count low high : ℕ) → 1 ≤ count → high < 256 ^ count → (x : ℕ) (t : List ℕ) → IsNumberWithin count low high x t → HasDigitsWithin low high count 0 x t
