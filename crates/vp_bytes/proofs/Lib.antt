@@ -12,3 +12,5 @@ pub mod Singles
 pub mod NumbersWithin
 pub mod RangeSteps
 pub mod RangeTaken
+pub mod Ascending
+pub mod CopiesExact
