@@ -14,3 +14,5 @@ pub mod RangeSteps
 pub mod RangeTaken
 pub mod Ascending
 pub mod CopiesExact
+pub mod Ranks
+pub mod TxnsBetween

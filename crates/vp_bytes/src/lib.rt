@@ -11,6 +11,7 @@ mod ranges;
 mod reading;
 #[cfg(test)]
 mod tests;
+mod txn_ranges;
 mod words;
 
 pub use copies::{put_copies, take_copies};
@@ -24,4 +25,5 @@ pub use reading::{
     take_byte, take_maybe_view, take_number, take_numbered, take_outcome, take_owner, take_rec,
     take_request, take_site, take_some_u32, take_txn, take_u32, take_u64, take_view,
 };
+pub use txn_ranges::{take_ascending_txn, take_txn_between};
 pub use words::{take_name, take_value};
