@@ -16,3 +16,6 @@ pub mod Ascending
 pub mod CopiesExact
 pub mod Ranks
 pub mod TxnsBetween
+pub mod AscendingTxns
+pub mod DoubtsExact
+pub mod DecisionsExact

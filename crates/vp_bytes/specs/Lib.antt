@@ -2,3 +2,5 @@ pub mod Fields
 pub mod Reading
 pub mod Ranges
 pub mod Copies
+pub mod Doubts
+pub mod Decisions
