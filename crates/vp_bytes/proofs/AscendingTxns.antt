@@ -1,5 +1,5 @@
 -- Items that each begin with a transaction ascend by it.
-use Rattle.std.proofs.Common.{◌≡◌, ℕ, suc, ◌+◌, ◌-◌, ◌≤◌, ◌<◌, true, List, ◌++◌, Result, refl, sym, subst, ◌∙◌, arith}
+use Rattle.std.proofs.Common.{◌≡◌, ℕ, suc, ◌+◌, ◌-◌, ◌≤◌, true, List, ◌++◌, Result, sym, subst, arith}
 use Rattle.vp_text.specs.Reading.{◌>>=◌}
 use Rattle.vp_text.proofs.Exact.{Exact, IsOne, Made, exact_as, one_value}
 use Rattle.vp_base.specs.Identifiers.{IsTxn}

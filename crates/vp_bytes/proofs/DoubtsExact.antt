@@ -1,7 +1,7 @@
 -- Transactions in doubt are read exactly.
 use Rattle.std.proofs.Common.{◌≡◌, ℕ, ◌<◌, ◌^◌, List, true, Result, Ok, refl, arith}
 use Rattle.vp_text.specs.Reading.{◌>>=◌}
-use Rattle.vp_text.proofs.Exact.{Exact, made_exact, exact_as, one_value}
+use Rattle.vp_text.proofs.Exact.{Exact, made_exact, one_value}
 use Rattle.vp_base.specs.Identifiers.{IsView}
 use Rattle.vp_base.specs.Order.{txn_before}
 use Rattle.vp_base.specs.declared.ids.TxnId.{TxnId}
@@ -11,7 +11,7 @@ use Rattle.vp_bytes.specs.Fields.{number_bytes, view_bytes, writes_bytes, IsWrit
 use Rattle.vp_bytes.specs.Ranges.{rank, last_rank}
 use Rattle.vp_bytes.specs.Reading.{u64_at, view_at, writes_at}
 use Rattle.vp_bytes.proofs.Ascending.{Ascends, list_exact, list_free}
-use Rattle.vp_bytes.proofs.AscendingTxns.{Begun, item_key, item_bytes, TxnBefore, item_at, txns_ascend}
+use Rattle.vp_bytes.proofs.AscendingTxns.{Begun, item_key, TxnBefore, item_at, txns_ascend}
 use Rattle.vp_bytes.proofs.Free.{IsFree}
 use Rattle.vp_bytes.proofs.Identifiers.{view_exact}
 use Rattle.vp_bytes.proofs.Items.{writes_exact, writes_free}
