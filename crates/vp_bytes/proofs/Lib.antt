@@ -9,6 +9,7 @@ pub mod Runs
 pub mod Items
 pub mod Turns
 pub mod Singles
+pub mod Codes
 pub mod NumbersWithin
 pub mod RangeSteps
 pub mod RangeTaken

@@ -1,5 +1,6 @@
 pub mod Fields
 pub mod Reading
+pub mod Codes
 pub mod Ranges
 pub mod Copies
 pub mod Doubts

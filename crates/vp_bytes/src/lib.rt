@@ -4,6 +4,7 @@
 //! one more of them doesn't. A writer appends the field to a buffer; without memory a beginning of it may have been appended.
 #![tactic(auto)]
 
+mod code;
 mod copies;
 mod decisions;
 mod doubts;
@@ -16,6 +17,7 @@ mod tests;
 mod txn_ranges;
 mod words;
 
+pub use code::{Coded, take_coded};
 pub use copies::{put_copies, take_copies};
 pub use decisions::{put_decisions, take_decisions};
 pub use doubts::{put_doubts, take_doubts};

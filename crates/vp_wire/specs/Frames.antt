@@ -1,12 +1,13 @@
 -- Reading frames: the head, by which the body is read.
-use Rattle.std.specs.Prelude.{ℕ, List, [], ◌∷◌, Option, Some, None, Result, Ok, Err, ◌==◌, if◌then◌else◌}
+use Rattle.std.specs.Prelude.{ℕ, List, Result, Ok}
 use Rattle.vp_text.specs.Reading.{◌>>=◌}
 use Rattle.vp_wire.specs.declared.frame.Frame.{Frame}
 use Rattle.vp_wire.specs.declared.frame.Body.{Body}
 use Rattle.vp_wire.specs.declared.frame.Body.TheVariants as body
 use Rattle.vp_wire.specs.declared.kind.Kind.{Kind}
 use Rattle.vp_wire.specs.declared.kind.Kind.TheVariants as kinds
-use Rattle.vp_wire.specs.Kinds.{code_at, frame_kind, call_kind, answer_kind}
+use Rattle.vp_bytes.specs.Codes.{code_at}
+use Rattle.vp_wire.specs.Kinds.{frame_kind, call_kind, answer_kind}
 use Rattle.vp_bytes.specs.Reading.{byte_at, within}
 use Rattle.vp_wire.specs.Messages.{message_at}
 use Rattle.vp_wire.specs.Calls.{call_at}
