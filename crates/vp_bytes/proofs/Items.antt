@@ -110,7 +110,7 @@ word_allowed class count bytes w rest some short read =
 -- ---- numbers, ascending
 
 -- n numbers from least on, up to most
-fits : ℕ → ℕ → ℕ → Bool
+pub fits : ℕ → ℕ → ℕ → Bool
 fits most n least = nat_le (least + n) (suc most)
 
 abbrev Ascending : ℕ → ℕ → ℕ → ℕ → List ℕ → Type 0
@@ -119,15 +119,15 @@ Ascending most n least = IsByteOf (within least (most - n))
 abbrev AscendingRun : ℕ → ℕ → ℕ → List ℕ → List ℕ → Type 0
 AscendingRun most = HasRun (λ c. c) (Ascending most) (ascending_at most) (fits most)
 
-fits_from : (most n least : ℕ) → least + n ≤ suc most → fits most n least ≡ true
+pub fits_from : (most n least : ℕ) → least + n ≤ suc most → fits most n least ≡ true
 unfolding fits
 fits_from most n least le = le-leb (least + n) (suc most) le
 
-fits_to : (most n least : ℕ) → fits most n least ≡ true → least + n ≤ suc most
+pub fits_to : (most n least : ℕ) → fits most n least ≡ true → least + n ≤ suc most
 unfolding fits
 fits_to most n least h = leb-true (least + n) (suc most) h
 
-room_exact : (most n least : ℕ) → fits most (suc n) least ≡ true → Exact (Ascending most n least) (ascending_at most n least)
+pub room_exact : (most n least : ℕ) → fits most (suc n) least ≡ true → Exact (Ascending most n least) (ascending_at most n least)
 room_exact most n least m = let le = fits_to most (suc n) least m in within_exact least (most - n) (omega (arith, le))
 
 fits_on : (most n least x : ℕ) → fits most (suc n) least ≡ true → within least (most - n) x ≡ true → fits most n (suc x) ≡ true

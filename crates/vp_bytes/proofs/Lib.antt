@@ -10,3 +10,13 @@ pub mod Items
 pub mod Turns
 pub mod Singles
 pub mod Codes
+pub mod NumbersWithin
+pub mod RangeSteps
+pub mod RangeTaken
+pub mod Ascending
+pub mod CopiesExact
+pub mod Ranks
+pub mod TxnsBetween
+pub mod AscendingTxns
+pub mod DoubtsExact
+pub mod DecisionsExact
