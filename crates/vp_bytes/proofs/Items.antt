@@ -197,16 +197,15 @@ list_exact top few many least some le =
 list_free : (top few many least : ℕ) → IsFree (Spelled counted_bytes (IsList top few many least))
 list_free top few many least = free_as (list_from top few many least) (counted_free (λ c. c) (Ascending top) (ascending_at top) (fits top) (ascending_runs top) few many least)
 
-pub sites_exact : Exact IsSitesBytes sites_at
+sites_from : (few : ℕ) (xs t : List ℕ) → IsSitesBytes few xs t → Spelled counted_bytes (IsList 16 few 16 1) xs t
+sites_from few xs t h = record { is = h.is; allowed = record { some = h.allowed.0; short = h.allowed.1; ascending = h.allowed.2 } }
+
+pub sites_exact : (few : ℕ) → few ≤ 16 → Exact (IsSitesBytes few) (sites_at few)
 unfolding sites_at
-sites_exact =
-    exact_as (λ xs t h. record { is = h.is; allowed = (h.allowed.some, h.allowed.short, h.allowed.ascending) }) (λ xs t h. record { is = h.is; allowed = record { some = h.allowed.0; short = h.allowed.1; ascending = h.allowed.2 } }) (list_exact 16 1 16 1 (omega arith) (omega arith))
+sites_exact few le = exact_as (λ xs t h. record { is = h.is; allowed = (h.allowed.some, h.allowed.short, h.allowed.ascending) }) (sites_from few) (list_exact 16 few 16 1 le (omega arith))
 
-sites_from : (xs t : List ℕ) → IsSitesBytes xs t → Spelled counted_bytes (IsList 16 1 16 1) xs t
-sites_from xs t h = record { is = h.is; allowed = record { some = h.allowed.0; short = h.allowed.1; ascending = h.allowed.2 } }
-
-pub sites_free : IsFree IsSitesBytes
-sites_free = free_as sites_from (list_free 16 1 16 1)
+pub sites_free : (few : ℕ) → IsFree (IsSitesBytes few)
+sites_free few = free_as (sites_from few) (list_free 16 few 16 1)
 
 recs_from : (xs t : List ℕ) → IsRecsBytes xs t → Spelled counted_bytes (IsList 255 0 64 0) xs t
 recs_from xs t h = record { is = h.is; allowed = record { some = omega arith; short = h.allowed.0; ascending = h.allowed.1 } }

@@ -76,9 +76,9 @@ abbrev pub IsAscending : ℕ → ℕ → List ℕ → Type 0
 IsAscending least most [] = Unit {0}
 IsAscending least most (x ∷ xs) = (least ≤ x) × (x ≤ most) × IsAscending (suc x) most xs
 
--- 1 to 16 sites, ascending
-abbrev pub IsSites : List ℕ → Type 0
-IsSites sites = (1 ≤ length sites) × (length sites ≤ 16) × IsAscending 1 16 sites
+-- few to 16 sites, ascending
+abbrev pub IsSites : ℕ → List ℕ → Type 0
+IsSites few sites = (few ≤ length sites) × (length sites ≤ 16) × IsAscending 1 16 sites
 
 -- up to 64 records, ascending
 abbrev pub IsRecs : List ℕ → Type 0
@@ -127,8 +127,8 @@ IsNameBytes = Spelled counted_bytes (λ name. IsName name name)
 abbrev pub IsValueBytes : List ℕ → List ℕ → Type 0
 IsValueBytes = Spelled counted_bytes (λ value. IsValue value value)
 
-abbrev pub IsSitesBytes : List ℕ → List ℕ → Type 0
-IsSitesBytes = Spelled counted_bytes IsSites
+abbrev pub IsSitesBytes : ℕ → List ℕ → List ℕ → Type 0
+IsSitesBytes few = Spelled counted_bytes (IsSites few)
 
 abbrev pub IsRecsBytes : List ℕ → List ℕ → Type 0
 IsRecsBytes = Spelled counted_bytes IsRecs

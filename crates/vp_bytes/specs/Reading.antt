@@ -105,9 +105,11 @@ name_at bytes = word_at Name bytes
 unfoldable pub value_at : List ℕ → Result (List ℕ × List ℕ) ℕ
 value_at bytes = word_at Value bytes
 
-unfoldable pub sites_at : List ℕ → Result (List ℕ × List ℕ) ℕ
-sites_at bytes = counted_at (λ c. c) (ascending_at 16) 1 16 1 bytes
+-- few to 16 sites, ascending
+unfoldable pub sites_at : ℕ → List ℕ → Result (List ℕ × List ℕ) ℕ
+sites_at few bytes = counted_at (λ c. c) (ascending_at 16) few 16 1 bytes
 
+-- up to 64 records, ascending
 unfoldable pub recs_at : List ℕ → Result (List ℕ × List ℕ) ℕ
 recs_at bytes = counted_at (λ c. c) (ascending_at 255) 0 64 0 bytes
 
@@ -118,6 +120,7 @@ write_at n least bytes = do
   value ← value_at rec.1
   Ok ((rec.0, value.0), value.1)
 
+-- up to 64 writes, ascending by record
 unfoldable pub writes_at : List ℕ → Result (List (ℕ × List ℕ) × List ℕ) ℕ
 writes_at bytes = counted_at (λ write. write.0) write_at 0 64 0 bytes
 

@@ -1,71 +1,78 @@
-//! Writing the fields of frames.
+//! Writing fields.
 
 ghost use Rattle.std.specs.Prelude.{◌≡◌, ◌≤◌, ◌++◌, ◌∷◌, [], OnOk, length, flat_map};
 ghost use Rattle.vp_bytes.specs.Fields.{number_bytes, view_bytes, maybe_view_bytes, txn_bytes, owner_bytes, counted_bytes, write_bytes, writes_bytes, numbered_bytes, request_bytes};
 
 use byteorder::{BigEndian, ByteOrder};
-use bytes::BytesMut;
+use bytes::BufMut;
 use vp_base::{CallNo, Name, NoMemory, Owner, RecId, SiteId, TxnId, Value, ViewId};
 
-pub fn put_byte(out: &mut BytesMut, byte: u8) -> Result<(), NoMemory>
-    ensures { OnOk result (out.new.items ≡ out.old.items ++ byte ∷ []) }
+/// A byte.
+pub fn put_byte<B: BufMut>(out: &mut B, byte: u8) -> Result<(), NoMemory>
+    ensures { OnOk result (B.written out.new ≡ B.written out.old ++ byte ∷ []) }
 {
-    out.extend_from_slice(&[byte])?;
+    out.put_u8(byte)?;
     Ok(())
 }
 
+/// A number of 32 bits.
 #[tactic(auto, unfolding(crate::specs::Fields::number_bytes))]
-pub fn put_u32(out: &mut BytesMut, number: u32) -> Result<(), NoMemory>
-    ensures { OnOk result (out.new.items ≡ out.old.items ++ number_bytes 4 number) }
+pub fn put_u32<B: BufMut>(out: &mut B, number: u32) -> Result<(), NoMemory>
+    ensures { OnOk result (B.written out.new ≡ B.written out.old ++ number_bytes 4 number) }
 {
     let mut bytes = [0; 4];
     BigEndian::write_u32(&mut bytes, number);
-    out.extend_from_slice(&bytes)?;
+    out.put_slice(&bytes)?;
     Ok(())
 }
 
+/// A number of 64 bits.
 #[tactic(auto, unfolding(crate::specs::Fields::number_bytes))]
-pub fn put_u64(out: &mut BytesMut, number: u64) -> Result<(), NoMemory>
-    ensures { OnOk result (out.new.items ≡ out.old.items ++ number_bytes 8 number) }
+pub fn put_u64<B: BufMut>(out: &mut B, number: u64) -> Result<(), NoMemory>
+    ensures { OnOk result (B.written out.new ≡ B.written out.old ++ number_bytes 8 number) }
 {
     let mut bytes = [0; 8];
     BigEndian::write_u64(&mut bytes, number);
-    out.extend_from_slice(&bytes)?;
+    out.put_slice(&bytes)?;
     Ok(())
 }
 
 /// Bytes behind their count, which a byte holds.
-pub fn put_counted(out: &mut BytesMut, bytes: &[u8]) -> Result<(), NoMemory>
+pub fn put_counted<B: BufMut>(out: &mut B, bytes: &[u8]) -> Result<(), NoMemory>
     requires { length bytes.now ≤ 64 }
-    ensures { OnOk result (out.new.items ≡ out.old.items ++ counted_bytes bytes.now) }
+    ensures { OnOk result (B.written out.new ≡ B.written out.old ++ counted_bytes bytes.now) }
 {
     put_byte(out, bytes.len() as u8)?;
-    out.extend_from_slice(bytes)?;
+    out.put_slice(bytes)?;
     Ok(())
 }
 
-pub fn put_name(out: &mut BytesMut, name: &Name) -> Result<(), NoMemory>
-    ensures { OnOk result (out.new.items ≡ out.old.items ++ counted_bytes name.now) }
+/// A name behind the count of its bytes.
+pub fn put_name<B: BufMut>(out: &mut B, name: &Name) -> Result<(), NoMemory>
+    ensures { OnOk result (B.written out.new ≡ B.written out.old ++ counted_bytes name.now) }
 {
     put_counted(out, name.as_bytes())
 }
 
-pub fn put_value(out: &mut BytesMut, value: &Value) -> Result<(), NoMemory>
-    ensures { OnOk result (out.new.items ≡ out.old.items ++ counted_bytes value.now) }
+/// A value behind the count of its bytes.
+pub fn put_value<B: BufMut>(out: &mut B, value: &Value) -> Result<(), NoMemory>
+    ensures { OnOk result (B.written out.new ≡ B.written out.old ++ counted_bytes value.now) }
 {
     put_counted(out, value.as_bytes())
 }
 
+/// A view.
 #[tactic(auto, unfolding(crate::specs::Fields::view_bytes))]
-pub fn put_view(out: &mut BytesMut, view: &ViewId) -> Result<(), NoMemory>
-    ensures { OnOk result (out.new.items ≡ out.old.items ++ view_bytes view.now) }
+pub fn put_view<B: BufMut>(out: &mut B, view: &ViewId) -> Result<(), NoMemory>
+    ensures { OnOk result (B.written out.new ≡ B.written out.old ++ view_bytes view.now) }
 {
     put_u64(out, view.number)?;
     put_byte(out, view.site)
 }
 
-pub fn put_maybe_view(out: &mut BytesMut, view: &Option<ViewId>) -> Result<(), NoMemory>
-    ensures { OnOk result (out.new.items ≡ out.old.items ++ maybe_view_bytes view.now) }
+/// 1 and a view, or 0 for none.
+pub fn put_maybe_view<B: BufMut>(out: &mut B, view: &Option<ViewId>) -> Result<(), NoMemory>
+    ensures { OnOk result (B.written out.new ≡ B.written out.old ++ maybe_view_bytes view.now) }
 {
     match view {
         None => put_byte(out, 0),
@@ -76,17 +83,19 @@ pub fn put_maybe_view(out: &mut BytesMut, view: &Option<ViewId>) -> Result<(), N
     }
 }
 
+/// A transaction.
 #[tactic(auto, unfolding(crate::specs::Fields::txn_bytes))]
-pub fn put_txn(out: &mut BytesMut, txn: &TxnId) -> Result<(), NoMemory>
-    ensures { OnOk result (out.new.items ≡ out.old.items ++ txn_bytes txn.now) }
+pub fn put_txn<B: BufMut>(out: &mut B, txn: &TxnId) -> Result<(), NoMemory>
+    ensures { OnOk result (B.written out.new ≡ B.written out.old ++ txn_bytes txn.now) }
 {
     put_byte(out, txn.site.get())?;
     put_u32(out, txn.life)?;
     put_u32(out, txn.seq)
 }
 
-pub fn put_owner(out: &mut BytesMut, owner: &Owner) -> Result<(), NoMemory>
-    ensures { OnOk result (out.new.items ≡ out.old.items ++ owner_bytes owner.now) }
+/// 1 and a transaction, or 0 for a refresh.
+pub fn put_owner<B: BufMut>(out: &mut B, owner: &Owner) -> Result<(), NoMemory>
+    ensures { OnOk result (B.written out.new ≡ B.written out.old ++ owner_bytes owner.now) }
 {
     match owner {
         Owner::Refresh => put_byte(out, 0),
@@ -97,9 +106,10 @@ pub fn put_owner(out: &mut BytesMut, owner: &Owner) -> Result<(), NoMemory>
     }
 }
 
-pub fn put_sites(out: &mut BytesMut, sites: &[SiteId]) -> Result<(), NoMemory>
+/// Sites behind their count.
+pub fn put_sites<B: BufMut>(out: &mut B, sites: &[SiteId]) -> Result<(), NoMemory>
     requires { length sites.now ≤ 16 }
-    ensures { OnOk result (out.new.items ≡ out.old.items ++ counted_bytes sites.now) }
+    ensures { OnOk result (B.written out.new ≡ B.written out.old ++ counted_bytes sites.now) }
 {
     put_byte(out, sites.len() as u8)?;
     for site in sites {
@@ -108,9 +118,10 @@ pub fn put_sites(out: &mut BytesMut, sites: &[SiteId]) -> Result<(), NoMemory>
     Ok(())
 }
 
-pub fn put_recs(out: &mut BytesMut, recs: &[RecId]) -> Result<(), NoMemory>
+/// Records behind their count.
+pub fn put_recs<B: BufMut>(out: &mut B, recs: &[RecId]) -> Result<(), NoMemory>
     requires { length recs.now ≤ 64 }
-    ensures { OnOk result (out.new.items ≡ out.old.items ++ counted_bytes recs.now) }
+    ensures { OnOk result (B.written out.new ≡ B.written out.old ++ counted_bytes recs.now) }
 {
     put_byte(out, recs.len() as u8)?;
     for rec in recs {
@@ -119,16 +130,18 @@ pub fn put_recs(out: &mut BytesMut, recs: &[RecId]) -> Result<(), NoMemory>
     Ok(())
 }
 
-fn put_write(out: &mut BytesMut, rec: RecId, value: &Value) -> Result<(), NoMemory>
-    ensures { OnOk result (out.new.items ≡ out.old.items ++ write_bytes (rec, value.now)) }
+/// A record and its value.
+fn put_write<B: BufMut>(out: &mut B, rec: RecId, value: &Value) -> Result<(), NoMemory>
+    ensures { OnOk result (B.written out.new ≡ B.written out.old ++ write_bytes (rec, value.now)) }
 {
     put_byte(out, rec.get())?;
     put_value(out, value)
 }
 
-pub fn put_writes(out: &mut BytesMut, writes: &[(RecId, Value)]) -> Result<(), NoMemory>
+/// Writes behind their count.
+pub fn put_writes<B: BufMut>(out: &mut B, writes: &[(RecId, Value)]) -> Result<(), NoMemory>
     requires { length writes.now ≤ 64 }
-    ensures { OnOk result (out.new.items ≡ out.old.items ++ writes_bytes writes.now) }
+    ensures { OnOk result (B.written out.new ≡ B.written out.old ++ writes_bytes writes.now) }
 {
     put_byte(out, writes.len() as u8)?;
     for write in writes {
@@ -138,21 +151,21 @@ pub fn put_writes(out: &mut BytesMut, writes: &[(RecId, Value)]) -> Result<(), N
 }
 
 /// The transaction and the number of a call.
-pub fn put_numbered(out: &mut BytesMut, txn: &TxnId, number: CallNo) -> Result<(), NoMemory>
-    ensures { OnOk result (out.new.items ≡ out.old.items ++ numbered_bytes txn.now number) }
+pub fn put_numbered<B: BufMut>(out: &mut B, txn: &TxnId, number: CallNo) -> Result<(), NoMemory>
+    ensures { OnOk result (B.written out.new ≡ B.written out.old ++ numbered_bytes txn.now number) }
 {
     put_txn(out, txn)?;
     put_u32(out, number.get())
 }
 
 /// What asks a part for a lock or a vote.
-pub fn put_request(
-    out: &mut BytesMut,
+pub fn put_request<B: BufMut>(
+    out: &mut B,
     txn: &TxnId,
     view: &ViewId,
     number: CallNo,
 ) -> Result<(), NoMemory>
-    ensures { OnOk result (out.new.items ≡ out.old.items ++ request_bytes txn.now view.now number) }
+    ensures { OnOk result (B.written out.new ≡ B.written out.old ++ request_bytes txn.now view.now number) }
 {
     put_txn(out, txn)?;
     put_view(out, view)?;

@@ -11,12 +11,12 @@ use std::alloc::Global;
 use vp_base::{LineFault, RecId, Recs, SiteId, Sites, Value, Writes};
 use vp_text::{Cursor, Unexpected};
 
-/// Takes 1 to 16 sites, ascending, behind their count.
+/// Takes `few` to 16 sites, ascending, behind their count.
 #[tactic(auto, unfolding(crate::specs::Reading::sites_at, crate::specs::Reading::counted_at))]
-pub fn take_sites(alloc: Global, cursor: &mut Cursor) -> Result<Sites, LineFault>
-    ensures { Tries (λ s. s) line_left result cursor.new (sites_at cursor.old) }
+pub fn take_sites(alloc: Global, cursor: &mut Cursor, few: u8) -> Result<Sites, LineFault>
+    ensures { Tries (λ s. s) line_left result cursor.new (sites_at few cursor.old) }
 {
-    let count = take_byte(cursor, 1, 16)?;
+    let count = take_byte(cursor, few, 16)?;
     take_some_sites(alloc, cursor, count)
 }
 

@@ -1,6 +1,5 @@
 -- Obstacles are read exactly: what refuses a request, as bytes.
 use Rattle.std.proofs.Common.{◌≡◌, ℕ, zero, suc, ◌≤◌, ◌<◌, ◌^◌, ◌==◌, Bool, true, false, cond, List, [], ◌∷◌, ◌++◌, length, Result, Ok, Err, refl, sym, ap, subst, ◌∙◌, arith}
-use Rattle.byteorder.specs.Endian.{big_bytes}
 use Rattle.vp_text.specs.Reading.{◌>>=◌}
 use Rattle.vp_text.proofs.Exact.{Exact, Then, Made, made_exact, exact_as, one_value}
 use Rattle.vp_base.specs.declared.ids.ViewId.{ViewId}

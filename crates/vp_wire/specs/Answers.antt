@@ -6,7 +6,6 @@ use Rattle.vp_base.specs.declared.answer.Answer.TheVariants as answer
 use Rattle.vp_wire.specs.declared.kind.AnswerKind.{AnswerKind}
 use Rattle.vp_wire.specs.declared.kind.AnswerKind.TheVariants as kinds
 use Rattle.vp_bytes.specs.Reading.{byte_at, within, view_at, txn_at, numbered_at, request_at, value_at, name_at, sites_at, recs_at, writes_at, u32_at, u64_at, outcome_at, owner_at, maybe_view_at}
-use Rattle.vp_wire.specs.Messages.{obstacle_at}
 
 unfoldable pub answer_at : AnswerKind → List ℕ → Result (Answer × List ℕ) ℕ
 answer_at kinds.Begun bytes = do

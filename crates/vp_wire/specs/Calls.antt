@@ -6,7 +6,6 @@ use Rattle.vp_base.specs.declared.event.Call.TheVariants as call
 use Rattle.vp_wire.specs.declared.kind.CallKind.{CallKind}
 use Rattle.vp_wire.specs.declared.kind.CallKind.TheVariants as kinds
 use Rattle.vp_bytes.specs.Reading.{byte_at, within, view_at, txn_at, numbered_at, request_at, value_at, name_at, sites_at, recs_at, writes_at, u32_at, u64_at, outcome_at, owner_at, maybe_view_at}
-use Rattle.vp_wire.specs.Messages.{obstacle_at}
 
 unfoldable pub call_at : CallKind → List ℕ → Result (Call × List ℕ) ℕ
 call_at kinds.Begin bytes = Ok (call.Begin, bytes)
