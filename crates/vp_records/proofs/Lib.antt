@@ -1,1 +1,5 @@
 pub mod Held
+pub mod EachRecord
+pub mod Records
+pub mod Each
+pub mod Batches
