@@ -9,3 +9,4 @@ pub mod Runs
 pub mod Items
 pub mod Turns
 pub mod Singles
+pub mod Codes

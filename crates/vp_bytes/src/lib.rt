@@ -4,6 +4,7 @@
 //! one more of them doesn't. A writer appends the field to a buffer; without memory a beginning of it may have been appended.
 #![tactic(auto)]
 
+mod code;
 mod fields;
 mod lists;
 mod reading;
@@ -11,6 +12,7 @@ mod reading;
 mod tests;
 mod words;
 
+pub use code::{Coded, take_coded};
 pub use fields::{
     put_byte, put_counted, put_maybe_view, put_name, put_numbered, put_owner, put_recs,
     put_request, put_sites, put_txn, put_u32, put_u64, put_value, put_view, put_writes,

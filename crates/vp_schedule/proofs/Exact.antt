@@ -21,7 +21,8 @@ use Rattle.vp_base.specs.Identifiers.{IsTxnText, txn_text}
 use Rattle.vp_base.proofs.Txns.{txn_exact, txn_goes}
 use Rattle.vp_model.specs.Types.{TxnId, Call}
 use Rattle.vp_model.specs.Types.call
-use Rattle.vp_schedule.specs.Grammar.{IsNumbered, IsCallText}
+use Rattle.vp_base.specs.Calls.{IsNumbered}
+use Rattle.vp_schedule.specs.Grammar.{IsCallText}
 use Rattle.vp_schedule.specs.Reading.{begin_at, regroup_at, bare_at, read_at, write_at, commit_at, abort_at, ending_at, change_at, deed_at, numbered_at, call_at}
 
 -- ---- the parts of each call

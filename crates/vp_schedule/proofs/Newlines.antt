@@ -15,7 +15,7 @@ use Rattle.vp_model.specs.Texts.Fields.{call_name_text}
 use Rattle.vp_catalog.specs.Sites.{AllSites}
 use Rattle.vp_catalog.proofs.Sites.{site_range}
 use Rattle.vp_catalog.proofs.Newlines.{HasNoNewline, both, line_push, last_line, name_clean, value_clean, decimal_clean, clean, key_clean}
-use Rattle.vp_schedule.specs.Grammar.{IsNumbered, IsCall}
+use Rattle.vp_base.specs.Calls.{IsNumbered, IsCall}
 use Rattle.vp_schedule.specs.Events.{IsListed, IsEvent, IsEventText}
 use Rattle.vp_schedule.proofs.Exact.{in_line}
 

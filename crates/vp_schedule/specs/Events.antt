@@ -4,7 +4,7 @@ use Rattle.vp_model.specs.Types.{Event}
 use Rattle.vp_model.specs.Types.event
 use Rattle.vp_model.specs.Words.{has}
 use Rattle.vp_model.specs.Texts.Calls.{event_text}
-use Rattle.vp_schedule.specs.Grammar.{IsCall}
+use Rattle.vp_base.specs.Calls.{IsCall}
 
 abbrev pub IsListed : List ℕ → ℕ → Type 0
 IsListed sites site = has sites site ≡ true

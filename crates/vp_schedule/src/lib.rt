@@ -25,6 +25,6 @@ pub use document::read;
 pub use fault::ScheduleFault;
 pub use messages::print_message;
 pub use printing::print;
-pub use reading::{read_call, take_call};
+pub use reading::read_call;
 pub use schedule::Schedule;
 pub use trace::print_line;

@@ -15,7 +15,8 @@ use Rattle.vp_wire.specs.Kinds.{frame_kind, call_kind, answer_kind}
 use Rattle.vp_wire.specs.Frames.{least_from, most_from, least_to, most_to, frame_of}
 use Rattle.vp_bytes.proofs.Free.{IsFree, even_free, then_free, made_free, free_as, byte_free, byte_one}
 use Rattle.vp_bytes.proofs.Pairs.{pair_free}
-use Rattle.vp_wire.proofs.Codes.{Nothing, IsCode, code_free, code_one, call_code, call_codes, answer_code, answer_codes, frame_code, frame_codes}
+use Rattle.vp_bytes.proofs.Codes.{Nothing, IsCode, code_free, code_one}
+use Rattle.vp_wire.proofs.Codes.{call_code, call_codes, answer_code, answer_codes, frame_code, frame_codes}
 use Rattle.vp_bytes.proofs.Identifiers.{view_exact, txn_exact, txn_free, numbered_exact}
 use Rattle.vp_bytes.proofs.Marked.{maybe_view_free, owner_free}
 use Rattle.vp_bytes.proofs.Singles.{view_free, numbered_free, request_exact, request_free, site_exact, site_free, rec_exact, rec_free, number4_exact, number4_free, number8_free, outcome_free}
@@ -33,7 +34,7 @@ message_free : (kind : MessageKind) → IsFree (MessageOf kind)
 message_free messages.Invite = made_free view_free
 message_free messages.Accept = made_free view_free
 message_free messages.Stale = made_free (pair_free (one_value view_exact) view_free view_free)
-message_free messages.ViewCommit = made_free (pair_free (one_value view_exact) view_free sites_free)
+message_free messages.ViewCommit = made_free (pair_free (one_value view_exact) view_free (sites_free 1))
 message_free messages.ReadRequest = made_free (pair_free (one_value request_exact) request_free rec_free)
 message_free messages.ReadAnswer = made_free (pair_free (one_value numbered_exact) numbered_free value_free)
 message_free messages.WriteRequest = made_free (pair_free (one_value request_exact) request_free rec_free)

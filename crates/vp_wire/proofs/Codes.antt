@@ -1,10 +1,7 @@
--- The codes of kinds are read exactly, and fields that are none.
-use Rattle.std.proofs.Common.{◌≡◌, ℕ, zero, suc, Bool, true, false, cond, eqb, List, [], ◌∷◌, ◌++◌, length, Option, Some, None, Result, Ok, Err, refl, sym, ap, subst, ◌∙◌, arith}
-use Rattle.std.proofs.lemmas.Bool.{eqb-true}
-use Rattle.std.proofs.lemmas.List.{length-append}
-use Rattle.std.specs.List.{AllByRecursion}
-use Rattle.vp_text.proofs.Exact.{Apart, Parts, IsRight, IsOne, Exact, exact_from, done, ok_value}
-use Rattle.vp_wire.specs.Kinds.{find_code, code_at, message_kinds, message_kind, call_kinds, call_kind, answer_kinds, answer_kind, frame_kinds, frame_kind}
+-- The codes of kinds: which kind each one is found by.
+use Rattle.std.proofs.Common.{◌≡◌, ℕ, Some, refl}
+use Rattle.vp_bytes.proofs.Codes.{Codes, found_only}
+use Rattle.vp_wire.specs.Kinds.{message_kinds, message_kind, call_kinds, call_kind, answer_kinds, answer_kind, frame_kinds, frame_kind}
 use Rattle.vp_wire.specs.declared.kind.MessageKind.{MessageKind}
 use Rattle.vp_wire.specs.declared.kind.MessageKind.TheVariants as messages
 use Rattle.vp_wire.specs.declared.kind.CallKind.{CallKind}
@@ -13,24 +10,6 @@ use Rattle.vp_wire.specs.declared.kind.AnswerKind.{AnswerKind}
 use Rattle.vp_wire.specs.declared.kind.AnswerKind.TheVariants as answers
 use Rattle.vp_wire.specs.declared.kind.Kind.{Kind}
 use Rattle.vp_wire.specs.declared.kind.Kind.TheVariants as frames
-use Rattle.vp_bytes.proofs.Digits.{nothing_more}
-use Rattle.vp_bytes.proofs.Free.{IsFree, even_free}
-
--- ---- fields that are none
-
-abbrev pub Nothing : {A : Type 0} → A → A → List ℕ → Type 0
-Nothing none a text = (text ≡ []) × (a ≡ none)
-
-pub nothing_exact : {A : Type 0} (none : A) → Exact (Nothing none) (λ bytes. Ok (none, bytes))
-nothing_exact {A = A} none = record {
-  ok = λ bytes a rest h.
-      let same : (none, bytes) ≡ (a, rest) = ok_value (none, bytes) (a, rest) h in
-      record { text = []; spelled = (refl, sym (ap (λ (x : A × List ℕ). x.0) same)); parts = ap (λ (x : A × List ℕ). x.1) same; ends = λ b r l. nothing_more r rest l.0 };
-  err = λ bytes left h. absurd (let never : done (none, bytes) ≡ Err left = h in cc);
-  again = λ a text rest l ends. rw (l.0, l.1) refl;
-}
-
--- ---- codes
 
 abbrev pub message_code : MessageKind → ℕ
 message_code messages.Invite = 1
@@ -78,116 +57,6 @@ answer_code answers.ViewChanged = 15
 answer_code answers.TimedOut = 16
 answer_code answers.Spent = 17
 answer_code answers.TooManyLive = 18
-
-module _ {K : Type 0} (code : K → ℕ) (of : ℕ → Option K) where
-  -- The text is the code of the kind.
-  abbrev pub IsCode : K → List ℕ → Type 0
-  IsCode kind text = text ≡ code kind ∷ []
-
-  -- a code is that of the kind which is found by it
-  pub record Codes : Type 0 where
-    pub found : (kind : K) → of (code kind) ≡ Some kind
-    pub only : (c : ℕ) (kind : K) → of c ≡ Some kind → code kind ≡ c
-    pub some : K
-
-  pub code_free : IsFree IsCode
-  code_free = even_free {L = IsCode} 1 (λ kind t h. ap length h)
-
-  pub code_one : Codes → IsOne IsCode
-  code_one w a b t h k =
-      let same : code a ∷ [] ≡ code b ∷ [] = sym h ∙ k in
-      let codes : code a ≡ code b = cc in
-      let kinds : Some a ≡ Some b = sym (w.found a) ∙ ap of codes ∙ w.found b in
-      cc
-
-  ends : (c : ℕ) (rest : List ℕ) (b : K) (r : List ℕ) → IsCode b (c ∷ r) → Apart r rest
-  ends c rest b [] h = tt
-  ends c rest b (x ∷ r) h = absurd (omega (arith, ap length h))
-
-  some_none : (kind : K) → Some kind ≡ None → ⊥
-  some_none kind e = cc
-
-  diverges : Codes → (c : ℕ) (cs : List ℕ) → of c ≡ None → (b : K) (r : List ℕ) → IsCode b r → Parts r (c ∷ cs)
-  diverges w c cs fails b [] h = absurd (omega (arith, ap length h))
-  diverges w c cs fails b (x ∷ r) h = λ same.
-      let is : x ∷ r ≡ code b ∷ [] = h in
-      let first : x ≡ code b = cc in
-      some_none b (sym (w.found b) ∙ ap of (sym first ∙ same) ∙ fails)
-
-  nothing : (b : K) (r : List ℕ) → IsCode b r → Parts r []
-  nothing b [] h = absurd (omega (arith, ap length h))
-  nothing b (x ∷ r) h = tt
-
-  taken : Codes → (c : ℕ) (cs : List ℕ) (kind : K) → of c ≡ Some kind → IsRight IsCode (c ∷ cs) (Ok (kind, cs))
-  taken w c cs kind holds = record {
-    ok = λ a rest h.
-        let same : (kind, cs) ≡ (a, rest) = ok_value (kind, cs) (a, rest) h in
-        let first : kind ≡ a = ap (λ (x : K × List ℕ). x.0) same in
-        let last : cs ≡ rest = ap (λ (x : K × List ℕ). x.1) same in
-        record { text = c ∷ []; spelled = ap (λ (x : ℕ). x ∷ []) (sym (w.only c kind holds) ∙ ap code first); parts = ap (λ (t : List ℕ). c ∷ t) last; ends = λ b r l. ends c rest b r l };
-    err = λ left h. absurd (let never : done (kind, cs) ≡ Err left = h in cc);
-    again = λ a text rest at l stops.
-        let whole : c ∷ cs ≡ code a ∷ rest = at ∙ ap (λ (t : List ℕ). t ++ rest) l in
-        let first : c ≡ code a = cc in
-        let last : cs ≡ rest = cc in
-        let kinds : Some kind ≡ Some a = sym holds ∙ ap of first ∙ w.found a in
-        let same : kind ≡ a = cc in
-        rw (same, last) refl;
-  }
-
-  left_over : Codes → (c : ℕ) (cs : List ℕ) → of c ≡ None → IsRight IsCode (c ∷ cs) (Err (length (c ∷ cs)))
-  left_over w c cs fails = record {
-    ok = λ a rest h. absurd (let never : Err (length (c ∷ cs)) ≡ done (a, rest) = h in cc);
-    err = λ left h. record {
-      front = [];
-      rest = c ∷ cs;
-      parts = refl;
-      left_is = cc;
-      begins = record { value = w.some; more = code w.some ∷ []; spelled = refl };
-      diverges = λ b r l. diverges w c cs fails b r l;
-    };
-    again = λ a text rest at l stops.
-        let whole : c ∷ cs ≡ code a ∷ rest = at ∙ ap (λ (t : List ℕ). t ++ rest) l in
-        let first : c ≡ code a = cc in
-        absurd (some_none a (sym (w.found a) ∙ ap of (sym first) ∙ fails));
-  }
-
-  ended : Codes → IsRight IsCode [] (Err 0)
-  ended w = record {
-    ok = λ a rest h. absurd (let never : Err 0 ≡ done (a, rest) = h in cc);
-    err = λ left h. record {
-      front = [];
-      rest = [];
-      parts = refl;
-      left_is = cc;
-      begins = record { value = w.some; more = code w.some ∷ []; spelled = refl };
-      diverges = λ b r l. nothing b r l;
-    };
-    again = λ a text rest at l stops. absurd (omega (arith, ap length at, length-append text rest, ap length l));
-  }
-
-  right : Codes → (bytes : List ℕ) → IsRight IsCode bytes (code_at of bytes)
-  right w [] = ended w
-  right w (c ∷ cs) =
-      let f : (o : Option K) → of c ≡ o → IsRight IsCode (c ∷ cs) (code_at of (c ∷ cs)) = λ o. elim o as (λ o. of c ≡ o → IsRight IsCode (c ∷ cs) (code_at of (c ∷ cs))) [
-        | Some kind ↦ λ e. rw (code_at, e) (taken w c cs kind e)
-        | None ↦ λ e. rw (code_at, e) (left_over w c cs e)
-      ] in
-      f (of c) refl
-
-  pub code_exact : Codes → Exact IsCode (code_at of)
-  code_exact w = exact_from (λ bytes. right w bytes)
-
--- ---- what is found by a code
-
-module _ {K : Type 0} (code : K → ℕ) where
-  found_at : (b : Bool) (c : ℕ) (pair : ℕ × K) (other : Option K) (kind : K) → (b ≡ true → c ≡ pair.0) → code pair.1 ≡ pair.0 → (other ≡ Some kind → code kind ≡ c) → cond b (Some pair.1) other ≡ Some kind → code kind ≡ c
-  found_at true c pair other kind same right rest e = let first : pair.1 ≡ kind = cc in sym (ap code first) ∙ right ∙ sym (same refl)
-  found_at false c pair other kind same right rest e = rest e
-
-  pub found_only : (pairs : List (ℕ × K)) → AllByRecursion (λ pair. code pair.1 ≡ pair.0) pairs → (c : ℕ) (kind : K) → find_code pairs c ≡ Some kind → code kind ≡ c
-  found_only [] h c kind e = absurd (let never : None ≡ Some kind = e in cc)
-  found_only (pair ∷ pairs) h c kind e = found_at (eqb c pair.0) c pair (find_code pairs c) kind (λ s. eqb-true c pair.0 s) h.0 (λ r. found_only pairs h.1 c kind r) e
 
 message_found : (kind : MessageKind) → message_kind (message_code kind) ≡ Some kind
 message_found messages.Invite = refl

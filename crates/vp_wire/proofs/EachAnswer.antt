@@ -14,7 +14,8 @@ use Rattle.vp_wire.specs.Grammar.{obstacle_bytes, answer_bytes, IsObstacle, IsAn
 use Rattle.vp_base.specs.Calls.{IsNumbered}
 use Rattle.vp_bytes.specs.Reading.{byte_at, within}
 use Rattle.vp_wire.specs.Answers.{answer_at}
-use Rattle.vp_wire.proofs.Codes.{Nothing, nothing_exact, answer_code}
+use Rattle.vp_bytes.proofs.Codes.{Nothing, nothing_exact}
+use Rattle.vp_wire.proofs.Codes.{answer_code}
 use Rattle.vp_bytes.proofs.Pairs.{pair_bytes, PairAllowed, then_field}
 use Rattle.vp_bytes.proofs.Identifiers.{view_exact, txn_exact, txn_free, numbered_exact, u64_exact}
 use Rattle.vp_bytes.proofs.Marked.{owner_exact, maybe_view_exact}

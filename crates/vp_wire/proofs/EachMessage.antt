@@ -1,5 +1,5 @@
 -- The fields of a message are read exactly, by its kind.
-use Rattle.std.proofs.Common.{◌≡◌, ℕ, ◌<◌, ◌^◌, Bool, List, [], ◌∷◌, ◌++◌, drop, Result, Ok, Err, refl, sym, ap, subst, ◌∙◌}
+use Rattle.std.proofs.Common.{◌≡◌, ℕ, ◌<◌, ◌^◌, Bool, List, [], ◌∷◌, ◌++◌, drop, Result, Ok, Err, refl, sym, ap, subst, ◌∙◌, arith}
 use Rattle.vp_text.proofs.Exact.{Exact, Made, made_exact}
 use Rattle.vp_base.specs.Words.{IsName, IsValue}
 use Rattle.vp_base.specs.Identifiers.{IsView, IsTxn}
@@ -14,7 +14,8 @@ use Rattle.vp_wire.specs.Grammar.{obstacle_bytes, message_kind, message_bytes, I
 use Rattle.vp_base.specs.Calls.{IsNumbered}
 use Rattle.vp_bytes.specs.Reading.{byte_at, within}
 use Rattle.vp_wire.specs.Messages.{message_at}
-use Rattle.vp_wire.proofs.Codes.{Nothing, nothing_exact, message_code}
+use Rattle.vp_bytes.proofs.Codes.{Nothing, nothing_exact}
+use Rattle.vp_wire.proofs.Codes.{message_code}
 use Rattle.vp_bytes.proofs.Pairs.{pair_bytes, PairAllowed, then_field}
 use Rattle.vp_bytes.proofs.Identifiers.{view_exact, txn_exact, txn_free, numbered_exact, u64_exact}
 use Rattle.vp_bytes.proofs.Marked.{owner_exact, maybe_view_exact}
@@ -27,7 +28,7 @@ abbrev pub MessageOf : MessageKind → Message → List ℕ → Type 0
 MessageOf kinds.Invite = Made (Spelled view_bytes IsView) (λ p. message.Invite p)
 MessageOf kinds.Accept = Made (Spelled view_bytes IsView) (λ p. message.Accept p)
 MessageOf kinds.Stale = Made (Spelled (pair_bytes view_bytes view_bytes) (PairAllowed IsView IsView)) (λ p. message.Stale p.0 p.1)
-MessageOf kinds.ViewCommit = Made (Spelled (pair_bytes view_bytes counted_bytes) (PairAllowed IsView IsSites)) (λ p. message.ViewCommit p.0 p.1)
+MessageOf kinds.ViewCommit = Made (Spelled (pair_bytes view_bytes counted_bytes) (PairAllowed IsView (IsSites 1))) (λ p. message.ViewCommit p.0 p.1)
 MessageOf kinds.ReadRequest = Made (Spelled (pair_bytes (λ (asked : TxnId × ViewId × ℕ). request_bytes asked.0 asked.1 asked.2) (λ (rec : ℕ). rec ∷ [])) (PairAllowed (λ (asked : TxnId × ViewId × ℕ). IsRequest asked.0 asked.1 asked.2) IsRecord)) (λ p. message.ReadRequest p.0.0 p.0.1 p.0.2 p.1)
 MessageOf kinds.ReadAnswer = Made (Spelled (pair_bytes (λ (numbered : TxnId × ℕ). numbered_bytes numbered.0 numbered.1) counted_bytes) (PairAllowed (λ (numbered : TxnId × ℕ). IsNumbered numbered.0 numbered.1) (λ (value : List ℕ). IsValue value value))) (λ p. message.ReadAnswer p.0.0 p.0.1 p.1)
 MessageOf kinds.WriteRequest = Made (Spelled (pair_bytes (λ (asked : TxnId × ViewId × ℕ). request_bytes asked.0 asked.1 asked.2) (λ (rec : ℕ). rec ∷ [])) (PairAllowed (λ (asked : TxnId × ViewId × ℕ). IsRequest asked.0 asked.1 asked.2) IsRecord)) (λ p. message.WriteRequest p.0.0 p.0.1 p.0.2 p.1)
@@ -47,7 +48,7 @@ unfolding message_at
 message_fields_exact kinds.Invite = made_exact (λ id. message.Invite id) view_exact
 message_fields_exact kinds.Accept = made_exact (λ id. message.Accept id) view_exact
 message_fields_exact kinds.Stale = then_field (λ id p. message.Stale id p) view_free view_exact (λ id. made_exact (λ promise. message.Stale id promise) view_exact)
-message_fields_exact kinds.ViewCommit = then_field (λ id p. message.ViewCommit id p) view_free view_exact (λ id. made_exact (λ members. message.ViewCommit id members) sites_exact)
+message_fields_exact kinds.ViewCommit = then_field (λ id p. message.ViewCommit id p) view_free view_exact (λ id. made_exact (λ members. message.ViewCommit id members) (sites_exact 1 (omega arith)))
 message_fields_exact kinds.ReadRequest = then_field (λ asked p. message.ReadRequest asked.0 asked.1 asked.2 p) request_free request_exact (λ asked. made_exact (λ rec. message.ReadRequest asked.0 asked.1 asked.2 rec) rec_exact)
 message_fields_exact kinds.ReadAnswer = then_field (λ numbered p. message.ReadAnswer numbered.0 numbered.1 p) numbered_free numbered_exact (λ numbered. made_exact (λ value. message.ReadAnswer numbered.0 numbered.1 value) value_exact)
 message_fields_exact kinds.WriteRequest = then_field (λ asked p. message.WriteRequest asked.0 asked.1 asked.2 p) request_free request_exact (λ asked. made_exact (λ rec. message.WriteRequest asked.0 asked.1 asked.2 rec) rec_exact)

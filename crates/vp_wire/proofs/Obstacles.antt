@@ -11,10 +11,9 @@ use Rattle.vp_wire.specs.Grammar.{obstacle_bytes, IsObstacle}
 use Rattle.vp_bytes.specs.Reading.{byte_at, within, u32_at, u64_at, some_u32_at, view_at, txn_at, numbered_at, request_at, outcome_at, owner_at, maybe_view_at}
 use Rattle.vp_wire.specs.Messages.{obstacle_at}
 use Rattle.vp_bytes.proofs.Free.{IsFree, IsByteOf, even_free, free_as, byte_free, byte_one, free_then, then_free, made_free}
-use Rattle.vp_bytes.proofs.NumberBytes.{IsNumberBytes, number_exact, number_free}
 use Rattle.vp_bytes.proofs.Identifiers.{u64_exact, u32_exact, some_u32_exact, within_exact, within_from, within_to, view_exact, txn_exact, txn_free, numbered_exact}
 use Rattle.vp_bytes.proofs.Marked.{owner_exact, owner_free, maybe_view_exact, maybe_view_free}
-use Rattle.vp_bytes.proofs.Pairs.{then_field, pair_free}
+use Rattle.vp_bytes.proofs.Singles.{view_free}
 
 abbrev pub IsObstacleBytes : Obstacle → List ℕ → Type 0
 IsObstacleBytes = Spelled obstacle_bytes IsObstacle

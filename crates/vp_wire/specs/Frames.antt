@@ -6,7 +6,8 @@ use Rattle.vp_wire.specs.declared.frame.Body.{Body}
 use Rattle.vp_wire.specs.declared.frame.Body.TheVariants as body
 use Rattle.vp_wire.specs.declared.kind.Kind.{Kind}
 use Rattle.vp_wire.specs.declared.kind.Kind.TheVariants as kinds
-use Rattle.vp_wire.specs.Kinds.{code_at, frame_kind, call_kind, answer_kind}
+use Rattle.vp_bytes.specs.Codes.{code_at}
+use Rattle.vp_wire.specs.Kinds.{frame_kind, call_kind, answer_kind}
 use Rattle.vp_bytes.specs.Reading.{byte_at, within}
 use Rattle.vp_wire.specs.Messages.{message_at}
 use Rattle.vp_wire.specs.Calls.{call_at}

@@ -116,7 +116,7 @@ abbrev pub IsMessage : Message → Type 0
 IsMessage (message.Invite id) = IsView id
 IsMessage (message.Accept id) = IsView id
 IsMessage (message.Stale id promise) = IsView id × IsView promise
-IsMessage (message.ViewCommit id members) = IsView id × IsSites members
+IsMessage (message.ViewCommit id members) = IsView id × IsSites 1 members
 IsMessage (message.ReadRequest txn view number rec) = IsRequest txn view number × IsRecord rec
 IsMessage (message.ReadAnswer txn number value) = IsNumbered txn number × IsValue value value
 IsMessage (message.WriteRequest txn view number rec) = IsRequest txn view number × IsRecord rec

@@ -1,5 +1,6 @@
 -- Which message, call or answer stands in a frame, by its byte.
-use Rattle.std.specs.Prelude.{ℕ, List, [], ◌∷◌, Option, Some, None, Result, Ok, Err, length, ◌==◌, if◌then◌else◌}
+use Rattle.std.specs.Prelude.{ℕ, List, [], ◌∷◌, ◌++◌, map, Option}
+use Rattle.vp_bytes.specs.Codes.{find_code}
 use Rattle.vp_wire.specs.declared.kind.MessageKind.{MessageKind}
 use Rattle.vp_wire.specs.declared.kind.MessageKind.TheVariants as messages
 use Rattle.vp_wire.specs.declared.kind.CallKind.{CallKind}
@@ -8,16 +9,6 @@ use Rattle.vp_wire.specs.declared.kind.AnswerKind.{AnswerKind}
 use Rattle.vp_wire.specs.declared.kind.AnswerKind.TheVariants as answers
 use Rattle.vp_wire.specs.declared.kind.Kind.{Kind}
 use Rattle.vp_wire.specs.declared.kind.Kind.TheVariants as frames
-
--- the kind that stands with this code
-abbrev pub find_code : {K : Type 0} → List (ℕ × K) → ℕ → Option K
-find_code [] c = None
-find_code (pair ∷ pairs) c = if c == pair.0 then Some pair.1 else find_code pairs c
-
--- a byte that is the code of a kind
-abbrev pub code_at : {K : Type 0} → (ℕ → Option K) → List ℕ → Result (K × List ℕ) ℕ
-code_at of [] = Err 0
-code_at of (c ∷ cs) = elim (of c) [ Some kind ↦ Ok (kind, cs) | None ↦ Err (length (c ∷ cs)) ]
 
 abbrev pub message_kinds : List (ℕ × MessageKind)
 message_kinds = (1, messages.Invite) ∷ (2, messages.Accept) ∷ (3, messages.Stale) ∷ (4, messages.ViewCommit) ∷ (5, messages.ReadRequest) ∷ (6, messages.ReadAnswer) ∷ (7, messages.WriteRequest) ∷ (8, messages.WriteAnswer) ∷ (9, messages.Refuse) ∷ (10, messages.Prepare) ∷ (11, messages.Vote) ∷ (12, messages.Outcome) ∷ (13, messages.Ack) ∷ (14, messages.Inquire) ∷ (15, messages.RefreshRequest) ∷ (16, messages.RefreshAnswer) ∷ (17, messages.Probe) ∷ []
@@ -37,8 +28,9 @@ answer_kinds = (1, answers.Begun) ∷ (2, answers.Value) ∷ (3, answers.Written
 abbrev pub answer_kind : ℕ → Option AnswerKind
 answer_kind c = find_code answer_kinds c
 
+-- messages, and what else is a frame
 abbrev pub frame_kinds : List (ℕ × Kind)
-frame_kinds = (1, frames.Message messages.Invite) ∷ (2, frames.Message messages.Accept) ∷ (3, frames.Message messages.Stale) ∷ (4, frames.Message messages.ViewCommit) ∷ (5, frames.Message messages.ReadRequest) ∷ (6, frames.Message messages.ReadAnswer) ∷ (7, frames.Message messages.WriteRequest) ∷ (8, frames.Message messages.WriteAnswer) ∷ (9, frames.Message messages.Refuse) ∷ (10, frames.Message messages.Prepare) ∷ (11, frames.Message messages.Vote) ∷ (12, frames.Message messages.Outcome) ∷ (13, frames.Message messages.Ack) ∷ (14, frames.Message messages.Inquire) ∷ (15, frames.Message messages.RefreshRequest) ∷ (16, frames.Message messages.RefreshAnswer) ∷ (17, frames.Message messages.Probe) ∷ (32, frames.Call) ∷ (33, frames.Reply) ∷ (34, frames.Tick) ∷ (35, frames.ProbeNow) ∷ (36, frames.Stop) ∷ []
+frame_kinds = map (λ pair. (pair.0, frames.Message pair.1)) message_kinds ++ (32, frames.Call) ∷ (33, frames.Reply) ∷ (34, frames.Tick) ∷ (35, frames.ProbeNow) ∷ (36, frames.Stop) ∷ []
 
 abbrev pub frame_kind : ℕ → Option Kind
 frame_kind c = find_code frame_kinds c

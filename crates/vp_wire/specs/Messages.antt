@@ -1,6 +1,8 @@
 -- Reading the fields of a message, by its kind.
-use Rattle.std.specs.Prelude.{ℕ, List, Result, Ok, Err}
+use Rattle.std.specs.Prelude.{ℕ, List, Result, Ok, Err, cond, ◌==◌}
 use Rattle.vp_text.specs.Reading.{◌>>=◌}
+use Rattle.vp_base.specs.declared.message.Obstacle.{Obstacle}
+use Rattle.vp_base.specs.declared.message.Obstacle.TheVariants as obstacle
 use Rattle.vp_base.specs.declared.message.Message.{Message}
 use Rattle.vp_base.specs.declared.message.Message.TheVariants as message
 use Rattle.vp_wire.specs.declared.kind.MessageKind.{MessageKind}
@@ -26,7 +28,7 @@ message_at kinds.Stale bytes = do
   Ok (message.Stale id.0 promise.0, promise.1)
 message_at kinds.ViewCommit bytes = do
   id ← view_at bytes
-  members ← sites_at id.1
+  members ← sites_at 1 id.1
   Ok (message.ViewCommit id.0 members.0, members.1)
 message_at kinds.ReadRequest bytes = do
   asked ← request_at bytes

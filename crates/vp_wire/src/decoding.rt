@@ -6,7 +6,6 @@ ghost use Rattle.vp_base.specs.Faults.{line_left};
 ghost use Rattle.vp_wire.specs.Faults.{wire_place};
 ghost use Rattle.vp_wire.specs.Frames.{body_at, coded_answer_at, coded_call_at, frame_at, least_from, least_to, most_from, most_to};
 ghost use Rattle.vp_wire.specs.Grammar.{IsSpelling};
-ghost use Rattle.vp_wire.specs.Kinds.{answer_kind, call_kind, code_at, frame_kind};
 ghost use Rattle.vp_bytes.specs.Reading.{byte_at, within};
 
 use crate::fault::WireFault;
@@ -17,7 +16,7 @@ use crate::read_calls::take_call;
 use crate::read_messages::take_message;
 use std::alloc::Global;
 use vp_base::LineFault;
-use vp_bytes::take_byte;
+use vp_bytes::{take_byte, take_coded};
 use vp_text::{Cursor, Unexpected};
 
 /// The frame that the bytes are the spelling of. `BadFrame` says how many of them begin one.
@@ -48,59 +47,11 @@ fn take_frame(alloc: Global, cursor: &mut Cursor) -> Result<Frame, LineFault>
 {
     take_byte(cursor, 0x56, 0x56)?;
     take_byte(cursor, 1, 1)?;
-    let kind = take_kind(cursor)?;
+    let kind: Kind = take_coded(cursor)?;
     let from = take_from(cursor, kind)?;
     let to = take_to(cursor, kind)?;
     let body = take_body(alloc, cursor, kind)?;
     Ok(Frame { from, to, body })
-}
-
-fn take_kind(cursor: &mut Cursor) -> Result<Kind, Unexpected>
-    ensures { Reads (λ k. k) (λ e. e.left) result cursor.new (code_at frame_kind cursor.old) }
-{
-    let rest = cursor.rest();
-    if rest.is_empty() {
-        return Err(Unexpected { left: 0 });
-    }
-    match Kind::of(rest[0]) {
-        Some(kind) => {
-            cursor.advance(1);
-            Ok(kind)
-        }
-        None => Err(Unexpected { left: rest.len() }),
-    }
-}
-
-fn take_call_kind(cursor: &mut Cursor) -> Result<CallKind, Unexpected>
-    ensures { Reads (λ k. k) (λ e. e.left) result cursor.new (code_at call_kind cursor.old) }
-{
-    let rest = cursor.rest();
-    if rest.is_empty() {
-        return Err(Unexpected { left: 0 });
-    }
-    match CallKind::of(rest[0]) {
-        Some(kind) => {
-            cursor.advance(1);
-            Ok(kind)
-        }
-        None => Err(Unexpected { left: rest.len() }),
-    }
-}
-
-fn take_answer_kind(cursor: &mut Cursor) -> Result<AnswerKind, Unexpected>
-    ensures { Reads (λ k. k) (λ e. e.left) result cursor.new (code_at answer_kind cursor.old) }
-{
-    let rest = cursor.rest();
-    if rest.is_empty() {
-        return Err(Unexpected { left: 0 });
-    }
-    match AnswerKind::of(rest[0]) {
-        Some(kind) => {
-            cursor.advance(1);
-            Ok(kind)
-        }
-        None => Err(Unexpected { left: rest.len() }),
-    }
 }
 
 /// Takes the number from which a frame of the kind comes.
@@ -146,7 +97,7 @@ fn take_body(alloc: Global, cursor: &mut Cursor, kind: Kind) -> Result<Body, Lin
 fn take_coded_call(alloc: Global, cursor: &mut Cursor) -> Result<Body, LineFault>
     ensures { Tries (λ b. b) line_left result cursor.new (coded_call_at cursor.old) }
 {
-    let kind = take_call_kind(cursor)?;
+    let kind: CallKind = take_coded(cursor)?;
     let call = take_call(alloc, cursor, kind)?;
     Ok(Body::Call(call))
 }
@@ -155,7 +106,7 @@ fn take_coded_call(alloc: Global, cursor: &mut Cursor) -> Result<Body, LineFault
 fn take_coded_answer(alloc: Global, cursor: &mut Cursor) -> Result<Body, LineFault>
     ensures { Tries (λ b. b) line_left result cursor.new (coded_answer_at cursor.old) }
 {
-    let kind = take_answer_kind(cursor)?;
+    let kind: AnswerKind = take_coded(cursor)?;
     let answer = take_answer(alloc, cursor, kind)?;
     Ok(Body::Reply(answer))
 }

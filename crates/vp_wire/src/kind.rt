@@ -1,7 +1,8 @@
 //! Which message, call or answer stands in a frame.
 
-ghost use Rattle.std.specs.Prelude.{◌≡◌};
 ghost use Rattle.vp_wire.specs.Kinds.{answer_kind, call_kind, frame_kind, message_kind};
+
+use vp_bytes::Coded;
 
 /// Which message.
 #[derive(Clone, Copy, Drop)]
@@ -25,12 +26,11 @@ pub enum MessageKind {
     Probe,
 }
 
-impl MessageKind {
-    /// The message of this kind byte.
-    pub fn of(byte: u8) -> Option<MessageKind>
-        ensures { result ≡ message_kind byte }
-    {
-        match byte {
+impl Coded for MessageKind {
+    ghost kind = { message_kind };
+
+    fn of(code: u8) -> Option<MessageKind> {
+        match code {
             1 => Some(MessageKind::Invite),
             2 => Some(MessageKind::Accept),
             3 => Some(MessageKind::Stale),
@@ -64,12 +64,11 @@ pub enum CallKind {
     Abort,
 }
 
-impl CallKind {
-    /// The call of this code.
-    pub fn of(byte: u8) -> Option<CallKind>
-        ensures { result ≡ call_kind byte }
-    {
-        match byte {
+impl Coded for CallKind {
+    ghost kind = { call_kind };
+
+    fn of(code: u8) -> Option<CallKind> {
+        match code {
             1 => Some(CallKind::Begin),
             2 => Some(CallKind::Regroup),
             3 => Some(CallKind::Read),
@@ -104,12 +103,11 @@ pub enum AnswerKind {
     TooManyLive,
 }
 
-impl AnswerKind {
-    /// The answer of this code.
-    pub fn of(byte: u8) -> Option<AnswerKind>
-        ensures { result ≡ answer_kind byte }
-    {
-        match byte {
+impl Coded for AnswerKind {
+    ghost kind = { answer_kind };
+
+    fn of(code: u8) -> Option<AnswerKind> {
+        match code {
             1 => Some(AnswerKind::Begun),
             2 => Some(AnswerKind::Value),
             3 => Some(AnswerKind::Written),
@@ -144,29 +142,15 @@ pub enum Kind {
     Stop,
 }
 
-impl Kind {
-    /// The frame of this kind byte.
-    pub fn of(byte: u8) -> Option<Kind>
-        ensures { result ≡ frame_kind byte }
-    {
-        match byte {
-            1 => Some(Kind::Message(MessageKind::Invite)),
-            2 => Some(Kind::Message(MessageKind::Accept)),
-            3 => Some(Kind::Message(MessageKind::Stale)),
-            4 => Some(Kind::Message(MessageKind::ViewCommit)),
-            5 => Some(Kind::Message(MessageKind::ReadRequest)),
-            6 => Some(Kind::Message(MessageKind::ReadAnswer)),
-            7 => Some(Kind::Message(MessageKind::WriteRequest)),
-            8 => Some(Kind::Message(MessageKind::WriteAnswer)),
-            9 => Some(Kind::Message(MessageKind::Refuse)),
-            10 => Some(Kind::Message(MessageKind::Prepare)),
-            11 => Some(Kind::Message(MessageKind::Vote)),
-            12 => Some(Kind::Message(MessageKind::Outcome)),
-            13 => Some(Kind::Message(MessageKind::Ack)),
-            14 => Some(Kind::Message(MessageKind::Inquire)),
-            15 => Some(Kind::Message(MessageKind::RefreshRequest)),
-            16 => Some(Kind::Message(MessageKind::RefreshAnswer)),
-            17 => Some(Kind::Message(MessageKind::Probe)),
+impl Coded for Kind {
+    ghost kind = { frame_kind };
+
+    #[tactic(auto, using(vp_bytes::proofs::Codes::found_among))]
+    fn of(code: u8) -> Option<Kind> {
+        if let Some(kind) = MessageKind::of(code) {
+            return Some(Kind::Message(kind));
+        }
+        match code {
             32 => Some(Kind::Call),
             33 => Some(Kind::Reply),
             34 => Some(Kind::Tick),

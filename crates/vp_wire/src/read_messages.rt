@@ -74,7 +74,7 @@ fn take_view_commit(alloc: Global, cursor: &mut Cursor) -> Result<Message, LineF
     ensures { Tries (λ m. m) line_left result cursor.new (message_at kinds.ViewCommit cursor.old) }
 {
     let id = take_view(cursor)?;
-    let members = take_sites(alloc, cursor)?;
+    let members = take_sites(alloc, cursor, 1)?;
     Ok(Message::ViewCommit { id, members })
 }
 

@@ -136,7 +136,7 @@ fn put_two_views(out: &mut BytesMut, a: &ViewId, b: &ViewId) -> Result<(), NoMem
 }
 
 fn put_members(out: &mut BytesMut, id: &ViewId, members: &[SiteId]) -> Result<(), NoMemory>
-    requires { IsSites members.now }
+    requires { IsSites 1 members.now }
     ensures { OnOk result (out.new.items ≡ out.old.items ++ (view_bytes id.now ++ counted_bytes members.now)) }
 {
     put_view(out, id)?;
