@@ -1,16 +1,15 @@
 -- Names, values, sites, records and writes are read exactly.
-use Rattle.std.proofs.Common.{◌≡◌, ℕ, zero, suc, ◌+◌, ◌-◌, ◌≤◌, Bool, true, List, [], ◌∷◌, ◌++◌, length, flat_map, nat_le, Ok, refl, sym, ap, subst, ◌∙◌, arith}
+use Rattle.std.proofs.Common.{◌≡◌, ℕ, zero, suc, ◌+◌, ◌-◌, ◌≤◌, Bool, true, List, [], ◌∷◌, length, flat_map, nat_le, Ok, refl, sym, ap, subst, ◌∙◌, arith}
 use Rattle.std.proofs.lemmas.Bool.{le-leb, leb-true}
-use Rattle.std.proofs.lemmas.List.{length-append}
 use Rattle.std.specs.List.{AllByRecursion}
 use Rattle.vp_text.specs.Tokens.{IsWord}
 use Rattle.vp_text.specs.Classes.{has, most}
 use Rattle.vp_text.specs.declared.class.Class.{Class}
 use Rattle.vp_text.specs.declared.class.Class.TheVariants as classes
-use Rattle.vp_text.proofs.Exact.{Exact, Then, Made, made_exact, exact_as, one_value, IsOne}
-use Rattle.vp_base.specs.Words.{IsName, IsValue}
-use Rattle.vp_bytes.specs.Fields.{Spelled, counted_bytes, write_bytes, writes_bytes, IsAscending, IsAscendingWrites, IsNameBytes, IsValueBytes, IsSites, IsSitesBytes, IsRecs, IsRecsBytes, IsWrites, IsWritesBytes}
-use Rattle.vp_bytes.specs.Reading.{byte_at, within, run_at, counted_at, ascending_at, word_at, word_run_at, name_at, value_at, sites_at, recs_at, write_at, writes_at}
+use Rattle.vp_text.proofs.Exact.{Exact, Then, Made, made_exact, exact_as, IsOne}
+use Rattle.vp_base.specs.Words.{IsValue}
+use Rattle.vp_bytes.specs.Fields.{Spelled, counted_bytes, write_bytes, IsAscending, IsAscendingWrites, IsNameBytes, IsValueBytes, IsSitesBytes, IsRecsBytes, IsWritesBytes}
+use Rattle.vp_bytes.specs.Reading.{byte_at, within, counted_at, ascending_at, word_at, word_run_at, name_at, value_at, sites_at, recs_at, write_at, writes_at}
 use Rattle.vp_bytes.proofs.Free.{IsFree, IsByteOf, byte_free, byte_one, byte_exact, free_then, then_free, made_free, free_as}
 use Rattle.vp_bytes.proofs.Identifiers.{within_exact, within_from, within_to}
 use Rattle.vp_bytes.proofs.Runs.{HasRun, Runs, run_exact, Counted, counted_exact, counted_free}
@@ -111,7 +110,7 @@ word_allowed class count bytes w rest some short read =
 -- ---- numbers, ascending
 
 -- n numbers from least on, up to most
-fits : ℕ → ℕ → ℕ → Bool
+pub fits : ℕ → ℕ → ℕ → Bool
 fits most n least = nat_le (least + n) (suc most)
 
 abbrev Ascending : ℕ → ℕ → ℕ → ℕ → List ℕ → Type 0
@@ -120,15 +119,15 @@ Ascending most n least = IsByteOf (within least (most - n))
 abbrev AscendingRun : ℕ → ℕ → ℕ → List ℕ → List ℕ → Type 0
 AscendingRun most = HasRun (λ c. c) (Ascending most) (ascending_at most) (fits most)
 
-fits_from : (most n least : ℕ) → least + n ≤ suc most → fits most n least ≡ true
+pub fits_from : (most n least : ℕ) → least + n ≤ suc most → fits most n least ≡ true
 unfolding fits
 fits_from most n least le = le-leb (least + n) (suc most) le
 
-fits_to : (most n least : ℕ) → fits most n least ≡ true → least + n ≤ suc most
+pub fits_to : (most n least : ℕ) → fits most n least ≡ true → least + n ≤ suc most
 unfolding fits
 fits_to most n least h = leb-true (least + n) (suc most) h
 
-room_exact : (most n least : ℕ) → fits most (suc n) least ≡ true → Exact (Ascending most n least) (ascending_at most n least)
+pub room_exact : (most n least : ℕ) → fits most (suc n) least ≡ true → Exact (Ascending most n least) (ascending_at most n least)
 room_exact most n least m = let le = fits_to most (suc n) least m in within_exact least (most - n) (omega (arith, le))
 
 fits_on : (most n least x : ℕ) → fits most (suc n) least ≡ true → within least (most - n) x ≡ true → fits most n (suc x) ≡ true

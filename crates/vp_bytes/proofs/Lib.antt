@@ -10,3 +10,8 @@ pub mod Items
 pub mod Turns
 pub mod Singles
 pub mod Codes
+pub mod NumbersWithin
+pub mod RangeSteps
+pub mod RangeTaken
+pub mod Ascending
+pub mod CopiesExact

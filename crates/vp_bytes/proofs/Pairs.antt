@@ -1,7 +1,7 @@
 -- Values of several fields are read exactly where each field is, one after the other.
-use Rattle.std.proofs.Common.{◌≡◌, ℕ, List, ◌++◌, Result, Ok, refl, sym, subst, ◌∙◌}
+use Rattle.std.proofs.Common.{ℕ, List, ◌++◌, Result, Ok, refl, sym, subst}
 use Rattle.vp_text.specs.Reading.{◌>>=◌}
-use Rattle.vp_text.proofs.Exact.{Exact, IsOne, one_value, Then, Made, made_exact, exact_as}
+use Rattle.vp_text.proofs.Exact.{Exact, IsOne, Made, made_exact, exact_as}
 use Rattle.vp_bytes.specs.Fields.{Spelled}
 use Rattle.vp_bytes.proofs.Free.{IsFree, free_then, then_free, made_free, free_as}
 

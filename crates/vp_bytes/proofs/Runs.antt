@@ -1,11 +1,11 @@
 -- A given number of items, of which each may depend on the one before it, is read exactly.
-use Rattle.std.proofs.Common.{◌≡◌, ℕ, zero, suc, ◌≤◌, Bool, true, false, List, [], ◌∷◌, ◌++◌, length, Result, Ok, Err, refl, sym, ap, subst, ◌∙◌, arith}
+use Rattle.std.proofs.Common.{◌≡◌, ℕ, zero, suc, ◌≤◌, Bool, true, false, List, [], ◌∷◌, length, Result, Ok, Err, refl, sym, ap, ◌∙◌}
 use Rattle.std.proofs.lemmas.Bool.{false≢true}
 use Rattle.vp_text.specs.Meaning.{Begins}
 use Rattle.vp_text.specs.Reading.{◌>>=◌}
-use Rattle.vp_text.proofs.Exact.{Parts, Exact, IsOne, exact_from, one_value, inhabited, right, then_right, Then, Made, made_exact, exact_as, done, ok_value}
+use Rattle.vp_text.proofs.Exact.{Exact, IsOne, exact_from, one_value, inhabited, right, then_right, Then, Made, made_exact, exact_as, done, ok_value}
 use Rattle.vp_text.proofs.Repeats.{right_as}
-use Rattle.vp_bytes.specs.Reading.{byte_at, within, run_at, counted_at}
+use Rattle.vp_bytes.specs.Reading.{within, run_at, counted_at}
 use Rattle.vp_bytes.proofs.Digits.{nothing_more}
 use Rattle.vp_bytes.proofs.Free.{IsFree, IsByteOf, byte_free, byte_one, then_free, made_free, even_free}
 use Rattle.vp_bytes.proofs.Identifiers.{within_exact}

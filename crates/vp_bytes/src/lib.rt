@@ -5,19 +5,23 @@
 #![tactic(auto)]
 
 mod code;
+mod copies;
 mod fields;
 mod lists;
+mod ranges;
 mod reading;
 #[cfg(test)]
 mod tests;
 mod words;
 
 pub use code::{Coded, take_coded};
+pub use copies::{put_copies, take_copies};
 pub use fields::{
     put_byte, put_counted, put_maybe_view, put_name, put_numbered, put_owner, put_recs,
     put_request, put_sites, put_txn, put_u32, put_u64, put_value, put_view, put_writes,
 };
 pub use lists::{take_recs, take_sites, take_writes};
+pub use ranges::{take_u16_within, take_u32_within};
 pub use reading::{
     take_byte, take_maybe_view, take_number, take_numbered, take_outcome, take_owner, take_rec,
     take_request, take_site, take_some_u32, take_txn, take_u32, take_u64, take_view,

@@ -1,7 +1,6 @@
 use Rattle.std.proofs.Common.{◌≡◌, ℕ, suc, ◌+◌, ◌-◌, List, [], ◌∷◌, Err, ◌++◌, sym, ap, subst, ◌∙◌, arith}
 use Rattle.std.proofs.lemmas.Result.{err_from_is_err_and}
 use Rattle.vp_text.proofs.Repeats.{with_front}
-use Rattle.vp_base.specs.Faults.{line_left}
 use Rattle.vp_bytes.specs.Reading.{ascending_at, run_at}
 use Rattle.vp_bytes.proofs.Turns.{run_goes, run_ends, run_fails}
 use Rattle.vp_bytes.proofs.lists.take_some_recs.Goals as goal

@@ -1,4 +1,4 @@
-use Rattle.std.proofs.Common.{length, take, drop}
+use Rattle.std.proofs.Common.{take, drop}
 use Rattle.vp_bytes.proofs.Items.{word_allowed}
 use Rattle.vp_bytes.proofs.words.take_word.Goals as goal
 

@@ -1,0 +1,94 @@
+//! Copies of records: reading and writing them.
+
+ghost use Rattle.std.specs.Prelude.{◌≡◌, ◌≤◌, ◌+◌, ◌-◌, ◌++◌, IfOk, OnOk, length};
+ghost use Rattle.vp_text.specs.Reading.{Tries};
+ghost use Rattle.vp_base.specs.Faults.{line_left};
+ghost use Rattle.vp_bytes.specs.Fields.{number_bytes};
+ghost use Rattle.vp_bytes.specs.Reading.{run_at};
+ghost use Rattle.vp_bytes.specs.Copies.{copies_at, copies_bytes, copy_at, copy_bytes};
+
+use crate::fields::{put_byte, put_value, put_view};
+use crate::ranges::take_u16_within;
+use crate::reading::{take_byte, take_view};
+use crate::words::take_value;
+use byteorder::{BigEndian, ByteOrder};
+use bytes::BufMut;
+use std::alloc::Global;
+use vp_base::{Copies, LineFault, NoMemory, RecId, Stored};
+use vp_text::Cursor;
+
+/// Takes up to 256 copies, ascending by record, behind their count.
+#[tactic(auto, unfolding(crate::specs::Copies::copies_at))]
+pub fn take_copies(alloc: Global, cursor: &mut Cursor) -> Result<Copies, LineFault>
+    ensures { Tries (λ c. c) line_left result cursor.new (copies_at cursor.old) }
+{
+    let count = take_u16_within(cursor, 0, 256)?;
+    take_some_copies(alloc, cursor, count)
+}
+
+/// Takes so many copies, ascending by record.
+fn take_some_copies(alloc: Global, cursor: &mut Cursor, count: u16) -> Result<Copies, LineFault>
+    requires { count ≤ 256 }
+    ensures { Tries (λ c. c) line_left result cursor.new (run_at (λ copy. copy.0) copy_at count 0 cursor.old) }
+{
+    let mut copies = Vec::new(alloc);
+    let mut left = count;
+    let mut least = 0;
+    while left > 0 {
+        left -= 1;
+        let copy = take_copy(alloc, cursor, least, left)?;
+        least = u16::from(copy.0.get()) + 1;
+        copies.push(copy)?;
+    }
+    Ok(Copies::from_vec(copies))
+}
+
+/// Takes a record from `least` on that so many others can follow, its value, and the date of that.
+#[tactic(auto, unfolding(crate::specs::Copies::copy_at))]
+fn take_copy(
+    alloc: Global,
+    cursor: &mut Cursor,
+    least: u16,
+    behind: u16,
+) -> Result<(RecId, Stored), LineFault>
+    requires { least + behind ≤ 255 }
+    ensures read { Tries (λ c. c) line_left result cursor.new (copy_at behind least cursor.old) }
+    ensures range { IfOk result (λ c. (least ≤ c.0) × (c.0 ≤ 255 - behind)) }
+{
+    let rec = take_byte(cursor, least as u8, (255 - behind) as u8)?;
+    let value = take_value(alloc, cursor)?;
+    let date = take_view(cursor)?;
+    Ok((RecId::new(rec), Stored { value, date }))
+}
+
+/// Copies behind their count.
+pub fn put_copies<B: BufMut>(out: &mut B, copies: &[(RecId, Stored)]) -> Result<(), NoMemory>
+    requires { length copies.now ≤ 256 }
+    ensures { OnOk result (B.written out.new ≡ B.written out.old ++ copies_bytes copies.now) }
+{
+    put_u16(out, copies.len() as u16)?;
+    for copy in copies {
+        put_copy(out, copy.0, &copy.1)?;
+    }
+    Ok(())
+}
+
+/// A number of 16 bits.
+#[tactic(auto, unfolding(crate::specs::Fields::number_bytes))]
+fn put_u16<B: BufMut>(out: &mut B, number: u16) -> Result<(), NoMemory>
+    ensures { OnOk result (B.written out.new ≡ B.written out.old ++ number_bytes 2 number) }
+{
+    let mut bytes = [0; 2];
+    BigEndian::write_u16(&mut bytes, number);
+    out.put_slice(&bytes)?;
+    Ok(())
+}
+
+/// A record, its value, and the date of that.
+fn put_copy<B: BufMut>(out: &mut B, rec: RecId, stored: &Stored) -> Result<(), NoMemory>
+    ensures { OnOk result (B.written out.new ≡ B.written out.old ++ copy_bytes (rec, stored.now)) }
+{
+    put_byte(out, rec.get())?;
+    put_value(out, &stored.value)?;
+    put_view(out, &stored.date)
+}

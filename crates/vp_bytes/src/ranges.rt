@@ -1,0 +1,86 @@
+//! Reading numbers that lie between two others.
+
+ghost use Rattle.std.specs.Prelude.{◌≡◌, ◌≤◌, IfErr, IfOk, ◌<◌, ◌^◌, drop, length};
+ghost use Rattle.vp_text.specs.Reading.{Reads};
+ghost use Rattle.vp_bytes.specs.Ranges.{number_within_at};
+
+use byteorder::{BigEndian, ByteOrder};
+use vp_text::{Cursor, Unexpected};
+
+/// Takes a number of 16 bits from `low` to `high`.
+pub fn take_u16_within(cursor: &mut Cursor, low: u16, high: u16) -> Result<u16, Unexpected>
+    requires { low ≤ high }
+    ensures read { Reads (λ x. x) (λ e. e.left) result cursor.new (number_within_at 2 low high cursor.old) }
+    ensures range { IfOk result (λ x. (low ≤ x) × (x ≤ high)) }
+{
+    let number = first_u16_within(cursor.rest(), low, high)?;
+    cursor.advance(2);
+    Ok(number)
+}
+
+/// The number in the first 2 bytes, from `low` to `high`.
+fn first_u16_within(bytes: &[u8], low: u16, high: u16) -> Result<u16, Unexpected>
+    requires { low ≤ high }
+    ensures read { Reads (λ x. x) (λ e. e.left) result (drop 2 bytes.now) (number_within_at 2 low high bytes.now) }
+    ensures enough { IfOk result (λ _. 2 ≤ length bytes.now) }
+    ensures range { IfOk result (λ x. (low ≤ x) × (x ≤ high)) }
+{
+    if 2 <= bytes.len() {
+        let number = BigEndian::read_u16(bytes);
+        if low <= number && number <= high {
+            return Ok(number);
+        }
+    }
+    Err(Unexpected {
+        left: left_at_fault(bytes, 2, u64::from(low), u64::from(high)),
+    })
+}
+
+/// Takes a number of 32 bits from `low` to `high`.
+pub fn take_u32_within(cursor: &mut Cursor, low: u32, high: u32) -> Result<u32, Unexpected>
+    requires { low ≤ high }
+    ensures read { Reads (λ x. x) (λ e. e.left) result cursor.new (number_within_at 4 low high cursor.old) }
+    ensures range { IfOk result (λ x. (low ≤ x) × (x ≤ high)) }
+{
+    let number = first_u32_within(cursor.rest(), low, high)?;
+    cursor.advance(4);
+    Ok(number)
+}
+
+/// The number in the first 4 bytes, from `low` to `high`.
+fn first_u32_within(bytes: &[u8], low: u32, high: u32) -> Result<u32, Unexpected>
+    requires { low ≤ high }
+    ensures read { Reads (λ x. x) (λ e. e.left) result (drop 4 bytes.now) (number_within_at 4 low high bytes.now) }
+    ensures enough { IfOk result (λ _. 4 ≤ length bytes.now) }
+    ensures range { IfOk result (λ x. (low ≤ x) × (x ≤ high)) }
+{
+    if 4 <= bytes.len() {
+        let number = BigEndian::read_u32(bytes);
+        if low <= number && number <= high {
+            return Ok(number);
+        }
+    }
+    Err(Unexpected {
+        left: left_at_fault(bytes, 4, u64::from(low), u64::from(high)),
+    })
+}
+
+/// How many bytes are left at the first byte with which no number from `low` to `high` in `count` bytes goes on.
+fn left_at_fault(bytes: &[u8], count: usize, low: u64, high: u64) -> usize
+    requires few { count ≤ 4 }
+    requires fits { high < 256 ^ 4 }
+    ensures { IfErr (number_within_at count low high bytes.now) (λ left. result ≡ left) }
+{
+    let mut front = 0;
+    let mut good = 0;
+    while good < count && good < bytes.len() {
+        let shift = 8 * (count - 1 - good);
+        let next = front * 256 + u64::from(bytes[good]);
+        if next < low >> shift || high >> shift < next {
+            break;
+        }
+        front = next;
+        good += 1;
+    }
+    bytes.len() - good
+}
