@@ -13,8 +13,10 @@ use Rattle.vp_bytes.proofs.Singles.{view_free, site_exact, site_free, rec_exact,
 use Rattle.vp_bytes.proofs.Items.{value_exact, value_free, sites_exact, sites_free, writes_exact, writes_free}
 use Rattle.vp_records.specs.declared.kind.RecordKind.{RecordKind}
 use Rattle.vp_records.specs.declared.kind.RecordKind.TheVariants as kinds
+use Rattle.vp_records.proofs.Codes.{kind_code}
 use Rattle.vp_records.specs.Records.{record_code, record_fields, IsLogRecord}
-use Rattle.vp_records.specs.Reading.{kind_of, stored_of, fields_at}
+use Rattle.vp_bytes.specs.Copies.{stored_of}
+use Rattle.vp_records.specs.Reading.{fields_at}
 
 -- the fields of a record of this kind
 abbrev pub RecordOf : RecordKind → LogRecord → List ℕ → Type 0
@@ -47,15 +49,6 @@ fields_free kinds.Commit = made_free (pair_free (one_value txn_exact) txn_free (
 fields_free kinds.Copy = made_free (pair_free (one_value rec_exact) rec_free (pair_free (one_value value_exact) value_free view_free))
 fields_free kinds.Acked = made_free (pair_free (one_value txn_exact) txn_free site_free)
 
-abbrev pub kind_code : RecordKind → ℕ
-kind_code kinds.Start = 1
-kind_code kinds.Promise = 2
-kind_code kinds.Yes = 3
-kind_code kinds.Outcome = 4
-kind_code kinds.Commit = 5
-kind_code kinds.Copy = 6
-kind_code kinds.Acked = 7
-
 -- The record is one of this kind, with these fields.
 abbrev pub IsRecordOf : RecordKind → LogRecord → List ℕ → Type 0
 IsRecordOf kind r text = (record_code r ≡ kind_code kind) × (text ≡ record_fields r) × IsLogRecord r
@@ -69,7 +62,17 @@ fields_to kinds.Commit r t h = subst (λ (r : LogRecord). IsRecordOf kinds.Commi
 fields_to kinds.Copy r t h = subst (λ (r : LogRecord). IsRecordOf kinds.Copy r t) (sym h.is) (refl, h.spelled.is, (h.spelled.allowed.0, h.spelled.allowed.1.0, h.spelled.allowed.1.1))
 fields_to kinds.Acked r t h = subst (λ (r : LogRecord). IsRecordOf kinds.Acked r t) (sym h.is) (refl, h.spelled.is, (h.spelled.allowed.0, h.spelled.allowed.1))
 
-pub fields_from : (r : LogRecord) → IsLogRecord r → RecordOf (kind_of (record_code r)) r (record_fields r)
+abbrev pub form : LogRecord → RecordKind
+form (entry.Start life) = kinds.Start
+form (entry.Promise view) = kinds.Promise
+form (entry.Yes txn view writes) = kinds.Yes
+form (entry.Outcome txn commit) = kinds.Outcome
+form (entry.Commit txn view writes waiting) = kinds.Commit
+form (entry.Copy rec stored) = kinds.Copy
+form (entry.Acked txn site) = kinds.Acked
+form (entry.Checkpoint generation life promise copies doubts decisions) = kinds.Acked
+
+pub fields_from : (r : LogRecord) → IsLogRecord r → RecordOf (form r) r (record_fields r)
 fields_from (entry.Start life) a = record { from = life; spelled = record { is = refl; allowed = a }; is = refl }
 fields_from (entry.Promise view) a = record { from = view; spelled = record { is = refl; allowed = a }; is = refl }
 fields_from (entry.Yes txn view writes) a = record { from = (txn, (view, writes)); spelled = record { is = refl; allowed = (a.0, (a.1, a.2)) }; is = refl }
@@ -78,3 +81,13 @@ fields_from (entry.Commit txn view writes waiting) a = record { from = (txn, (vi
 fields_from (entry.Copy rec stored) a = record { from = (rec, (stored.value, stored.date)); spelled = record { is = refl; allowed = (a.0, (a.1, a.2)) }; is = refl }
 fields_from (entry.Acked txn site) a = record { from = (txn, site); spelled = record { is = refl; allowed = (a.0, a.1) }; is = refl }
 fields_from (entry.Checkpoint generation life promise copies doubts decisions) a = absurd a
+
+pub code_kept : (r : LogRecord) → IsLogRecord r → kind_code (form r) ≡ record_code r
+code_kept (entry.Start life) a = refl
+code_kept (entry.Promise view) a = refl
+code_kept (entry.Yes txn view writes) a = refl
+code_kept (entry.Outcome txn commit) a = refl
+code_kept (entry.Commit txn view writes waiting) a = refl
+code_kept (entry.Copy rec stored) a = refl
+code_kept (entry.Acked txn site) a = refl
+code_kept (entry.Checkpoint generation life promise copies doubts decisions) a = absurd a

@@ -1,4 +1,5 @@
 pub mod Held
+pub mod Codes
 pub mod EachRecord
 pub mod Records
 pub mod Each

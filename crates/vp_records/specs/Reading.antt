@@ -1,21 +1,14 @@
 -- Reading records from left to right, and batches up to the end of the bytes.
-use Rattle.std.specs.Prelude.{ℕ, zero, suc, List, [], ◌∷◌, length, Result, Ok, Err, ◌==◌, if◌then◌else◌}
+use Rattle.std.specs.Prelude.{ℕ, zero, suc, List, [], ◌∷◌, length, Result, Ok, Err}
 use Rattle.vp_text.specs.Reading.{◌>>=◌}
-use Rattle.vp_base.specs.declared.ids.ViewId.{ViewId}
-use Rattle.vp_base.specs.declared.entry.Stored.{Stored}
 use Rattle.vp_base.specs.declared.entry.LogRecord.{LogRecord}
 use Rattle.vp_base.specs.declared.entry.LogRecord.TheVariants as entry
 use Rattle.vp_bytes.specs.Reading.{byte_at, within, u32_at, view_at, txn_at, value_at, writes_at, sites_at, outcome_at}
+use Rattle.vp_bytes.specs.Codes.{code_at}
+use Rattle.vp_bytes.specs.Copies.{stored_of}
+use Rattle.vp_records.specs.Kinds.{record_kind}
 use Rattle.vp_records.specs.declared.kind.RecordKind.{RecordKind}
 use Rattle.vp_records.specs.declared.kind.RecordKind.TheVariants as kinds
-
--- the kind of this code, which is from 1 to 7
-abbrev pub kind_of : ℕ → RecordKind
-kind_of code =
-    if code == 1 then kinds.Start else (if code == 2 then kinds.Promise else (if code == 3 then kinds.Yes else (if code == 4 then kinds.Outcome else (if code == 5 then kinds.Commit else (if code == 6 then kinds.Copy else kinds.Acked)))))
-
-abbrev pub stored_of : List ℕ → ViewId → Stored
-stored_of value date = record { value = value; date = date }
 
 -- the fields of a record of the kind
 unfoldable pub fields_at : RecordKind → List ℕ → Result (LogRecord × List ℕ) ℕ
@@ -53,8 +46,8 @@ fields_at kinds.Acked bytes = do
 -- a record: its code, and the fields of that kind
 unfoldable pub record_at : List ℕ → Result (LogRecord × List ℕ) ℕ
 record_at bytes = do
-  code ← byte_at (within 1 7) bytes
-  fields_at (kind_of code.0) code.1
+  kind ← code_at record_kind bytes
+  fields_at kind.0 kind.1
 
 -- items up to the end of the bytes, of which each one has some
 unfoldable pub each_at : {X : Type 0} → (List ℕ → Result (X × List ℕ) ℕ) → ℕ → List ℕ → Result (List X × List ℕ) ℕ

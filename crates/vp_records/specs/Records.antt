@@ -1,10 +1,10 @@
 -- Records of the log: what bytes each one is.
 use Rattle.std.specs.Prelude.{ℕ, ◌<◌, ◌^◌, List, [], ◌∷◌, ◌++◌}
-use Rattle.vp_base.specs.Words.{IsValue}
 use Rattle.vp_base.specs.Identifiers.{IsView, IsTxn}
 use Rattle.vp_base.specs.declared.entry.LogRecord.{LogRecord}
 use Rattle.vp_base.specs.declared.entry.LogRecord.TheVariants as entry
-use Rattle.vp_bytes.specs.Fields.{number_bytes, view_bytes, txn_bytes, counted_bytes, writes_bytes, outcome_byte, IsSite, IsRecord, IsSites, IsWrites, Spelled}
+use Rattle.vp_bytes.specs.Fields.{number_bytes, view_bytes, txn_bytes, counted_bytes, writes_bytes, outcome_byte, IsSite, IsSites, IsWrites, Spelled}
+use Rattle.vp_bytes.specs.Copies.{copy_bytes, IsCopy}
 
 -- the first byte
 abbrev pub record_code : LogRecord → ℕ
@@ -24,7 +24,7 @@ record_fields (entry.Promise view) = view_bytes view
 record_fields (entry.Yes txn view writes) = txn_bytes txn ++ (view_bytes view ++ writes_bytes writes)
 record_fields (entry.Outcome txn commit) = txn_bytes txn ++ outcome_byte commit ∷ []
 record_fields (entry.Commit txn view writes waiting) = txn_bytes txn ++ (view_bytes view ++ (writes_bytes writes ++ counted_bytes waiting))
-record_fields (entry.Copy rec stored) = rec ∷ (counted_bytes stored.value ++ view_bytes stored.date)
+record_fields (entry.Copy rec stored) = copy_bytes (rec, stored)
 record_fields (entry.Acked txn site) = txn_bytes txn ++ site ∷ []
 record_fields (entry.Checkpoint generation life promise copies doubts decisions) = []
 
@@ -38,7 +38,7 @@ IsLogRecord (entry.Promise view) = IsView view
 IsLogRecord (entry.Yes txn view writes) = IsTxn txn × IsView view × IsWrites writes
 IsLogRecord (entry.Outcome txn commit) = IsTxn txn
 IsLogRecord (entry.Commit txn view writes waiting) = IsTxn txn × IsView view × IsWrites writes × IsSites 0 waiting
-IsLogRecord (entry.Copy rec stored) = IsRecord rec × IsValue stored.value stored.value × IsView stored.date
+IsLogRecord (entry.Copy rec stored) = IsCopy (rec, stored)
 IsLogRecord (entry.Acked txn site) = IsTxn txn × IsSite site
 IsLogRecord (entry.Checkpoint generation life promise copies doubts decisions) = ⊥
 

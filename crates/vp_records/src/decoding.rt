@@ -1,19 +1,17 @@
 //! Reading batches.
 
 ghost use Rattle.vp_text.specs.Meaning.{Answers};
-ghost use Rattle.vp_text.specs.Reading.{Reads, Tries};
+ghost use Rattle.vp_text.specs.Reading.{Tries};
 ghost use Rattle.vp_base.specs.Faults.{line_left};
-ghost use Rattle.vp_bytes.specs.Reading.{byte_at, within};
 ghost use Rattle.vp_records.specs.Batches.{IsBatchBytes};
 ghost use Rattle.vp_records.specs.Laws.{batch_place};
 ghost use Rattle.vp_records.specs.Reading.{batch_at, record_at};
 
 use crate::fault::BatchFault;
-use crate::kind::RecordKind;
 use crate::read_records::take_fields;
 use std::alloc::Global;
 use vp_base::{Batch, LineFault, LogRecord};
-use vp_bytes::take_byte;
+use vp_bytes::take_coded;
 use vp_text::Cursor;
 
 /// The records that the bytes are the spelling of, none where there are no bytes. `BadRecord` says how many of the bytes
@@ -47,6 +45,6 @@ fn take_batch(alloc: Global, cursor: &mut Cursor) -> Result<Batch, LineFault>
 fn take_record(alloc: Global, cursor: &mut Cursor) -> Result<LogRecord, LineFault>
     ensures { Tries (λ r. r) line_left result cursor.new (record_at cursor.old) }
 {
-    let code = take_byte(cursor, 1, 7)?;
-    take_fields(alloc, cursor, RecordKind::of(code))
+    let kind = take_coded(cursor)?;
+    take_fields(alloc, cursor, kind)
 }

@@ -1,7 +1,8 @@
 //! Which record stands in a batch.
 
-ghost use Rattle.std.specs.Prelude.{◌≡◌, ◌≤◌};
-ghost use Rattle.vp_records.specs.Reading.{kind_of};
+ghost use Rattle.vp_records.specs.Kinds.{record_kind};
+
+use vp_bytes::Coded;
 
 /// Which record.
 #[derive(Clone, Copy, Drop)]
@@ -15,20 +16,19 @@ pub enum RecordKind {
     Acked,
 }
 
-impl RecordKind {
-    /// The record of this code, which is from 1 to 7.
-    pub fn of(code: u8) -> RecordKind
-        requires { code ≤ 7 }
-        ensures { result ≡ kind_of code }
-    {
+impl Coded for RecordKind {
+    ghost kind = { record_kind };
+
+    fn of(code: u8) -> Option<RecordKind> {
         match code {
-            1 => RecordKind::Start,
-            2 => RecordKind::Promise,
-            3 => RecordKind::Yes,
-            4 => RecordKind::Outcome,
-            5 => RecordKind::Commit,
-            6 => RecordKind::Copy,
-            _ => RecordKind::Acked,
+            1 => Some(RecordKind::Start),
+            2 => Some(RecordKind::Promise),
+            3 => Some(RecordKind::Yes),
+            4 => Some(RecordKind::Outcome),
+            5 => Some(RecordKind::Commit),
+            6 => Some(RecordKind::Copy),
+            7 => Some(RecordKind::Acked),
+            _ => None,
         }
     }
 }
