@@ -15,3 +15,8 @@ pub mod RangeSteps
 pub mod RangeTaken
 pub mod Ascending
 pub mod CopiesExact
+pub mod Ranks
+pub mod TxnsBetween
+pub mod AscendingTxns
+pub mod DoubtsExact
+pub mod DecisionsExact

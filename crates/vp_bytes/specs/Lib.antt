@@ -3,3 +3,5 @@ pub mod Reading
 pub mod Codes
 pub mod Ranges
 pub mod Copies
+pub mod Doubts
+pub mod Decisions

@@ -6,16 +6,21 @@
 
 mod code;
 mod copies;
+mod decisions;
+mod doubts;
 mod fields;
 mod lists;
 mod ranges;
 mod reading;
 #[cfg(test)]
 mod tests;
+mod txn_ranges;
 mod words;
 
 pub use code::{Coded, take_coded};
 pub use copies::{put_copies, take_copies};
+pub use decisions::{put_decisions, take_decisions};
+pub use doubts::{put_doubts, take_doubts};
 pub use fields::{
     put_byte, put_counted, put_maybe_view, put_name, put_numbered, put_owner, put_recs,
     put_request, put_sites, put_txn, put_u32, put_u64, put_value, put_view, put_writes,
@@ -26,4 +31,5 @@ pub use reading::{
     take_byte, take_maybe_view, take_number, take_numbered, take_outcome, take_owner, take_rec,
     take_request, take_site, take_some_u32, take_txn, take_u32, take_u64, take_view,
 };
+pub use txn_ranges::{take_ascending_txn, take_txn_between};
 pub use words::{take_name, take_value};

@@ -1,5 +1,5 @@
 -- No frame's spelling goes on to another one.
-use Rattle.std.proofs.Common.{◌≡◌, ℕ, ◌==◌, Bool, true, false, List, [], ◌∷◌, length, ap}
+use Rattle.std.proofs.Common.{length, ap}
 use Rattle.vp_text.proofs.Exact.{one_value, Made}
 use Rattle.vp_wire.specs.declared.kind.MessageKind.{MessageKind}
 use Rattle.vp_wire.specs.declared.kind.MessageKind.TheVariants as messages
@@ -12,10 +12,9 @@ use Rattle.vp_wire.specs.declared.kind.Kind.TheVariants as kinds
 use Rattle.vp_wire.specs.declared.frame.Body.TheVariants as body
 use Rattle.vp_wire.specs.Grammar.{IsSpelling}
 use Rattle.vp_wire.specs.Kinds.{frame_kind, call_kind, answer_kind}
-use Rattle.vp_wire.specs.Frames.{least_from, most_from, least_to, most_to, frame_of}
 use Rattle.vp_bytes.proofs.Free.{IsFree, even_free, then_free, made_free, free_as, byte_free, byte_one}
 use Rattle.vp_bytes.proofs.Pairs.{pair_free}
-use Rattle.vp_bytes.proofs.Codes.{Nothing, IsCode, code_free, code_one}
+use Rattle.vp_bytes.proofs.Codes.{Nothing, code_free, code_one}
 use Rattle.vp_wire.proofs.Codes.{call_code, call_codes, answer_code, answer_codes, frame_code, frame_codes}
 use Rattle.vp_bytes.proofs.Identifiers.{view_exact, txn_exact, txn_free, numbered_exact}
 use Rattle.vp_bytes.proofs.Marked.{maybe_view_free, owner_free}
@@ -25,7 +24,7 @@ use Rattle.vp_bytes.proofs.Items.{name_exact, name_free, value_exact, value_free
 use Rattle.vp_wire.proofs.EachMessage.{MessageOf}
 use Rattle.vp_wire.proofs.EachCall.{CallOf}
 use Rattle.vp_wire.proofs.EachAnswer.{AnswerOf}
-use Rattle.vp_wire.proofs.Frames.{BodyOf, FrameParts, frame_from}
+use Rattle.vp_wire.proofs.Frames.{BodyOf, frame_from}
 
 nothing_free : {A : Type 0} (none : A) → IsFree (Nothing none)
 nothing_free none = even_free {L = Nothing none} 0 (λ a t h. ap length h.0)

@@ -1,27 +1,24 @@
 -- The fields of an answer are read exactly, by its kind.
-use Rattle.std.proofs.Common.{◌≡◌, ℕ, ◌<◌, ◌^◌, Bool, List, [], ◌∷◌, ◌++◌, drop, Result, Ok, Err, refl, sym, ap, subst, ◌∙◌}
+use Rattle.std.proofs.Common.{◌≡◌, ℕ, ◌<◌, ◌^◌, List, [], ◌∷◌, drop, refl, sym, ap, subst}
 use Rattle.vp_text.proofs.Exact.{Exact, Made, made_exact}
 use Rattle.vp_base.specs.Words.{IsName, IsValue}
 use Rattle.vp_base.specs.Identifiers.{IsView, IsTxn}
-use Rattle.vp_base.specs.declared.ids.ViewId.{ViewId}
 use Rattle.vp_base.specs.declared.ids.TxnId.{TxnId}
 use Rattle.vp_base.specs.declared.answer.Answer.{Answer}
 use Rattle.vp_base.specs.declared.answer.Answer.TheVariants as answer
 use Rattle.vp_wire.specs.declared.kind.AnswerKind.{AnswerKind}
 use Rattle.vp_wire.specs.declared.kind.AnswerKind.TheVariants as kinds
-use Rattle.vp_bytes.specs.Fields.{Spelled, number_bytes, view_bytes, txn_bytes, numbered_bytes, request_bytes, counted_bytes, writes_bytes, outcome_byte, owner_bytes, maybe_view_bytes, IsRequest, IsRecord, IsSite, IsSites, IsRecs, IsWrites, IsOwner, IsMaybeView}
-use Rattle.vp_wire.specs.Grammar.{obstacle_bytes, answer_bytes, IsObstacle, IsAnswer}
+use Rattle.vp_bytes.specs.Fields.{Spelled, number_bytes, view_bytes, txn_bytes, numbered_bytes, counted_bytes, owner_bytes, maybe_view_bytes, IsSite, IsOwner, IsMaybeView}
+use Rattle.vp_wire.specs.Grammar.{answer_bytes, IsAnswer}
 use Rattle.vp_base.specs.Calls.{IsNumbered}
-use Rattle.vp_bytes.specs.Reading.{byte_at, within}
 use Rattle.vp_wire.specs.Answers.{answer_at}
 use Rattle.vp_bytes.proofs.Codes.{Nothing, nothing_exact}
 use Rattle.vp_wire.proofs.Codes.{answer_code}
 use Rattle.vp_bytes.proofs.Pairs.{pair_bytes, PairAllowed, then_field}
-use Rattle.vp_bytes.proofs.Identifiers.{view_exact, txn_exact, txn_free, numbered_exact, u64_exact}
+use Rattle.vp_bytes.proofs.Identifiers.{view_exact, txn_exact, txn_free, numbered_exact}
 use Rattle.vp_bytes.proofs.Marked.{owner_exact, maybe_view_exact}
-use Rattle.vp_bytes.proofs.Singles.{view_free, numbered_free, request_exact, request_free, site_exact, site_free, rec_exact, rec_free, number4_exact, number4_free, number8_exact, outcome_exact}
-use Rattle.vp_wire.proofs.Obstacles.{obstacle_exact}
-use Rattle.vp_bytes.proofs.Items.{name_exact, name_free, value_exact, value_free, sites_exact, recs_exact, recs_free, writes_exact}
+use Rattle.vp_bytes.proofs.Singles.{view_free, numbered_free, site_exact, site_free, number4_exact, number4_free, number8_exact}
+use Rattle.vp_bytes.proofs.Items.{name_exact, name_free, value_exact}
 
 -- the fields of an answer of this kind
 abbrev pub AnswerOf : AnswerKind → Answer → List ℕ → Type 0

@@ -1,27 +1,22 @@
 -- The fields of a call are read exactly, by its kind.
-use Rattle.std.proofs.Common.{◌≡◌, ℕ, ◌<◌, ◌^◌, Bool, List, [], ◌∷◌, ◌++◌, drop, Result, Ok, Err, refl, sym, ap, subst, ◌∙◌}
+use Rattle.std.proofs.Common.{◌≡◌, ℕ, List, ◌∷◌, drop, refl, sym, ap, subst}
 use Rattle.vp_text.proofs.Exact.{Exact, Made, made_exact}
 use Rattle.vp_base.specs.Words.{IsName, IsValue}
-use Rattle.vp_base.specs.Identifiers.{IsView, IsTxn}
-use Rattle.vp_base.specs.declared.ids.ViewId.{ViewId}
 use Rattle.vp_base.specs.declared.ids.TxnId.{TxnId}
 use Rattle.vp_base.specs.declared.event.Call.{Call}
 use Rattle.vp_base.specs.declared.event.Call.TheVariants as call
 use Rattle.vp_wire.specs.declared.kind.CallKind.{CallKind}
 use Rattle.vp_wire.specs.declared.kind.CallKind.TheVariants as kinds
-use Rattle.vp_bytes.specs.Fields.{Spelled, number_bytes, view_bytes, txn_bytes, numbered_bytes, request_bytes, counted_bytes, writes_bytes, outcome_byte, owner_bytes, maybe_view_bytes, IsRequest, IsRecord, IsSite, IsSites, IsRecs, IsWrites, IsOwner, IsMaybeView}
-use Rattle.vp_wire.specs.Grammar.{obstacle_bytes, call_bytes, IsObstacle}
+use Rattle.vp_bytes.specs.Fields.{Spelled, numbered_bytes, counted_bytes}
+use Rattle.vp_wire.specs.Grammar.{call_bytes}
 use Rattle.vp_base.specs.Calls.{IsNumbered, IsCall}
-use Rattle.vp_bytes.specs.Reading.{byte_at, within}
 use Rattle.vp_wire.specs.Calls.{call_at}
 use Rattle.vp_bytes.proofs.Codes.{Nothing, nothing_exact}
 use Rattle.vp_wire.proofs.Codes.{call_code}
 use Rattle.vp_bytes.proofs.Pairs.{pair_bytes, PairAllowed, then_field}
-use Rattle.vp_bytes.proofs.Identifiers.{view_exact, txn_exact, txn_free, numbered_exact, u64_exact}
-use Rattle.vp_bytes.proofs.Marked.{owner_exact, maybe_view_exact}
-use Rattle.vp_bytes.proofs.Singles.{view_free, numbered_free, request_exact, request_free, site_exact, site_free, rec_exact, rec_free, number4_exact, number4_free, number8_exact, outcome_exact}
-use Rattle.vp_wire.proofs.Obstacles.{obstacle_exact}
-use Rattle.vp_bytes.proofs.Items.{name_exact, name_free, value_exact, value_free, sites_exact, recs_exact, recs_free, writes_exact}
+use Rattle.vp_bytes.proofs.Identifiers.{numbered_exact}
+use Rattle.vp_bytes.proofs.Singles.{numbered_free}
+use Rattle.vp_bytes.proofs.Items.{name_exact, name_free, value_exact}
 
 -- the fields of a call of this kind
 abbrev pub CallOf : CallKind → Call → List ℕ → Type 0

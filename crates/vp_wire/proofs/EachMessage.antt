@@ -1,7 +1,7 @@
 -- The fields of a message are read exactly, by its kind.
-use Rattle.std.proofs.Common.{◌≡◌, ℕ, ◌<◌, ◌^◌, Bool, List, [], ◌∷◌, ◌++◌, drop, Result, Ok, Err, refl, sym, ap, subst, ◌∙◌, arith}
+use Rattle.std.proofs.Common.{◌≡◌, ℕ, Bool, List, [], ◌∷◌, refl, sym, subst, arith}
 use Rattle.vp_text.proofs.Exact.{Exact, Made, made_exact}
-use Rattle.vp_base.specs.Words.{IsName, IsValue}
+use Rattle.vp_base.specs.Words.{IsValue}
 use Rattle.vp_base.specs.Identifiers.{IsView, IsTxn}
 use Rattle.vp_base.specs.declared.ids.ViewId.{ViewId}
 use Rattle.vp_base.specs.declared.ids.TxnId.{TxnId}
@@ -9,19 +9,16 @@ use Rattle.vp_base.specs.declared.message.Message.{Message}
 use Rattle.vp_base.specs.declared.message.Message.TheVariants as message
 use Rattle.vp_wire.specs.declared.kind.MessageKind.{MessageKind}
 use Rattle.vp_wire.specs.declared.kind.MessageKind.TheVariants as kinds
-use Rattle.vp_bytes.specs.Fields.{Spelled, number_bytes, view_bytes, txn_bytes, numbered_bytes, request_bytes, counted_bytes, writes_bytes, outcome_byte, owner_bytes, maybe_view_bytes, IsRequest, IsRecord, IsSite, IsSites, IsRecs, IsWrites, IsOwner, IsMaybeView}
+use Rattle.vp_bytes.specs.Fields.{Spelled, view_bytes, txn_bytes, numbered_bytes, request_bytes, counted_bytes, writes_bytes, outcome_byte, IsRequest, IsRecord, IsSites, IsRecs, IsWrites}
 use Rattle.vp_wire.specs.Grammar.{obstacle_bytes, message_kind, message_bytes, IsObstacle, IsMessage}
 use Rattle.vp_base.specs.Calls.{IsNumbered}
-use Rattle.vp_bytes.specs.Reading.{byte_at, within}
 use Rattle.vp_wire.specs.Messages.{message_at}
-use Rattle.vp_bytes.proofs.Codes.{Nothing, nothing_exact}
 use Rattle.vp_wire.proofs.Codes.{message_code}
 use Rattle.vp_bytes.proofs.Pairs.{pair_bytes, PairAllowed, then_field}
-use Rattle.vp_bytes.proofs.Identifiers.{view_exact, txn_exact, txn_free, numbered_exact, u64_exact}
-use Rattle.vp_bytes.proofs.Marked.{owner_exact, maybe_view_exact}
-use Rattle.vp_bytes.proofs.Singles.{view_free, numbered_free, request_exact, request_free, site_exact, site_free, rec_exact, rec_free, number4_exact, number4_free, number8_exact, outcome_exact}
+use Rattle.vp_bytes.proofs.Identifiers.{view_exact, txn_exact, txn_free, numbered_exact}
+use Rattle.vp_bytes.proofs.Singles.{view_free, numbered_free, request_exact, request_free, rec_exact, rec_free, outcome_exact}
 use Rattle.vp_wire.proofs.Obstacles.{obstacle_exact}
-use Rattle.vp_bytes.proofs.Items.{name_exact, name_free, value_exact, value_free, sites_exact, recs_exact, recs_free, writes_exact}
+use Rattle.vp_bytes.proofs.Items.{value_exact, value_free, sites_exact, recs_exact, recs_free, writes_exact}
 
 -- the fields of a message of this kind
 abbrev pub MessageOf : MessageKind → Message → List ℕ → Type 0

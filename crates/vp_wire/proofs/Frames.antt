@@ -1,35 +1,22 @@
 -- Frames are read exactly.
-use Rattle.std.proofs.Common.{◌≡◌, ℕ, ◌≤◌, Bool, List, [], ◌∷◌, ◌++◌, length, drop, Result, Ok, refl, sym, ap, subst, ◌∙◌, arith}
-use Rattle.vp_text.specs.Reading.{◌>>=◌}
+use Rattle.std.proofs.Common.{◌≡◌, ℕ, ◌≤◌, List, [], ◌∷◌, ◌++◌, refl, sym, ap, subst, ◌∙◌, arith}
 use Rattle.vp_text.proofs.Exact.{Exact, Then, Made, made_exact, exact_as}
-use Rattle.vp_base.specs.declared.message.Message.{Message}
-use Rattle.vp_base.specs.declared.event.Call.{Call}
-use Rattle.vp_base.specs.declared.answer.Answer.{Answer}
 use Rattle.vp_wire.specs.declared.frame.Frame.{Frame}
 use Rattle.vp_wire.specs.declared.frame.Body.{Body}
 use Rattle.vp_wire.specs.declared.frame.Body.TheVariants as body
-use Rattle.vp_wire.specs.declared.kind.MessageKind.{MessageKind}
-use Rattle.vp_wire.specs.declared.kind.CallKind.{CallKind}
-use Rattle.vp_wire.specs.declared.kind.AnswerKind.{AnswerKind}
 use Rattle.vp_wire.specs.declared.kind.Kind.{Kind}
 use Rattle.vp_wire.specs.declared.kind.Kind.TheVariants as kinds
-use Rattle.vp_bytes.specs.Fields.{Spelled}
-use Rattle.vp_wire.specs.Grammar.{IsSpelling, call_bytes, answer_bytes, IsBody, IsAnswer, IsMessage, kind, fields, frame_bytes}
-use Rattle.vp_base.specs.Calls.{IsCall}
-use Rattle.vp_bytes.specs.Codes.{code_at}
+use Rattle.vp_wire.specs.Grammar.{IsSpelling, IsBody, kind, fields}
 use Rattle.vp_wire.specs.Kinds.{frame_kind, call_kind, answer_kind}
-use Rattle.vp_bytes.specs.Reading.{byte_at, within}
-use Rattle.vp_wire.specs.Messages.{message_at}
-use Rattle.vp_wire.specs.Calls.{call_at}
-use Rattle.vp_wire.specs.Answers.{answer_at}
+use Rattle.vp_bytes.specs.Reading.{within}
 use Rattle.vp_wire.specs.Frames.{least_from, most_from, least_to, most_to, coded_call_at, coded_answer_at, body_at, frame_of, frame_at}
 use Rattle.vp_bytes.proofs.Free.{IsByteOf, byte_free, free_then}
 use Rattle.vp_bytes.proofs.Identifiers.{within_exact, within_from, within_to}
 use Rattle.vp_bytes.proofs.Codes.{Nothing, nothing_exact, IsCode, code_exact, code_free}
-use Rattle.vp_wire.proofs.Codes.{message_code, call_code, call_codes, answer_code, answer_codes, frame_code, frame_codes}
+use Rattle.vp_wire.proofs.Codes.{call_code, call_codes, answer_code, answer_codes, frame_code, frame_codes}
 use Rattle.vp_wire.proofs.EachMessage.{MessageOf, message_fields_exact, message_form, message_coded, message_to, message_from}
-use Rattle.vp_wire.proofs.EachCall.{CallOf, IsCallOf, call_fields_exact, call_form, call_fields, call_coded, call_to, call_from}
-use Rattle.vp_wire.proofs.EachAnswer.{AnswerOf, IsAnswerOf, answer_fields_exact, answer_form, answer_fields, answer_coded, answer_to, answer_from}
+use Rattle.vp_wire.proofs.EachCall.{CallOf, call_fields_exact, call_form, call_fields, call_coded, call_to, call_from}
+use Rattle.vp_wire.proofs.EachAnswer.{AnswerOf, answer_fields_exact, answer_form, answer_fields, answer_coded, answer_to, answer_from}
 
 -- ---- calls and answers, by their codes
 

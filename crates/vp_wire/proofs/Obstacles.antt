@@ -1,17 +1,15 @@
 -- Obstacles are read exactly: what refuses a request, as bytes.
-use Rattle.std.proofs.Common.{◌≡◌, ℕ, zero, suc, ◌≤◌, ◌<◌, ◌^◌, ◌==◌, Bool, true, false, cond, List, [], ◌∷◌, ◌++◌, length, Result, Ok, Err, refl, sym, ap, subst, ◌∙◌, arith}
+use Rattle.std.proofs.Common.{◌≡◌, ℕ, zero, suc, ◌≤◌, ◌==◌, Bool, true, false, cond, List, [], ◌∷◌, ◌++◌, Ok, refl, sym, ap, subst, ◌∙◌, arith}
 use Rattle.vp_text.specs.Reading.{◌>>=◌}
-use Rattle.vp_text.proofs.Exact.{Exact, Then, Made, made_exact, exact_as, one_value}
-use Rattle.vp_base.specs.declared.ids.ViewId.{ViewId}
-use Rattle.vp_base.specs.declared.ids.TxnId.{TxnId}
+use Rattle.vp_text.proofs.Exact.{Exact, Then, Made, made_exact, exact_as}
 use Rattle.vp_base.specs.declared.message.Obstacle.{Obstacle}
 use Rattle.vp_base.specs.declared.message.Obstacle.TheVariants as obstacle
-use Rattle.vp_bytes.specs.Fields.{Spelled, number_bytes, view_bytes, txn_bytes, outcome_byte, IsSite, IsRecord, IsCallNumber, IsViewBytes, IsTxnBytes, IsNumberedBytes, IsRequestBytes, IsMaybeViewBytes, IsOwnerBytes}
+use Rattle.vp_bytes.specs.Fields.{Spelled, IsMaybeViewBytes, IsOwnerBytes}
 use Rattle.vp_wire.specs.Grammar.{obstacle_bytes, IsObstacle}
-use Rattle.vp_bytes.specs.Reading.{byte_at, within, u32_at, u64_at, some_u32_at, view_at, txn_at, numbered_at, request_at, outcome_at, owner_at, maybe_view_at}
+use Rattle.vp_bytes.specs.Reading.{within, owner_at, maybe_view_at}
 use Rattle.vp_wire.specs.Messages.{obstacle_at}
-use Rattle.vp_bytes.proofs.Free.{IsFree, IsByteOf, even_free, free_as, byte_free, byte_one, free_then, then_free, made_free}
-use Rattle.vp_bytes.proofs.Identifiers.{u64_exact, u32_exact, some_u32_exact, within_exact, within_from, within_to, view_exact, txn_exact, txn_free, numbered_exact}
+use Rattle.vp_bytes.proofs.Free.{IsFree, IsByteOf, free_as, byte_free, byte_one, free_then, then_free, made_free}
+use Rattle.vp_bytes.proofs.Identifiers.{within_exact, within_to}
 use Rattle.vp_bytes.proofs.Marked.{owner_exact, owner_free, maybe_view_exact, maybe_view_free}
 use Rattle.vp_bytes.proofs.Singles.{view_free}
 

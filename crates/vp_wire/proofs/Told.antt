@@ -1,8 +1,8 @@
 -- What was encoded is decoded, and no two frames share a spelling.
 use Rattle.std.proofs.Common.{◌≡◌, ℕ, ◌-◌, List, [], ◌∷◌, ◌++◌, length, Result, Ok, Err, refl, arith}
 use Rattle.std.proofs.lemmas.List.{length-append}
-use Rattle.vp_text.specs.Meaning.{IsLongest, IsRefused, Answers}
-use Rattle.vp_text.specs.Reading.{◌>>=◌, end_at, whole}
+use Rattle.vp_text.specs.Meaning.{IsLongest, Answers}
+use Rattle.vp_text.specs.Reading.{whole}
 use Rattle.vp_text.proofs.Exact.{Apart, one_value}
 use Rattle.vp_text.proofs.Whole.{whole_err}
 use Rattle.vp_wire.specs.declared.frame.Frame.{Frame}

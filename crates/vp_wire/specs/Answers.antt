@@ -1,11 +1,11 @@
 -- Reading the fields of an answer, by its kind.
-use Rattle.std.specs.Prelude.{ℕ, List, Result, Ok, Err}
+use Rattle.std.specs.Prelude.{ℕ, List, Result, Ok}
 use Rattle.vp_text.specs.Reading.{◌>>=◌}
 use Rattle.vp_base.specs.declared.answer.Answer.{Answer}
 use Rattle.vp_base.specs.declared.answer.Answer.TheVariants as answer
 use Rattle.vp_wire.specs.declared.kind.AnswerKind.{AnswerKind}
 use Rattle.vp_wire.specs.declared.kind.AnswerKind.TheVariants as kinds
-use Rattle.vp_bytes.specs.Reading.{byte_at, within, view_at, txn_at, numbered_at, request_at, value_at, name_at, sites_at, recs_at, writes_at, u32_at, u64_at, outcome_at, owner_at, maybe_view_at}
+use Rattle.vp_bytes.specs.Reading.{byte_at, within, view_at, txn_at, numbered_at, value_at, name_at, u32_at, u64_at, owner_at, maybe_view_at}
 
 unfoldable pub answer_at : AnswerKind → List ℕ → Result (Answer × List ℕ) ℕ
 answer_at kinds.Begun bytes = do

@@ -1,11 +1,11 @@
 -- Reading the fields of a call, by its kind.
-use Rattle.std.specs.Prelude.{ℕ, List, Result, Ok, Err}
+use Rattle.std.specs.Prelude.{ℕ, List, Result, Ok}
 use Rattle.vp_text.specs.Reading.{◌>>=◌}
 use Rattle.vp_base.specs.declared.event.Call.{Call}
 use Rattle.vp_base.specs.declared.event.Call.TheVariants as call
 use Rattle.vp_wire.specs.declared.kind.CallKind.{CallKind}
 use Rattle.vp_wire.specs.declared.kind.CallKind.TheVariants as kinds
-use Rattle.vp_bytes.specs.Reading.{byte_at, within, view_at, txn_at, numbered_at, request_at, value_at, name_at, sites_at, recs_at, writes_at, u32_at, u64_at, outcome_at, owner_at, maybe_view_at}
+use Rattle.vp_bytes.specs.Reading.{numbered_at, value_at, name_at}
 
 unfoldable pub call_at : CallKind → List ℕ → Result (Call × List ℕ) ℕ
 call_at kinds.Begin bytes = Ok (call.Begin, bytes)

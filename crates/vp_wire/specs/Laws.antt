@@ -1,5 +1,5 @@
 -- What an answer of decoding says of a frame.
-use Rattle.std.specs.Prelude.{◌≡◌, ℕ, List, ◌++◌, ◌∷◌, Option, None, Result, Ok, Err, IfSome}
+use Rattle.std.specs.Prelude.{◌≡◌, ℕ, None, Result, Ok, Err, IfSome}
 use Rattle.vp_wire.specs.declared.frame.Frame.{Frame}
 use Rattle.vp_wire.specs.declared.fault.WireFault.{WireFault}
 use Rattle.vp_wire.specs.Faults.{wire_place}

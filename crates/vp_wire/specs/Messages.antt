@@ -1,5 +1,5 @@
 -- Reading the fields of a message, by its kind.
-use Rattle.std.specs.Prelude.{ℕ, List, Result, Ok, Err, cond, ◌==◌}
+use Rattle.std.specs.Prelude.{ℕ, List, Result, Ok, cond, ◌==◌}
 use Rattle.vp_text.specs.Reading.{◌>>=◌}
 use Rattle.vp_base.specs.declared.message.Obstacle.{Obstacle}
 use Rattle.vp_base.specs.declared.message.Obstacle.TheVariants as obstacle
@@ -7,7 +7,7 @@ use Rattle.vp_base.specs.declared.message.Message.{Message}
 use Rattle.vp_base.specs.declared.message.Message.TheVariants as message
 use Rattle.vp_wire.specs.declared.kind.MessageKind.{MessageKind}
 use Rattle.vp_wire.specs.declared.kind.MessageKind.TheVariants as kinds
-use Rattle.vp_bytes.specs.Reading.{byte_at, within, view_at, txn_at, numbered_at, request_at, value_at, name_at, sites_at, recs_at, writes_at, u32_at, u64_at, outcome_at, owner_at, maybe_view_at}
+use Rattle.vp_bytes.specs.Reading.{byte_at, within, view_at, txn_at, numbered_at, request_at, value_at, sites_at, recs_at, writes_at, outcome_at, owner_at, maybe_view_at}
 
 -- 1 and an owner, or 2 and a view or none
 unfoldable pub obstacle_at : List ℕ → Result (Obstacle × List ℕ) ℕ

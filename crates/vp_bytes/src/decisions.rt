@@ -1,0 +1,87 @@
+//! Decided transactions: reading and writing them.
+
+ghost use Rattle.std.specs.Prelude.{◌≡◌, ◌≤◌, ◌+◌, ◌++◌, All, IfOk, IfSome, OnOk, length};
+ghost use Rattle.vp_text.specs.Reading.{Tries};
+ghost use Rattle.vp_base.specs.Faults.{line_left};
+ghost use Rattle.vp_base.specs.Identifiers.{IsTxn};
+ghost use Rattle.vp_bytes.specs.Decisions.{decision_at, decision_bytes, decisions_at, decisions_bytes};
+ghost use Rattle.vp_bytes.specs.Ranges.{last_rank, next_rank, rank};
+ghost use Rattle.vp_bytes.specs.Reading.{run_at};
+
+use crate::fields::{put_sites, put_txn, put_u64};
+use crate::lists::take_sites;
+use crate::reading::take_u64;
+use crate::txn_ranges::take_ascending_txn;
+use bytes::BufMut;
+use std::alloc::Global;
+use vp_base::{Decisions, LineFault, NoMemory, Sites, TxnId};
+use vp_text::Cursor;
+
+/// Takes decided transactions, ascending, behind their count.
+#[tactic(auto, unfolding(crate::specs::Decisions::decisions_at))]
+pub fn take_decisions(alloc: Global, cursor: &mut Cursor) -> Result<Decisions, LineFault>
+    ensures { Tries (λ d. d) line_left result cursor.new (decisions_at cursor.old) }
+{
+    let count = take_u64(cursor)?;
+    take_some_decisions(alloc, cursor, count)
+}
+
+/// Takes so many decided transactions, ascending.
+fn take_some_decisions(
+    alloc: Global,
+    cursor: &mut Cursor,
+    count: u64,
+) -> Result<Decisions, LineFault>
+    ensures { Tries (λ d. d) line_left result cursor.new (run_at (λ decision. rank decision.0) decision_at count 0 cursor.old) }
+{
+    let mut decisions = Vec::new(alloc);
+    let mut left = count;
+    let mut last = None;
+    while left > 0 {
+        left -= 1;
+        let decision = take_decision(alloc, cursor, last, left)?;
+        last = Some(decision.0);
+        decisions.push(decision)?;
+    }
+    Ok(Decisions::from_vec(decisions))
+}
+
+/// Takes a decided transaction above the last one, if there is one, that so many others can follow.
+#[tactic(auto, unfolding(crate::specs::Decisions::decision_at))]
+fn take_decision(
+    alloc: Global,
+    cursor: &mut Cursor,
+    last: Option<TxnId>,
+    behind: u64,
+) -> Result<(TxnId, Sites), LineFault>
+    requires last { IfSome last IsTxn }
+    requires room { next_rank last + behind ≤ last_rank }
+    ensures read { Tries (λ d. d) line_left result cursor.new (decision_at behind (next_rank last) cursor.old) }
+    ensures txn { IfOk result (λ d. IsTxn d.0) }
+    ensures range { IfOk result (λ d. (next_rank last ≤ rank d.0) × (rank d.0 + behind ≤ last_rank)) }
+{
+    let txn = take_ascending_txn(cursor, last, behind)?;
+    let sites = take_sites(alloc, cursor, 1)?;
+    Ok((txn, sites))
+}
+
+/// Decided transactions behind their count.
+pub fn put_decisions<B: BufMut>(out: &mut B, decisions: &[(TxnId, Sites)]) -> Result<(), NoMemory>
+    requires { All (λ decision. length decision.1 ≤ 16) decisions.now }
+    ensures { OnOk result (B.written out.new ≡ B.written out.old ++ decisions_bytes decisions.now) }
+{
+    put_u64(out, decisions.len() as u64)?;
+    for decision in decisions {
+        put_decision(out, &decision.0, &decision.1)?;
+    }
+    Ok(())
+}
+
+/// A decided transaction, and the sites that have not acknowledged it.
+fn put_decision<B: BufMut>(out: &mut B, txn: &TxnId, sites: &Sites) -> Result<(), NoMemory>
+    requires { length sites.now ≤ 16 }
+    ensures { OnOk result (B.written out.new ≡ B.written out.old ++ decision_bytes (txn.now, sites.now)) }
+{
+    put_txn(out, txn)?;
+    put_sites(out, sites.as_slice())
+}

@@ -1,0 +1,93 @@
+//! Transactions in doubt: reading and writing them.
+
+ghost use Rattle.std.specs.Prelude.{◌≡◌, ◌≤◌, ◌+◌, ◌++◌, All, IfOk, IfSome, OnOk, length};
+ghost use Rattle.vp_text.specs.Reading.{Tries};
+ghost use Rattle.vp_base.specs.Faults.{line_left};
+ghost use Rattle.vp_base.specs.Identifiers.{IsTxn};
+ghost use Rattle.vp_bytes.specs.Doubts.{doubt_at, doubt_bytes, doubts_at, doubts_bytes};
+ghost use Rattle.vp_bytes.specs.Ranges.{last_rank, next_rank, rank};
+ghost use Rattle.vp_bytes.specs.Reading.{run_at};
+
+use crate::fields::{put_txn, put_u64, put_view, put_writes};
+use crate::lists::take_writes;
+use crate::reading::{take_u64, take_view};
+use crate::txn_ranges::take_ascending_txn;
+use bytes::BufMut;
+use std::alloc::Global;
+use vp_base::{InDoubt, LineFault, NoMemory, TxnId, ViewId, Writes};
+use vp_text::Cursor;
+
+/// Takes transactions in doubt, ascending, behind their count.
+#[tactic(auto, unfolding(crate::specs::Doubts::doubts_at))]
+pub fn take_doubts(alloc: Global, cursor: &mut Cursor) -> Result<InDoubt, LineFault>
+    ensures { Tries (λ d. d) line_left result cursor.new (doubts_at cursor.old) }
+{
+    let count = take_u64(cursor)?;
+    take_some_doubts(alloc, cursor, count)
+}
+
+/// Takes so many transactions in doubt, ascending.
+fn take_some_doubts(alloc: Global, cursor: &mut Cursor, count: u64) -> Result<InDoubt, LineFault>
+    ensures { Tries (λ d. d) line_left result cursor.new (run_at (λ doubt. rank doubt.0) doubt_at count 0 cursor.old) }
+{
+    let mut doubts = Vec::new(alloc);
+    let mut left = count;
+    let mut last = None;
+    while left > 0 {
+        left -= 1;
+        let doubt = take_doubt(alloc, cursor, last, left)?;
+        last = Some(doubt.0);
+        doubts.push(doubt)?;
+    }
+    Ok(InDoubt::from_vec(doubts))
+}
+
+/// Takes a transaction in doubt above the last one, if there is one, that so many others can follow.
+#[tactic(auto, unfolding(crate::specs::Doubts::doubt_at))]
+fn take_doubt(
+    alloc: Global,
+    cursor: &mut Cursor,
+    last: Option<TxnId>,
+    behind: u64,
+) -> Result<(TxnId, ViewId, Writes), LineFault>
+    requires last { IfSome last IsTxn }
+    requires room { next_rank last + behind ≤ last_rank }
+    ensures read { Tries (λ d. d) line_left result cursor.new (doubt_at behind (next_rank last) cursor.old) }
+    ensures txn { IfOk result (λ d. IsTxn d.0) }
+    ensures range { IfOk result (λ d. (next_rank last ≤ rank d.0) × (rank d.0 + behind ≤ last_rank)) }
+{
+    let txn = take_ascending_txn(cursor, last, behind)?;
+    let view = take_view(cursor)?;
+    let writes = take_writes(alloc, cursor)?;
+    Ok((txn, view, writes))
+}
+
+/// Transactions in doubt behind their count.
+pub fn put_doubts<B: BufMut>(
+    out: &mut B,
+    doubts: &[(TxnId, ViewId, Writes)],
+) -> Result<(), NoMemory>
+    requires { All (λ doubt. length doubt.2 ≤ 64) doubts.now }
+    ensures { OnOk result (B.written out.new ≡ B.written out.old ++ doubts_bytes doubts.now) }
+{
+    put_u64(out, doubts.len() as u64)?;
+    for doubt in doubts {
+        put_doubt(out, &doubt.0, &doubt.1, &doubt.2)?;
+    }
+    Ok(())
+}
+
+/// A transaction in doubt, its view and its writes.
+fn put_doubt<B: BufMut>(
+    out: &mut B,
+    txn: &TxnId,
+    view: &ViewId,
+    writes: &Writes,
+) -> Result<(), NoMemory>
+    requires { length writes.now ≤ 64 }
+    ensures { OnOk result (B.written out.new ≡ B.written out.old ++ doubt_bytes (txn.now, view.now, writes.now)) }
+{
+    put_txn(out, txn)?;
+    put_view(out, view)?;
+    put_writes(out, writes.as_slice())
+}
