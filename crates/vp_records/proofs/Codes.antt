@@ -13,6 +13,7 @@ kind_code kinds.Outcome = 4
 kind_code kinds.Commit = 5
 kind_code kinds.Copy = 6
 kind_code kinds.Acked = 7
+kind_code kinds.Checkpoint = 8
 
 kind_found : (kind : RecordKind) → record_kind (kind_code kind) ≡ Some kind
 kind_found kinds.Start = refl
@@ -22,6 +23,7 @@ kind_found kinds.Outcome = refl
 kind_found kinds.Commit = refl
 kind_found kinds.Copy = refl
 kind_found kinds.Acked = refl
+kind_found kinds.Checkpoint = refl
 
 pub kind_codes : Codes kind_code record_kind
-kind_codes = record { found = kind_found; only = found_only kind_code record_kinds (refl, (refl, (refl, (refl, (refl, (refl, (refl, tt))))))); some = kinds.Start }
+kind_codes = record { found = kind_found; only = found_only kind_code record_kinds (refl, (refl, (refl, (refl, (refl, (refl, (refl, (refl, tt)))))))); some = kinds.Start }

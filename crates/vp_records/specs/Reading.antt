@@ -3,9 +3,11 @@ use Rattle.std.specs.Prelude.{ℕ, zero, suc, List, [], ◌∷◌, length, Resul
 use Rattle.vp_text.specs.Reading.{◌>>=◌}
 use Rattle.vp_base.specs.declared.entry.LogRecord.{LogRecord}
 use Rattle.vp_base.specs.declared.entry.LogRecord.TheVariants as entry
-use Rattle.vp_bytes.specs.Reading.{byte_at, within, u32_at, view_at, txn_at, value_at, writes_at, sites_at, outcome_at}
+use Rattle.vp_bytes.specs.Reading.{byte_at, within, u32_at, u64_at, view_at, txn_at, value_at, writes_at, sites_at, outcome_at}
 use Rattle.vp_bytes.specs.Codes.{code_at}
-use Rattle.vp_bytes.specs.Copies.{stored_of}
+use Rattle.vp_bytes.specs.Copies.{stored_of, copies_at}
+use Rattle.vp_bytes.specs.Doubts.{doubts_at}
+use Rattle.vp_bytes.specs.Decisions.{decisions_at}
 use Rattle.vp_records.specs.Kinds.{record_kind}
 use Rattle.vp_records.specs.declared.kind.RecordKind.{RecordKind}
 use Rattle.vp_records.specs.declared.kind.RecordKind.TheVariants as kinds
@@ -42,6 +44,14 @@ fields_at kinds.Acked bytes = do
   txn ← txn_at bytes
   site ← byte_at (within 1 16) txn.1
   Ok (entry.Acked txn.0 site.0, site.1)
+fields_at kinds.Checkpoint bytes = do
+  generation ← u64_at bytes
+  life ← u32_at generation.1
+  promise ← view_at life.1
+  copies ← copies_at promise.1
+  doubts ← doubts_at copies.1
+  decisions ← decisions_at doubts.1
+  Ok (entry.Checkpoint generation.0 life.0 promise.0 copies.0 doubts.0 decisions.0, decisions.1)
 
 -- a record: its code, and the fields of that kind
 unfoldable pub record_at : List ℕ → Result (LogRecord × List ℕ) ℕ

@@ -2,11 +2,19 @@
 
 ghost use Rattle.std.specs.Prelude.{◌≡◌, ◌++◌, ◌∷◌, [], OnOk};
 ghost use Rattle.vp_bytes.specs.Fields.{IsSites, IsWrites, counted_bytes, outcome_byte, txn_bytes, view_bytes, writes_bytes};
+ghost use Rattle.vp_bytes.specs.Copies.{IsCopies, copies_bytes};
+ghost use Rattle.vp_bytes.specs.Decisions.{IsDecisions, decisions_bytes};
+ghost use Rattle.vp_bytes.specs.Doubts.{IsDoubts, doubts_bytes};
 ghost use Rattle.vp_records.specs.Batches.{IsBatch, batch_bytes};
 ghost use Rattle.vp_records.specs.Records.{IsLogRecord, record_bytes, record_code, record_fields};
 
-use vp_base::{Batch, LogRecord, NoMemory, RecId, SiteId, Stored, TxnId, Value, ViewId};
-use vp_bytes::{put_byte, put_sites, put_txn, put_u32, put_value, put_view, put_writes};
+use vp_base::{
+    Batch, LogRecord, NoMemory, RecId, SiteId, Sites, Stored, TxnId, Value, ViewId, Writes,
+};
+use vp_bytes::{
+    put_byte, put_copies, put_decisions, put_doubts, put_sites, put_txn, put_u32, put_u64,
+    put_value, put_view, put_writes,
+};
 
 /// Appends the one spelling of the batch. Without memory a beginning of it may have been appended.
 pub fn encode_batch(batch: &Batch, out: &mut Vec<u8>) -> Result<(), NoMemory>
@@ -59,7 +67,24 @@ fn put_fields(out: &mut Vec<u8>, entry: &LogRecord) -> Result<(), NoMemory>
         } => put_commit(out, txn, view, writes.as_slice(), waiting.as_slice()),
         LogRecord::Copy { rec, stored } => put_copy(out, *rec, stored),
         LogRecord::Acked { txn, site } => put_acked(out, txn, *site),
-        LogRecord::Checkpoint { .. } => Ok(()),
+        LogRecord::Checkpoint {
+            generation,
+            life,
+            promise,
+            copies,
+            doubts,
+            decisions,
+        } => {
+            put_u64(out, *generation)?;
+            put_u32(out, *life)?;
+            put_view(out, promise)?;
+            put_saved(
+                out,
+                copies.as_slice(),
+                doubts.as_slice(),
+                decisions.as_slice(),
+            )
+        }
     }
 }
 
@@ -116,4 +141,21 @@ fn put_acked(out: &mut Vec<u8>, txn: &TxnId, site: SiteId) -> Result<(), NoMemor
 {
     put_txn(out, txn)?;
     put_byte(out, site.get())
+}
+
+/// What a checkpoint has behind its promise.
+fn put_saved(
+    out: &mut Vec<u8>,
+    copies: &[(RecId, Stored)],
+    doubts: &[(TxnId, ViewId, Writes)],
+    decisions: &[(TxnId, Sites)],
+) -> Result<(), NoMemory>
+    requires copies { IsCopies copies.now }
+    requires doubts { IsDoubts doubts.now }
+    requires decisions { IsDecisions decisions.now }
+    ensures { OnOk result (out.new.items ≡ out.old.items ++ (copies_bytes copies.now ++ (doubts_bytes doubts.now ++ decisions_bytes decisions.now))) }
+{
+    put_copies(out, copies)?;
+    put_doubts(out, doubts)?;
+    put_decisions(out, decisions)
 }

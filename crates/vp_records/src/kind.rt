@@ -14,6 +14,7 @@ pub enum RecordKind {
     Commit,
     Copy,
     Acked,
+    Checkpoint,
 }
 
 impl Coded for RecordKind {
@@ -28,6 +29,7 @@ impl Coded for RecordKind {
             5 => Some(RecordKind::Commit),
             6 => Some(RecordKind::Copy),
             7 => Some(RecordKind::Acked),
+            8 => Some(RecordKind::Checkpoint),
             _ => None,
         }
     }

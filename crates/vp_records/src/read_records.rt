@@ -9,8 +9,8 @@ use crate::kind::RecordKind;
 use std::alloc::Global;
 use vp_base::{LineFault, LogRecord, Stored};
 use vp_bytes::{
-    take_outcome, take_rec, take_site, take_sites, take_txn, take_u32, take_value, take_view,
-    take_writes,
+    take_copies, take_decisions, take_doubts, take_outcome, take_rec, take_site, take_sites,
+    take_txn, take_u32, take_u64, take_value, take_view, take_writes,
 };
 use vp_text::Cursor;
 
@@ -31,6 +31,7 @@ pub fn take_fields(
         RecordKind::Commit => take_commit(alloc, cursor),
         RecordKind::Copy => take_copy(alloc, cursor),
         RecordKind::Acked => take_acked(cursor),
+        RecordKind::Checkpoint => take_checkpoint(alloc, cursor),
     }
 }
 
@@ -105,4 +106,24 @@ fn take_acked(cursor: &mut Cursor) -> Result<LogRecord, LineFault>
     let txn = take_txn(cursor)?;
     let site = take_site(cursor)?;
     Ok(LogRecord::Acked { txn, site })
+}
+
+#[tactic(auto, unfolding(crate::specs::Reading::fields_at))]
+fn take_checkpoint(alloc: Global, cursor: &mut Cursor) -> Result<LogRecord, LineFault>
+    ensures { Tries (λ r. r) line_left result cursor.new (fields_at kinds.Checkpoint cursor.old) }
+{
+    let generation = take_u64(cursor)?;
+    let life = take_u32(cursor)?;
+    let promise = take_view(cursor)?;
+    let copies = take_copies(alloc, cursor)?;
+    let doubts = take_doubts(alloc, cursor)?;
+    let decisions = take_decisions(alloc, cursor)?;
+    Ok(LogRecord::Checkpoint {
+        generation,
+        life,
+        promise,
+        copies,
+        doubts,
+        decisions,
+    })
 }
