@@ -7,11 +7,11 @@ use Rattle.vp_text.specs.declared.class.Class.{Class}
 use Rattle.vp_text.proofs.Repeats.{with_front}
 use Rattle.vp_bytes.specs.Reading.{byte_at, run_at, word_run_at}
 
-onto : {X : Type 0} (front : List X) (x : X) (read : Result (List X × List ℕ) ℕ) → with_front front (read >>= λ xs. Ok (x ∷ xs.0, xs.1)) ≡ with_front (front ++ x ∷ []) read
+pub onto : {X : Type 0} (front : List X) (x : X) (read : Result (List X × List ℕ) ℕ) → with_front front (read >>= λ xs. Ok (x ∷ xs.0, xs.1)) ≡ with_front (front ++ x ∷ []) read
 onto {X = X} front x (Ok y) = ap (λ (xs : List X). Ok (xs, y.1)) (sym (append_assoc front (x ∷ []) y.0))
 onto front x (Err n) = refl
 
-from_nothing : {X : Type 0} (read : Result (List X × List ℕ) ℕ) → with_front [] read ≡ read
+pub from_nothing : {X : Type 0} (read : Result (List X × List ℕ) ℕ) → with_front [] read ≡ read
 from_nothing (Ok y) = refl
 from_nothing (Err n) = refl
 

@@ -1,1 +1,6 @@
 pub mod Held
+pub mod Codes
+pub mod EachRecord
+pub mod Records
+pub mod Each
+pub mod Batches

@@ -6,9 +6,19 @@
 
 mod copies;
 mod decisions;
+mod decoding;
 mod doubts;
 mod durable;
+mod encoding;
+mod fault;
+mod kind;
+mod laws;
+mod read_records;
 #[cfg(test)]
 mod tests;
 
+pub use decoding::decode_batch;
 pub use durable::Durable;
+pub use encoding::encode_batch;
+pub use fault::BatchFault;
+pub use laws::{encoded_is_decoded, spellings_are_of_one_batch};

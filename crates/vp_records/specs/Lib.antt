@@ -1,0 +1,5 @@
+pub mod Records
+pub mod Batches
+pub mod Kinds
+pub mod Reading
+pub mod Laws

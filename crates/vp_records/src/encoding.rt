@@ -1,0 +1,161 @@
+//! Writing batches.
+
+ghost use Rattle.std.specs.Prelude.{◌≡◌, ◌++◌, ◌∷◌, [], OnOk};
+ghost use Rattle.vp_bytes.specs.Fields.{IsSites, IsWrites, counted_bytes, outcome_byte, txn_bytes, view_bytes, writes_bytes};
+ghost use Rattle.vp_bytes.specs.Copies.{IsCopies, copies_bytes};
+ghost use Rattle.vp_bytes.specs.Decisions.{IsDecisions, decisions_bytes};
+ghost use Rattle.vp_bytes.specs.Doubts.{IsDoubts, doubts_bytes};
+ghost use Rattle.vp_records.specs.Batches.{IsBatch, batch_bytes};
+ghost use Rattle.vp_records.specs.Records.{IsLogRecord, record_bytes, record_code, record_fields};
+
+use vp_base::{
+    Batch, LogRecord, NoMemory, RecId, SiteId, Sites, Stored, TxnId, Value, ViewId, Writes,
+};
+use vp_bytes::{
+    put_byte, put_copies, put_decisions, put_doubts, put_sites, put_txn, put_u32, put_u64,
+    put_value, put_view, put_writes,
+};
+
+/// Appends the one spelling of the batch. Without memory a beginning of it may have been appended.
+pub fn encode_batch(batch: &Batch, out: &mut Vec<u8>) -> Result<(), NoMemory>
+    requires { IsBatch batch.now }
+    ensures { OnOk result (out.new.items ≡ out.old.items ++ batch_bytes batch.now) }
+{
+    for entry in batch.as_slice() {
+        put_record(out, entry)?;
+    }
+    Ok(())
+}
+
+fn put_record(out: &mut Vec<u8>, entry: &LogRecord) -> Result<(), NoMemory>
+    requires { IsLogRecord entry.now }
+    ensures { OnOk result (out.new.items ≡ out.old.items ++ record_bytes entry.now) }
+{
+    put_byte(out, code_of(entry))?;
+    put_fields(out, entry)
+}
+
+fn code_of(entry: &LogRecord) -> u8
+    ensures { result ≡ record_code entry.now }
+{
+    match entry {
+        LogRecord::Start { .. } => 1,
+        LogRecord::Promise { .. } => 2,
+        LogRecord::Yes { .. } => 3,
+        LogRecord::Outcome { .. } => 4,
+        LogRecord::Commit { .. } => 5,
+        LogRecord::Copy { .. } => 6,
+        LogRecord::Acked { .. } => 7,
+        LogRecord::Checkpoint { .. } => 8,
+    }
+}
+
+fn put_fields(out: &mut Vec<u8>, entry: &LogRecord) -> Result<(), NoMemory>
+    requires { IsLogRecord entry.now }
+    ensures { OnOk result (out.new.items ≡ out.old.items ++ record_fields entry.now) }
+{
+    match entry {
+        LogRecord::Start { life } => put_u32(out, *life),
+        LogRecord::Promise { view } => put_view(out, view),
+        LogRecord::Yes { txn, view, writes } => put_yes(out, txn, view, writes.as_slice()),
+        LogRecord::Outcome { txn, commit } => put_outcome(out, txn, *commit),
+        LogRecord::Commit {
+            txn,
+            view,
+            writes,
+            waiting,
+        } => put_commit(out, txn, view, writes.as_slice(), waiting.as_slice()),
+        LogRecord::Copy { rec, stored } => put_copy(out, *rec, stored),
+        LogRecord::Acked { txn, site } => put_acked(out, txn, *site),
+        LogRecord::Checkpoint {
+            generation,
+            life,
+            promise,
+            copies,
+            doubts,
+            decisions,
+        } => {
+            put_u64(out, *generation)?;
+            put_u32(out, *life)?;
+            put_view(out, promise)?;
+            put_saved(
+                out,
+                copies.as_slice(),
+                doubts.as_slice(),
+                decisions.as_slice(),
+            )
+        }
+    }
+}
+
+fn put_yes(
+    out: &mut Vec<u8>,
+    txn: &TxnId,
+    view: &ViewId,
+    writes: &[(RecId, Value)],
+) -> Result<(), NoMemory>
+    requires { IsWrites writes.now }
+    ensures { OnOk result (out.new.items ≡ out.old.items ++ (txn_bytes txn.now ++ (view_bytes view.now ++ writes_bytes writes.now))) }
+{
+    put_txn(out, txn)?;
+    put_view(out, view)?;
+    put_writes(out, writes)
+}
+
+fn put_outcome(out: &mut Vec<u8>, txn: &TxnId, commit: bool) -> Result<(), NoMemory>
+    ensures { OnOk result (out.new.items ≡ out.old.items ++ (txn_bytes txn.now ++ outcome_byte commit ∷ [])) }
+{
+    put_txn(out, txn)?;
+    if commit {
+        put_byte(out, 1)
+    } else {
+        put_byte(out, 0)
+    }
+}
+
+fn put_commit(
+    out: &mut Vec<u8>,
+    txn: &TxnId,
+    view: &ViewId,
+    writes: &[(RecId, Value)],
+    waiting: &[SiteId],
+) -> Result<(), NoMemory>
+    requires writes { IsWrites writes.now }
+    requires waiting { IsSites 0 waiting.now }
+    ensures { OnOk result (out.new.items ≡ out.old.items ++ (txn_bytes txn.now ++ (view_bytes view.now ++ (writes_bytes writes.now ++ counted_bytes waiting.now)))) }
+{
+    put_yes(out, txn, view, writes)?;
+    put_sites(out, waiting)
+}
+
+fn put_copy(out: &mut Vec<u8>, rec: RecId, stored: &Stored) -> Result<(), NoMemory>
+    ensures { OnOk result (out.new.items ≡ out.old.items ++ rec ∷ (counted_bytes stored.now.value ++ view_bytes stored.now.date)) }
+{
+    put_byte(out, rec.get())?;
+    put_value(out, &stored.value)?;
+    put_view(out, &stored.date)
+}
+
+fn put_acked(out: &mut Vec<u8>, txn: &TxnId, site: SiteId) -> Result<(), NoMemory>
+    ensures { OnOk result (out.new.items ≡ out.old.items ++ (txn_bytes txn.now ++ site ∷ [])) }
+{
+    put_txn(out, txn)?;
+    put_byte(out, site.get())
+}
+
+/// What a checkpoint has behind its promise.
+fn put_saved(
+    out: &mut Vec<u8>,
+    copies: &[(RecId, Stored)],
+    doubts: &[(TxnId, ViewId, Writes)],
+    decisions: &[(TxnId, Sites)],
+) -> Result<(), NoMemory>
+    requires copies { IsCopies copies.now }
+    requires doubts { IsDoubts doubts.now }
+    requires decisions { IsDecisions decisions.now }
+    ensures { OnOk result (out.new.items ≡ out.old.items ++ (copies_bytes copies.now ++ (doubts_bytes doubts.now ++ decisions_bytes decisions.now))) }
+{
+    put_copies(out, copies)?;
+    put_doubts(out, doubts)?;
+    put_decisions(out, decisions)
+}
