@@ -9,12 +9,12 @@ bit, a byte or a run of bytes changed, put in or taken out, a list disordered, a
 seed up to the twentieth is an input, and each of its bits flipped. Of each the answers have to agree: the place where it is no batch,
 or the text of its records with each of their fields, and the bytes that they are encoded to.
 """
+import itertools
 import random
-import subprocess
 import sys
 
 from batch_draws import BatchDraws, damaged_batch
-from comparison import REFERENCE, joined, modules, split
+from comparison import arguments, compare_pieces, in_rounds, modules
 
 AT_ONCE, WHOLLY, SHORT = 5000, 20, 300
 
@@ -61,40 +61,12 @@ def wanted(records, fields, data):
     return "".join(text_of(record) + "\n" for record in batch).encode(), records.encode_batch(batch)
 
 
-def answers(program, inputs):
-    done = subprocess.run([program], input=joined(inputs), capture_output=True, timeout=600, check=True)
-    return split(done.stdout)
-
-
-def difference(program, records, fields, inputs, places):
-    """The first of the inputs at which the answers differ, with both; the places of the faults are counted."""
-    said = answers(program, inputs)
-    assert len(said) == 2 * len(inputs), "another count of answers"
-    for data, *answer in zip(inputs, said[::2], said[1::2]):
-        right = wanted(records, fields, data)
-        if tuple(answer) != right:
-            return data.hex(), answer, right
-        if answer[0].startswith(b"bad "):
-            places[answer[0]] = places.get(answer[0], 0) + 1
-    return None
-
-
 def main():
-    program = sys.argv[1]
-    seed = int(sys.argv[2]) if len(sys.argv) > 2 else 1
-    count = int(sys.argv[3]) if len(sys.argv) > 3 else 30000
-    wire, records, fields = modules(sys.argv[4] if len(sys.argv) > 4 else REFERENCE, "wire", "records", "fields")
-    rounds = [[drawn(wire, records, k) for k in range(first, min(first + AT_ONCE, seed + count))]
-              for first in range(seed, seed + count, AT_ONCE)]
-    rounds += [list(each_damage(wire, records, k)) for k in range(seed, seed + WHOLLY)]
-    places = {}
-    for inputs in rounds:
-        if differs := difference(program, records, fields, inputs, places):
-            print("differs at", *differs)
-            return 1
-    inputs, refused = sum(map(len, rounds)), sum(places.values())
-    print(f"{inputs} inputs from seed {seed} agree: {inputs - refused} are batches, {refused} are refused, at {len(places)} different places")
-    return 0
+    program, seed, count, reference = arguments(30000)
+    wire, records, fields = modules(reference, "wire", "records", "fields")
+    rounds = in_rounds(range(seed, seed + count), AT_ONCE, lambda k: (drawn(wire, records, k),))
+    wholly = ([(data,) for data in each_damage(wire, records, k)] for k in range(seed, seed + WHOLLY))
+    return compare_pieces(program, itertools.chain(rounds, wholly), lambda data: wanted(records, fields, data), "batches")
 
 
 if __name__ == "__main__":

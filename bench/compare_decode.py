@@ -9,10 +9,9 @@ a run of bytes changed, put in or taken out, a list disordered, a count changed,
 the place where it is no frame, or the frame's sender, receiver and text with each of its fields, and the bytes that it is encoded to.
 """
 import random
-import subprocess
 import sys
 
-from comparison import REFERENCE, joined, modules, split
+from comparison import arguments, compare_pieces, in_rounds, modules
 from frame_draws import Draws, damaged_frame
 
 NAMES = [f"r{k}" for k in range(256)]
@@ -37,47 +36,25 @@ def body_text(wire, body):
     return BARE.get(type(body).__name__, str(body))
 
 
-def wanted(wire, fields, data):
-    """The two pieces that PROGRAM has to answer, and the kind of the frame."""
+def wanted(wire, fields, kinds, data):
+    """The two pieces that PROGRAM has to answer. The frames of each kind are counted."""
     try:
         frame = wire.decode(data)
     except fields.NotWhole as fault:
-        return f"bad {fault.at}".encode(), b"", None
-    text = f"{frame.sender} {frame.to} {body_text(wire, frame.body)}"
+        return b"bad %d" % fault.at, b""
     kind = frame.body.kind if type(frame.body) is wire.Call else type(frame.body).__name__
-    return text.encode(), wire.encode(frame), kind
-
-
-def answers(program, inputs):
-    pieces = joined([CATALOGUE, *inputs])
-    done = subprocess.run([program, "answer"], input=pieces, capture_output=True, timeout=600, check=True)
-    return split(done.stdout)
+    kinds[kind] = kinds.get(kind, 0) + 1
+    return f"{frame.sender} {frame.to} {body_text(wire, frame.body)}".encode(), wire.encode(frame)
 
 
 def main():
-    program = sys.argv[1]
-    seed = int(sys.argv[2]) if len(sys.argv) > 2 else 1
-    count = int(sys.argv[3]) if len(sys.argv) > 3 else 100000
-    wire, fields = modules(sys.argv[4] if len(sys.argv) > 4 else REFERENCE, "wire", "fields")
-    kinds, places = {}, {}
-    for first in range(seed, seed + count, AT_ONCE):
-        seeds = range(first, min(first + AT_ONCE, seed + count))
-        inputs = [drawn(wire, k) for k in seeds]
-        said = answers(program, inputs)
-        assert len(said) == 2 * len(inputs), "another count of answers"
-        for k, data, text, spelling in zip(seeds, inputs, said[::2], said[1::2]):
-            *answer, kind = wanted(wire, fields, data)
-            if [text, spelling] != answer:
-                print("differs at seed", k, data.hex(), text, spelling.hex(), answer)
-                return 1
-            if kind:
-                kinds[kind] = kinds.get(kind, 0) + 1
-            else:
-                places[text] = places.get(text, 0) + 1
-    refused = sum(places.values())
-    print(f"{count} inputs from seed {seed} agree: {count - refused} are frames, of {len(kinds)} kinds, each of them"
-          f" {min(kinds.values())} times or more; {refused} are refused, at {len(places)} different places")
-    return 0
+    program, seed, count, reference = arguments(100000)
+    wire, fields = modules(reference, "wire", "fields")
+    kinds = {}
+    rounds = in_rounds(range(seed, seed + count), AT_ONCE, lambda k: (drawn(wire, k),))
+    status = compare_pieces(program, rounds, lambda data: wanted(wire, fields, kinds, data), "frames", [CATALOGUE])
+    print(f"{len(kinds)} kinds of frames were met, each of them {min(kinds.values())} times or more")
+    return status
 
 
 if __name__ == "__main__":

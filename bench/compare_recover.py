@@ -10,13 +10,13 @@ run of bytes changed, put in or taken out. Then each cut of a short half of each
 its bits flipped. Of each the answers have to agree: the half and the place of the fault, or the batches, each record with its
 fields; and the bytes of the half after the recovery, and after an append of the batch where nothing was at fault.
 """
+import itertools
 import random
-import subprocess
 import sys
 
 from batch_draws import BatchDraws
 from compare_batches import text_of
-from comparison import REFERENCE, joined, modules, split
+from comparison import arguments, compare_pieces, in_rounds, modules
 from damage import damaged
 
 AT_ONCE, WHOLLY, SHORT, LONGEST = 2000, 20, 200, 12000
@@ -75,33 +75,12 @@ def wanted(log, records, half, data):
     return "".join(line + "\n" for line in lines).encode(), bytes(disk.halves[0])
 
 
-def answers(program, inputs):
-    pieces = joined([piece for pair in inputs for piece in pair])
-    done = subprocess.run([program], input=pieces, capture_output=True, timeout=600, check=True)
-    said = split(done.stdout)
-    assert len(said) == 2 * len(inputs), "another count of answers"
-    return zip(said[::2], said[1::2])
-
-
 def main():
-    program = sys.argv[1]
-    seed = int(sys.argv[2]) if len(sys.argv) > 2 else 1
-    count = int(sys.argv[3]) if len(sys.argv) > 3 else 20000
-    log, wire, records = modules(sys.argv[4] if len(sys.argv) > 4 else REFERENCE, "log", "wire", "records")
-    rounds = [[Halves(wire, records, k).drawn() for k in range(first, min(first + AT_ONCE, seed + count))]
-              for first in range(seed, seed + count, AT_ONCE)]
-    rounds += [list(Halves(wire, records, k).each_damage()) for k in range(seed, seed + WHOLLY)]
-    places = {}
-    for inputs in rounds:
-        for (half, data), answer in zip(inputs, answers(program, inputs)):
-            if answer != wanted(log, records, half, data):
-                print("differs at", half.hex(), data.hex(), answer, wanted(log, records, half, data))
-                return 1
-            if answer[0].startswith(b"bad "):
-                places[answer[0]] = places.get(answer[0], 0) + 1
-    inputs, refused = sum(map(len, rounds)), sum(places.values())
-    print(f"{inputs} inputs from seed {seed} agree: {inputs - refused} are logs, {refused} are refused, at {len(places)} different places")
-    return 0
+    program, seed, count, reference = arguments(20000)
+    log, wire, records = modules(reference, "log", "wire", "records")
+    rounds = in_rounds(range(seed, seed + count), AT_ONCE, lambda k: Halves(wire, records, k).drawn())
+    wholly = (list(Halves(wire, records, k).each_damage()) for k in range(seed, seed + WHOLLY))
+    return compare_pieces(program, itertools.chain(rounds, wholly), lambda half, data: wanted(log, records, half, data), "logs")
 
 
 if __name__ == "__main__":

@@ -1,4 +1,4 @@
-"""Runs a program and another one on random inputs, each made from its own seed, up to the first where they differ."""
+"""Runs a program on random inputs, each made from its own seed, up to the first where another program or a reference differs."""
 import importlib
 import pathlib
 import random
@@ -28,6 +28,42 @@ def split(data):
         pieces.append(data[place + 2 : end])
         place = end
     return pieces
+
+
+def arguments(count):
+    """PROGRAM, SEED, COUNT and REFERENCE of the command line; where the others aren't there, seed 1 and so many inputs."""
+    words = sys.argv[1:]
+    return words[0], *(int(word) for word in (words[1:3] + ["1", str(count)][len(words[1:3]) :])), (words[3:] or [REFERENCE])[0]
+
+
+def in_rounds(seeds, many, drawn):
+    """The inputs of the seeds, so many at a time."""
+    for first in range(0, len(seeds), many):
+        yield [drawn(seed) for seed in seeds[first : first + many]]
+
+
+def compare_pieces(program, rounds, right, what, head=()):
+    """Compares the two pieces that the program answers to each input with what `right` gives, and tells how many were refused.
+
+    An input is a tuple of pieces. Those of a round are given to one run, behind the pieces of the head. The answer is the exit status
+    of the comparison: 1 where an input tells the two apart.
+    """
+    count, places = 0, {}
+    for inputs in rounds:
+        pieces = joined([*head, *(piece for given in inputs for piece in given)])
+        done = subprocess.run([program], input=pieces, capture_output=True, timeout=600, check=True)
+        said = split(done.stdout)
+        assert len(said) == 2 * len(inputs), "another count of answers"
+        for given, answer in zip(inputs, zip(said[::2], said[1::2])):
+            if answer != right(*given):
+                print("differs at", *(piece.hex() for piece in given), answer, right(*given))
+                return 1
+            if answer[0].startswith(b"bad "):
+                places[answer[0]] = places.get(answer[0], 0) + 1
+        count += len(inputs)
+    refused = sum(places.values())
+    print(f"{count} inputs agree: {count - refused} are {what}; {refused} are refused, at {len(places)} different places")
+    return 0
 
 
 def run(program, command, text):
