@@ -182,12 +182,33 @@ fn copies_are_refused_at_their_places(rt: HostRuntime) -> Result<(), NoMemory> {
 
 #[test]
 fn transactions_in_doubt_are_refused_at_their_places(rt: HostRuntime) -> Result<(), NoMemory> {
-    let cases: [(&[u8], Option<usize>); 21] = [
+    let cases: [(&[u8], Option<usize>); 6] = [
         (b"\0\0\0\0\0\0\0\0", None),
         (
             b"\0\0\0\0\0\0\0\x01\x10\xff\xff\xff\xff\xff\xff\xff\xff\0\0\0\0\0\0\0\x01\x02\x01\x03\x01x",
             None,
         ),
+        (
+            b"\0\0\0\0\0\0\0\x01\x01\0\0\0\x01\0\0\0\x01\0\0\0\0\0\0\0\0\x01",
+            Some(1),
+        ),
+        (
+            b"\0\0\0\0\0\0\0\x01\x01\0\0\0\x01\0\0\0\x01\0\0\0\0\0\0\0\0\0\x02\x09\x01a\x09",
+            Some(1),
+        ),
+        (b"\0\0\0\0\0", Some(0)),
+        (b"", Some(0)),
+    ];
+    for (bytes, at) in cases {
+        let mut cursor = Cursor::new(bytes);
+        assert_eq!(rt; line_left(take_doubts(rt.alloc(), &mut cursor))?, at);
+    }
+    Ok(())
+}
+
+#[test]
+fn transactions_in_doubt_ascend(rt: HostRuntime) -> Result<(), NoMemory> {
+    let cases: [(&[u8], Option<usize>); 10] = [
         (
             b"\0\0\0\0\0\0\0\x02\x01\0\0\0\x01\0\0\0\x01\0\0\0\0\0\0\0\0\0\0\x01\0\0\0\x01\0\0\0\x02\0\0\0\0\0\0\0\0\0\0",
             None,
@@ -228,27 +249,6 @@ fn transactions_in_doubt_are_refused_at_their_places(rt: HostRuntime) -> Result<
             b"\0\0\0\0\0\0\0\x02\x02\xff\xff\xff\xff\xff\xff\xff\xff\0\0\0\0\0\0\0\0\0\0\x03\0\0\0\0",
             Some(1),
         ),
-        (b"\xff\xff\xff\xff\xff\xff\xff\xff\x10", Some(1)),
-        (b"\xff\xff\xff\xff\xff\xff\xff\xff\x0f", Some(0)),
-        (b"\xff\xff\xff\xfe\0\0\0\0\x0f\xff\xff\xff\xff", Some(0)),
-        (
-            b"\xff\xff\xff\xff\xff\xff\xff\xff\x0f\0\0\0\x01\0\0\0\x01",
-            Some(0),
-        ),
-        (
-            b"\xff\xff\xff\xff\xff\xff\xff\xff\x01\0\0\0\x01\0\0\0\x01\0\0\0\0\0\0\0\0\0\0\x01\0\0\0\x01\0\0\0\x02\0\0\0\0\0\0\0\0\0A",
-            Some(1),
-        ),
-        (
-            b"\0\0\0\0\0\0\0\x01\x01\0\0\0\x01\0\0\0\x01\0\0\0\0\0\0\0\0\x01",
-            Some(1),
-        ),
-        (
-            b"\0\0\0\0\0\0\0\x01\x01\0\0\0\x01\0\0\0\x01\0\0\0\0\0\0\0\0\0\x02\x09\x01a\x09",
-            Some(1),
-        ),
-        (b"\0\0\0\0\0", Some(0)),
-        (b"", Some(0)),
     ];
     for (bytes, at) in cases {
         let mut cursor = Cursor::new(bytes);
@@ -259,7 +259,14 @@ fn transactions_in_doubt_are_refused_at_their_places(rt: HostRuntime) -> Result<
 
 #[test]
 fn a_great_count_leaves_room_to_its_last_transaction(rt: HostRuntime) -> Result<(), NoMemory> {
-    let cases: [(&[u8], Option<usize>); 7] = [
+    let cases: [(&[u8], Option<usize>); 11] = [
+        (b"\xff\xff\xff\xff\xff\xff\xff\xff\x10", Some(1)),
+        (b"\xff\xff\xff\xff\xff\xff\xff\xff\x0f", Some(0)),
+        (b"\xff\xff\xff\xfe\0\0\0\0\x0f\xff\xff\xff\xff", Some(0)),
+        (
+            b"\xff\xff\xff\xff\xff\xff\xff\xff\x0f\0\0\0\x01\0\0\0\x01",
+            Some(0),
+        ),
         (
             b"\xff\xff\xff\xff\xff\xff\xff\xff\x0f\xff\xff\xff\xfe\0\0\0\x01",
             Some(0),
@@ -435,18 +442,20 @@ fn the_next_transaction_leaves_room_for_those_behind_it(rt: HostRuntime) {
 
 #[test]
 #[tactic(auto, unfolding(crate::specs::Ranges::rank))]
-fn the_next_transaction_is_in_the_next_life_or_at_the_next_site(rt: HostRuntime) {
-    let most = u32::MAX;
-    let life = Some(txn(1, 1, most));
-    assert_eq!(rt;
-        ascending_left(b"\x01\0\0\0\x01\0\0\0\x01", life, 0),
-        Some(5)
-    );
-    assert_eq!(rt; ascending_left(b"\x01\0\0\0\x02\0\0\0\x01", life, 0), None);
-    let site = Some(txn(1, most, most));
-    assert_eq!(rt;
-        ascending_left(b"\x01\0\0\0\x02\0\0\0\x01", site, 0),
-        Some(9)
-    );
-    assert_eq!(rt; ascending_left(b"\x02\0\0\0\x01\0\0\0\x01", site, 0), None);
+fn behind_the_last_of_a_life_comes_the_next_life(rt: HostRuntime) {
+    let same = ascending_left(b"\x01\0\0\0\x01\0\0\0\x01", Some(txn(1, 1, u32::MAX)), 0);
+    assert_eq!(rt; same, Some(5));
+    let next = ascending_left(b"\x01\0\0\0\x02\0\0\0\x01", Some(txn(1, 1, u32::MAX)), 0);
+    assert_eq!(rt; next, None);
+}
+
+#[test]
+#[tactic(auto, unfolding(crate::specs::Ranges::rank))]
+fn behind_the_last_of_a_site_comes_the_next_site(rt: HostRuntime) {
+    let last = txn(1, u32::MAX, u32::MAX);
+    let same = ascending_left(b"\x01\0\0\0\x02\0\0\0\x01", Some(last), 0);
+    assert_eq!(rt; same, Some(9));
+    let last = txn(1, u32::MAX, u32::MAX);
+    let next = ascending_left(b"\x02\0\0\0\x01\0\0\0\x01", Some(last), 0);
+    assert_eq!(rt; next, None);
 }
