@@ -1,0 +1,5 @@
+mod Appends
+mod Measured
+mod Opened
+mod Tears
+mod Times

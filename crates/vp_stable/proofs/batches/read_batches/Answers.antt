@@ -1,0 +1,1 @@
+use Rattle.vp_stable.proofs.batches.read_batches.Goals as goal

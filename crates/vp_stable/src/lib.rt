@@ -1,0 +1,11 @@
+//! A log of batches of records that no crash can tear: each batch stands behind a gate of one byte, which is opened by a write of
+//! its own, after the batch and the next, closed gate were synced.
+#![tactic(auto)]
+
+mod batches;
+mod fault;
+mod half;
+mod log;
+
+pub use fault::{AppendFault, LogFault};
+pub use log::Log;
