@@ -19,7 +19,7 @@ pub torn_written : (at : ℕ) (bytes old new : List ℕ) → Written at bytes ol
 torn_written at bytes old new written =
     let zeros : List ℕ = replicate (at - length old) 0 in
     let padded = length-append old zeros in
-    let filled = length-replicate (at - length old) 0 in
+    let filled = length-replicate {A = ℕ} (at - length old) 0 in
     let front = take at (old ++ zeros) in
     let size : length front ≡ at = length-take-le at (old ++ zeros) (omega (arith, padded, filled)) in
     let head : length (front ++ bytes) ≡ at + length bytes = omega (arith, size, length-append front bytes) in

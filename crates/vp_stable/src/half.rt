@@ -1,12 +1,33 @@
 //! Reading and writing half 0.
 
-ghost use Rattle.std.specs.Prelude.{◌≡◌, ◌+◌, ◌≤◌, ◌↔◌, ◌^◌, ℕ, List, Option, length, IfOk, IfSome, IsTrue, OnOk, OnErr};
+ghost use Rattle.std.specs.Prelude.{◌≡◌, ◌+◌, ◌≤◌, ◌↔◌, ◌^◌, ℕ, List, Option, length, min, take, IfOk, IfSome, IsTrue, OnOk, OnErr};
+ghost use Rattle.vp_outside.specs.Causes.{HasCause};
 ghost use Rattle.vp_outside.specs.Output.{HasOutCause};
 ghost use Rattle.vp_outside.specs.Disk.{InHalf, Written, Torn, Becomes, StaysAttached, Untouched, Only, Elapses};
 ghost use Rattle.vp_stable.specs.Moments.{Quiet, TornFrom};
 
 use std::alloc::Global;
-use vp_outside::{Disk, OutFault};
+use vp_outside::{Disk, Failed, OutFault};
+
+/// Puts the bytes of half 0 into the front of the buffer, as far as it has room, and answers how many.
+fn fill<D: Disk>(disk: &mut D, buf: &mut [u8]) -> Result<usize, Failed>
+    requires attached { IsTrue (D.attached disk.old) }
+    ensures told { IfOk result (λ n. IfSome (D.logs disk.old (D.asked disk.old)) (λ log. (n ≡ min (length buf.old) (length log.0)) × (take n buf.new ≡ take n log.0))) }
+    ensures room { length buf.new ≡ length buf.old }
+    ensures quiet { Quiet (D.asked disk.old) (D.asked disk.new) (D.attached disk.old) (D.attached disk.new) (D.honest disk.old) (D.honest disk.new)
+        (D.logs disk.old) (D.logs disk.new) (D.may_leave disk.old) (D.may_leave disk.new) (D.moment disk.old) (D.moment disk.new) (D.left_since disk.old) (D.left_since disk.new) }
+    ensures cause { HasCause (D.faults disk.old) (D.faults disk.new) result }
+{
+    let mut at = 0;
+    while at < buf.len() {
+        let count = disk.read(0, at as u64, &mut buf[at..])?;
+        if count == 0 {
+            return Ok(at);
+        }
+        at += count;
+    }
+    Ok(at)
+}
 
 /// The bytes of half 0.
 pub fn read_half<D: Disk>(alloc: Global, disk: &mut D) -> Result<Vec<u8>, OutFault>
@@ -18,15 +39,8 @@ pub fn read_half<D: Disk>(alloc: Global, disk: &mut D) -> Result<Vec<u8>, OutFau
 {
     let length = disk.length(0)?;
     let mut bytes = vec![in alloc; 0; length as usize]?;
-    let mut at = 0;
-    while at < bytes.len() {
-        let count = disk.read(0, at as u64, &mut bytes[at..])?;
-        if count == 0 {
-            bytes.truncate(at);
-            return Ok(bytes);
-        }
-        at += count;
-    }
+    let count = fill(disk, &mut bytes)?;
+    bytes.truncate(count);
     Ok(bytes)
 }
 
