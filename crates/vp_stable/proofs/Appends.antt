@@ -30,13 +30,6 @@ becomes-then None (Some b) q f h k = absurd h
 becomes-then None None (Some c) f h k = k
 becomes-then None None None f h k = k
 
-pub becomes-same : (S : Halves → Halves → Type 0) (o p : Option Halves) → p ≡ o → ((a : Halves) → S a a) → Becomes S o p
-becomes-same S o p same here = subst (λ (x : Option Halves). Becomes S o x) (sym same) (at o)
-  where
-    at : (x : Option Halves) → Becomes S x x
-    at (Some a) = here a
-    at None = tt
-
 -- ---- what an append makes of a log
 
 pub may_same : (batch : List LogRecord) (place : ℕ) (log : Halves) → MayGain batch place log log

@@ -5,7 +5,9 @@
 mod batches;
 mod fault;
 mod half;
+mod laws;
 mod log;
 
 pub use fault::{AppendFault, LogFault};
+pub use laws::{bytes_are_bad_at_one_gate, bytes_are_one_log};
 pub use log::Log;

@@ -3,8 +3,7 @@ use Rattle.std.specs.Prelude.{IfSome}
 use Rattle.vp_outside.specs.Disk.{Becomes, Only}
 use Rattle.vp_stable.specs.Log.{measured}
 use Rattle.vp_stable.specs.Moments.{IsSettled, Gains, MayGain}
-use Rattle.vp_stable.proofs.Appends.{on_err, becomes-as, becomes-then, becomes-same, first_torn, second_torn, both_written, kept_gained, may_same, none_leaves, first_leaves, second_leaves}
-use Rattle.vp_stable.proofs.Times.{elapses_none}
+use Rattle.vp_stable.proofs.Appends.{on_err, becomes-as, becomes-then, first_torn, second_torn, both_written, kept_gained, first_leaves, second_leaves}
 use Rattle.vp_stable.proofs.log.Log.append.Goals as goal
 
 -- a first write that isn't done
