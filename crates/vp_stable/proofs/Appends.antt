@@ -1,13 +1,13 @@
 -- The calls of an append, over what a disk tells.
-use Rattle.std.proofs.Common.{◌≡◌, ◌⊎◌, inl, inr, ℕ, ◌+◌, ◌≤◌, List, [], ◌∷◌, ◌++◌, length, refl, sym, ◌∙◌, ap, subst}
+use Rattle.std.proofs.Common.{◌≡◌, inl, inr, ℕ, ◌+◌, List, [], ◌∷◌, ◌++◌, length, refl, sym, ◌∙◌, subst}
 use Rattle.std.specs.Prelude.{IfSome, OnErr, Result, Ok, Err}
 use Rattle.std.specs.declared.option.Option.{Option}
 use Rattle.std.specs.declared.option.Option.TheVariants.{Some, None}
 use Rattle.vp_base.specs.declared.entry.LogRecord.{LogRecord}
 use Rattle.vp_outside.specs.Disk.{Halves, InHalf, Written, Torn, Becomes, Only, Elapses}
-use Rattle.vp_stable.specs.Log.{CanStand, measured, IsLog, HasBatches, IsBadLog}
-use Rattle.vp_stable.specs.Moments.{IsSettled, ReadsAlike, Gains, MayGain, LeavesOnly, TornFrom}
-use Rattle.vp_stable.proofs.Tears.{torn_behind, written_behind, torn_gate, written_gate, torn_empty, written_empty}
+use Rattle.vp_stable.specs.Log.{CanStand, measured, IsLog}
+use Rattle.vp_stable.specs.Moments.{IsSettled, Gains, MayGain, LeavesOnly, TornFrom}
+use Rattle.vp_stable.proofs.Tears.{torn_behind, written_behind, torn_gate, written_gate}
 use Rattle.vp_stable.proofs.Times.{elapses_as, elapses_then, leaves_only}
 
 pub on_err : {T E P : Type 0} (result : Result T E) → P → OnErr result P
@@ -99,6 +99,6 @@ module _ (batch : List LogRecord) (place now : ℕ) (past : ℕ → Halves → T
   second_leaves can piece is mid later between since staged (Some log) (Some log') first second written only settled =
       leaves_only now later past since (MayGain batch place log)
       (elapses_then now mid later past between since (TornFrom (place + 1) (length piece) images) (TornFrom place 1 staged) (MayGain batch place log) first second
-          (first_images batch place (length piece) log images settled.synced)
-          (λ image torn. second_torn batch can place piece is log log' image written (subst (λ (h : Halves). InHalf 0 (Torn place 1) h image) (only torn.0 torn.1) torn.2)))
+      (first_images batch place (length piece) log images settled.synced)
+      (λ image torn. second_torn batch can place piece is log log' image written (subst (λ (h : Halves). InHalf 0 (Torn place 1) h image) (only torn.0 torn.1) torn.2)))
       (λ image left. none_images batch place log images settled.synced image (here image left))

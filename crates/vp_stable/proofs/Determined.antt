@@ -1,9 +1,9 @@
 -- Bytes stand for one list of batches, or are no log in one way.
-use Rattle.std.proofs.Common.{◌≡◌, ◌≢◌, inl, inr, ℕ, ◌+◌, ◌≤◌, List, [], ◌∷◌, ◌++◌, length, get_or, drop, refl, sym, ◌∙◌, ap, arith, append_assoc, length-append}
+use Rattle.std.proofs.Common.{◌≡◌, inl, inr, ℕ, List, [], ◌∷◌, ◌++◌, length, get_or, drop, refl, sym, ◌∙◌, ap, arith, append_assoc, length-append}
 use Rattle.std.specs.List.{AllByRecursion}
 use Rattle.vp_base.specs.declared.entry.LogRecord.{LogRecord}
 use Rattle.vp_records.specs.Batches.{batch_bytes, IsBatchBytes}
-use Rattle.vp_stable.specs.Log.{CanStand, measured, opened, StandsFirst, IsLog, HasBatches, IsBadLog}
+use Rattle.vp_stable.specs.Log.{CanStand, measured, opened, StandsFirst, IsLog}
 use Rattle.vp_stable.specs.Laws.{BatchesAreOne, PlacesAreOne, BadLogsHaveNoBatches, BadPlacesAreOne}
 use Rattle.vp_stable.proofs.Measured.{length-measured, measured_same}
 use Rattle.vp_stable.proofs.Recoveries.{none_in}

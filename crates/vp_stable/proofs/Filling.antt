@@ -1,8 +1,8 @@
 -- A buffer that gets the bytes of a half, piece by piece.
 use Rattle.std.proofs.Common.{◌≡◌, ℕ, ◌+◌, ◌-◌, ◌≤◌, List, ◌++◌, length, take, drop, sym, ◌∙◌, ap, arith, append_assoc, length-append}
 use Rattle.std.proofs.Math.Seq.{take-add}
-use Rattle.std.proofs.lemmas.List.{take_at, take-append-le, length-take-le, length-drop}
-use Rattle.std.specs.Prelude.{IfSome, Result, Ok}
+use Rattle.std.proofs.lemmas.List.{take_at, length-take-le, length-drop}
+use Rattle.std.specs.Prelude.{IfSome, Ok}
 use Rattle.std.specs.declared.option.Option.{Option}
 use Rattle.std.specs.declared.option.Option.TheVariants.{Some, None}
 use borrow.Rule.Slice.PartMut.{put_mid, post_of}

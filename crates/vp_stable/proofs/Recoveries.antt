@@ -1,11 +1,11 @@
 -- The calls of a recovery, over what a disk tells.
-use Rattle.std.proofs.Common.{◌≡◌, ◌⊎◌, inl, inr, ⊎_elim, ℕ, ◌+◌, ◌<◌, ◌≤◌, List, [], ◌∷◌, ◌++◌, length, refl, sym, ◌∙◌, ap, subst, arith, length-append}
+use Rattle.std.proofs.Common.{◌≡◌, ◌⊎◌, inl, inr, ℕ, ◌<◌, ◌≤◌, List, [], ◌∷◌, length, refl, sym, ap, subst, arith, length-append}
 use Rattle.std.specs.Prelude.{IfSome}
 use Rattle.std.specs.declared.option.Option.{Option}
 use Rattle.std.specs.declared.option.Option.TheVariants.{Some, None}
 use Rattle.vp_base.specs.declared.entry.LogRecord.{LogRecord}
 use Rattle.vp_outside.specs.Disk.{Halves, InHalf, Written, Torn, Becomes, Only, Elapses}
-use Rattle.vp_stable.specs.Log.{opened, IsLog, HasBatches, IsBadLog}
+use Rattle.vp_stable.specs.Log.{opened, IsLog, HasBatches}
 use Rattle.vp_stable.specs.Moments.{ReadsAlike, LeavesOnly, TornFrom}
 use Rattle.vp_stable.specs.Scans.{IsFound}
 use Rattle.vp_stable.proofs.Tears.{torn_written, torn_empty, written_empty}
@@ -86,7 +86,7 @@ module _ (before now : ℕ) (past since : ℕ → Halves → Type 0) (images : H
   torn_leaves (Some log) mid between synced first second only short =
       leaves_only before now past since (λ image. images image ⊎ ReadsAlike log image)
       (elapses_then before mid now past between since images (TornFrom 0 1 synced) (λ image. images image ⊎ ReadsAlike log image) first second (λ image left. inl left)
-          (λ image torn. inr (alike_torn log image short (subst (λ (h : Halves). InHalf 0 (Torn 0 1) h image) (only torn.0 torn.1) torn.2))))
+      (λ image torn. inr (alike_torn log image short (subst (λ (h : Halves). InHalf 0 (Torn 0 1) h image) (only torn.0 torn.1) torn.2))))
       (λ image left. inl (here image left))
 
 -- fewer images are still only this one

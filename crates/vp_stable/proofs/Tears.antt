@@ -1,6 +1,6 @@
 -- What is left of a log where a write of an append is cut short.
 use Rattle.std.proofs.Common.{◌≡◌, ◌⊎◌, inl, inr, ℕ, ◌+◌, ◌-◌, ◌≤◌, min, List, [], ◌∷◌, ◌++◌, length, replicate, get_or, take, drop, refl, sym, ◌∙◌, ap, arith, append_assoc, length-append, take-append-drop}
-use Rattle.std.proofs.lemmas.List.{take_at, drop_at, take-take, take-append-le, take_min, length-take-le, length-replicate, length-drop}
+use Rattle.std.proofs.lemmas.List.{drop_at, take-take, take-append-le, take_min, length-take-le, length-replicate, length-drop}
 use Rattle.std.proofs.lemmas.Bool.{cases_eq}
 use Rattle.std.specs.List.{AllByRecursion}
 use Rattle.vp_base.specs.declared.entry.LogRecord.{LogRecord}
@@ -60,14 +60,17 @@ pub record IsStaged (batch : List LogRecord) (place : ℕ) (batches : List (List
 staged_reads : (batch : List LogRecord) (place : ℕ) (batches : List (List LogRecord)) (bytes : List ℕ) → CanStand batch → IsStaged batch place batches bytes → HasBatches batches bytes ⊎ HasBatches (batches ++ batch ∷ []) bytes
 staged_reads batch place batches bytes can staged = elim (cases_eq staged.gate 1) [
   | inl is_open ↦
-      inr (inr (length (opened (batches ++ batch ∷ [])), record {
-        gate = 0;
-        rest = staged.rest;
-        is = staged.is ∙ ap (λ (g : ℕ). opened batches ++ g ∷ (measured batch ++ 0 ∷ staged.rest)) is_open ∙ sym (opened-push batches batch (0 ∷ staged.rest));
-        closed = λ e. absurd (omega (arith, e));
-        at = refl;
-        can = all_push batches batch staged.can can;
-      }))
+      inr (inr (
+        length (opened (batches ++ batch ∷ [])),
+        record {
+          gate = 0;
+          rest = staged.rest;
+          is = staged.is ∙ ap (λ (g : ℕ). opened batches ++ g ∷ (measured batch ++ 0 ∷ staged.rest)) is_open ∙ sym (opened-push batches batch (0 ∷ staged.rest));
+          closed = λ e. absurd (omega (arith, e));
+          at = refl;
+          can = all_push batches batch staged.can can;
+        },
+      ))
   | inr shut ↦ inl (inr (place, record { gate = staged.gate; rest = measured batch ++ 0 ∷ staged.rest; is = staged.is; closed = shut; at = staged.at; can = staged.can }))
 ]
 

@@ -1,5 +1,5 @@
 -- How calls of a disk go on from each other.
-use Rattle.std.proofs.Common.{◌≡◌, ◌⊎◌, ◌↔◌, inl, inr, ⊎_elim, ℕ, ◌≤◌, List, Bool, refl, ◌∙◌, subst, arith}
+use Rattle.std.proofs.Common.{◌↔◌, inl, inr, ⊎_elim, ℕ, List, Bool, refl, ◌∙◌, subst, arith}
 use Rattle.std.specs.declared.option.Option.{Option}
 use Rattle.vp_outside.specs.Disk.{Halves, StaysAttached, Untouched, Elapses}
 use Rattle.vp_stable.specs.Moments.{LeavesOnly, Quiet}

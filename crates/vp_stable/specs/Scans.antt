@@ -1,5 +1,5 @@
 -- What is read of the bytes of half 0.
-use Rattle.std.specs.Prelude.{◌≡◌, ℕ, ◌≤◌, ◌<◌, List, [], length, Result, Ok, Err}
+use Rattle.std.specs.Prelude.{◌≡◌, ℕ, ◌≤◌, List, [], length, Result, Ok, Err}
 use Rattle.vp_base.specs.declared.entry.LogRecord.{LogRecord}
 use Rattle.vp_stable.specs.Log.{IsLog, IsBadLog}
 use Rattle.vp_stable.specs.declared.fault.LogFault.{LogFault}

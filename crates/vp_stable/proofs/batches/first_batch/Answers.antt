@@ -1,5 +1,4 @@
-use Rattle.std.proofs.Common.{◌≡◌, ◌<◌, ◌^◌, ◌-◌, ap, ◌∙◌, sym, take, drop, arith}
-use Rattle.vp_records.specs.Batches.{batch_bytes}
+use Rattle.std.proofs.Common.{◌<◌, ◌^◌, ◌-◌, ap, ◌∙◌, sym, take, drop, arith}
 use Rattle.vp_stable.proofs.Measured.{made_first, same_place, stands_records}
 use Rattle.vp_stable.proofs.batches.first_batch.Goals as goal
 

@@ -1,6 +1,4 @@
 use Rattle.vp_stable.proofs.Times.{elapses_as, elapses_then}
-use Rattle.vp_stable.specs.Moments.{TornFrom}
-use Rattle.std.proofs.Common.{length}
 use Rattle.vp_stable.proofs.half.write_synced.Goals as goal
 
 pub returns-in_err-write_at-clause-time : goal.returns-in_err-write_at-clause-time

@@ -1,8 +1,5 @@
-use Rattle.std.proofs.Common.{◌≡◌, ◌+◌, ◌∷◌, ◌++◌, [], length, sym, ◌∙◌, subst}
-use Rattle.std.specs.Prelude.{IfSome}
-use Rattle.vp_outside.specs.Disk.{Becomes, Only}
+use Rattle.std.proofs.Common.{◌≡◌, ◌+◌, ◌∷◌, ◌++◌, [], length, sym, ◌∙◌}
 use Rattle.vp_stable.specs.Log.{measured}
-use Rattle.vp_stable.specs.Moments.{IsSettled, Gains, MayGain}
 use Rattle.vp_stable.proofs.Appends.{on_err, becomes-as, becomes-then, first_torn, second_torn, both_written, kept_gained, first_leaves, second_leaves}
 use Rattle.vp_stable.proofs.log.Log.append.Goals as goal
 

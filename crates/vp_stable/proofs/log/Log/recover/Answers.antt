@@ -1,4 +1,4 @@
-use Rattle.std.proofs.Common.{◌≡◌, ◌<◌, ◌∙◌, ap, length, sym, arith}
+use Rattle.std.proofs.Common.{◌≡◌, ◌<◌, length, arith}
 use Rattle.std.specs.Prelude.{IfSome}
 use Rattle.vp_stable.proofs.Recoveries.{becomes_alike, becomes_same, becomes_torn, short_half, found_new, found_old, quiet_leaves, torn_leaves, only_fewer}
 use Rattle.vp_stable.proofs.Times.{quiet_none, quiet_then, quiet_join, told_before}
