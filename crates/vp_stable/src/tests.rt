@@ -1,3 +1,6 @@
+ghost use Rattle.std.specs.Prelude.{IfOk};
+ghost use Rattle.vp_records.specs.Batches.{IsBatch};
+
 use super::*;
 use std::test::Fail;
 use vp_base::{Batch, Batches, LogRecord, Word};
@@ -6,7 +9,9 @@ use vp_outside::{Disk, MemDisk, SureDisk};
 /// One batch, Start of life 1, behind an open gate.
 const START: [u8; 14] = [1, 0, 0, 0, 0, 0, 0, 0, 5, 1, 0, 0, 0, 1];
 
-fn start(rt: &HostRuntime, life: u32) -> Result<Batch, Fail> {
+fn start(rt: &HostRuntime, life: u32) -> Result<Batch, Fail>
+    ensures { IfOk result (λ batch. IsBatch batch) }
+{
     let mut batch = Batch::new(rt.alloc());
     batch.push(LogRecord::Start { life })?;
     Ok(batch)
@@ -95,16 +100,19 @@ fn batches_are_appended_behind_each_other(rt: HostRuntime) -> Result<(), Fail> {
     let mut disk = SureDisk::new(alloc);
     let (mut log, _) = Log::recover(alloc, &mut disk)?;
     log.append(&mut disk, &start(&rt, 1)?)?;
-    assert_eq!(rt; &disk.half(0)[..14], START.as_slice());
-    assert_eq!(rt; &disk.half(0)[14..], [0].as_slice());
+    let (mut log, batches) = Log::recover(alloc, &mut disk)?;
+    assert!(rt; are_starts(&batches, &[1]));
+    assert_eq!(rt;
+        disk.half(0),
+        [1, 0, 0, 0, 0, 0, 0, 0, 5, 1, 0, 0, 0, 1, 0].as_slice()
+    );
     log.append(&mut disk, &Batch::new(alloc))?;
+    assert_eq!(rt; disk.half(0).len(), 24);
     log.append(&mut disk, &start(&rt, 2)?)?;
-    assert_eq!(rt; disk.half(0).len(), 38);
     let (_, batches) = Log::recover(alloc, &mut disk)?;
     assert_eq!(rt; batches.as_slice().len(), 3);
-    assert_eq!(rt; life(&batches.as_slice()[0]), Some(1));
-    assert_eq!(rt; batches.as_slice()[1].as_slice().len(), 0);
-    assert_eq!(rt; life(&batches.as_slice()[2]), Some(2));
+    assert_eq!(rt; disk.half(0).len(), 38);
+    assert_eq!(rt; disk.half(1).len(), 0);
     Ok(())
 }
 
