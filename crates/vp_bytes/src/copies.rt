@@ -85,7 +85,7 @@ fn put_u16<B: BufMut>(out: &mut B, number: u16) -> Result<(), NoMemory>
 }
 
 /// A record, its value, and the date of that.
-fn put_copy<B: BufMut>(out: &mut B, rec: RecId, stored: &Stored) -> Result<(), NoMemory>
+pub fn put_copy<B: BufMut>(out: &mut B, rec: RecId, stored: &Stored) -> Result<(), NoMemory>
     ensures { OnOk result (B.written out.new ≡ B.written out.old ++ copy_bytes (rec, stored.now)) }
 {
     put_byte(out, rec.get())?;

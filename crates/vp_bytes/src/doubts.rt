@@ -78,7 +78,7 @@ pub fn put_doubts<B: BufMut>(
 }
 
 /// A transaction in doubt, its view and its writes.
-fn put_doubt<B: BufMut>(
+pub fn put_doubt<B: BufMut>(
     out: &mut B,
     txn: &TxnId,
     view: &ViewId,

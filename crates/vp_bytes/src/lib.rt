@@ -10,6 +10,8 @@ mod decisions;
 mod doubts;
 mod fields;
 mod lists;
+#[cfg(test)]
+mod range_tests;
 mod ranges;
 mod reading;
 #[cfg(test)]
@@ -18,9 +20,9 @@ mod txn_ranges;
 mod words;
 
 pub use code::{Coded, take_coded};
-pub use copies::{put_copies, take_copies};
+pub use copies::{put_copies, put_copy, take_copies};
 pub use decisions::{put_decisions, take_decisions};
-pub use doubts::{put_doubts, take_doubts};
+pub use doubts::{put_doubt, put_doubts, take_doubts};
 pub use fields::{
     put_byte, put_counted, put_maybe_view, put_name, put_numbered, put_owner, put_recs,
     put_request, put_sites, put_txn, put_u32, put_u64, put_value, put_view, put_writes,

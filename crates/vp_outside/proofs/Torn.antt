@@ -1,16 +1,20 @@
 -- Bytes that are written over a half and past its end.
-use Rattle.std.proofs.Common.{◌≡◌, ◌∙◌, ℕ, zero, suc, ◌+◌, ◌-◌, List, [], ◌∷◌, ◌++◌, length, take, drop, replicate, refl, sym, ap, arith, length-append, append-nil, append_assoc}
+use Rattle.std.proofs.Common.{◌≡◌, ◌∙◌, ℕ, zero, suc, ◌+◌, ◌-◌, ◌≤◌, List, [], ◌∷◌, ◌++◌, length, take, drop, replicate, refl, sym, ap, arith, length-append, append-nil, append_assoc}
 use Rattle.std.proofs.lemmas.List.{drop_all, take-append-le, length-replicate, replicate-append-replicate, take_min}
 use Rattle.vp_outside.specs.Disk.{written, Torn}
 
+take-more : (at n more : ℕ) (old : List ℕ) → at ≤ length old + n → take at (old ++ replicate (n + more) 0) ≡ take at (old ++ replicate n 0)
+take-more at n more old within =
+    ap (λ zeros. take at (old ++ zeros)) (sym (replicate-append-replicate n more 0))
+    ∙ ap (take at) (sym (append_assoc old (replicate n 0) (replicate more 0)))
+    ∙ take-append-le at (old ++ replicate n 0) (replicate more 0) (omega (arith, length-append old (replicate n 0), length-replicate {A = ℕ} n 0))
+
 take-lengthened : (at k : ℕ) (old : List ℕ) → take at (old ++ replicate (at + k - length old) 0) ≡ take at (old ++ replicate (at - length old) 0)
 take-lengthened at k old =
-    let more = at + k - length old - (at - length old) in
-    let sum : at + k - length old ≡ (at - length old) + more = omega arith in
-    ap (λ n. take at (old ++ replicate n 0)) sum
-    ∙ ap (λ zeros. take at (old ++ zeros)) (sym (replicate-append-replicate (at - length old) more 0))
-    ∙ ap (take at) (sym (append_assoc old (replicate (at - length old) 0) (replicate more 0)))
-    ∙ take-append-le at (old ++ replicate (at - length old) 0) (replicate more 0) (omega (arith, length-append old (replicate (at - length old) 0), length-replicate {A = ℕ} (at - length old) 0))
+    ap (λ n. take at (old ++ replicate n 0)) (split at k (length old)) ∙ take-more at (at - length old) (at + k - length old - (at - length old)) old (omega arith)
+  where
+    split : (a b c : ℕ) → a + b - c ≡ (a - c) + (a + b - c - (a - c))
+    split a b c = omega arith
 
 drop-lengthened : (n : ℕ) (old : List ℕ) → drop n (old ++ replicate (n - length old) 0) ≡ drop n old
 drop-lengthened zero old = ap (λ n. old ++ replicate n 0) (none (length old)) ∙ append-nil old

@@ -1,4 +1,4 @@
-ghost use Rattle.std.specs.Prelude.{◌≡◌, IfOk};
+ghost use Rattle.std.specs.Prelude.{◌≡◌, IfOk, IsTrue};
 
 use super::*;
 use std::alloc::AllocError;
@@ -169,6 +169,15 @@ fn word(rt: &HostRuntime, text: &[u8]) -> Result<Word, AllocError>
     Ok(Word::from_vec(text.to_vec(rt.alloc())?))
 }
 
+/// The length of half 0 and how many of its bytes were read, through the trait.
+fn measure<D: Disk>(disk: &mut D, buf: &mut [u8]) -> Result<(u64, usize), Failed>
+    requires { IsTrue (D.attached disk.old) }
+{
+    let length = disk.length(0)?;
+    let count = disk.read(0, 0, buf)?;
+    Ok((length, count))
+}
+
 /// A change of half 1.
 #[derive(Clone, Copy, Drop)]
 enum Step {
@@ -218,6 +227,7 @@ fn a_disk_is_read_in_pieces(rt: HostRuntime) -> Result<(), Fail> {
     assert_eq!(rt; disk.read(1, 2, &mut buf), Ok(1));
     assert_eq!(rt; buf, *b"zghde");
     assert_eq!(rt; disk.read(1, u64::MAX, &mut buf), Ok(0));
+    assert_eq!(rt; measure(&mut disk, &mut buf), Ok((8, 5)));
     assert_eq!(rt; disk.faults(), 0);
     Ok(())
 }
@@ -242,7 +252,8 @@ fn each_log_keeps_its_bytes_while_another_is_attached(rt: HostRuntime) -> Result
     disk.attach(&two)?;
     assert_eq!(rt; disk.half(0), b"other".as_slice());
     assert_eq!(rt; disk.half(1), b"half".as_slice());
-    assert_eq!(rt; disk.plan.calls, 9);
+    assert_eq!(rt; measure(&mut disk, &mut [0; 8]), Ok((5, 5)));
+    assert_eq!(rt; disk.plan.calls, 11);
     assert_eq!(rt; disk.faults(), 0);
     Ok(())
 }

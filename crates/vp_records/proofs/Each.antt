@@ -1,13 +1,13 @@
 -- Items one behind the other, up to the end of the bytes, are read exactly: where no list of them has these bytes, the place
 -- is that of the fault in the item that can't be read.
-use Rattle.std.proofs.Common.{◌≡◌, ◌≢◌, ℕ, zero, suc, ◌+◌, ◌-◌, ◌≤◌, ◌<◌, List, [], ◌∷◌, ◌++◌, length, take, Result, Ok, Err, refl, sym, ap, subst, ◌∙◌, append_assoc, arith, inl, inr}
+use Rattle.std.proofs.Common.{◌≡◌, ℕ, zero, suc, ◌+◌, ◌-◌, ◌≤◌, ◌<◌, List, [], ◌∷◌, ◌++◌, length, take, Result, Ok, Err, refl, sym, ap, subst, ◌∙◌, append_assoc, arith, inl, inr}
 use Rattle.std.proofs.lemmas.List.{append-nil, length-append}
 use Rattle.std.proofs.lemmas.Bool.{cases_lt}
 use Rattle.std.proofs.Math.Seq.{take-append-add, take-append_seam}
 use Rattle.std.specs.List.{AllByRecursion, flat_map}
 use Rattle.vp_text.specs.Meaning.{Begins, IsLongest, IsRefused}
 use Rattle.vp_text.specs.Reading.{◌>>=◌}
-use Rattle.vp_text.proofs.Exact.{Apart, Parts, IsRead, IsFault, Exact, cut, bind_ok, bind_err, ok_value, one_value, done}
+use Rattle.vp_text.proofs.Exact.{Apart, Parts, IsFault, Exact, cut, bind_ok, bind_err, ok_value, one_value, done}
 use Rattle.vp_text.proofs.Repeats.{with_front}
 use Rattle.vp_bytes.specs.Fields.{Spelled}
 use Rattle.vp_bytes.proofs.Free.{IsFree}

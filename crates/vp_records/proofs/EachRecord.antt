@@ -1,5 +1,5 @@
 -- The fields of a record are read exactly, by its kind.
-use Rattle.std.proofs.Common.{◌≡◌, ℕ, ◌<◌, ◌^◌, Bool, List, [], ◌∷◌, ◌++◌, refl, sym, subst, arith}
+use Rattle.std.proofs.Common.{◌≡◌, ℕ, ◌<◌, ◌^◌, Bool, List, [], ◌∷◌, refl, sym, subst, arith}
 use Rattle.vp_text.proofs.Exact.{Exact, Made, made_exact, one_value}
 use Rattle.vp_base.specs.Words.{IsValue}
 use Rattle.vp_base.specs.Identifiers.{IsView, IsTxn}

@@ -1,14 +1,12 @@
 -- Records are read exactly.
-use Rattle.std.proofs.Common.{◌≡◌, ℕ, List, [], ◌∷◌, ◌++◌, sym, ap, ◌∙◌}
-use Rattle.vp_text.specs.Reading.{◌>>=◌}
+use Rattle.std.proofs.Common.{ℕ, List, [], ◌∷◌, ◌++◌, sym, ap, ◌∙◌}
 use Rattle.vp_text.proofs.Exact.{Exact, Then, exact_as}
 use Rattle.vp_base.specs.declared.entry.LogRecord.{LogRecord}
-use Rattle.vp_bytes.specs.Codes.{code_at}
 use Rattle.vp_bytes.proofs.Free.{IsFree, free_then, then_free, free_as}
 use Rattle.vp_bytes.proofs.Codes.{IsCode, code_exact, code_free, code_one}
 use Rattle.vp_records.specs.Kinds.{record_kind}
 use Rattle.vp_records.specs.Records.{record_code, record_fields, IsRecordBytes}
-use Rattle.vp_records.specs.Reading.{fields_at, record_at}
+use Rattle.vp_records.specs.Reading.{record_at}
 use Rattle.vp_records.proofs.Codes.{kind_code, kind_codes}
 use Rattle.vp_records.proofs.EachRecord.{RecordOf, form, code_kept, fields_exact, fields_free, fields_to, fields_from}
 

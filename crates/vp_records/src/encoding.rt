@@ -8,12 +8,10 @@ ghost use Rattle.vp_bytes.specs.Doubts.{IsDoubts, doubts_bytes};
 ghost use Rattle.vp_records.specs.Batches.{IsBatch, batch_bytes};
 ghost use Rattle.vp_records.specs.Records.{IsLogRecord, record_bytes, record_code, record_fields};
 
-use vp_base::{
-    Batch, LogRecord, NoMemory, RecId, SiteId, Sites, Stored, TxnId, Value, ViewId, Writes,
-};
+use vp_base::{Batch, LogRecord, NoMemory, RecId, SiteId, Sites, Stored, TxnId, ViewId, Writes};
 use vp_bytes::{
-    put_byte, put_copies, put_decisions, put_doubts, put_sites, put_txn, put_u32, put_u64,
-    put_value, put_view, put_writes,
+    put_byte, put_copies, put_copy, put_decisions, put_doubt, put_doubts, put_sites, put_txn,
+    put_u32, put_u64, put_view,
 };
 
 /// Appends the one spelling of the batch. Without memory a beginning of it may have been appended.
@@ -57,14 +55,14 @@ fn put_fields(out: &mut Vec<u8>, entry: &LogRecord) -> Result<(), NoMemory>
     match entry {
         LogRecord::Start { life } => put_u32(out, *life),
         LogRecord::Promise { view } => put_view(out, view),
-        LogRecord::Yes { txn, view, writes } => put_yes(out, txn, view, writes.as_slice()),
+        LogRecord::Yes { txn, view, writes } => put_doubt(out, txn, view, writes),
         LogRecord::Outcome { txn, commit } => put_outcome(out, txn, *commit),
         LogRecord::Commit {
             txn,
             view,
             writes,
             waiting,
-        } => put_commit(out, txn, view, writes.as_slice(), waiting.as_slice()),
+        } => put_commit(out, txn, view, writes, waiting.as_slice()),
         LogRecord::Copy { rec, stored } => put_copy(out, *rec, stored),
         LogRecord::Acked { txn, site } => put_acked(out, txn, *site),
         LogRecord::Checkpoint {
@@ -88,20 +86,6 @@ fn put_fields(out: &mut Vec<u8>, entry: &LogRecord) -> Result<(), NoMemory>
     }
 }
 
-fn put_yes(
-    out: &mut Vec<u8>,
-    txn: &TxnId,
-    view: &ViewId,
-    writes: &[(RecId, Value)],
-) -> Result<(), NoMemory>
-    requires { IsWrites writes.now }
-    ensures { OnOk result (out.new.items ≡ out.old.items ++ (txn_bytes txn.now ++ (view_bytes view.now ++ writes_bytes writes.now))) }
-{
-    put_txn(out, txn)?;
-    put_view(out, view)?;
-    put_writes(out, writes)
-}
-
 fn put_outcome(out: &mut Vec<u8>, txn: &TxnId, commit: bool) -> Result<(), NoMemory>
     ensures { OnOk result (out.new.items ≡ out.old.items ++ (txn_bytes txn.now ++ outcome_byte commit ∷ [])) }
 {
@@ -117,23 +101,15 @@ fn put_commit(
     out: &mut Vec<u8>,
     txn: &TxnId,
     view: &ViewId,
-    writes: &[(RecId, Value)],
+    writes: &Writes,
     waiting: &[SiteId],
 ) -> Result<(), NoMemory>
     requires writes { IsWrites writes.now }
     requires waiting { IsSites 0 waiting.now }
     ensures { OnOk result (out.new.items ≡ out.old.items ++ (txn_bytes txn.now ++ (view_bytes view.now ++ (writes_bytes writes.now ++ counted_bytes waiting.now)))) }
 {
-    put_yes(out, txn, view, writes)?;
+    put_doubt(out, txn, view, writes)?;
     put_sites(out, waiting)
-}
-
-fn put_copy(out: &mut Vec<u8>, rec: RecId, stored: &Stored) -> Result<(), NoMemory>
-    ensures { OnOk result (out.new.items ≡ out.old.items ++ rec ∷ (counted_bytes stored.now.value ++ view_bytes stored.now.date)) }
-{
-    put_byte(out, rec.get())?;
-    put_value(out, &stored.value)?;
-    put_view(out, &stored.date)
 }
 
 fn put_acked(out: &mut Vec<u8>, txn: &TxnId, site: SiteId) -> Result<(), NoMemory>

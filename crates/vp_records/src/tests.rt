@@ -1,9 +1,10 @@
-//! What each kind of log record does, over a site with copies of the records 0 and 2.
+//! What each kind of log record does, over a site with copies of the records 0 and 2; and the bytes of records.
 
-use crate::Durable;
+use crate::{BatchFault, Durable, decode_batch, encode_batch};
+use std::alloc::Global;
 use vp_base::{
-    Copies, CopyOf, Decisions, InDoubt, LogRecord, NameFault, RecId, SiteId, Sites, Stored, TxnId,
-    Value, ViewId, Writes,
+    Batch, Copies, CopyOf, Decisions, InDoubt, LogRecord, NameFault, NoMemory, RecId, SiteId,
+    Sites, Stored, TxnId, Value, ViewId, Writes,
 };
 
 fn txn(seq: u32) -> TxnId {
@@ -159,5 +160,274 @@ fn a_checkpoint_sets_all_but_the_other_copies(rt: HostRuntime) -> Result<(), Nam
     assert!(rt; durable.life() == 2 && counts(&durable) == (0, 0));
     assert!(rt; has(&durable, 0, b"10", 0) && has(&durable, 2, b"31", 1));
     assert!(rt; other.life() == 0 && counts(&other) == (1, 0));
+    Ok(())
+}
+
+/// A record of each kind.
+const EACH_KIND: [&[u8]; 8] = [
+    b"\x01\0\0\0\x03",
+    b"\x02\0\0\0\0\0\0\0\x04\x02",
+    b"\x03\x02\0\0\0\x01\0\0\0\x03\0\0\0\0\0\0\0\x01\x02\x02\0\x02\x31\x31\x02\x01\x7a",
+    b"\x04\x02\0\0\0\x01\0\0\0\x03\x01",
+    b"\x05\x02\0\0\0\x01\0\0\0\x03\0\0\0\0\0\0\0\x01\x02\x01\x01\x01\x7e\x02\x01\x03",
+    b"\x06\x07\x02\x31\x30\0\0\0\0\0\0\0\x01\x02",
+    b"\x07\x02\0\0\0\x01\0\0\0\x03\x10",
+    b"\x08\0\0\0\0\0\0\0\x05\0\0\0\x03\0\0\0\0\0\0\0\x04\x02\0\x02\0\x02\x31\x30\0\0\0\0\0\0\0\0\0\x02\x01\x7a\0\0\0\0\0\0\0\x01\x02\0\0\0\0\0\0\0\x01\x02\0\0\0\x01\0\0\0\x03\0\0\0\0\0\0\0\x01\x02\x01\x01\x01\x61\0\0\0\0\0\0\0\x02\x01\0\0\0\x01\0\0\0\x01\x01\x01\x02\0\0\0\x01\0\0\0\x03\x02\x02\x10",
+];
+
+/// The code, generation, life and promise of a checkpoint, each of them 0.
+const CHECKPOINT: &[u8] = b"\x08\0\0\0\0\0\0\0\0\0\0\0\0\0\0\0\0\0\0\0\0\0";
+
+/// How many bytes begin a batch, where they are none.
+fn place(alloc: Global, bytes: &[u8]) -> Result<Option<usize>, NoMemory> {
+    match decode_batch(alloc, bytes) {
+        Ok(_batch) => Ok(None),
+        Err(BatchFault::BadRecord { at }) => Ok(Some(at)),
+        Err(BatchFault::NoMemory) => Err(NoMemory),
+    }
+}
+
+/// The batch of these bytes, written again.
+fn read_and_written(alloc: Global, bytes: &[u8]) -> Result<Vec<u8>, NoMemory> {
+    let Ok(batch) = decode_batch(alloc, bytes) else {
+        return Err(NoMemory);
+    };
+    let mut out = Vec::new(alloc);
+    encode_batch(&batch, &mut out)?;
+    Ok(out)
+}
+
+fn joined(alloc: Global, parts: &[&[u8]]) -> Result<Vec<u8>, NoMemory> {
+    let mut bytes = Vec::new(alloc);
+    for part in parts {
+        bytes.extend_from_slice(part)?;
+    }
+    Ok(bytes)
+}
+
+#[test]
+fn each_kind_is_read_and_written_again(rt: HostRuntime) -> Result<(), NoMemory> {
+    for bytes in EACH_KIND {
+        let out = read_and_written(rt.alloc(), bytes)?;
+        assert_eq!(rt; out.as_slice(), bytes);
+    }
+    let all = joined(rt.alloc(), &EACH_KIND)?;
+    let out = read_and_written(rt.alloc(), &all)?;
+    assert_eq!(rt; out.as_slice(), all.as_slice());
+    Ok(())
+}
+
+#[test]
+fn least_and_greatest_fields_are_read_and_written_again(rt: HostRuntime) -> Result<(), NoMemory> {
+    let cases: [&[u8]; 9] = [
+        b"",
+        b"\x01\0\0\0\0",
+        b"\x01\xff\xff\xff\xff",
+        b"\x02\0\0\0\0\0\0\0\0\0",
+        b"\x03\x02\0\0\0\x01\0\0\0\x03\0\0\0\0\0\0\0\x01\x02\0",
+        b"\x04\x02\0\0\0\x01\0\0\0\x03\0",
+        b"\x05\x02\0\0\0\x01\0\0\0\x03\0\0\0\0\0\0\0\x01\x02\0\0",
+        b"\x08\0\0\0\0\0\0\0\x01\0\0\0\0\0\0\0\0\0\0\0\0\0\0\0\0\0\0\0\0\0\0\0\0\0\0\0\0\0\0\0",
+        b"\x08\xff\xff\xff\xff\xff\xff\xff\xff\xff\xff\xff\xff\0\0\0\0\0\0\0\x01\x02\0\x02\0\x02\x31\x30\0\0\0\0\0\0\0\0\0\xff\x01\x7a\0\0\0\0\0\0\0\x01\x02\0\0\0\0\0\0\0\x02\x02\0\0\0\x01\0\0\0\x03\0\0\0\0\0\0\0\x01\x02\x01\x01\x01\x61\x03\0\0\0\x01\0\0\0\x01\0\0\0\0\0\0\0\x01\x02\0\0\0\0\0\0\0\0\x02\x01\0\0\0\x01\0\0\0\x01\x01\x01\x02\0\0\0\x01\0\0\0\x03\x02\x02\x10",
+    ];
+    for bytes in cases {
+        let out = read_and_written(rt.alloc(), bytes)?;
+        assert_eq!(rt; out.as_slice(), bytes);
+    }
+    Ok(())
+}
+
+#[test]
+fn a_start_is_five_bytes(rt: HostRuntime) -> Result<(), NoMemory> {
+    let Ok(batch) = decode_batch(rt.alloc(), b"\x01\0\0\0\x01") else {
+        return Err(NoMemory);
+    };
+    assert_eq!(rt; batch.as_slice().len(), 1);
+    for entry in batch.as_slice() {
+        assert!(rt; matches!(entry, LogRecord::Start { life: 1 }));
+    }
+    let mut made = Batch::new(rt.alloc());
+    made.push(LogRecord::Start { life: 1 })?;
+    let mut out = Vec::new(rt.alloc());
+    encode_batch(&made, &mut out)?;
+    assert_eq!(rt; out.as_slice(), b"\x01\0\0\0\x01".as_slice());
+    Ok(())
+}
+
+#[test]
+fn batches_are_refused_at_their_places(rt: HostRuntime) -> Result<(), NoMemory> {
+    let cases: [(&[u8], Option<usize>); 28] = [
+        (b"\0", Some(0)),
+        (b"\x09", Some(0)),
+        (b"\x01\0\0\0", Some(4)),
+        (b"\x01\0\0\0\x01\0", Some(5)),
+        (b"\x01\0\0\0\x01\x01\0\0", Some(8)),
+        (b"\x02\0\0\0\0\0\0\0\0\x01", Some(9)),
+        (b"\x02\0\0\0\0\0\0\0\x01\x11", Some(9)),
+        (
+            b"\x03\x02\0\0\0\x01\0\0\0\x03\0\0\0\0\0\0\0\x01\x02\x41",
+            Some(19),
+        ),
+        (
+            b"\x03\x02\0\0\0\x01\0\0\0\x03\0\0\0\0\0\0\0\x01\x02\x02\x01\x01\x31\x01\x01\x31",
+            Some(23),
+        ),
+        (
+            b"\x03\x02\0\0\0\x01\0\0\0\x03\0\0\0\0\0\0\0\x01\x02\x02\xff",
+            Some(20),
+        ),
+        (
+            b"\x03\x02\0\0\0\x01\0\0\0\x03\0\0\0\0\0\0\0\x01\x02\x01\0\0",
+            Some(21),
+        ),
+        (
+            b"\x03\x02\0\0\0\x01\0\0\0\x03\0\0\0\0\0\0\0\x01\x02\x40\xc0",
+            Some(21),
+        ),
+        (
+            b"\x03\x02\0\0\0\x01\0\0\0\x03\0\0\0\0\0\0\0\x01\x02\x40\xc1",
+            Some(20),
+        ),
+        (
+            b"\x03\x02\0\0\0\x01\0\0\0\x03\0\0\0\0\0\0\0\x01\x02\x01\0\x01\x20",
+            Some(22),
+        ),
+        (b"\x04\x02\0\0\0\x01\0\0\0\x03\x02", Some(10)),
+        (b"\x04\0", Some(1)),
+        (b"\x04\x02\0\0\0\0", Some(5)),
+        (
+            b"\x05\x02\0\0\0\x01\0\0\0\x03\0\0\0\0\0\0\0\x01\x02\0\x11",
+            Some(20),
+        ),
+        (
+            b"\x05\x02\0\0\0\x01\0\0\0\x03\0\0\0\0\0\0\0\x01\x02\0\x02\x10",
+            Some(21),
+        ),
+        (
+            b"\x05\x02\0\0\0\x01\0\0\0\x03\0\0\0\0\0\0\0\x01\x02\0\x02\x03\x03",
+            Some(22),
+        ),
+        (
+            b"\x05\x02\0\0\0\x01\0\0\0\x03\0\0\0\0\0\0\0\x01\x02\0\x01\0",
+            Some(21),
+        ),
+        (
+            b"\x05\x02\0\0\0\x01\0\0\0\x03\0\0\0\0\0\0\0\x01\x02\0\0\x01\0\0\0\x01",
+            None,
+        ),
+        (b"\x06\x07\x41", Some(2)),
+        (b"\x06\x07\x01\x31\0\0\0\0\0\0\0\x01\0", Some(12)),
+        (b"\x07\x02\0\0\0\x01\0\0\0\x03\0", Some(10)),
+        (b"\x07\x02\0\0\0\x01\0\0\0\x03\x11", Some(10)),
+        (b"\x07\x02\0\0\0\x01\0\0\0\x03\x10\xff", Some(11)),
+        (b"\x07\x02\0\0\0\x01\0\0\0\x03\x10\x07", Some(12)),
+    ];
+    for (bytes, at) in cases {
+        assert_eq!(rt; place(rt.alloc(), bytes)?, at);
+    }
+    Ok(())
+}
+
+#[test]
+fn checkpoints_are_refused_at_their_places(rt: HostRuntime) -> Result<(), NoMemory> {
+    let cases: [(&[u8], Option<usize>); 18] = [
+        (b"\0\0\0\0\0\0\0\0\0\0\0\0\0\0\0\0\0\0", None),
+        (b"\0\0\0\0\0\0\0\0\0\0\0\0\0\0\0\0\0", Some(39)),
+        (
+            b"\0\0\0\0\0\0\0\0\0\0\0\0\0\0\0\0\0\0\x01\0\0\0\x01\0",
+            Some(45),
+        ),
+        (b"\x02", Some(22)),
+        (b"\x01\x01", Some(23)),
+        (b"\x01\0\x01", Some(24)),
+        (b"\0\x02\xff", Some(24)),
+        (b"\0\x02\x05\x01\x31\0\0\0\0\0\0\0\x01\x02\x05", Some(36)),
+        (b"\0\0\xff\xff\xff\xff\xff\xff\xff\xff", Some(32)),
+        (b"\0\0\xff\xff\xff\xff\xff\xff\xff\xff\x0f", Some(33)),
+        (b"\0\0\xff\xff\xff\xff\xff\xff\xff\xff\x10", Some(32)),
+        (
+            b"\0\0\0\0\0\0\0\0\0\x02\x02\0\0\0\x01\0\0\0\x03\0\0\0\0\0\0\0\x01\x02\0\x02\0\0\0\x01\0\0\0\x03",
+            Some(59),
+        ),
+        (
+            b"\0\0\0\0\0\0\0\0\0\x02\x02\0\0\0\x01\0\0\0\x03\0\0\0\0\0\0\0\x01\x02\0\x02\0\0\0\0",
+            Some(55),
+        ),
+        (
+            b"\0\0\0\0\0\0\0\0\0\x02\x10\xff\xff\xff\xff\xff\xff\xff\xff",
+            Some(40),
+        ),
+        (
+            b"\0\0\0\0\0\0\0\0\0\x01\x10\xff\xff\xff\xff\xff\xff\xff\xff\0\0\0\0\0\0\0\x01\x02\x41",
+            Some(50),
+        ),
+        (
+            b"\0\0\0\0\0\0\0\0\0\0\0\0\0\0\0\0\0\x01\x02\0\0\0\x01\0\0\0\x03\0",
+            Some(49),
+        ),
+        (
+            b"\0\0\0\0\0\0\0\0\0\0\0\0\0\0\0\0\0\x02\x02\0\0\0\x01\0\0\0\x03\x01\x01\x01",
+            Some(51),
+        ),
+        (
+            b"\0\0\0\0\0\0\0\0\0\0\0\0\0\0\0\0\0\x01\x02\0\0\0\x01\0\0\0\x03\x02\x10",
+            Some(50),
+        ),
+    ];
+    for (lists, at) in cases {
+        let bytes = joined(rt.alloc(), &[CHECKPOINT, lists])?;
+        assert_eq!(rt; place(rt.alloc(), &bytes)?, at);
+    }
+    Ok(())
+}
+
+/// How many beginnings of the bytes are batches, and the sum of the places of the others.
+fn beginnings(alloc: Global, bytes: &[u8]) -> Result<(usize, usize), NoMemory> {
+    let mut batches: usize = 0;
+    let mut places: usize = 0;
+    for end in 0..=bytes.len() {
+        match place(alloc, &bytes[..end])? {
+            None => batches = batches.saturating_add(1),
+            Some(at) => places = places.saturating_add(at),
+        }
+    }
+    Ok((batches, places))
+}
+
+/// The bytes with one of them changed.
+fn changed(alloc: Global, bytes: &[u8], place: usize, mask: u8) -> Result<Vec<u8>, NoMemory> {
+    let mut out = Vec::new(alloc);
+    for (i, byte) in bytes.iter().enumerate() {
+        out.push(if i == place { *byte ^ mask } else { *byte })?;
+    }
+    Ok(out)
+}
+
+/// The same of the bytes with each of them changed in turn.
+fn changes(alloc: Global, bytes: &[u8], mask: u8) -> Result<(usize, usize), NoMemory> {
+    let mut batches: usize = 0;
+    let mut places: usize = 0;
+    for i in 0..bytes.len() {
+        let other = changed(alloc, bytes, i, mask)?;
+        match place(alloc, &other)? {
+            None => batches = batches.saturating_add(1),
+            Some(at) => places = places.saturating_add(at),
+        }
+    }
+    Ok((batches, places))
+}
+
+#[test]
+fn what_is_nearly_a_batch_has_its_answer(rt: HostRuntime) -> Result<(), NoMemory> {
+    let all = joined(rt.alloc(), &EACH_KIND)?;
+    assert!(rt; beginnings(rt.alloc(), &all)? == (9, 22_400));
+    let cases: [(u8, (usize, usize)); 3] = [
+        (0xff, (133, 10_028)),
+        (0x01, (147, 9_023)),
+        (0x80, (133, 10_045)),
+    ];
+    for (mask, answers) in cases {
+        assert!(rt; changes(rt.alloc(), &all, mask)? == answers);
+    }
     Ok(())
 }

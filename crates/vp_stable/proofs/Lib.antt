@@ -1,0 +1,9 @@
+mod Appends
+mod Determined
+mod Filling
+mod Measured
+mod Opened
+mod Recoveries
+mod Scanning
+mod Tears
+mod Times

@@ -1,0 +1,48 @@
+-- Batches behind open gates, as lists of bytes.
+use Rattle.std.proofs.Common.{◌≡◌, ℕ, ◌+◌, ◌<◌, List, [], ◌∷◌, ◌++◌, length, get_or, take, drop, sym, ◌∙◌, ap, arith, append_assoc, length-append, take-append-drop}
+use Rattle.std.proofs.lemmas.List.{append-nil, take_at, drop_at, drop_more}
+use Rattle.std.specs.List.{AllByRecursion}
+use Rattle.vp_base.specs.declared.entry.LogRecord.{LogRecord}
+use Rattle.vp_stable.specs.Log.{CanStand, measured, opened}
+
+-- one batch more
+pub opened-push : (batches : List (List LogRecord)) (batch : List LogRecord) (rest : List ℕ) → opened (batches ++ batch ∷ []) ++ rest ≡ opened batches ++ 1 ∷ (measured batch ++ rest)
+opened-push [] batch rest = ap (λ (l : List ℕ). 1 ∷ (l ++ rest)) (append-nil (measured batch))
+opened-push (b ∷ bs) batch rest =
+    ap (λ (l : List ℕ). 1 ∷ l) (append_assoc (measured b) (opened (bs ++ batch ∷ [])) rest
+    ∙ ap (λ (l : List ℕ). measured b ++ l) (opened-push bs batch rest)
+    ∙ sym (append_assoc (measured b) (opened bs) (1 ∷ (measured batch ++ rest))))
+
+pub length-opened-push : (batches : List (List LogRecord)) (batch : List LogRecord) → length (opened (batches ++ batch ∷ [])) ≡ length (opened batches) + 1 + length (measured batch)
+length-opened-push batches batch =
+    let all : opened (batches ++ batch ∷ []) ≡ opened batches ++ 1 ∷ measured batch =
+    sym (append-nil (opened (batches ++ batch ∷ []))) ∙ opened-push batches batch [] ∙ ap (λ (l : List ℕ). opened batches ++ 1 ∷ l) (append-nil (measured batch)) in
+    omega (arith, ap length all, length-append (opened batches) (1 ∷ measured batch))
+
+pub all_push : (batches : List (List LogRecord)) (batch : List LogRecord) → AllByRecursion CanStand batches → CanStand batch → AllByRecursion CanStand (batches ++ batch ∷ [])
+all_push [] batch all one = (one, tt)
+all_push (b ∷ bs) batch all one = (all.0, all_push bs batch all.1 one)
+
+-- ---- a list with a gate at a place
+
+module _ (front back : List ℕ) (gate place : ℕ) (at : place ≡ length front) where
+  pub length-around : length (front ++ gate ∷ back) ≡ place + 1 + length back
+  length-around = omega (arith, at, length-append front (gate ∷ back))
+
+  pub take_before : take place (front ++ gate ∷ back) ≡ front
+  take_before = take_at front (gate ∷ back) place (sym at)
+
+  through : length (front ++ gate ∷ []) ≡ place + 1
+  through = omega (arith, at, length-append front (gate ∷ []))
+
+  pub take_through : take (place + 1) (front ++ gate ∷ back) ≡ front ++ gate ∷ []
+  take_through = ap (λ (l : List ℕ). take (place + 1) l) (sym (append_assoc front (gate ∷ []) back)) ∙ take_at (front ++ gate ∷ []) back (place + 1) through
+
+  pub drop_through : drop (place + 1) (front ++ gate ∷ back) ≡ back
+  drop_through = ap (λ (l : List ℕ). drop (place + 1) l) (sym (append_assoc front (gate ∷ []) back)) ∙ drop_at (front ++ gate ∷ []) back (place + 1) through
+
+-- what stands before a place and behind it makes the list
+pub around : (xs front back : List ℕ) (place : ℕ) → take place xs ≡ front → drop (place + 1) xs ≡ back → place < length xs → xs ≡ front ++ get_or xs place 0 ∷ back
+around xs front back place before behind within =
+    sym (take-append-drop place xs) ∙ ap (λ (l : List ℕ). l ++ drop place xs) before
+    ∙ ap (λ (l : List ℕ). front ++ l) (drop_more xs place 0 within ∙ ap (λ (l : List ℕ). get_or xs place 0 ∷ l) behind)

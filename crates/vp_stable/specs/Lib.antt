@@ -1,0 +1,5 @@
+pub mod Faults
+pub mod Laws
+pub mod Log
+pub mod Moments
+pub mod Scans

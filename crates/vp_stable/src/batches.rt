@@ -1,0 +1,89 @@
+//! Batches as the bytes of a half.
+
+ghost use Rattle.std.specs.Prelude.{◌≡◌, ◌-◌, ◌<◌, ◌≤◌, ◌++◌, ◌∷◌, [], ℕ, List, length, take, IfOk, MatchOption, MatchResult};
+ghost use Rattle.byteorder.specs.Endian.{big_bytes};
+ghost use Rattle.vp_base.specs.declared.entry.LogRecord.{LogRecord};
+ghost use Rattle.vp_records.specs.Batches.{IsBatch};
+ghost use Rattle.vp_stable.specs.Log.{measured, CanStand, StandsFirst, IsBadLog};
+ghost use Rattle.vp_stable.specs.Scans.{Scanned};
+
+use crate::fault::LogFault;
+use byteorder::{BigEndian, ByteOrder};
+use std::alloc::Global;
+use vp_base::{Batch, Batches, NoMemory};
+use vp_records::{BatchFault, decode_batch, encode_batch};
+
+/// How many bytes the length of a batch has.
+const LENGTH_BYTES: usize = 8;
+
+/// An open gate. Each other byte is a closed one.
+pub const OPEN: u8 = 1;
+
+/// What stands behind a gate that is opened: the batch behind its length, and the next gate, which is closed.
+pub fn behind_gate(alloc: Global, batch: &Batch) -> Result<Vec<u8>, NoMemory>
+    requires { IsBatch batch.now }
+    ensures bytes { IfOk result (λ piece. piece.items ≡ measured batch.now ++ 0 ∷ []) }
+    ensures can { IfOk result (λ _. CanStand batch.now) }
+{
+    let mut piece = vec![in alloc; 0; LENGTH_BYTES]?;
+    encode_batch(batch, &mut piece)?;
+    let length = piece.len() - LENGTH_BYTES;
+    BigEndian::write_u64(&mut piece, length as u64);
+    piece.push(0)?;
+    Ok(piece)
+}
+
+/// Where the gate behind the first batch has to stand, by the length before that batch; none where the bytes end before it.
+fn next_gate(bytes: &[u8]) -> Option<usize>
+    ensures { MatchOption result
+        ((batch : List LogRecord) (next : ℕ) → StandsFirst batch next bytes.now → ⊥)
+        (λ next. (8 ≤ next) × (next < length bytes.now) × (take 8 bytes.now ≡ big_bytes 8 (next - 8))) }
+{
+    if bytes.len() <= LENGTH_BYTES {
+        return None;
+    }
+    let length = BigEndian::read_u64(bytes);
+    if length >= (bytes.len() - LENGTH_BYTES) as u64 {
+        return None;
+    }
+    Some(LENGTH_BYTES + length as usize)
+}
+
+/// The batch behind its length at the front of the bytes, with the place of the gate behind it; none where they begin with none.
+fn first_batch(alloc: Global, bytes: &[u8]) -> Result<Option<(Batch, usize)>, NoMemory>
+    ensures { IfOk result (λ found. MatchOption found
+        ((batch : List LogRecord) (next : ℕ) → StandsFirst batch next bytes.now → ⊥)
+        (λ first. StandsFirst first.0 first.1 bytes.now)) }
+{
+    let Some(next) = next_gate(bytes) else {
+        return Ok(None);
+    };
+    match decode_batch(alloc, &bytes[LENGTH_BYTES..next]) {
+        Ok(batch) => Ok(Some((batch, next))),
+        Err(BatchFault::BadRecord { .. }) => Ok(None),
+        Err(BatchFault::NoMemory) => Err(NoMemory),
+    }
+}
+
+/// The batches of half 0, and the place of its closed gate.
+pub fn read_batches(alloc: Global, bytes: &[u8]) -> Result<(usize, Batches), LogFault>
+    ensures scanned { Scanned bytes.now result }
+    ensures within { IfOk result (λ log. log.0 ≤ length bytes.now) }
+{
+    if bytes.len() < 2 {
+        return Ok((0, Batches::new(alloc)));
+    }
+    let mut batches = Batches::new(alloc);
+    let mut at = 0;
+    while bytes[at] == OPEN {
+        let Some((batch, next)) = first_batch(alloc, &bytes[at + 1..])? else {
+            return Err(LogFault::BadLog {
+                half: 0,
+                at: at as u64,
+            });
+        };
+        batches.push(batch)?;
+        at += 1 + next;
+    }
+    Ok((at, batches))
+}

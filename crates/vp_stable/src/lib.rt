@@ -1,0 +1,16 @@
+//! A log of batches of records that no crash can tear: each batch stands behind a gate of one byte, which is opened by a write of
+//! its own, after the batch and the next, closed gate were synced.
+#![tactic(auto)]
+
+mod batches;
+mod fault;
+mod half;
+mod laws;
+mod log;
+
+pub use fault::{AppendFault, LogFault};
+pub use laws::{bytes_are_bad_at_one_gate, bytes_are_one_log};
+pub use log::Log;
+
+#[cfg(test)]
+mod tests;
