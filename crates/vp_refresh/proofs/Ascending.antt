@@ -37,6 +37,6 @@ put_ascends n s (a ∷ answers) h =
     choice Ascends (n == a.0) (nat_lt n a.0) _ _ _
     (λ e. AllPairs-cons (λ (a b : ℕ × Stored). a.0 < b.0) (n, s) answers (λ k d l. let u = above k d l in let same : n ≡ a.0 = grind (arith, nat_tests, e) in omega (arith, u, same)) rest)
     (λ d e. let less : n < a.0 = grind (arith, nat_tests, e) in
-      AllPairs-cons (λ (a b : ℕ × Stored). a.0 < b.0) (n, s) (a ∷ answers) (All-cons (λ (b : ℕ × Stored). n < b.0) a answers less (λ k x l. let u = above k x l in omega (arith, u, less))) h)
+    AllPairs-cons (λ (a b : ℕ × Stored). a.0 < b.0) (n, s) (a ∷ answers) (All-cons (λ (b : ℕ × Stored). n < b.0) a answers less (λ k x l. let u = above k x l in omega (arith, u, less))) h)
     (λ d e. let more : a.0 < n = grind (arith, nat_tests, d, e) in
-      AllPairs-cons (λ (a b : ℕ × Stored). a.0 < b.0) a (put_at n s answers) (put_above a.0 n s answers more above) (put_ascends n s answers rest))
+    AllPairs-cons (λ (a b : ℕ × Stored). a.0 < b.0) a (put_at n s answers) (put_above a.0 n s answers more above) (put_ascends n s answers rest))

@@ -1,6 +1,7 @@
 //! A copy under refresh: who is asked for it, and what has come.
 
-ghost use Rattle.std.specs.Prelude.{◌≡◌, [], OnOk, IfOk, IfSome, Some, None};
+ghost use Rattle.std.specs.Prelude.{◌≡◌, ◌==◌, [], OnOk, IfOk, IfSome, Some, None};
+ghost use Rattle.std.specs.List.{list_all};
 ghost use Rattle.vp_model.specs.Words.{has, keys, is_empty};
 ghost use Rattle.vp_refresh.specs.Asking.{missing, keeping, newest_of, with_requests};
 ghost use Rattle.vp_refresh.specs.Newest.{IsNewest};
@@ -10,7 +11,9 @@ use crate::newest::newest;
 use std::alloc::Global;
 use std::marker::Model;
 use std::mem;
-use vp_base::{CopyOf, Effects, Message, NoMemory, RecId, Refreshing, Seq, SiteId, Sites, Stored, ViewId};
+use vp_base::{
+    CopyOf, Effects, Message, NoMemory, RecId, Refreshing, Seq, SiteId, Sites, Stored, ViewId,
+};
 use vp_lists::put_in;
 
 /// A copy under refresh: the site that asks, its view, the other holders of the record in that view, and the copies
@@ -61,10 +64,10 @@ impl Asked {
         }
     }
 
-    pub fn rec(&self) -> RecId
-        ensures { result ≡ self.now.refreshing.rec }
+    pub fn is_of(&self, rec: RecId) -> bool
+        ensures { result ≡ (self.now.refreshing.rec == rec) }
     {
-        self.refreshing.rec
+        self.refreshing.rec == rec
     }
 
     fn has_answer(&self, site: SiteId) -> bool
@@ -103,14 +106,19 @@ impl Asked {
             .any(|other| *other == site)
     }
 
-    #[tactic(auto, using(crate::proofs::Left::none_is_left))]
-    fn is_complete(&self) -> bool
-        ensures { result ≡ is_empty (missing self.now) }
+    fn has_all_answers(&self) -> bool
+        ensures { result ≡ list_all (has (keys self.now.refreshing.answers)) self.now.others }
     {
         self.others
             .as_slice()
             .iter()
             .all(|other| self.has_answer(*other))
+    }
+
+    fn is_complete(&self) -> bool
+        ensures { result ≡ is_empty (missing self.now) }
+    {
+        self.has_all_answers()
     }
 
     /// The answer of the site is kept where the record is this one. Without memory the answers may be lost.

@@ -8,5 +8,7 @@ mod asked;
 mod effects;
 mod newest;
 mod refresh;
+#[cfg(test)]
+mod tests;
 
 pub use refresh::Refresh;

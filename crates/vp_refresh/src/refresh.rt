@@ -71,12 +71,7 @@ impl Refresh {
     }
 
     /// Keeps the first answer of a site that is asked. Without memory the list may only be dropped.
-    pub fn on_answer(
-        &mut self,
-        from: SiteId,
-        rec: RecId,
-        stored: &Stored,
-    ) -> Result<(), NoMemory>
+    pub fn on_answer(&mut self, from: SiteId, rec: RecId, stored: &Stored) -> Result<(), NoMemory>
         ensures { OnOk result (self.new ≡ answered rec from stored.now self.old) }
     {
         match find_asked(&self.listed, rec) {
@@ -95,7 +90,7 @@ impl Refresh {
         match newest_in(&self.listed, rec, own)? {
             None => Ok(None),
             Some(copy) => {
-                self.listed.retain(|asked| asked.rec() != rec);
+                self.listed.retain(|asked| !asked.is_of(rec));
                 Ok(Some(copy))
             }
         }
@@ -105,7 +100,7 @@ impl Refresh {
 fn find_asked(listed: &[Asked], rec: RecId) -> Option<&Asked>
     ensures { option_copied result ≡ asking_of rec listed.now }
 {
-    listed.iter().find(|asked| asked.rec() == rec)
+    listed.iter().find(|asked| asked.is_of(rec))
 }
 
 /// The newest copy, once all answers for the record are there.
@@ -120,12 +115,7 @@ fn newest_in(listed: &[Asked], rec: RecId, own: &Stored) -> Result<Option<Stored
 }
 
 /// The answer is kept with each item of the record.
-fn keep(
-    listed: &mut [Asked],
-    rec: RecId,
-    from: SiteId,
-    stored: &Stored,
-) -> Result<(), NoMemory>
+fn keep(listed: &mut [Asked], rec: RecId, from: SiteId, stored: &Stored) -> Result<(), NoMemory>
     ensures { OnOk result (listed.new ≡ map (keeping rec from stored.now) listed.old) }
 {
     for asked in listed.iter_mut() {
