@@ -63,13 +63,16 @@ fn other_holders_in_the_view_are_asked_until_they_answer(rt: HostRuntime) -> Res
     let alloc = rt.alloc();
     let copy = stored(alloc, b"11", 3)?;
     let mut refresh = Refresh::start(alloc, &catalog(alloc)?, SiteId::of(1), &view(alloc)?)?;
-    assert_eq!(rt; asked(alloc, &refresh)?.as_slice(), &[2, 3]);
+    assert_eq!(rt; asked(alloc, &refresh)?.as_slice(), [2, 3].as_slice());
     for (from, rec) in [(4, X), (1, X), (2, Y), (2, Z)] {
         refresh.on_answer(SiteId::of(from), RecId::new(rec), &copy)?;
-        assert_eq!(rt; asked(alloc, &refresh)?.as_slice(), &[2, 3]);
+        assert_eq!(rt; asked(alloc, &refresh)?.as_slice(), [2, 3].as_slice());
     }
     refresh.on_answer(SiteId::of(2), RecId::new(X), &copy)?;
-    assert_eq!(rt; asked(alloc, &refresh.copy_of()?)?.as_slice(), &[3]);
+    assert_eq!(rt;
+        asked(alloc, &refresh.copy_of()?)?.as_slice(),
+        [3].as_slice()
+    );
     assert!(rt; refresh.done(RecId::new(X), &copy)?.is_none());
     refresh.on_answer(SiteId::of(3), RecId::new(X), &copy)?;
     assert!(rt; refresh.done(RecId::new(Y), &copy)?.is_none());
