@@ -1,6 +1,5 @@
 -- The locks after those of several transactions have gone, one after another.
 use Rattle.std.proofs.Common.{◌≡◌, ◌∙◌, ap, sym, Bool, true, false, not, ◌&&◌, ◌||◌, if◌then◌else◌, List, [], ◌∷◌, filter, refl, arith}
-use Rattle.std.specs.List.{list_any}
 use Rattle.std.proofs.lemmas.Bool.Decides.{nat_tests}
 use Rattle.vp_lists.proofs.Named.{same_txn_is}
 use Rattle.vp_model.specs.Types.{TxnId, Owner, Lock, Part}

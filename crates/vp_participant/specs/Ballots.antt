@@ -1,5 +1,5 @@
 -- What a part votes, with the state of the participant after it.
-use Rattle.std.specs.Prelude.{ℕ, not, if◌then◌else◌, List, Option, Some, None}
+use Rattle.std.specs.Prelude.{ℕ, not, if◌then◌else◌, List, Some, None}
 use Rattle.std.specs.Option.{option_map_or}
 use Rattle.vp_model.specs.Types.{TxnId, Lock, Part}
 use Rattle.vp_model.specs.Types.entry

@@ -1,4 +1,4 @@
-use Rattle.std.proofs.Common.{◌≡◌, ◌∙◌}
+use Rattle.std.proofs.Common.{◌∙◌}
 use Rattle.vp_participant.proofs.Released.{both_released}
 use Rattle.vp_participant.proofs.participant.Participant.leave.Goals as goal
 
