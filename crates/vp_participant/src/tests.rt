@@ -50,28 +50,23 @@ fn started(rt: &HostRuntime) -> Result<(Participant, Locks), NoMemory> {
     Ok((participant, locks))
 }
 
-/// The first transaction has read record 0 and is in doubt of record 1, in view 1.
+/// The first transaction has read record 0 and is in doubt of record 1, in view 1; NoMemory where it is not.
 fn in_doubt(rt: &HostRuntime) -> Result<(Participant, Locks), NameFault> {
     let (mut participant, mut locks) = started(rt)?;
     let held = view(rt, 1);
     let first = RecId::new(0);
     let second = RecId::new(1);
     let read_lock = participant.read_request(&mut locks, Some(&held), txn(1), id(1), first);
-    assert!(rt; read_lock.is_ok());
     let write_lock = participant.write_request(&mut locks, Some(&held), txn(1), id(1), second);
-    assert!(rt; write_lock.is_ok());
+    if read_lock.is_err() || write_lock.is_err() {
+        return Err(NameFault::NoMemory);
+    }
     let reads = read(rt, 0)?;
     let writes = write(rt, 1)?;
-    let vote = participant.prepare(&locks, Some(&held), txn(1), id(1), &reads, &writes);
-    assert!(rt;
-        matches!(
-            vote,
-            Ok(Voted::Yes {
-                forced: Some(LogRecord::Yes { .. })
-            })
-        )
-    );
-    Ok((participant, locks))
+    match participant.prepare(&locks, Some(&held), txn(1), id(1), &reads, &writes) {
+        Ok(Voted::Yes { forced: Some(_) }) => Ok((participant, locks)),
+        _ => Err(NameFault::NoMemory),
+    }
 }
 
 #[test]
