@@ -1,0 +1,4 @@
+pub mod Refusals
+pub mod Doubts
+pub mod Ballots
+pub mod Leaving

@@ -1,0 +1,53 @@
+-- Why a request is refused: the tests, in their order, and what an answer tells of them.
+use Rattle.std.specs.Prelude.{ℕ, Bool, not, if◌then◌else◌, List, Option, Some, None, option_map, Result, Ok, Err}
+use Rattle.vp_model.specs.Types.{ViewId, TxnId, View, Lock}
+use Rattle.vp_model.specs.Words.{is_view, has_txn}
+use Rattle.vp_model.specs.Locks.{conflict}
+use Rattle.vp_model.specs.Site.{ParticipantState}
+use Rattle.vp_locks.specs.declared.LockFault.{LockFault}
+use Rattle.vp_locks.specs.declared.LockFault.TheVariants as lock_fault
+use Rattle.vp_participant.specs.declared.fault.PartFault.{PartFault}
+use Rattle.vp_participant.specs.declared.fault.PartFault.TheVariants as part_fault
+use Rattle.vp_participant.specs.declared.fault.PrepareFault.{PrepareFault}
+use Rattle.vp_participant.specs.declared.fault.PrepareFault.TheVariants as vote_fault
+
+-- the identifier of the held view
+abbrev pub id_of : Option View → Option ViewId
+id_of held = option_map (λ view. view.id) held
+
+-- why a vote is refused
+abbrev pub vote_refusal : Option View → TxnId → ViewId → ParticipantState → Option PrepareFault
+vote_refusal held txn view p =
+    if not (is_view (id_of held) view)
+    then Some (vote_fault.OtherView (id_of held))
+    else (if has_txn p.ended txn
+    then Some vote_fault.Ended
+    else None)
+
+-- why a lock is refused: other owners are asked last
+abbrev pub lock_refusal : Option View → TxnId → ViewId → ℕ → Bool → ParticipantState → List Lock → Option PartFault
+lock_refusal held txn view rec exclusive p locks =
+    if not (is_view (id_of held) view)
+    then Some (part_fault.OtherView (id_of held))
+    else (if has_txn p.ended txn
+    then Some part_fault.Ended
+    else option_map (λ owner. part_fault.Held owner) (conflict rec exclusive txn locks))
+
+-- the refusal in an answer: want of memory is none
+abbrev pub vote_refused : {A : Type 0} → Result A PrepareFault → Option PrepareFault
+vote_refused (Ok a) = None
+vote_refused (Err vote_fault.NoMemory) = None
+vote_refused (Err (vote_fault.OtherView now)) = Some (vote_fault.OtherView now)
+vote_refused (Err vote_fault.Ended) = Some vote_fault.Ended
+
+abbrev pub lock_refused : {A : Type 0} → Result A PartFault → Option PartFault
+lock_refused (Ok a) = None
+lock_refused (Err part_fault.NoMemory) = None
+lock_refused (Err (part_fault.OtherView now)) = Some (part_fault.OtherView now)
+lock_refused (Err part_fault.Ended) = Some part_fault.Ended
+lock_refused (Err (part_fault.Held owner)) = Some (part_fault.Held owner)
+
+-- the same fault, as that of a request for a lock
+abbrev pub of_lock : LockFault → PartFault
+of_lock (lock_fault.Held owner) = part_fault.Held owner
+of_lock lock_fault.NoMemory = part_fault.NoMemory

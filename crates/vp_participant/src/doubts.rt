@@ -1,0 +1,85 @@
+//! The list of transactions in doubt, and their locks.
+
+ghost use Rattle.std.specs.Prelude.{◌≡◌, OnOk, true};
+ghost use Rattle.std.specs.List.{list_any, list_all};
+ghost use Rattle.vp_base.specs.declared.entry.Owner.TheVariants as owner;
+ghost use Rattle.vp_model.specs.Words.{for_each, has, keys, put_txn};
+ghost use Rattle.vp_model.specs.Durable.{doubt_of, put_doubt, without_doubt};
+ghost use Rattle.vp_model.specs.Locks.{holds};
+ghost use Rattle.vp_model.specs.Views.{has_doubt};
+ghost use Rattle.vp_participant.specs.Doubts.{is_written, with_locks_on, with_locks_of};
+
+use vp_base::{CopyOf, NoMemory, Part, RecId, TxnId, Value, ViewId, Writes};
+use vp_lists::{is_same_txn, put, take_txn};
+use vp_locks::Locks;
+
+/// A transaction that this site voted yes on, with the view of the vote and what the transaction writes here.
+pub type Doubt = (TxnId, ViewId, Writes);
+
+pub fn is_in_doubt(doubts: &[Doubt], txn: &TxnId) -> bool
+    ensures { result ≡ has_doubt txn.now doubts.now }
+{
+    doubts.iter().any(|doubt| is_same_txn(&doubt.0, txn))
+}
+
+fn has_write(writes: &[(RecId, Value)], rec: RecId) -> bool
+    ensures { result ≡ has (keys writes.now) rec }
+{
+    writes.iter().map(|write| write.0).any(|other| other == rec)
+}
+
+/// Whether a transaction in doubt writes the record.
+pub fn is_written(doubts: &[Doubt], rec: RecId) -> bool
+    ensures { result ≡ is_written doubts.now rec }
+{
+    doubts
+        .iter()
+        .any(|doubt| has_write(doubt.2.as_slice(), rec))
+}
+
+/// The transaction of the part is in doubt.
+pub fn add_doubt(doubts: &mut Vec<Doubt>, part: &Part, writes: &Writes) -> Result<(), NoMemory>
+    ensures { OnOk result (doubts.new.items ≡ put_doubt (part.now.txn, part.now.view, writes.now) doubts.old.items) }
+{
+    put(doubts, (part.txn, part.view, writes.copy_of()?))
+}
+
+/// Takes the transaction out of the doubts.
+pub fn take_doubt(doubts: &mut Vec<Doubt>, txn: &TxnId) -> Option<Doubt>
+    ensures taken { result ≡ doubt_of txn.now doubts.old.items }
+    ensures rest { doubts.new.items ≡ without_doubt txn.now doubts.old.items }
+{
+    let doubt = take_txn(doubts, txn);
+    doubts.retain(|other| !is_same_txn(&other.0, txn));
+    doubt
+}
+
+/// The transaction has the exclusive lock on each record that it writes.
+fn lock_writes(locks: &mut Locks, txn: &TxnId, writes: &[(RecId, Value)]) -> Result<(), NoMemory>
+    ensures { OnOk result (locks.new ≡ with_locks_on txn.now (keys writes.now) locks.old) }
+{
+    for write in writes {
+        locks.hold(write.0, *txn)?;
+    }
+    Ok(())
+}
+
+/// Each transaction in doubt has its exclusive locks, whoever else has a lock on the record.
+pub fn lock_doubts(locks: &mut Locks, doubts: &[Doubt]) -> Result<(), NoMemory>
+    ensures { OnOk result (locks.new ≡ with_locks_of doubts.now locks.old) }
+{
+    for doubt in doubts {
+        lock_writes(locks, &doubt.0, doubt.2.as_slice())?;
+    }
+    Ok(())
+}
+
+/// The transactions in doubt join the others, which keep their order.
+pub fn add_doubted(txns: &mut Vec<TxnId>, doubts: &[Doubt]) -> Result<(), NoMemory>
+    ensures { OnOk result (txns.new.items ≡ for_each doubts.now (λ d. put_txn d.0) txns.old.items) }
+{
+    for doubt in doubts {
+        put(txns, doubt.0)?;
+    }
+    Ok(())
+}

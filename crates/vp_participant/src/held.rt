@@ -1,0 +1,23 @@
+//! Whether the held view is the one that is asked for.
+
+ghost use Rattle.std.specs.Prelude.{◌≡◌, option_copied};
+ghost use Rattle.vp_model.specs.Words.{is_view};
+ghost use Rattle.vp_participant.specs.Refusals.{id_of};
+
+use vp_base::{View, ViewId};
+
+/// The identifier of the held view.
+pub fn id_of(held: Option<&View>) -> Option<ViewId>
+    ensures { result ≡ id_of (option_copied held.entry) }
+{
+    held.map(|view| view.id)
+}
+
+pub fn is_held(held: Option<&View>, view: ViewId) -> bool
+    ensures { result ≡ is_view (id_of (option_copied held.entry)) view }
+{
+    match held {
+        None => false,
+        Some(held) => held.id == view,
+    }
+}

@@ -1,0 +1,352 @@
+//! The participant of a site.
+
+ghost use Rattle.std.specs.Prelude.{◌≡◌, [], OnOk, IfOk, IfSome, is_ok, is_some, if◌then◌else◌, option_copied, option_map, filter, true, false};
+ghost use Rattle.std.specs.List.{list_all};
+ghost use Rattle.vp_base.specs.declared.entry.Owner.TheVariants as owner;
+ghost use Rattle.vp_locks.specs.Faults.{holder_in};
+ghost use Rattle.vp_model.specs.Words.{keys, has_txn};
+ghost use Rattle.vp_base.specs.declared.entry.LogRecord.TheVariants as entry;
+ghost use Rattle.vp_model.specs.Locks.{conflict, holds, with_lock, without_owner};
+ghost use Rattle.vp_model.specs.Views.{without_parts};
+ghost use Rattle.vp_model.specs.Messages.{with_part, has_all_locks, with_vote, with_new_doubt, with_ended};
+ghost use Rattle.vp_model.specs.Step.{known};
+ghost use Rattle.vp_participant.specs.Refusals.{lock_refusal, lock_refused, vote_refusal, vote_refused};
+ghost use Rattle.vp_participant.specs.Doubts.{doubt_ended, is_written, with_locks_of};
+ghost use Rattle.vp_participant.specs.Ballots.{ballot, ballot_of, first_ballot};
+ghost use Rattle.vp_participant.specs.Leaving.{stays};
+
+use crate::doubts::{
+    Doubt, add_doubt, add_doubted, is_in_doubt, is_written, lock_doubts, take_doubt,
+};
+use crate::fault::{PartFault, PrepareFault};
+use crate::held::{id_of, is_held};
+use crate::leaving::{release_parts, release_shared};
+use crate::parts::{drop_part, has_part, mark_voted, part_of, txns_of};
+use std::alloc::Global;
+use std::marker::Model;
+use vp_base::{
+    CopyOf, InDoubt, LogRecord, NoMemory, Part, RecId, Recs, TxnId, Txns, Value, View, ViewId,
+    Writes,
+};
+use vp_lists::{copy_all, is_same_txn, put};
+use vp_locks::{LockFault, Locks};
+use vp_records::Durable;
+
+/// A vote: yes, with what is to be forced to the log before it is sent, or none.
+#[derive(Drop)]
+pub enum Voted {
+    Yes { forced: Option<LogRecord> },
+    Silent,
+}
+
+/// How a transaction ended here: the view and the writes of its doubt, where it was in doubt.
+#[derive(Drop)]
+pub struct Settled {
+    pub doubt: Option<(ViewId, Writes)>,
+}
+
+/// The parts here of other sites' transactions, those in doubt, and those that ended here in the held view.
+#[derive(Drop)]
+pub struct Participant {
+    parts: Vec<Part>,
+    doubts: Vec<Doubt>,
+    ended: Vec<TxnId>,
+}
+
+impl Model for Participant {
+    ghost use Rattle.vp_model.specs.Site.{ParticipantState};
+
+    ghost Value = { ParticipantState };
+
+    ghost view = { λ p. record { parts = p.parts.items; doubts = p.doubts.items; ended = p.ended.items } };
+}
+
+impl CopyOf for Participant {
+    fn copy_of(&self) -> Result<Participant, NoMemory> {
+        let alloc = *self.parts.allocator();
+        Ok(Participant {
+            parts: copy_all(alloc, &self.parts)?,
+            doubts: copy_all(alloc, &self.doubts)?,
+            ended: copy_all(alloc, &self.ended)?,
+        })
+    }
+}
+
+impl Participant {
+    /// The participant of a site that starts: the transactions in doubt have their exclusive locks, also where two of them
+    /// write one record, as a log from outside may have it.
+    pub fn restore(
+        alloc: Global,
+        durable: &Durable,
+        locks: &mut Locks,
+    ) -> Result<Participant, NoMemory>
+        ensures participant { IfOk result (λ p. p ≡ record { parts = []; doubts = durable.now.doubts; ended = [] }) }
+        ensures locks { OnOk result (locks.new ≡ with_locks_of durable.now.doubts locks.old) }
+    {
+        let doubts = durable.doubts().as_slice();
+        lock_doubts(locks, doubts)?;
+        Ok(Participant {
+            parts: Vec::new(alloc),
+            doubts: copy_all(alloc, doubts)?,
+            ended: Vec::new(alloc),
+        })
+    }
+
+    fn has_ended(&self, txn: &TxnId) -> bool
+        ensures { result ≡ has_txn self.now.ended txn.now }
+    {
+        self.ended.iter().any(|ended| is_same_txn(ended, txn))
+    }
+
+    /// A part that is here keeps its state.
+    fn join(&mut self, txn: &TxnId, view: ViewId) -> Result<(), NoMemory>
+        ensures { OnOk result (self.new ≡ with_part txn.now view self.old) }
+    {
+        if has_part(&self.parts, txn) || is_in_doubt(&self.doubts, txn) {
+            return Ok(());
+        }
+        put(
+            &mut self.parts,
+            Part {
+                txn: *txn,
+                view,
+                voted: false,
+            },
+        )
+    }
+
+    /// A lock for the part of the transaction, which joins where there is none.
+    fn request(
+        &mut self,
+        locks: &mut Locks,
+        held: Option<&View>,
+        txn: TxnId,
+        view: ViewId,
+        rec: RecId,
+        exclusive: bool,
+    ) -> Result<(), PartFault>
+        ensures told { lock_refused result ≡ lock_refusal (option_copied held.entry) txn view rec exclusive self.old locks.old }
+        ensures part { OnOk result (self.new ≡ with_part txn view self.old) }
+        ensures lock { OnOk result (locks.new ≡ with_lock rec exclusive (owner.Txn txn) locks.old) }
+        ensures refused { IfSome (lock_refused result) (λ why. (self.new ≡ self.old) × (locks.new ≡ locks.old)) }
+    {
+        if !is_held(held, view) {
+            return Err(PartFault::OtherView { now: id_of(held) });
+        }
+        if self.has_ended(&txn) {
+            return Err(PartFault::Ended);
+        }
+        take_lock(locks, rec, exclusive, &txn)?;
+        self.join(&txn, view)?;
+        Ok(())
+    }
+
+    /// A shared lock for the part of the transaction, which joins where there is none.
+    pub fn read_request(
+        &mut self,
+        locks: &mut Locks,
+        held: Option<&View>,
+        txn: TxnId,
+        view: ViewId,
+        rec: RecId,
+    ) -> Result<(), PartFault>
+        ensures told { lock_refused result ≡ lock_refusal (option_copied held.entry) txn view rec false self.old locks.old }
+        ensures part { OnOk result (self.new ≡ with_part txn view self.old) }
+        ensures lock { OnOk result (locks.new ≡ with_lock rec false (owner.Txn txn) locks.old) }
+        ensures refused { IfSome (lock_refused result) (λ why. (self.new ≡ self.old) × (locks.new ≡ locks.old)) }
+    {
+        self.request(locks, held, txn, view, rec, false)
+    }
+
+    /// An exclusive lock for the part of the transaction, which joins where there is none.
+    pub fn write_request(
+        &mut self,
+        locks: &mut Locks,
+        held: Option<&View>,
+        txn: TxnId,
+        view: ViewId,
+        rec: RecId,
+    ) -> Result<(), PartFault>
+        ensures told { lock_refused result ≡ lock_refusal (option_copied held.entry) txn view rec true self.old locks.old }
+        ensures part { OnOk result (self.new ≡ with_part txn view self.old) }
+        ensures lock { OnOk result (locks.new ≡ with_lock rec true (owner.Txn txn) locks.old) }
+        ensures refused { IfSome (lock_refused result) (λ why. (self.new ≡ self.old) × (locks.new ≡ locks.old)) }
+    {
+        self.request(locks, held, txn, view, rec, true)
+    }
+
+    /// The part is a part no more: its transaction is in doubt until its outcome comes.
+    fn put_in_doubt(&mut self, part: &Part, writes: &Writes) -> Result<LogRecord, NoMemory>
+        ensures forced { IfOk result (λ forced. forced ≡ entry.Yes part.now.txn part.now.view writes.now) }
+        ensures doubt { OnOk result (self.new ≡ with_new_doubt part.now writes.now self.old) }
+    {
+        drop_part(&mut self.parts, &part.txn);
+        add_doubt(&mut self.doubts, part, writes)?;
+        Ok(LogRecord::Yes {
+            txn: part.txn,
+            view: part.view,
+            writes: writes.copy_of()?,
+        })
+    }
+
+    #[tactic(auto, unfolding(crate::specs::Ballots::first_ballot))]
+    fn first_vote(
+        &mut self,
+        locks: &Locks,
+        part: &Part,
+        reads: &[RecId],
+        writes: &Writes,
+    ) -> Result<Voted, NoMemory>
+        ensures { IfOk result (λ voted. (voted, self.new) ≡ first_ballot part.now reads.now writes.now locks.now self.old) }
+    {
+        if !has_all_locks(locks, &part.txn, reads, writes.as_slice()) {
+            return Ok(Voted::Silent);
+        }
+        if writes.as_slice().is_empty() {
+            mark_voted(&mut self.parts, part)?;
+            return Ok(Voted::Yes { forced: None });
+        }
+        let forced = self.put_in_doubt(part, writes)?;
+        Ok(Voted::Yes {
+            forced: Some(forced),
+        })
+    }
+
+    fn vote(
+        &mut self,
+        locks: &Locks,
+        part: &Part,
+        reads: &[RecId],
+        writes: &Writes,
+    ) -> Result<Voted, NoMemory>
+        ensures { IfOk result (λ voted. (voted, self.new) ≡ ballot_of part.now reads.now writes.now locks.now self.old) }
+    {
+        if part.voted {
+            Ok(Voted::Yes { forced: None })
+        } else {
+            self.first_vote(locks, part, reads, writes)
+        }
+    }
+
+    /// The vote on the transaction. A yes is made in the held view alone, and the first one of a part only with all the locks:
+    /// exclusive ones on what the transaction writes, any on what it read.
+    #[tactic(auto, unfolding(crate::specs::Ballots::ballot))]
+    pub fn prepare(
+        &mut self,
+        locks: &Locks,
+        held: Option<&View>,
+        txn: TxnId,
+        view: ViewId,
+        reads: &Recs,
+        writes: &Writes,
+    ) -> Result<Voted, PrepareFault>
+        ensures told { vote_refused result ≡ vote_refusal (option_copied held.entry) txn view self.old }
+        ensures voted { IfOk result (λ voted. (voted, self.new) ≡ ballot txn reads.now writes.now locks.now self.old) }
+        ensures refused { IfSome (vote_refused result) (λ why. self.new ≡ self.old) }
+    {
+        if !is_held(held, view) {
+            return Err(PrepareFault::OtherView { now: id_of(held) });
+        }
+        if self.has_ended(&txn) {
+            return Err(PrepareFault::Ended);
+        }
+        if is_in_doubt(&self.doubts, &txn) {
+            return Ok(Voted::Yes { forced: None });
+        }
+        match part_of(&self.parts, &txn) {
+            None => Ok(Voted::Silent),
+            Some(part) => Ok(self.vote(locks, &part, reads.as_slice(), writes)?),
+        }
+    }
+
+    /// The transaction ends here with all its locks, and in a view its end is noted. What it was in doubt of is given back: to
+    /// write it where it was committed, and to let the records go on.
+    pub fn outcome(
+        &mut self,
+        locks: &mut Locks,
+        held: Option<&View>,
+        txn: TxnId,
+        _commit: bool,
+    ) -> Result<Settled, NoMemory>
+        ensures doubt { IfOk result (λ settled. settled.doubt ≡ doubt_ended txn self.old.doubts) }
+        ensures ended { OnOk result (self.new ≡ with_ended (is_some held.entry) txn self.old) }
+        ensures locks { OnOk result (locks.new ≡ without_owner (owner.Txn txn) locks.old) }
+    {
+        if held.is_some() && !self.has_ended(&txn) {
+            self.ended.push(txn)?;
+        }
+        drop_part(&mut self.parts, &txn);
+        locks.release(txn);
+        Ok(Settled {
+            doubt: take_doubt(&mut self.doubts, &txn).map(|doubt| (doubt.1, doubt.2)),
+        })
+    }
+
+    /// Whether a transaction in doubt writes the record.
+    pub fn doubts(&self, rec: RecId) -> bool
+        ensures { result ≡ is_written self.now.doubts rec }
+    {
+        is_written(&self.doubts, rec)
+    }
+
+    /// The transactions in doubt, with their views and writes.
+    pub fn in_doubt(&self) -> Result<InDoubt, NoMemory>
+        ensures { IfOk result (λ doubts. doubts ≡ self.now.doubts) }
+    {
+        let doubts = copy_all(*self.doubts.allocator(), &self.doubts)?;
+        Ok(InDoubt::from_vec(doubts))
+    }
+
+    /// The transactions with a part here or in doubt here, whose outcome is not known.
+    pub fn known(&self) -> Result<Txns, NoMemory>
+        ensures { IfOk result (λ txns. txns ≡ known self.now) }
+    {
+        let mut txns = txns_of(*self.parts.allocator(), &self.parts)?;
+        add_doubted(&mut txns, &self.doubts)?;
+        Ok(Txns::from_vec(txns))
+    }
+
+    /// The site leaves its view: the transactions in doubt stay, with their exclusive locks, and all else goes.
+    pub fn leave(&mut self, locks: &mut Locks)
+        ensures parts { self.new ≡ without_parts self.old }
+        ensures locks { locks.new ≡ filter (stays self.old) locks.old }
+    {
+        release_parts(locks, &self.parts, &self.doubts);
+        release_shared(locks, &self.doubts);
+        self.parts.clear();
+        self.ended.clear();
+    }
+}
+
+fn take_lock(locks: &mut Locks, rec: RecId, exclusive: bool, txn: &TxnId) -> Result<(), LockFault>
+    ensures held { holder_in result ≡ conflict rec exclusive txn.now locks.old }
+    ensures locks { locks.new ≡ (if is_ok result then with_lock rec exclusive (owner.Txn txn.now) locks.old else locks.old) }
+{
+    if exclusive {
+        locks.take_exclusive(rec, *txn)
+    } else {
+        locks.take_shared(rec, *txn)
+    }
+}
+
+fn has_writes(locks: &Locks, txn: &TxnId, writes: &[(RecId, Value)]) -> bool
+    ensures { result ≡ list_all (λ rec. holds rec true (owner.Txn txn.now) locks.now) (keys writes.now) }
+{
+    writes
+        .iter()
+        .map(|write| write.0)
+        .all(|rec| locks.holds(rec, true, *txn))
+}
+
+fn has_reads(locks: &Locks, txn: &TxnId, reads: &[RecId]) -> bool
+    ensures { result ≡ list_all (λ rec. holds rec false (owner.Txn txn.now) locks.now) reads.now }
+{
+    reads.iter().all(|rec| locks.holds(*rec, false, *txn))
+}
+
+/// Whether the transaction has exclusive locks on all writes, and any locks on all reads.
+fn has_all_locks(locks: &Locks, txn: &TxnId, reads: &[RecId], writes: &[(RecId, Value)]) -> bool
+    ensures { result ≡ has_all_locks locks.now txn.now reads.now writes.now }
+{
+    has_writes(locks, txn, writes) && has_reads(locks, txn, reads)
+}
