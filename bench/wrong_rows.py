@@ -67,7 +67,7 @@ def without_worked_schedules(copy):
     lib.write_text("\n".join(kept) + "\n")
     for name in ("rows", "Worked"):
         shutil.rmtree(crate / "proofs" / name)
-    for name in ("Worked", "GeneratedRuns", "FinishedCalls"):
+    for name in ("Worked", "GeneratedRuns", "FinishedCalls", "FalseClaims"):
         (crate / f"proofs/{name}.antt").unlink()
     (crate / "src/rows.rt").unlink()
     shutil.rmtree(crate / "must-fail", ignore_errors=True)

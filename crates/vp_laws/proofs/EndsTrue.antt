@@ -1,6 +1,6 @@
 -- The ends that are replied are true: committed of transactions with an entry, and another end of none that ever has one.
-use Rattle.std.proofs.Common.{◌≡◌, ◌≢◌, ◌∙◌, ◌≤◌, ◌<◌, ap, sym, subst, ℕ, Bool, true, false, List, map, refl, arith, inr, ⊎_elim}
-use Rattle.std.specs.Prelude.{◌&&◌}
+use Rattle.std.proofs.Common.{◌≡◌, ◌≢◌, ◌∙◌, ◌≤◌, ◌<◌, ap, sym, subst, ℕ, Bool, true, false, List, [], map, refl, arith, inr, ⊎_elim}
+use Rattle.std.specs.Prelude.{Some, None, ◌&&◌}
 use Rattle.std.specs.List.{list_any, list_all}
 use Rattle.std.proofs.lemmas.Bool.Decides.{nat_tests}
 use Rattle.vp_model.specs.Types.{TxnId, Commit, Input, Answer, Reply, Shown, Live, Ending, Finished}
@@ -15,11 +15,13 @@ use Rattle.vp_model.specs.Step.{start, step}
 use Rattle.vp_model.specs.World.{Moment, Schedule, moments_of, journal_of}
 use Rattle.vp_model.specs.Told.{replies_in, answers_in}
 use Rattle.vp_model.specs.Headline.{has_entry, is_committed, commits_in, agrees_with, ends_true_at, EndsAreTrue}
+use Rattle.vp_model.specs.Justified.{refused_number}
+use Rattle.vp_one_site.proofs.Refused.{refused_of}
 use Rattle.vp_laws.proofs.Members.{Has, has_none, map_has, any_true, any_false}
 use Rattle.vp_laws.proofs.Lists.{mapped_has, all_from}
 use Rattle.vp_laws.proofs.Apart.{same_txn-is}
 use Rattle.vp_laws.proofs.Table.{is_abort, is_end, Replies}
-use Rattle.vp_laws.proofs.TableEndings.{NotLive}
+use Rattle.vp_laws.proofs.TableEndings.{NotLive, WasLive}
 use Rattle.vp_laws.proofs.TableReplies.{Said}
 use Rattle.vp_laws.proofs.Scenes.{Scene, scene_of, kept_at, acted}
 use Rattle.vp_laws.proofs.Events.{in_each}
@@ -65,6 +67,12 @@ agrees_abort by last txn number (LockHeld name at owner) e none = rw none refl
 agrees_abort by last txn number (ViewChanged at held now) e none = rw none refl
 agrees_abort by last txn number (TimedOut at) e none = rw none refl
 
+-- a reply that says that a transaction was refused tells its end
+refused_ends : (txn : TxnId) (a : Answer) (j : ℕ) → refused_number txn a ≡ Some j → is_end a ≡ false → ⊥
+refused_ends txn (answer.LockHeld t number name at holder) j e f = cc
+refused_ends txn (answer.ViewChanged t number at held now) j e f = cc
+refused_ends txn _ j e f = cc
+
 -- the transaction is over without an entry, and gets none later
 pub record EndedAt (w : Scene) (txn : TxnId) : Type 0 where
   pub used : UsedTxn w txn
@@ -75,14 +83,14 @@ module _ (catalogue : Catalogue) where
   abbrev I : Scene → Type 0
   I = TwentyFirst catalogue
 
-  known_of : (w : Scene) → I w → Known catalogue w
+  pub known_of : (w : Scene) → I w → Known catalogue w
   known_of w inv = known catalogue w inv.lower.lower.lower.lower
 
   no_live : (s : ℕ) (d : DurableState) (t : Live) → Has (start catalogue s d).live t → ⊥
   unfolding start
   no_live s d t h = has_none t h
 
-  ended_step : (w new : Scene) (s : ℕ) (x : SiteState) (given : Input) (o : Stepped) (k : Known catalogue w) (n : Known catalogue new) (d : Does catalogue w new s x given o) (txn : TxnId) → EndedAt w txn → EndedAt new txn
+  pub ended_step : (w new : Scene) (s : ℕ) (x : SiteState) (given : Input) (o : Stepped) (k : Known catalogue w) (n : Known catalogue new) (d : Does catalogue w new s x given o) (txn : TxnId) → EndedAt w txn → EndedAt new txn
   ended_step w new s x given o k n d txn h = record {
     used = used_lasts w new s d.st.moved d.grows txn h.used;
     over = λ y up t live same.
@@ -94,7 +102,7 @@ module _ (catalogue : Catalogue) where
         (d.st.entered e there);
   }
 
-  ended_quiet : (w new : Scene) (s : ℕ) → Quiet catalogue w new s → (txn : TxnId) → EndedAt w txn → EndedAt new txn
+  pub ended_quiet : (w new : Scene) (s : ℕ) → Quiet catalogue w new s → (txn : TxnId) → EndedAt w txn → EndedAt new txn
   ended_quiet w new s q txn h = record {
     used = used_lasts w new s q.moved grows txn h.used;
     over = λ y up. over_at y (quiet_is catalogue w new s q txn.site y up);
@@ -121,7 +129,7 @@ module _ (catalogue : Catalogue) where
       subst (λ (w : Scene). EndedAt w txn) (sym e) (ended_step w (acted w s x o) s x given o k n (does catalogue w s x given up r k n) txn h)
 
   -- what one step replies
-  module _ (w new : Scene) (s : ℕ) (x : SiteState) (given : Input) (o : Stepped) (k : Known catalogue w) (n : Known catalogue new) (d : Does catalogue w new s x given o) (kept : InvKept w) (last : List Commit) (later : (txn : TxnId) → EndedAt new txn → has_entry last txn ≡ false) where
+  module _ (w new : Scene) (s : ℕ) (x : SiteState) (given : Input) (o : Stepped) (k : Known catalogue w) (n : Known catalogue new) (d : Does catalogue w new s x given o) (kept : InvKept w) where
     finished_ended : (f : Finished) → Has x.finished f → ((e : Commit) → Has w.journal e → e.txn ≢ f.txn) → EndedAt w f.txn
     finished_ended f h none =
         let names = (k.ends.settled s x d.up).names f h in
@@ -138,38 +146,44 @@ module _ (catalogue : Catalogue) where
         same_life : (a b : ℕ) → a ≡ b → a ≤ b
         same_life a b e = omega arith
 
-    -- the end of a finished transaction
-    finished_agrees : (f : Finished) (number : ℕ) (a : Answer) → Has x.finished f → answer_of f.txn number f.ending ≡ a → agrees_with new.journal last a ≡ true
-    finished_agrees f number a h is = ⊎_elim
-        (λ (q : (f.ending ≡ Committed) × HasEntry w f.txn).
-        subst (λ (a : Answer). agrees_with new.journal last a ≡ true) (ap (answer_of f.txn number) (sym q.0) ∙ is) (entry_found new.journal q.1.0 f.txn (d.st.moved.journal q.1.0 q.1.1) q.1.2))
-        (λ (q : (is_abort f.ending ≡ true) × ((e : Commit) → Has w.journal e → e.txn ≢ f.txn)).
-        subst (λ (a : Answer). agrees_with new.journal last a ≡ true) is (agrees_abort new.journal last f.txn number f.ending q.0 (later f.txn (ended_step w new s x given o k n d f.txn (finished_ended f h q.1)))))
-        (k.ends.finished s x f d.up h)
-
-    nothing_agrees : (a : Answer) → Replies x a → agrees_with new.journal last a ≡ true
-    nothing_agrees a (Replies.other e) = agrees_other new.journal last a e
-    nothing_agrees a (Replies.kept t h there) = agrees_other new.journal last a (kept.live s x t a d.up h there)
-    nothing_agrees a (Replies.kept_end f h there) = ⊎_elim (λ e. agrees_other new.journal last a e) (λ (q : (number : ℕ) × (answer_of f.txn number f.ending ≡ a)). finished_agrees f q.0 a h q.1) (kept.finished s x f a d.up h there)
-    nothing_agrees a (Replies.over f number h is) = finished_agrees f number a h is
-
-    said_agrees : (a : Answer) → Said x o.site.live o.effects.commits a → agrees_with new.journal last a ≡ true
-    said_agrees a (Said.nothing r) = nothing_agrees a r
-    said_agrees a (Said.commits e number h is) = subst (λ (a : Answer). agrees_with new.journal last a ≡ true) is (entry_found new.journal e e.txn (d.st.enters e h) refl)
-    said_agrees a (Said.ended txn number why was gone abort quiet is) = subst (λ (a : Answer). agrees_with new.journal last a ≡ true) is (agrees_abort new.journal last txn number why abort (later txn ended))
+    -- one that is closed now
+    closed_ended : (txn : TxnId) → WasLive x txn → NotLive o.site.live txn → o.effects.commits ≡ [] → EndedAt new txn
+    closed_ended txn was gone quiet = record {
+      used = used_lasts w new s d.st.moved d.grows txn (subst (UsedTxn w) was.2 (own_used w s x d.up d.here.id (ap (λ (d : DurableState). d.life) (sym d.here.kept)) d.led was.0 was.1));
+      over = λ y up t live same. let is : o.site ≡ y = (let z = rw at at up in let q = d.st.now in cc) in gone t (subst (λ (y : SiteState). Has y.live t) (sym is) live) same;
+      none = λ e there same. ⊎_elim
+          (λ old. k.ends.entry e old x (rw (ap (λ (t : TxnId). t.site) same ∙ at) d.up) was.0 was.1 (was.2 ∙ sym same))
+          (λ more. has_none e (rw quiet at more))
+          (d.st.entered e there);
+    }
       where
         at : txn.site ≡ s
         at = ap (λ (t : TxnId). t.site) (sym was.2) ∙ (d.led.names was.0 was.1).0 ∙ d.here.id
 
-        ended : EndedAt new txn
-        ended = record {
-          used = used_lasts w new s d.st.moved d.grows txn (subst (UsedTxn w) was.2 (own_used w s x d.up d.here.id (ap (λ (d : DurableState). d.life) (sym d.here.kept)) d.led was.0 was.1));
-          over = λ y up t live same. let is : o.site ≡ y = (let z = rw at at up in let q = d.st.now in cc) in gone t (subst (λ (y : SiteState). Has y.live t) (sym is) live) same;
-          none = λ e there same. ⊎_elim
-              (λ old. k.ends.entry e old x (rw (ap (λ (t : TxnId). t.site) same ∙ at) d.up) was.0 was.1 (was.2 ∙ sym same))
-              (λ more. has_none e (rw quiet at more))
-              (d.st.entered e there);
-        }
+    -- a transaction that a reply says was refused is over without an entry
+    finished_refused : (f : Finished) (number : ℕ) (a : Answer) (txn : TxnId) (j : ℕ) → Has x.finished f → answer_of f.txn number f.ending ≡ a → refused_number txn a ≡ Some j → EndedAt new txn
+    finished_refused f number a txn j h is e =
+        let own : refused_number txn (answer_of f.txn number f.ending) ≡ Some j = ap (refused_number txn) is ∙ e in
+        subst (EndedAt new) (refused_of f.txn txn number f.ending j own).0 (⊎_elim
+        (λ (q : (f.ending ≡ Committed) × HasEntry w f.txn). absurd (unrefused q.0 own))
+        (λ (q : (is_abort f.ending ≡ true) × ((e : Commit) → Has w.journal e → e.txn ≢ f.txn)). ended_step w new s x given o k n d f.txn (finished_ended f h q.1))
+        (k.ends.finished s x f d.up h))
+      where
+        unrefused : f.ending ≡ Committed → refused_number txn (answer_of f.txn number f.ending) ≡ Some j → ⊥
+        unrefused c e = let z : refused_number txn (answer_of f.txn number f.ending) ≡ None = rw c refl in cc
+
+    nothing_refused : (a : Answer) (txn : TxnId) (j : ℕ) → Replies x a → refused_number txn a ≡ Some j → EndedAt new txn
+    nothing_refused a txn j (Replies.other e) q = absurd (refused_ends txn a j q e)
+    nothing_refused a txn j (Replies.kept t h there) q = absurd (refused_ends txn a j q (kept.live s x t a d.up h there))
+    nothing_refused a txn j (Replies.kept_end f h there) q = ⊎_elim (λ e. absurd (refused_ends txn a j q e)) (λ (r : (number : ℕ) × (answer_of f.txn number f.ending ≡ a)). finished_refused f r.0 a txn j h r.1 q) (kept.finished s x f a d.up h there)
+    nothing_refused a txn j (Replies.over f number h is) q = finished_refused f number a txn j h is q
+
+    pub said_refused : (a : Answer) (txn : TxnId) (j : ℕ) → Said x o.site.live o.effects.commits a → refused_number txn a ≡ Some j → EndedAt new txn
+    said_refused a txn j (Said.nothing r) q = nothing_refused a txn j r q
+    said_refused a txn j (Said.commits e number h is) q = let z : refused_number txn a ≡ None = rw (← is) refl in cc
+    said_refused a txn j (Said.ended u number why was gone abort quiet is) q =
+        let own : refused_number txn (answer_of u number why) ≡ Some j = ap (refused_number txn) is ∙ q in
+        subst (EndedAt new) (refused_of u txn number why j own).0 (closed_ended u was gone quiet)
 
     replied : (e : Commit) → Has o.effects.commits e → list_any (is_committed e.txn) (map (λ (r : Reply). r.answer) o.effects.replies) ≡ true
     replied e h =
@@ -182,6 +196,27 @@ module _ (catalogue : Catalogue) where
             go : (b : Bool) → list_any (is_committed e.txn) answers ≡ b → b ≡ true
             go true q = refl
             go false q = let z = any_false (is_committed e.txn) answers q a there in cc
+
+    module _ (last : List Commit) (later : (txn : TxnId) → EndedAt new txn → has_entry last txn ≡ false) where
+      -- the end of a finished transaction
+      finished_agrees : (f : Finished) (number : ℕ) (a : Answer) → Has x.finished f → answer_of f.txn number f.ending ≡ a → agrees_with new.journal last a ≡ true
+      finished_agrees f number a h is = ⊎_elim
+          (λ (q : (f.ending ≡ Committed) × HasEntry w f.txn).
+          subst (λ (a : Answer). agrees_with new.journal last a ≡ true) (ap (answer_of f.txn number) (sym q.0) ∙ is) (entry_found new.journal q.1.0 f.txn (d.st.moved.journal q.1.0 q.1.1) q.1.2))
+          (λ (q : (is_abort f.ending ≡ true) × ((e : Commit) → Has w.journal e → e.txn ≢ f.txn)).
+          subst (λ (a : Answer). agrees_with new.journal last a ≡ true) is (agrees_abort new.journal last f.txn number f.ending q.0 (later f.txn (ended_step w new s x given o k n d f.txn (finished_ended f h q.1)))))
+          (k.ends.finished s x f d.up h)
+
+      nothing_agrees : (a : Answer) → Replies x a → agrees_with new.journal last a ≡ true
+      nothing_agrees a (Replies.other e) = agrees_other new.journal last a e
+      nothing_agrees a (Replies.kept t h there) = agrees_other new.journal last a (kept.live s x t a d.up h there)
+      nothing_agrees a (Replies.kept_end f h there) = ⊎_elim (λ e. agrees_other new.journal last a e) (λ (q : (number : ℕ) × (answer_of f.txn number f.ending ≡ a)). finished_agrees f q.0 a h q.1) (kept.finished s x f a d.up h there)
+      nothing_agrees a (Replies.over f number h is) = finished_agrees f number a h is
+
+      said_agrees : (a : Answer) → Said x o.site.live o.effects.commits a → agrees_with new.journal last a ≡ true
+      said_agrees a (Said.nothing r) = nothing_agrees a r
+      said_agrees a (Said.commits e number h is) = subst (λ (a : Answer). agrees_with new.journal last a ≡ true) is (entry_found new.journal e e.txn (d.st.enters e h) refl)
+      said_agrees a (Said.ended txn number why was gone abort quiet is) = subst (λ (a : Answer). agrees_with new.journal last a ≡ true) is (agrees_abort new.journal last txn number why abort (later txn (closed_ended txn was gone quiet)))
 
   -- a moment
   ends_true : (last : List Commit) (m : Moment) → MomentOf catalogue (scene_of m.before) m.line.shown (scene_of m.after) → I (scene_of m.before) → I (scene_of m.after) → ((txn : TxnId) → EndedAt (scene_of m.after) txn → has_entry last txn ≡ false) → ends_true_at last m ≡ true
@@ -204,7 +239,7 @@ module _ (catalogue : Catalogue) where
       ∙ all_from (agrees_with new.journal last) (map (λ (r : Reply). r.answer) o.effects.replies) (λ a h. let q = map_has (λ (r : Reply). r.answer) o.effects.replies a h in subst (λ (a : Answer). agrees_with new.journal last a ≡ true) q.2 (said_agrees w new s x given o k n d inv.upper last later_new q.0.answer (d.replying.said q.0 q.1))))
       (ap (λ (cs : List Commit). list_all (λ (commit : Commit). list_any (is_committed commit.txn) (answers_in m.line)) cs) cs
       ∙ ap (λ (rs : List Reply). list_all (λ (commit : Commit). list_any (is_committed commit.txn) (map (λ (r : Reply). r.answer) rs)) o.effects.commits) rs
-      ∙ all_from (λ (commit : Commit). list_any (is_committed commit.txn) (map (λ (r : Reply). r.answer) o.effects.replies)) o.effects.commits (λ c h. replied w new s x given o k n d inv.upper last later_new c h))
+      ∙ all_from (λ (commit : Commit). list_any (is_committed commit.txn) (map (λ (r : Reply). r.answer) o.effects.replies)) o.effects.commits (λ c h. replied w new s x given o k n d inv.upper c h))
     where
       both : (a b : Bool) → a ≡ true → b ≡ true → (a && b) ≡ true
       both a b p q = rw (p, q) refl

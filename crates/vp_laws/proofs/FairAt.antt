@@ -10,7 +10,8 @@ use Rattle.vp_model.specs.Catalogue.{Catalogue, find_record, inside, total}
 use Rattle.vp_model.specs.Site.{SiteState}
 use Rattle.vp_model.specs.Transactions.{answer_of}
 use Rattle.vp_model.specs.World.{Moment}
-use Rattle.vp_model.specs.Justified.{justified, was_blocked, held_other}
+use Rattle.vp_model.specs.Told.{answers_in}
+use Rattle.vp_model.specs.Justified.{justified, was_blocked, held_other, refused_number}
 use Rattle.vp_one_site.proofs.Outcome.{is_report}
 use Rattle.vp_laws.proofs.Members.{Has, has_left}
 use Rattle.vp_laws.proofs.LocalViews.{letter}
@@ -18,6 +19,8 @@ use Rattle.vp_laws.proofs.Scenes.{Scene, plain_at}
 use Rattle.vp_laws.proofs.InvShares.{HasRequest}
 use Rattle.vp_laws.proofs.InvAnswers.{Eighth}
 use Rattle.vp_laws.proofs.InvRepeated.{Kept}
+use Rattle.vp_laws.proofs.InvKept.{TwentyFirst}
+use Rattle.vp_laws.proofs.EndsTrue.{EndedAt}
 use Rattle.vp_laws.proofs.TableFair.{is_free}
 use Rattle.vp_laws.proofs.Fair.{WasBegun, Once, Fair, fair_more}
 
@@ -42,10 +45,13 @@ pub record FairEnd (catalogue : Catalogue) (past : List Moment) (f : Finished) :
   pub later : (n : ℕ) → length f.answers ≤ n → Fair catalogue past (answer_of f.txn n f.ending)
 
 pub record FairAt (catalogue : Catalogue) (w : Scene) (past : List Moment) : Type 0 where
+  pub base : TwentyFirst catalogue w
   pub kept : Kept catalogue w
   pub eighth : Eighth catalogue w
   -- each refusal that was sent is justified
   pub sent : (m : Sent) → Has w.sent m → RefuseOk catalogue w past m.from m.message
+  -- a transaction that a reply says was refused is over
+  pub told : (m : Moment) → Has past m → (a : Answer) → Has (answers_in m.line) a → (txn : TxnId) (n : ℕ) → refused_number txn a ≡ Some n → EndedAt w txn
   -- each live transaction was begun in its view
   pub live : (s : ℕ) (x : SiteState) (t : Live) → plain_at w s ≡ Some x → Has x.live t → WasBegun past t.txn t.view
   -- what a finished transaction may answer is justified

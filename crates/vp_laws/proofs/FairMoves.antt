@@ -4,13 +4,14 @@ use Rattle.std.specs.Prelude.{Option, Some, None, is_some, option_map, option_to
 use Rattle.std.proofs.lemmas.Bool.Decides.{nat_tests}
 use Rattle.std.proofs.Math.ListN.{length-append}
 use Rattle.vp_model.specs.Types.{TxnId, ViewId, View, Owner, Obstacle, Answer, Reply, Message, Input, Pending, Live, Ending, Finished}
-use Rattle.vp_base.specs.declared.site.Ending.TheVariants.{Committed, LockHeld, ViewChanged}
+use Rattle.vp_base.specs.declared.site.Ending.TheVariants.{Committed, LockHeld}
 use Rattle.vp_model.specs.Types.answer
 use Rattle.vp_model.specs.Types.message
 use Rattle.vp_model.specs.Types.obstacle
-use Rattle.vp_model.specs.Words.{is_view}
+use Rattle.vp_model.specs.Words.{is_view, same_txn}
 use Rattle.vp_model.specs.Catalogue.{Catalogue, find_record, inside, total}
 use Rattle.vp_model.specs.Site.{SiteState, Stepped}
+use Rattle.vp_model.specs.Answers.{is_live}
 use Rattle.vp_model.specs.Messages.{held_id}
 use Rattle.vp_model.specs.Locks.{conflict}
 use Rattle.vp_model.specs.Transactions.{answer_of, answers_after}
@@ -18,24 +19,32 @@ use Rattle.vp_model.specs.Refresh.{members_in, is_usable_in}
 use Rattle.vp_model.specs.Step.{start, step}
 use Rattle.vp_model.specs.Told.{answers_in}
 use Rattle.vp_model.specs.World.{WorldState, Moment}
-use Rattle.vp_model.specs.Justified.{site_named, justified, held_other, left_then, is_begun, weighs}
+use Rattle.vp_model.specs.Justified.{site_named, justified, was_blocked, held_other, left_and_closed, is_begun, weighs, refused_number, refused_in}
 use Rattle.vp_one_site.proofs.Outcome.{is_report}
-use Rattle.vp_one_site.proofs.KeptAnswers.{blocked_larger}
-use Rattle.vp_laws.proofs.Members.{Has, has_none, has_one, has_left, has_right, has_cases, has_one_is, map_has, any_of}
+use Rattle.vp_one_site.proofs.Members.{Has as LoneHas, contains as lone_contains, has_of as lone_of}
+use Rattle.vp_one_site.proofs.Refused.{refused_last, none_refused, first_told, refused_of}
+use Rattle.vp_laws.proofs.Members.{Has, contains, has_of, has_none, has_one, has_left, has_right, has_cases, has_one_is, map_has, any_true, any_of}
 use Rattle.vp_laws.proofs.Table.{Comes, Handled, Reads, Writes, Requests, Asks}
 use Rattle.vp_laws.proofs.LocalViews.{letter}
 use Rattle.vp_laws.proofs.Scenes.{Scene, scene_of, plain_at, kept_at, acted}
 use Rattle.vp_laws.proofs.Events.{Arrives}
 use Rattle.vp_laws.proofs.InvShares.{HasRequest}
 use Rattle.vp_laws.proofs.InvAnswers.{Current, Eighth, answers_last}
+use Rattle.vp_laws.proofs.TableLed.{Led}
 use Rattle.vp_laws.proofs.InvRepeated.{Kept, kept_last, Does, does}
+use Rattle.vp_laws.proofs.InvKept.{TwentyFirst}
+use Rattle.vp_laws.proofs.InvKept.{kept_last as ends_last}
+use Rattle.vp_laws.proofs.Apart.{apart_unique}
+use Rattle.vp_laws.proofs.Tower.{Known}
+use Rattle.vp_laws.proofs.Tower.{Does as Doing, does as doing}
+use Rattle.vp_laws.proofs.EndsTrue.{EndedAt, known_of, ended_step, ended_quiet, said_refused}
 use Rattle.vp_laws.proofs.Worlds.{NowIs, now_is, Quiet, QuietIs, quiet_is}
 use Rattle.vp_model.specs.Durable.{DurableState}
 use Rattle.vp_laws.proofs.Reasons.{Operates, Takes, Awaits, Why, told_to}
 use Rattle.vp_laws.proofs.TableRefusals.{Refused, RefuseSays, refusals-step}
-use Rattle.vp_laws.proofs.TableFair.{finished_as, LiveFrom, FinishedFrom, ReplyFrom, Causes, causes-step}
-use Rattle.vp_laws.proofs.Fair.{WasBegun, Once, OtherView, Fair, begun_more, fair_more, fair_larger, fair_justified}
-use Rattle.vp_laws.proofs.FairStep.{IsStep, named_site, tested_x, replied, blocked_here, blocked_there, other_there, left_now, same_txn-self, same_view-self, eq_self}
+use Rattle.vp_laws.proofs.TableFair.{is_free, finished_as, LiveFrom, FinishedFrom, ReplyFrom, Causes, causes-step}
+use Rattle.vp_laws.proofs.Fair.{WasBegun, Once, OtherView, Fair, begun_more, fair_more, fair_justified}
+use Rattle.vp_laws.proofs.FairStep.{IsStep, named_site, tested_x, replied, blocked_here, blocked_there, other_there, left_and_closed_now, same_txn-self, same_view-self, eq_self}
 use Rattle.vp_laws.proofs.FairAt.{IsAsked, RefuseFair, RefuseOk, FairEnd, FairAt, refuse_on, end_more, free_justified, report_fair}
 
 no_number : (a b : ℕ) → a ≤ b → a ≡ b + 1 → ⊥
@@ -46,6 +55,30 @@ at_most_of a b c e h = omega arith
 
 same_at_most : (a b : ℕ) → a ≡ b → b ≤ a
 same_at_most a b e = omega arith
+
+-- membership in the words of a site that is alone
+to_lone : {X : Type 0} (xs : List X) (x : X) → Has xs x → LoneHas xs x
+to_lone xs x h = lone_of xs x (contains xs x h)
+
+from_lone : {X : Type 0} (xs : List X) (x : X) → LoneHas xs x → Has xs x
+from_lone xs x h = has_of xs x (lone_contains xs x h)
+
+-- answers that say nothing of a refused call
+free_unrefused : (txn : TxnId) (a : Answer) (n : ℕ) → is_free a ≡ true → refused_number txn a ≡ Some n → ⊥
+free_unrefused txn (answer.LockHeld t number name at holder) n e f = cc
+free_unrefused txn (answer.ViewChanged t number at held now) n e f = cc
+free_unrefused txn _ n e f = cc
+
+report_unrefused : (txn : TxnId) (a : Answer) (n : ℕ) → is_report a ≡ true → refused_number txn a ≡ Some n → ⊥
+report_unrefused txn (answer.LockHeld t number name at holder) n e f = cc
+report_unrefused txn (answer.ViewChanged t number at held now) n e f = cc
+report_unrefused txn _ n e f = cc
+
+own_held : (txn : TxnId) (number : ℕ) (name : List ℕ) (at : ℕ) (holder : Owner) → refused_number txn (answer.LockHeld txn number name at holder) ≡ Some number
+own_held txn number name at holder = rw (same_txn-self txn) refl
+
+own_view : (txn : TxnId) (number at : ℕ) (held : ViewId) (held_now : Option ViewId) → refused_number txn (answer.ViewChanged txn number at held held_now) ≡ Some number
+own_view txn number at held held_now = rw (same_txn-self txn) refl
 
 below_of : (n m : ℕ) → nat_le n m ≡ false → m ≤ n
 below_of n m e = grind (arith, nat_tests, e)
@@ -69,6 +102,18 @@ module _ (catalogue : Catalogue) (world : WorldState) (past : List Moment) (m0 :
   c : Causes catalogue x given o.site o.site.coordinator o.effects.replies o.effects.commits
   c = causes-step catalogue x given (fair.kept.upper.site s x up)
 
+  known_here : Known catalogue w
+  known_here = known_of catalogue w fair.base
+
+  base_now : TwentyFirst catalogue (acted w s x o)
+  base_now = (ends_last catalogue).acts w s x given up arrives fair.base
+
+  known_now : Known catalogue (acted w s x o)
+  known_now = known_of catalogue (acted w s x o) base_now
+
+  doing_here : Doing catalogue w (acted w s x o) s x given o
+  doing_here = doing catalogue w s x given up arrives known_here known_now
+
   own_site : (t : Live) → Has x.live t → t.txn.site ≡ s
   own_site t h = (d.led.names t h).0 ∙ d.id
 
@@ -83,6 +128,42 @@ module _ (catalogue : Catalogue) (world : WorldState) (past : List Moment) (m0 :
   number_of t why p (Why.other_view q from held_now a n) g = next_number t p a.live g
   number_of t why p (Why.left h gone) g = next_number t p h g
   number_of t why p (Why.timed_out missing h) g = next_number t p h g
+
+  -- a transaction that was live as the step began was told of no refusal before
+  never_told : (txn : TxnId) (u : Live) → Has x.live u → u.txn ≡ txn → refused_in past txn ≡ None
+  never_told txn u h same = none_refused txn past (λ m k a q n e.
+      let ended = fair.told m (from_lone past m k) a (from_lone (answers_in m.line) a q) txn n e in
+      ended.over x (rw (← same, own_site u h) up) u h same)
+
+  -- and in this step only under the number of its pending call
+  finished_other : (t : Live) (f : Finished) (number : ℕ) (n : ℕ) → Handled x t → Has x.finished f → refused_number t.txn (answer_of f.txn number f.ending) ≡ Some n → ⊥
+  finished_other t f number n at h e =
+      let own : f.txn ≡ t.txn = (refused_of f.txn t.txn number f.ending n e).0 in
+      (known_here.ends.settled s x up).finished f at.was h at.live (ap (λ (t : Live). t.txn) (sym at.same) ∙ sym own)
+
+  number_told : (t : Live) → Handled x t → (a : Answer) → ReplyFrom catalogue x given o.site a → (n : ℕ) → refused_number t.txn a ≡ Some n → n ≡ length t.answers + 1
+  number_told t at a (ReplyFrom.free b f) n e = absurd (free_unrefused t.txn b n f e)
+  number_told t at a (ReplyFrom.inaccessible u p name rec takes found f) n e = cc
+  number_told t at a (ReplyFrom.repeated f b k q) n e = ⊎_elim
+      (λ r. absurd (report_unrefused t.txn b n r e))
+      (λ (r : (number : ℕ) × (b ≡ answer_of f.txn number f.ending)). absurd (finished_other t f r.0 n at k (ap (refused_number t.txn) (sym r.1) ∙ e)))
+      ((fair.kept.upper.site s x up).finished f k b q)
+  number_told t at a (ReplyFrom.ended f number k l) n e = absurd (finished_other t f number n at k e)
+  number_told t at a (ReplyFrom.closed u why p also w q) n e =
+      let own = refused_of u.txn t.txn p.number why n e in
+      let one : also.was ≡ at.was = apart_unique x.live (known_here.votes.site s x up) also.was at.was also.live at.live (ap (λ (t : Live). t.txn) (sym also.same) ∙ own.0 ∙ ap (λ (t : Live). t.txn) at.same) in
+      let same : u.answers ≡ t.answers = ap (λ (t : Live). t.answers) also.same ∙ ap (λ (t : Live). t.answers) one ∙ ap (λ (t : Live). t.answers) (sym at.same) in
+      sym own.1 ∙ number_of u why p w q ∙ ap (λ (answers : List Answer). length answers + 1) same
+
+  number_in : (t : Live) → Handled x t → (a : Answer) → Has (answers_in m0.line) a → (n : ℕ) → refused_number t.txn a ≡ Some n → n ≡ length t.answers + 1
+  number_in t at a h =
+      let r = map_has (λ (r : Reply). r.answer) o.effects.replies a (rw is.shown at h) in
+      number_told t at a (subst (ReplyFrom catalogue x given o.site) r.2 (c.says r.0 r.1))
+
+  refused_first : (t : Live) (p : Pending) (a : Answer) → Handled x t → p.number ≡ length t.answers + 1 → refused_number t.txn a ≡ Some p.number → Has (answers_in m0.line) a → refused_in now t.txn ≡ Some p.number
+  refused_first t p a at number own h =
+      refused_last t.txn past m0 (never_told t.txn at.was at.live (ap (λ (t : Live). t.txn) (sym at.same)))
+      ∙ first_told t.txn (answers_in m0.line) p.number (λ b q n e. number_in t at b (from_lone (answers_in m0.line) b q) n e ∙ sym number) a (to_lone (answers_in m0.line) a h) own
 
   came : (from : ℕ) (m : Message) → Comes given from m → Has w.sent (letter from s m)
   came from m e = rw e at arrives
@@ -125,45 +206,70 @@ module _ (catalogue : Catalogue) (world : WorldState) (past : List Moment) (m0 :
   begun_now t h = begun_more past (m0 ∷ []) t.txn t.view (fair.live s x t up h)
 
   -- a lock that another site named
-  there_fair : (t : Live) (p : Pending) (from : ℕ) (name : List ℕ) (exclusive : Bool) (holder : Owner) (k : ℕ) → Awaits x t p → Operates p.call name exclusive → p.number ≤ k → RefuseFair catalogue w past from t.txn p.number (obstacle.Held holder) → Fair catalogue now (answer.LockHeld t.txn k name from holder)
-  there_fair t p from name exclusive holder k a op up_to (RefuseFair.blocked view rec flag held_by q asked m h f) =
+  there_fair : (t : Live) (p : Pending) (from : ℕ) (name : List ℕ) (exclusive : Bool) (holder : Owner) (k : ℕ) → Awaits x t p → Operates p.call name exclusive → refused_in now t.txn ≡ Some p.number → p.number ≤ k → RefuseFair catalogue w past from t.txn p.number (obstacle.Held holder) → Fair catalogue now (answer.LockHeld t.txn k name from holder)
+  there_fair t p from name exclusive holder k a op first up_to (RefuseFair.blocked view rec flag held_by q asked m h f) =
       let n = named_there t p from q view rec flag exclusive name a asked op in
-      record { moment = m; has = has_left past (m0 ∷ []) m h; passes = blocked_larger catalogue t.txn p.number k name from holder m up_to (f name n.0 n.1) }
+      record { refused = p.number; first = first; up_to = up_to; once = any_of (was_blocked catalogue t.txn p.number name from holder) now m (has_left past (m0 ∷ []) m h) (f name n.0 n.1) }
 
   -- another view that another site named
-  view_fair : (t : Live) (p : Pending) (from : ℕ) (held_now : Option ViewId) (k : ℕ) → Awaits x t p → p.number ≤ k → RefuseFair catalogue w past from t.txn p.number (obstacle.OtherView held_now) → Fair catalogue now (answer.ViewChanged t.txn k from t.view held_now)
-  view_fair t p from held_now k a up_to (RefuseFair.elsewhere view w_now q asked e once) =
+  view_fair : (t : Live) (p : Pending) (from : ℕ) (held_now : Option ViewId) (k : ℕ) → Awaits x t p → refused_in now t.txn ≡ Some p.number → p.number ≤ k → RefuseFair catalogue w past from t.txn p.number (obstacle.OtherView held_now) → Fair catalogue now (answer.ViewChanged t.txn k from t.view held_now)
+  view_fair t p from held_now k a first up_to (RefuseFair.elsewhere view w_now q asked e once) =
       let n = view_of t q from view p.number a.live asked in
       let e_now : is_view held_now t.view ≡ false = rw n.0 e in
-      let once_now : Once past (held_other catalogue t.txn p.number from t.view held_now) = rw n.0 once in
-      fair_larger catalogue now t.txn p.number k (ViewChanged from t.view held_now) up_to (begun_now t a.live, OtherView.other held_now n.1 e_now (record { moment = once_now.moment; has = has_left past (m0 ∷ []) once_now.moment once_now.has; passes = once_now.passes }))
+      let once_now : Once past (held_other catalogue t.txn p.number from t.view held_now) = rw n.0 once in (
+        begun_now t a.live,
+        OtherView.other held_now n.1 e_now (record {
+          refused = p.number;
+          first = first;
+          up_to = up_to;
+          once = any_of (held_other catalogue t.txn p.number from t.view held_now) now once_now.moment (has_left past (m0 ∷ []) once_now.moment once_now.has) once_now.passes;
+        }),
+      )
 
   -- a lock here, of a call that comes in this step
-  here_fair : (was : Live) (p : Pending) (name : List ℕ) (rec : ℕ) (exclusive : Bool) (holder : Owner) (k : ℕ) → Takes x given was p → Operates p.call name exclusive → find_record catalogue name ≡ Some rec → conflict rec exclusive was.txn x.locks ≡ Some holder → p.number ≤ k → Has (answers_in m0.line) (answer.LockHeld was.txn p.number name x.id holder) → Fair catalogue now (answer.LockHeld was.txn k name x.id holder)
-  here_fair was p name rec exclusive holder k at op f n up_to told =
+  here_fair : (was : Live) (p : Pending) (name : List ℕ) (rec : ℕ) (exclusive : Bool) (holder : Owner) (k : ℕ) → Takes x given was p → Operates p.call name exclusive → find_record catalogue name ≡ Some rec → conflict rec exclusive was.txn x.locks ≡ Some holder → refused_in now was.txn ≡ Some p.number → p.number ≤ k → Has (answers_in m0.line) (answer.LockHeld was.txn p.number name x.id holder) → Fair catalogue now (answer.LockHeld was.txn k name x.id holder)
+  here_fair was p name rec exclusive holder k at op f n first up_to told =
       let told_here : Has (answers_in m0.line) (answer.LockHeld was.txn p.number name s holder) = rw (← d.id) told in
       let blocked = blocked_here catalogue m0 world s x given o is was p name rec exclusive holder at.called op f n (own_site was at.live) told_here in
-      rw d.id (record { moment = m0; has = here; passes = blocked_larger catalogue was.txn p.number k name s holder m0 up_to blocked })
+      rw d.id (record { refused = p.number; first = first; up_to = up_to; once = any_of (was_blocked catalogue was.txn p.number name s holder) now m0 here blocked })
+
+  -- where the site holds no view it has no live transaction
+  none_left : o.site.held ≡ None → (txn : TxnId) → is_live txn o.site.live ≡ false
+  none_left gone txn = go (is_live txn o.site.live) refl
+    where
+      led_now : Led o.site
+      led_now = known_now.led.site s o.site d.st.now
+
+      go : (b : Bool) → is_live txn o.site.live ≡ b → b ≡ false
+      go false e = refl
+      go true e = let r = any_true (λ (t : Live). same_txn t.txn txn) o.site.live e in let v = led_now.live r.0 r.1 in let z = v.1 in cc
 
   left_fair : (t : Live) (k : ℕ) → Has x.live t → o.site.held ≡ None → Fair catalogue now (answer.ViewChanged t.txn k x.id t.view None)
   left_fair t k h gone =
       let v = d.led.live t h in
-      let left : left_then s t.view m0 ≡ true = rw (← v.2) (left_now catalogue m0 world s x given o is v.0 v.1 gone) in
-      (begun_now t h, OtherView.left (d.id ∙ sym (own_site t h)) (rw d.id (record { moment = m0; has = here; passes = left })))
+      let was : is_live t.txn x.live ≡ true = any_of (λ (u : Live). same_txn u.txn t.txn) x.live t h (same_txn-self t.txn) in
+      let left : left_and_closed t.txn t.view m0 ≡ true = rw (← v.2) (left_and_closed_now catalogue m0 world s x given o is t.txn v.0 (own_site t h) v.1 gone was (none_left gone t.txn)) in
+      (begun_now t h, OtherView.left (d.id ∙ sym (own_site t h)) (record { moment = m0; has = here; passes = left }))
 
-  why_fair : (t : Live) (why : Ending) (k : ℕ) → Why catalogue x given o.site t why → ((p : Pending) → t.pending ≡ Some p → Has (answers_in m0.line) (answer_of t.txn p.number why)) → ((p : Pending) → t.pending ≡ Some p → length t.answers + 1 ≤ k) → Fair catalogue now (answer_of t.txn k why)
-  why_fair t why k (Why.aborted was p at e) told up_to = tt
-  why_fair t why k (Why.held_here was p name rec exclusive holder at e op f n) told up_to =
+  why_fair : (t : Live) (why : Ending) (k : ℕ) → Handled x t → Why catalogue x given o.site t why → ((p : Pending) → t.pending ≡ Some p → Has (answers_in m0.line) (answer_of t.txn p.number why)) → ((p : Pending) → t.pending ≡ Some p → length t.answers + 1 ≤ k) → Fair catalogue now (answer_of t.txn k why)
+  why_fair t why k handled (Why.aborted was p at e) told up_to = tt
+  why_fair t why k handled (Why.held_here was p name rec exclusive holder at e op f n) told up_to =
       let pending : t.pending ≡ Some p = ap (λ (t : Live). t.pending) e in
       let same : t.txn ≡ was.txn = ap (λ (t : Live). t.txn) e in
-      let number : p.number ≤ k = at_most_of p.number (length t.answers) k (number_of t (LockHeld name x.id holder) p (Why.held_here was p name rec exclusive holder at e op f n) pending) (up_to p pending) in
-      rw same (here_fair was p name rec exclusive holder k at op f n number (rw same at (told p pending)))
-  why_fair t why k (Why.held_there p from name exclusive holder a n op) told up_to =
-      there_fair t p from name exclusive holder k a op (at_most_of p.number (length t.answers) k (next_number t p a.live a.pending) (up_to p a.pending)) (fair.sent _ (came from _ n))
-  why_fair t why k (Why.other_view p from held_now a n) told up_to =
-      view_fair t p from held_now k a (at_most_of p.number (length t.answers) k (next_number t p a.live a.pending) (up_to p a.pending)) (fair.sent _ (came from _ n))
-  why_fair t why k (Why.left h gone) told up_to = left_fair t k h gone
-  why_fair t why k (Why.timed_out missing h) told up_to = tt
+      let next : p.number ≡ length t.answers + 1 = number_of t (LockHeld name x.id holder) p (Why.held_here was p name rec exclusive holder at e op f n) pending in
+      let number : p.number ≤ k = at_most_of p.number (length t.answers) k next (up_to p pending) in
+      let first : refused_in now t.txn ≡ Some p.number = refused_first t p _ handled next (own_held t.txn p.number name x.id holder) (told p pending) in
+      rw same (here_fair was p name rec exclusive holder k at op f n (rw same at first) number (rw same at (told p pending)))
+  why_fair t why k handled (Why.held_there p from name exclusive holder a n op) told up_to =
+      let next = next_number t p a.live a.pending in
+      let first : refused_in now t.txn ≡ Some p.number = refused_first t p _ handled next (own_held t.txn p.number name from holder) (told p a.pending) in
+      there_fair t p from name exclusive holder k a op first (at_most_of p.number (length t.answers) k next (up_to p a.pending)) (fair.sent _ (came from _ n))
+  why_fair t why k handled (Why.other_view p from held_now a n) told up_to =
+      let next = next_number t p a.live a.pending in
+      let first : refused_in now t.txn ≡ Some p.number = refused_first t p _ handled next (own_view t.txn p.number from t.view held_now) (told p a.pending) in
+      view_fair t p from held_now k a first (at_most_of p.number (length t.answers) k next (up_to p a.pending)) (fair.sent _ (came from _ n))
+  why_fair t why k handled (Why.left h gone) told up_to = left_fair t k h gone
+  why_fair t why k handled (Why.timed_out missing h) told up_to = tt
 
   told_of : (t : Live) (why : Ending) → ((p : Pending) → t.pending ≡ Some p → Has o.effects.replies (told_to p.port (answer_of t.txn p.number why))) → (p : Pending) → t.pending ≡ Some p → Has (answers_in m0.line) (answer_of t.txn p.number why)
   told_of t why told p e = replied catalogue m0 world s x given o is p.port (answer_of t.txn p.number why) (told p e)
@@ -192,7 +298,7 @@ module _ (catalogue : Catalogue) (world : WorldState) (past : List Moment) (m0 :
   reply_justified a h (ReplyFrom.repeated f b k q) = end_justified b (fair_more catalogue past (m0 ∷ []) b ((fair.finished s x f up k).answers b q))
   reply_justified a h (ReplyFrom.ended f number k e) = end_justified _ (fair_more catalogue past (m0 ∷ []) _ ((fair.finished s x f up k).later number (below_of number (length f.answers) e)))
   reply_justified a h (ReplyFrom.closed t why p n w e) =
-      end_justified _ (why_fair t why p.number w (λ q g. let same : p ≡ q = cc in subst (λ (q : Pending). Has (answers_in m0.line) (answer_of t.txn q.number why)) same h) (λ q g. same_at_most p.number (length t.answers + 1) (number_of t why p w e)))
+      end_justified _ (why_fair t why p.number n w (λ q g. let same : p ≡ q = cc in subst (λ (q : Pending). Has (answers_in m0.line) (answer_of t.txn q.number why)) same h) (λ q g. same_at_most p.number (length t.answers + 1) (number_of t why p w e)))
 
   pub replies_justified : (a : Answer) → Has (answers_in m0.line) a → justified catalogue now m0 a ≡ true
   replies_justified a h =
@@ -230,7 +336,7 @@ module _ (catalogue : Catalogue) (world : WorldState) (past : List Moment) (m0 :
           last : (q : Option Pending) → (a : Answer) → Has (option_to_list (option_map (λ p. answer_of t.txn p.number Committed) q)) a → Fair catalogue now a
           last None a k = absurd (has_none a k)
           last (Some p) a k = subst (Fair catalogue now) (has_one_is (answer_of t.txn p.number Committed) a k) tt
-  finished_now f (FinishedFrom.closed t why n w told) = ends_fair t why n (λ k up_to. why_fair t why k w (told_of t why told) up_to) (λ p e. number_of t why p w e)
+  finished_now f (FinishedFrom.closed t why n w told) = ends_fair t why n (λ k up_to. why_fair t why k n w (told_of t why told) up_to) (λ p e. number_of t why p w e)
 
   live_now : (t : Live) → LiveFrom x o.effects.replies t → WasBegun now t.txn t.view
   live_now t (LiveFrom.was u h e f) = rw (← e, ← f) (begun_now u h)
@@ -269,8 +375,18 @@ module _ (catalogue : Catalogue) (world : WorldState) (past : List Moment) (m0 :
       subst (λ (from : ℕ). RefuseFair catalogue new now from txn number why) (sym at) (refused_now to txn number why (subst (λ (from : ℕ). Has o.effects.messages (letter from to (message.Refuse txn number why))) at h) r.1)
   sent_ok from to m h r = tt
 
+  told_now : (m : Moment) → m0 ≡ m → (a : Answer) → Has (answers_in m.line) a → (txn : TxnId) (n : ℕ) → refused_number txn a ≡ Some n → EndedAt new txn
+  told_now m same = subst (λ (m : Moment). (a : Answer) → Has (answers_in m.line) a → (txn : TxnId) (n : ℕ) → refused_number txn a ≡ Some n → EndedAt new txn) same told_here
+    where
+      told_here : (a : Answer) → Has (answers_in m0.line) a → (txn : TxnId) (n : ℕ) → refused_number txn a ≡ Some n → EndedAt new txn
+      told_here a h txn n e =
+          let r = map_has (λ (r : Reply). r.answer) o.effects.replies a (rw is.shown at h) in
+          said_refused catalogue w new s x given o known_here known_now doing_here fair.base.upper r.0.answer txn n (doing_here.replying.said r.0 r.1) (ap (refused_number txn) r.2 ∙ e)
+
   pub step_fair : FairAt catalogue new now
   step_fair = record {
+    base = base_now;
+    told = λ m h a q txn n e. ⊎_elim (λ old. ended_step catalogue w new s x given o known_here known_now doing_here txn (fair.told m old a q txn n e)) (λ last. told_now m (has_one_is m0 m last) a q txn n e) (has_cases past (m0 ∷ []) m h);
     kept = (kept_last catalogue).acts w s x given up arrives fair.kept;
     eighth = (answers_last catalogue).acts w s x given up arrives fair.eighth;
     sent = λ m h. ⊎_elim (λ old. refuse_on catalogue w new past (m0 ∷ []) d.st.moved.sent m.from m.message (fair.sent m old))
@@ -295,9 +411,15 @@ pub none_finished : (catalogue : Catalogue) (s : ℕ) (d : DurableState) (f : Fi
 unfolding start
 none_finished catalogue s d f h = has_none f h
 
+-- no moment tells an answer
+abbrev pub Silent : List Moment → Type 0
+Silent more = (m : Moment) → Has more m → (a : Answer) → Has (answers_in m.line) a → ⊥
+
 -- an event that is no step
-pub quiet_fair : (catalogue : Catalogue) (w new : Scene) (past more : List Moment) (s : ℕ) → Quiet catalogue w new s → Kept catalogue new → Eighth catalogue new → FairAt catalogue w past → FairAt catalogue new (past ++ more)
-quiet_fair catalogue w new past more s q kept eighth fair = record {
+pub quiet_fair : (catalogue : Catalogue) (w new : Scene) (past more : List Moment) (s : ℕ) → Quiet catalogue w new s → TwentyFirst catalogue new → Kept catalogue new → Eighth catalogue new → Silent more → FairAt catalogue w past → FairAt catalogue new (past ++ more)
+quiet_fair catalogue w new past more s q base kept eighth silent fair = record {
+  base = base;
+  told = λ m h a k txn n e. ⊎_elim (λ old. ended_quiet catalogue w new s q txn (fair.told m old a k txn n e)) (λ last. absurd (silent m last a k)) (has_cases past more m h);
   kept = kept;
   eighth = eighth;
   sent = λ m h. refuse_on catalogue w new past more (λ m h. rw q.sent h) m.from m.message (fair.sent m (rw q.sent at h));
@@ -314,8 +436,10 @@ quiet_fair catalogue w new past more s q kept eighth fair = record {
     finished_at y f g (QuietIs.here e same) = absurd (none_finished catalogue s (kept_at w s) f (subst (λ (y : SiteState). Has y.finished f) (sym same) g))
 
 -- nothing but the moments
-pub same_fair : (catalogue : Catalogue) (w : Scene) (past more : List Moment) → FairAt catalogue w past → FairAt catalogue w (past ++ more)
-same_fair catalogue w past more fair = record {
+pub same_fair : (catalogue : Catalogue) (w : Scene) (past more : List Moment) → Silent more → FairAt catalogue w past → FairAt catalogue w (past ++ more)
+same_fair catalogue w past more silent fair = record {
+  base = fair.base;
+  told = λ m h a k txn n e. ⊎_elim (λ old. fair.told m old a k txn n e) (λ last. absurd (silent m last a k)) (has_cases past more m h);
   kept = fair.kept;
   eighth = fair.eighth;
   sent = λ m h. refuse_on catalogue w w past more (λ m h. h) m.from m.message (fair.sent m h);

@@ -1,6 +1,6 @@
 -- A step's refusals are justified by its own moment.
 use Rattle.std.proofs.Common.{◌≡◌, ◌≢◌, ◌∙◌, sym, subst, ℕ, Bool, true, false, List, refl, arith}
-use Rattle.std.specs.Prelude.{Option, Some, None, ◌==◌, ◌&&◌, nat_le}
+use Rattle.std.specs.Prelude.{Option, Some, None, ◌==◌, ◌&&◌, not}
 use Rattle.std.specs.List.{list_any}
 use Rattle.std.specs.Option.{option_map_or}
 use Rattle.std.proofs.lemmas.Bool.{eqb-true}
@@ -17,9 +17,10 @@ use Rattle.vp_model.specs.Catalogue.{Catalogue, find_record}
 use Rattle.vp_model.specs.Locks.{conflict}
 use Rattle.vp_model.specs.Site.{SiteState, Stepped}
 use Rattle.vp_model.specs.World.{WorldState, Moment, site_of}
+use Rattle.vp_model.specs.Answers.{is_live}
 use Rattle.vp_model.specs.Messages.{held_id}
 use Rattle.vp_model.specs.Told.{answers_in, messages_in}
-use Rattle.vp_model.specs.Justified.{Request, call_request, message_request, request_of, site_named, is_step_of, is_request, tested_before, tested_after, blocks, is_named, says_held, gave_held, was_blocked, refuses, is_held_by, is_other_view, is_same_view, handles, held_other, left_then}
+use Rattle.vp_model.specs.Justified.{Request, call_request, message_request, request_of, site_named, is_step_of, is_request, tested_before, tested_after, blocks, is_named, says_held, gave_held, was_blocked, refuses, is_held_by, is_other_view, is_same_view, handles, held_other, left_then, left_and_closed}
 use Rattle.vp_one_site.proofs.LockTables.{same_owner-self, least_any}
 use Rattle.vp_laws.proofs.Members.{Has, both_true, any_of}
 use Rattle.vp_laws.proofs.Lists.{mapped_has}
@@ -53,9 +54,6 @@ same_now (Some v) = same_view-self v
 
 eq_not : (a b : ℕ) → a ≢ b → (a == b) ≡ false
 eq_not a b n = grind (arith, nat_tests, n)
-
-le_self : (n : ℕ) → nat_le n n ≡ true
-le_self n = grind (arith, nat_tests)
 
 pub named_site : (e : Event) (w : WorldState) (s : ℕ) (given : Input) → Gives e w s given → site_named w e ≡ Some s
 named_site e w s given (Gives.called words is) = rw is refl
@@ -98,7 +96,7 @@ module _ (catalogue : Catalogue) (m : Moment) (w : WorldState) (s : ℕ) (x : Si
   pub handles_now : (r : Request) (test : Request → Bool) → request_of catalogue w m.line.event ≡ Some r → test r ≡ true → handles catalogue s r.txn r.number test m ≡ true
   handles_now r test asks e =
       let request : request_of catalogue m.before m.line.event ≡ Some r = rw is.before asks in
-      rw request (joined (is_step_of s m) (is_request r.txn r.number r) (test r) step_here (rw (same_txn-self r.txn, le_self r.number) refl) e)
+      rw request (joined (is_step_of s m) (is_request r.txn r.number r) (test r) step_here (rw (same_txn-self r.txn, eq_self r.number) refl) e)
 
   pub replied : (port : ℕ) (a : Answer) → Has o.effects.replies (told_to port a) → Has (answers_in m.line) a
   replied port a h = rw is.shown (mapped_has (λ (r : Reply). r.answer) o.effects.replies (told_to port a) h)
@@ -125,8 +123,8 @@ module _ (catalogue : Catalogue) (m : Moment) (w : WorldState) (s : ℕ) (x : Si
   blocked_here t p name rec exclusive holder c op found e own told =
       let r : Request = record { txn = t.txn; number = p.number; lock = Some (rec, exclusive); view = None } in
       let here : (s == t.txn.site) ≡ true = subst (λ (k : ℕ). (s == k) ≡ true) (sym own) (eq_self s) in
-      let gave : gave_held t.txn name s holder m p.number ≡ true = rw here (any_of (says_held t.txn p.number name s holder) (answers_in m.line) (answer.LockHeld t.txn p.number name s holder) told (says t.txn p.number name holder)) in
-      handles_now r (λ request. option_map_or (λ lock. is_named catalogue name lock.0 && tested_before s (blocks t.txn holder lock) m) request.lock false && gave_held t.txn name s holder m request.number) (operation_asks t p name rec exclusive c op found)
+      let gave : gave_held t.txn p.number name s holder m ≡ true = rw here (any_of (says_held t.txn p.number name s holder) (answers_in m.line) (answer.LockHeld t.txn p.number name s holder) told (says t.txn p.number name holder)) in
+      handles_now r (λ request. option_map_or (λ lock. is_named catalogue name lock.0 && tested_before s (blocks t.txn holder lock) m) request.lock false && gave_held t.txn p.number name s holder m) (operation_asks t p name rec exclusive c op found)
       (rw (named_here name rec found, blocks_x t.txn holder rec exclusive e) gave)
 
   sent_now : (to : ℕ) (words : Message) (test : Sent → Bool) → Has o.effects.messages (letter s to words) → test (letter s to words) ≡ true → list_any test (messages_in m.line.shown) ≡ true
@@ -138,8 +136,8 @@ module _ (catalogue : Catalogue) (m : Moment) (w : WorldState) (s : ℕ) (x : Si
       let r : Request = record { txn = txn; number = number; lock = Some (rec, exclusive); view = Some view } in
       let there : (s == txn.site) ≡ false = eq_not s txn.site away in
       let refused : list_any (refuses txn number (is_held_by holder)) (messages_in m.line.shown) ≡ true = sent_now from (message.Refuse txn number (obstacle.Held holder)) (refuses txn number (is_held_by holder)) sent (rw (same_txn-self txn, eq_self number) (same_owner-self holder)) in
-      let gave : gave_held txn name s holder m number ≡ true = rw there refused in
-      handles_now r (λ request. option_map_or (λ lock. is_named catalogue name lock.0 && tested_before s (blocks txn holder lock) m) request.lock false && gave_held txn name s holder m request.number) (go exclusive asks)
+      let gave : gave_held txn number name s holder m ≡ true = rw there refused in
+      handles_now r (λ request. option_map_or (λ lock. is_named catalogue name lock.0 && tested_before s (blocks txn holder lock) m) request.lock false && gave_held txn number name s holder m) (go exclusive asks)
       (rw (named_here name rec found, blocks_x txn holder rec exclusive e) gave)
     where
       go : (exclusive : Bool) → Requests given from txn view number rec exclusive → request_of catalogue w m.line.event ≡ Some (record { txn = txn; number = number; lock = Some (rec, exclusive); view = Some view })
@@ -157,7 +155,7 @@ module _ (catalogue : Catalogue) (m : Moment) (w : WorldState) (s : ℕ) (x : Si
       by lock e =
           let now : tested_before s (λ site. is_same_view (held_id site) (held_id x)) m ≡ true = tested_x (λ site. is_same_view (held_id site) (held_id x)) (same_now (held_id x)) in
           handles_now (record { txn = txn; number = number; lock = lock; view = Some view })
-          (λ request. is_view request.view view && tested_before s (λ site. is_same_view (held_id site) (held_id x)) m && list_any (refuses txn request.number (is_other_view (held_id x))) (messages_in m.line.shown)) e
+          (λ request. is_view request.view view && tested_before s (λ site. is_same_view (held_id site) (held_id x)) m && list_any (refuses txn number (is_other_view (held_id x))) (messages_in m.line.shown)) e
           (in_turn (is_view (Some view) view) (tested_before s (λ site. is_same_view (held_id site) (held_id x)) m) (list_any (refuses txn number (is_other_view (held_id x))) (messages_in m.line.shown)) (same_view-self view) now refused)
 
       go : Asks given from txn view number → held_other catalogue txn number s view (held_id x) m ≡ true
@@ -166,8 +164,20 @@ module _ (catalogue : Catalogue) (m : Moment) (w : WorldState) (s : ℕ) (x : Si
       go (Asks.prepares reads writes c) = by None (message_asks catalogue m.line.event w s given is.gives from (message.Prepare txn view number reads writes) c)
 
   -- the site has left the view
-  pub left_now : (v : View) → x.held ≡ Some v → o.site.held ≡ None → left_then s v.id m ≡ true
+  left_now : (v : View) → x.held ≡ Some v → o.site.held ≡ None → left_then s v.id m ≡ true
   left_now v held gone =
       let before : tested_before s (λ site. is_view (held_id site) v.id) m ≡ true = tested_x (λ site. is_view (held_id site) v.id) (rw held (same_view-self v.id)) in
       let now : tested_after s (λ site. is_view (held_id site) v.id) m ≡ false = tested_o (λ site. is_view (held_id site) v.id) false (rw gone refl) in
       rw (step_here, before, now) refl
+
+  -- and has closed the transaction
+  closed_now : (txn : TxnId) → is_live txn x.live ≡ true → is_live txn o.site.live ≡ false → (tested_before s (λ site. is_live txn site.live) m && not (tested_after s (λ site. is_live txn site.live) m)) ≡ true
+  closed_now txn was gone =
+      let before : tested_before s (λ site. is_live txn site.live) m ≡ true = tested_x (λ site. is_live txn site.live) was in
+      let now : tested_after s (λ site. is_live txn site.live) m ≡ false = tested_o (λ site. is_live txn site.live) false gone in
+      rw (before, now) refl
+
+  pub left_and_closed_now : (txn : TxnId) (v : View) → txn.site ≡ s → x.held ≡ Some v → o.site.held ≡ None → is_live txn x.live ≡ true → is_live txn o.site.live ≡ false → left_and_closed txn v.id m ≡ true
+  left_and_closed_now txn v at held gone was none =
+      subst (λ (k : ℕ). (left_then k v.id m && (tested_before k (λ site. is_live txn site.live) m && not (tested_after k (λ site. is_live txn site.live) m))) ≡ true) (sym at)
+      (rw (left_now v held gone) (closed_now txn was none))

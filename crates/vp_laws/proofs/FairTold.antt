@@ -11,27 +11,34 @@ use Rattle.vp_model.specs.Justified.{justified, all_justified}
 use Rattle.vp_model.specs.Headline.{RefusalsAreJustified}
 use Rattle.vp_model.specs.World.{WorldState, Moved, Moment, Run, Schedule, moment, next, one_step, site_of, site_step, start_world}
 use Rattle.vp_one_site.proofs.KeptAnswers.{all_justified-last}
-use Rattle.vp_laws.proofs.Members.{Has, has_none}
+use Rattle.vp_laws.proofs.Members.{Has, has_none, has_one_is}
 use Rattle.vp_laws.proofs.Lists.{all_from}
 use Rattle.vp_laws.proofs.Scenes.{Scene, scene_of, plain_at, acted}
 use Rattle.vp_laws.proofs.Events.{Arrives, crashed, restarted}
 use Rattle.vp_laws.proofs.Worlds.{crash_quiet, restart_quiet, started, start_sent}
 use Rattle.vp_laws.proofs.InvAnswers.{answers_last}
 use Rattle.vp_laws.proofs.InvRepeated.{kept_last, Does, does}
+use Rattle.vp_laws.proofs.InvKept.{kept_last as ends_last}
 use Rattle.vp_laws.proofs.Occurs.{no_replies, Gives, Occurs, occurs, run-keeps}
 use Rattle.vp_laws.proofs.FairStep.{IsStep}
 use Rattle.vp_laws.proofs.FairAt.{FairAt}
-use Rattle.vp_laws.proofs.FairMoves.{step_fair, replies_justified, quiet_fair, same_fair, none_live, none_finished}
+use Rattle.vp_laws.proofs.FairMoves.{Silent, step_fair, replies_justified, quiet_fair, same_fair, none_live, none_finished}
 
 -- one more moment: what is refused is justified by then, and so are its answers
 pub record Justifies (catalogue : Catalogue) (past : List Moment) (m : Moment) (new : Scene) : Type 0 where
   pub at : FairAt catalogue new (past ++ m ∷ [])
   pub answers : (a : Answer) → Has (answers_in m.line) a → justified catalogue (past ++ m ∷ []) m a ≡ true
 
+no_answer : (m : Moment) → is_step m.line.shown ≡ false → (a : Answer) → Has (answers_in m.line) a → ⊥
+no_answer m none a h = has_none a (rw (ap (map (λ (r : Reply). r.answer)) (no_replies m.line.shown none)) at h)
+
+none_in : (m : Moment) → is_step m.line.shown ≡ false → Silent (m ∷ [])
+none_in m none x h = subst (λ (m : Moment). (a : Answer) → Has (answers_in m.line) a → ⊥) (has_one_is m x h) (no_answer m none)
+
 silent : (catalogue : Catalogue) (past : List Moment) (m : Moment) (new : Scene) → is_step m.line.shown ≡ false → FairAt catalogue new (past ++ m ∷ []) → Justifies catalogue past m new
 silent catalogue past m new none at = record {
   at = at;
-  answers = λ a h. absurd (has_none a (rw (ap (map (λ (r : Reply). r.answer)) (no_replies m.line.shown none)) at h));
+  answers = λ a h. absurd (no_answer m none a h);
 }
 
 -- the moment of a step
@@ -61,11 +68,11 @@ stepped catalogue past number e w v s x given same up arrives gives fair =
 
 justifies : (catalogue : Catalogue) (past : List Moment) (number : ℕ) (e : Event) (w : WorldState) (m : Moved) → FairAt catalogue (scene_of w) past → Occurs catalogue e w m → Justifies catalogue past (moment number w e m) (scene_of m.world)
 justifies catalogue past number e w m fair (Occurs.stands same none) =
-    silent catalogue past (moment number w e m) (scene_of m.world) none (rw same (same_fair catalogue (scene_of w) past (moment number w e m ∷ []) fair))
+    silent catalogue past (moment number w e m) (scene_of m.world) none (rw same (same_fair catalogue (scene_of w) past (moment number w e m ∷ []) (none_in (moment number w e m) none) fair))
 justifies catalogue past number e w m fair (Occurs.crashes s same none) =
-    silent catalogue past (moment number w e m) (scene_of m.world) none (rw same (quiet_fair catalogue (scene_of w) (crashed (scene_of w) s) past (moment number w e m ∷ []) s (crash_quiet catalogue (scene_of w) s) ((kept_last catalogue).crashes (scene_of w) s fair.kept) ((answers_last catalogue).crashes (scene_of w) s fair.eighth) fair))
+    silent catalogue past (moment number w e m) (scene_of m.world) none (rw same (quiet_fair catalogue (scene_of w) (crashed (scene_of w) s) past (moment number w e m ∷ []) s (crash_quiet catalogue (scene_of w) s) ((ends_last catalogue).crashes (scene_of w) s fair.base) ((kept_last catalogue).crashes (scene_of w) s fair.kept) ((answers_last catalogue).crashes (scene_of w) s fair.eighth) (none_in (moment number w e m) none) fair))
 justifies catalogue past number e w m fair (Occurs.restarts s place at down id same none) =
-    silent catalogue past (moment number w e m) (scene_of m.world) none (rw same (quiet_fair catalogue (scene_of w) (restarted catalogue (scene_of w) s) past (moment number w e m ∷ []) s (restart_quiet catalogue (scene_of w) s place at id) ((kept_last catalogue).restarts (scene_of w) s place at down id fair.kept) ((answers_last catalogue).restarts (scene_of w) s place at down id fair.eighth) fair))
+    silent catalogue past (moment number w e m) (scene_of m.world) none (rw same (quiet_fair catalogue (scene_of w) (restarted catalogue (scene_of w) s) past (moment number w e m ∷ []) s (restart_quiet catalogue (scene_of w) s place at id) ((ends_last catalogue).restarts (scene_of w) s place at down id fair.base) ((kept_last catalogue).restarts (scene_of w) s place at down id fair.kept) ((answers_last catalogue).restarts (scene_of w) s place at down id fair.eighth) (none_in (moment number w e m) none) fair))
 justifies catalogue past number e w m fair (Occurs.acts s x given v same up arrives gives is) =
     subst (λ (m : Moved). Justifies catalogue past (moment number w e m) (scene_of m.world)) (sym is) (stepped catalogue past number e w v s x given same up arrives gives fair)
 
@@ -87,6 +94,8 @@ one_step-fair catalogue number e run h =
 
 start_fair : (catalogue : Catalogue) → FairAt catalogue (scene_of (start_world catalogue)) []
 start_fair catalogue = record {
+  base = (ends_last catalogue).starts;
+  told = λ m h. absurd (has_none m h);
   kept = (kept_last catalogue).starts;
   eighth = (answers_last catalogue).starts;
   sent = λ m h. absurd (start_sent catalogue m h);

@@ -1,12 +1,12 @@
 -- One call keeps all of the invariant.
 use Rattle.std.proofs.Common.{◌≡◌, ◌<◌, ℕ, ◌+◌, Bool, true, false, List, [], ◌∷◌, ◌++◌, length, map, refl, arith, ap, ◌∙◌}
-use Rattle.std.specs.Prelude.{Option, Some, None, is_some, ◌==◌, ◌&&◌, slice_get, option_map, All}
+use Rattle.std.specs.Prelude.{Option, Some, None, is_some, ◌==◌, ◌&&◌, slice_get, option_map, filter_map, All}
 use Rattle.std.proofs.lemmas.List.{append-nil}
 use Rattle.vp_model.specs.Types.{TxnId, Stored, Op, Owner, Commit, Call, Answer, Lock, Live, Ending, Reply}
 use Rattle.vp_base.specs.declared.site.Ending.TheVariants.{Committed, Aborted, LockHeld}
 use Rattle.vp_model.specs.Types.answer
 use Rattle.vp_model.specs.Types.call
-use Rattle.vp_model.specs.Words.{same_txn, value_at, opening}
+use Rattle.vp_model.specs.Words.{same_txn, first, value_at, opening}
 use Rattle.vp_model.specs.Catalogue.{Catalogue, find_record}
 use Rattle.vp_model.specs.Durable.{with_writes}
 use Rattle.vp_model.specs.Locks.{conflict}
@@ -15,7 +15,7 @@ use Rattle.vp_model.specs.Transactions.{answer_of, last_writes, writes_held}
 use Rattle.vp_model.specs.Calls.{handled, start_txn}
 use Rattle.vp_model.specs.World.{Moment}
 use Rattle.vp_model.specs.Told.{answers_in, reported, reports, is_call, is_early_refusal, takes}
-use Rattle.vp_model.specs.Justified.{call_request, was_blocked}
+use Rattle.vp_model.specs.Justified.{call_request, was_blocked, refused_number}
 use Rattle.vp_model.specs.Headline.{commits_in}
 use Rattle.vp_one_site.specs.OneSite.{IsOnlyAt}
 use Rattle.vp_one_site.proofs.Members.{Has, has_none, has_one, has_one_is, has_right}
@@ -27,6 +27,7 @@ use Rattle.vp_one_site.proofs.Outcome.{IsAlone, IsOld, IsRepeat, IsDone, Outcome
 use Rattle.vp_one_site.proofs.Invariant.{IsWorld, lone_view, ValuesHold, Holds, IsTrueEnd, words_justified, lines_in}
 use Rattle.vp_one_site.proofs.Copies.{stored_of, copies_at, found_within, usable_alone, none_other}
 use Rattle.vp_one_site.proofs.Changes.{lone, Ended, Advanced, Adds, entry_of, entry_own, close_ends, decide_ends, decide_commits, decide_copies, close_here, complete_advances}
+use Rattle.vp_one_site.proofs.Refused.{refused_last, none_refused, refusal_is, refused_end}
 use Rattle.vp_one_site.proofs.KeptNames.{names-ended, names-advanced, names-begun, now_over, ended_over, entry_of_over, advanced_over, begun_over, with_new, new_name}
 use Rattle.vp_one_site.proofs.KeptLocks.{locks-ended, locks-advanced, locks-begun}
 use Rattle.vp_one_site.proofs.KeptValues.{values-closed, values-committed, values-advanced, values-begun}
@@ -214,10 +215,28 @@ module _ (catalogue : Catalogue) (id : ℕ) (all : All (IsOnlyAt id) catalogue.r
     by_name : (txn : TxnId) (number : ℕ) (t : Live) → t.txn ≡ txn → ((u : TxnId) (k : ℕ) → is_call u k words ≡ (same_txn txn u && (number == k))) → (u : TxnId) (k : ℕ) → is_call u k words ≡ (same_txn t.txn u && (number == k))
     by_name txn number t e calls u k = rw e (calls u k)
 
+    -- a live transaction was told of no end
+    never_refused : (t : Live) → Has c.live t → (x : Moment) → Has moments x → (a : Answer) → Has (answers_in x.line) a → (n : ℕ) → refused_number t.txn a ≡ Some n → ⊥
+    never_refused t there x q a r n e =
+        let over = (h.moments_so_far.ends x q a r).0 t.txn false (refused_end t.txn a n e) in
+        let z = over.0.gone t there in
+        let self = same_txn-self t.txn in
+        cc
+
     blocked_fair : (txn : TxnId) (number : ℕ) (t : Live) (name : List ℕ) (rec : ℕ) (exclusive : Bool) (holder : Owner) → t.txn ≡ txn → Has c.live t → find_record catalogue name ≡ Some rec → call_request catalogue words ≡ Some (record { txn = txn; number = number; lock = Some (rec, exclusive); view = None }) → conflict rec exclusive t.txn here.locks ≡ Some holder → answers_in m.line ≡ answer_of t.txn number (LockHeld name id holder) ∷ [] → words_justified catalogue (moments ++ m ∷ []) (answer_of t.txn number (LockHeld name id holder)) ≡ true
     blocked_fair txn number t name rec exclusive holder named there found asks blocks answered =
-        any_from (was_blocked catalogue t.txn number name id holder) (moments ++ m ∷ []) m (has_right moments (m ∷ []) m (has_one m))
-        (blocked_now catalogue id words c here journal l m is t.txn number name rec exclusive holder (h.names.live t there).named.at found (rw named asks) blocks answered)
+        let test : ℕ → Moment → Bool = λ refused. was_blocked catalogue t.txn refused name id holder in
+        refusal_is (moments ++ m ∷ []) t.txn number test (record {
+          refused = number;
+          first = refused_last t.txn moments m (none_refused t.txn moments (never_refused t there)) ∙ only_number;
+          up_to = omega arith;
+          once =
+              any_from (test number) (moments ++ m ∷ []) m (has_right moments (m ∷ []) m (has_one m))
+              (blocked_now catalogue id words c here journal l m is t.txn number name rec exclusive holder (h.names.live t there).named.at found (rw named asks) blocks answered);
+        })
+      where
+        only_number : first (filter_map (refused_number t.txn) (answers_in m.line)) ≡ Some number
+        only_number = rw (answered, same_txn-self t.txn) refl
 
     pub outcome_holds : (txn : TxnId) (number : ℕ) → ((u : TxnId) (k : ℕ) → is_call u k words ≡ (same_txn txn u && (number == k))) → Outcome catalogue id words txn number (lone c here) l → Now l m
     outcome_holds txn number calls (Outcome.refused a early plain e) = refused-now txn number a early plain e

@@ -15,7 +15,7 @@ use Rattle.vp_model.specs.Transactions.{answer_of}
 use Rattle.vp_model.specs.World.{WorldState, Moment}
 use Rattle.vp_model.specs.OneCopy.{Values, play, serial}
 use Rattle.vp_model.specs.Told.{answers_in}
-use Rattle.vp_model.specs.Justified.{was_blocked, all_justified}
+use Rattle.vp_model.specs.Justified.{was_blocked, refused_once, all_justified}
 use Rattle.vp_model.specs.Headline.{has_entry, is_committed, commits_in, copies_true}
 use Rattle.vp_one_site.proofs.Members.{Has}
 use Rattle.vp_one_site.proofs.Lists.{Apart}
@@ -188,7 +188,8 @@ end_of _ = None
 
 -- a lock that the answer names forbade a request at one of the moments; it names no weights and no views
 abbrev pub words_justified : Catalogue → List Moment → Answer → Bool
-words_justified catalogue moments (answer.LockHeld txn number name at holder) = list_any (was_blocked catalogue txn number name at holder) moments
+words_justified catalogue moments (answer.LockHeld txn number name at holder) =
+    refused_once moments txn number (λ refused. was_blocked catalogue txn refused name at holder)
 words_justified catalogue moments (answer.Inaccessible txn number name inside total) = false
 words_justified catalogue moments (answer.ViewChanged txn number at held now) = false
 words_justified catalogue moments _ = true

@@ -1,26 +1,25 @@
 -- Answers that may be repeated, and the moments, after each kind of change.
 use Rattle.std.proofs.Common.{◌≡◌, ◌⊎◌, ◌<◌, ◌≤◌, ℕ, ◌+◌, Bool, true, false, List, [], ◌∷◌, ◌++◌, length, refl, arith, ap, sym, subst, ◌∙◌, inl, inr, ⊎_elim, append_assoc}
-use Rattle.std.specs.Prelude.{Option, Some, None, ◌&&◌, ◌||◌, nat_le}
-use Rattle.std.specs.Option.{option_map_or}
-use Rattle.std.specs.List.{list_any, list_all}
-use Rattle.std.proofs.lemmas.Bool.{and_parts, le-leb, leb-true}
+use Rattle.std.specs.Prelude.{Some, None}
+use Rattle.std.specs.List.{list_all}
+use Rattle.std.proofs.lemmas.Bool.{and_parts}
 use Rattle.std.proofs.Math.ListN.{length-append}
 use Rattle.vp_model.specs.Types.{TxnId, Op, Owner, Commit, Answer, Lock, Live, Ending, Finished}
 use Rattle.vp_base.specs.declared.site.Ending.TheVariants.{Committed, Aborted, LockHeld, ViewChanged, TimedOut}
 use Rattle.vp_model.specs.Types.answer
-use Rattle.vp_model.specs.Words.{same_txn}
 use Rattle.vp_model.specs.Catalogue.{Catalogue}
 use Rattle.vp_model.specs.Site.{CoordinatorState, Here, Lent}
 use Rattle.vp_model.specs.Transactions.{answer_of}
 use Rattle.vp_model.specs.World.{Moment}
 use Rattle.vp_model.specs.Told.{answers_in, is_early_refusal}
-use Rattle.vp_model.specs.Justified.{Request, is_request, request_of, gave_held, is_named, is_step_of, tested_before, blocks, was_blocked, justified, all_justified}
+use Rattle.vp_model.specs.Justified.{was_blocked, justified, all_justified}
 use Rattle.vp_model.specs.Headline.{has_entry}
 use Rattle.vp_one_site.proofs.Members.{Has, has_none, has_cases, has_one_is}
-use Rattle.vp_one_site.proofs.Lists.{any_append, any_has, any_from, drop_has}
+use Rattle.vp_one_site.proofs.Lists.{drop_has}
 use Rattle.vp_one_site.proofs.Outcome.{IsRepeat, is_report, is_plain}
 use Rattle.vp_one_site.proofs.Invariant.{IsOver, IsFinished, NamesHold, IsKept, AnswersHold, IsTrueEnd, IsTrueCommit, end_of, words_justified, is_commit}
 use Rattle.vp_one_site.proofs.Changes.{Ended, Advanced, Adds, advanced, finished_now}
+use Rattle.vp_one_site.proofs.Refused.{refusal_of, refusal_is, refusal_more}
 use Rattle.vp_one_site.proofs.KeptNames.{left_live, now_live, live_or_new, new_live, with_new}
 
 -- what an answer says, by its kind
@@ -60,13 +59,11 @@ end_is txn k (LockHeld name at holder) = refl
 end_is txn k (ViewChanged at held now) = refl
 end_is txn k (TimedOut at) = refl
 
-or_left : (a b : Bool) → a ≡ true → (a || b) ≡ true
-or_left true b e = refl
-or_left false b e = cc
-
 -- what is justified stays so, and is justified where the moment's own words are asked for
 pub justified_lasts : (catalogue : Catalogue) (moments : List Moment) (m : Moment) (a : Answer) → words_justified catalogue moments a ≡ true → words_justified catalogue (moments ++ m ∷ []) a ≡ true
-justified_lasts catalogue moments m (answer.LockHeld txn number name at holder) e = any_append (was_blocked catalogue txn number name at holder) moments (m ∷ []) ∙ or_left _ _ e
+justified_lasts catalogue moments m (answer.LockHeld txn number name at holder) e =
+    let test : ℕ → Moment → Bool = λ refused. was_blocked catalogue txn refused name at holder in
+    refusal_is (moments ++ m ∷ []) txn number test (refusal_more moments (m ∷ []) txn number test (refusal_of moments txn number test e))
 justified_lasts catalogue moments m (answer.Inaccessible txn number name inside total) e = e
 justified_lasts catalogue moments m (answer.ViewChanged txn number at held now) e = e
 justified_lasts catalogue moments m _ e = refl
@@ -85,30 +82,13 @@ all_justified-last catalogue past (x ∷ moments) m h e =
     rw p.0 (all_justified-last catalogue (past ++ x ∷ []) moments m p.1 (rw (append_assoc past (x ∷ []) (moments ++ m ∷ [])) e))
 
 -- the same for all larger numbers of a call
-and_keeps : (a b c : Bool) → (b ≡ true → c ≡ true) → (a && b) ≡ true → (a && c) ≡ true
-and_keeps true b c h e = h e
-and_keeps false b c h e = cc
-
-larger_request : (txn : TxnId) (k n : ℕ) (test : Request → Bool) (o : Option Request) → k ≤ n → option_map_or (λ request. is_request txn k request && test request) o false ≡ true → option_map_or (λ request. is_request txn n request && test request) o false ≡ true
-larger_request txn k n test None l e = cc
-larger_request txn k n test (Some request) l e =
-    let p = and_parts (is_request txn k request) (test request) e in
-    let q = and_parts (same_txn request.txn txn) (nat_le request.number k) p.0 in
-    let z : nat_le request.number n ≡ true = le-leb request.number n (more request.number k n (leb-true request.number k q.1) l) in
-    rw (q.0, z, p.1) refl
+pub any_larger : (catalogue : Catalogue) (txn : TxnId) (k n : ℕ) (name : List ℕ) (at : ℕ) (holder : Owner) (moments : List Moment) → k ≤ n → words_justified catalogue moments (answer.LockHeld txn k name at holder) ≡ true → words_justified catalogue moments (answer.LockHeld txn n name at holder) ≡ true
+any_larger catalogue txn k n name at holder moments l e =
+    let r = refusal_of moments txn k (λ refused. was_blocked catalogue txn refused name at holder) e in
+    refusal_is moments txn n (λ refused. was_blocked catalogue txn refused name at holder) (record { refused = r.refused; first = r.first; up_to = more r.refused k n r.up_to l; once = r.once })
   where
     more : (a b c : ℕ) → a ≤ b → b ≤ c → a ≤ c
     more a b c s t = omega arith
-
-pub blocked_larger : (catalogue : Catalogue) (txn : TxnId) (k n : ℕ) (name : List ℕ) (at : ℕ) (holder : Owner) (m : Moment) → k ≤ n → was_blocked catalogue txn k name at holder m ≡ true → was_blocked catalogue txn n name at holder m ≡ true
-blocked_larger catalogue txn k n name at holder m l e =
-    let test : Request → Bool = λ (request : Request). option_map_or (λ lock. is_named catalogue name lock.0 && tested_before at (blocks txn holder lock) m) request.lock false && gave_held txn name at holder m request.number in
-    and_keeps (is_step_of at m) _ _ (larger_request txn k n test (request_of catalogue m.before m.line.event) l) e
-
-pub any_larger : (catalogue : Catalogue) (txn : TxnId) (k n : ℕ) (name : List ℕ) (at : ℕ) (holder : Owner) (moments : List Moment) → k ≤ n → list_any (was_blocked catalogue txn k name at holder) moments ≡ true → list_any (was_blocked catalogue txn n name at holder) moments ≡ true
-any_larger catalogue txn k n name at holder moments l e =
-    let w = any_has (was_blocked catalogue txn k name at holder) moments e in
-    any_from (was_blocked catalogue txn n name at holder) moments w.0 w.1 (blocked_larger catalogue txn k n name at holder w.0 l w.2)
 
 -- the end of a transaction is justified for all larger numbers
 pub end_larger : (catalogue : Catalogue) (moments : List Moment) (txn : TxnId) (k n : ℕ) (why : Ending) → k ≤ n → words_justified catalogue moments (answer_of txn k why) ≡ true → words_justified catalogue moments (answer_of txn n why) ≡ true

@@ -12,6 +12,7 @@ pub mod KeptLocks
 pub mod Copies
 pub mod KeptValues
 pub mod KeptTold
+pub mod Refused
 pub mod KeptAnswers
 pub mod OneView
 pub mod Moments

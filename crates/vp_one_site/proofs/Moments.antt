@@ -1,8 +1,8 @@
 -- One more moment.
-use Rattle.std.proofs.Common.{◌≡◌, ℕ, Bool, true, List, [], ◌∷◌, ◌++◌, refl, arith, sym, subst, ◌∙◌, ⊎_elim}
-use Rattle.std.specs.Prelude.{Some, None, ◌==◌, ◌&&◌, nat_le}
+use Rattle.std.proofs.Common.{◌≡◌, ℕ, Bool, true, List, [], ◌∷◌, ◌++◌, refl, sym, subst, ◌∙◌, ⊎_elim}
+use Rattle.std.specs.Prelude.{Some, None, ◌==◌, ◌&&◌}
 use Rattle.std.specs.List.{list_any}
-use Rattle.std.proofs.lemmas.Bool.{eq-eqb, le-leb}
+use Rattle.std.proofs.lemmas.Bool.{eq-eqb}
 use Rattle.std.proofs.lemmas.Slice.Eq.{bytes_eq-Decides}
 use Rattle.vp_model.specs.Types.{TxnId, Owner, Commit, Call, Answer}
 use Rattle.vp_model.specs.Types.answer
@@ -48,7 +48,7 @@ module _ (catalogue : Catalogue) (id : ℕ) (words : Call) (c : CoordinatorState
       let s : (id == id) ≡ true = eq-eqb id id refl in
       rw (a, b, d, s) (same_owner-self holder)
 
-  gave : txn.site ≡ id → answers_in m.line ≡ answer.LockHeld txn number name id holder ∷ [] → gave_held txn name id holder m number ≡ true
+  gave : txn.site ≡ id → answers_in m.line ≡ answer.LockHeld txn number name id holder ∷ [] → gave_held txn number name id holder m ≡ true
   gave at e =
       let s : (id == txn.site) ≡ true = eq-eqb id txn.site (sym at) in
       rw (s, e) (rw says refl)
@@ -60,11 +60,11 @@ module _ (catalogue : Catalogue) (id : ℕ) (words : Call) (c : CoordinatorState
   blocked_now at found asks e answers =
       let request : request_of catalogue m.before m.line.event ≡ Some (record { txn = txn; number = number; lock = Some (rec, exclusive); view = None }) = rw is.line asks in
       let self = same_txn-self txn in
-      let least : nat_le number number ≡ true = le-leb number number (omega arith) in
+      let least : (number == number) ≡ true = eq-eqb number number refl in
       let is_one : is_request txn number (record { txn = txn; number = number; lock = Some (rec, exclusive); view = None }) ≡ true = rw (self, least) refl in
       let same : (rec == rec) ≡ true = eq-eqb rec rec refl in
       let named : is_named catalogue name rec ≡ true = rw found same in
-      rw request (joined (is_step_of id m) (is_request txn number (record { txn = txn; number = number; lock = Some (rec, exclusive); view = None })) (is_named catalogue name rec) (tested_before id (blocks txn holder (rec, exclusive)) m) (gave_held txn name id holder m number) steps_here is_one named (tested_here e) (gave at answers))
+      rw request (joined (is_step_of id m) (is_request txn number (record { txn = txn; number = number; lock = Some (rec, exclusive); view = None })) (is_named catalogue name rec) (tested_before id (blocks txn holder (rec, exclusive)) m) (gave_held txn number name id holder m) steps_here is_one named (tested_here e) (gave at answers))
 
 -- what is over stays so, with its entry or without
 abbrev pub Stays : ℕ → CoordinatorState → List Commit → CoordinatorState → List Commit → Type 0
