@@ -27,7 +27,7 @@ use Rattle.vp_laws.proofs.Frames.{close-commits, close-ends}
 use Rattle.vp_laws.proofs.Lists.{without_first_has}
 use Rattle.vp_laws.proofs.LocalViews.{letter}
 use Rattle.vp_laws.specs.Votes.{is_commit}
-use Rattle.vp_laws.proofs.Table.{Closed, Comes, Handled, IsNext, Reads, Writes, Counts, remaining, IsLast, Locked, Completes, Decides, Replies, is_abort, lent_at, OfCoordinator}
+use Rattle.vp_laws.proofs.Table.{Closed, Comes, Handled, IsNext, Reads, Writes, Counts, remaining, IsLast, Locked, Completes, Decides, Replies, IsCallOf, Names, Says, Closes, is_abort, lent_at, OfCoordinator}
 
 first_has : (xs : List ℕ) (q : ℕ) → first xs ≡ Some q → Has xs q
 first_has [] q e = cc
@@ -65,9 +65,12 @@ pub next_number : (n m : ℕ) → nat_le n m ≡ false → nat_lt (m + 1) n ≡ 
 next_number n m a b = grind (arith, nat_tests, a, b)
 
 module _ (catalogue : Catalogue) (x : SiteState) (given : Input) (Q : Lent → Type 0) (k : OfCoordinator catalogue x given Q) (h : Q (lent_at x)) where
-  all_handled : (live : List Live) → ((t : Live) → Has live t → Has x.live t) → AllByRecursion (Handled x) live
-  all_handled [] sub = tt
-  all_handled (t ∷ live) sub = (record { was = t; live = sub t (has_first t live); same = refl }, all_handled live (λ u q. sub u (has_more t live u q)))
+  abbrev Closing : (Live → Ending) → Live → Type 0
+  Closing why t = Handled x t × Closes x given t (why t)
+
+  all_handled : (why : Live → Ending) (live : List Live) → ((t : Live) → Has live t → Has x.live t × Closes x given t (why t)) → AllByRecursion (Closing why) live
+  all_handled why [] sub = tt
+  all_handled why (t ∷ live) sub = let now = sub t (has_first t live) in ((record { was = t; live = now.0; same = refl }, now.1), all_handled why live (λ u q. sub u (has_more t live u q)))
 
   -- what closing leaves
   closed_one : (t : Live) (why : Ending) (l : Lent) → Closed x l → Closed x (close x.id t why l)
@@ -88,9 +91,9 @@ module _ (catalogue : Catalogue) (x : SiteState) (given : Input) (Q : Lent → T
   closed_none : Closed x (lent_at x)
   closed_none = record { live = λ t h. h; commits = refl; messages = λ m h. absurd (has_none m h) }
 
-  close_all-kept : (why : Live → Ending) (live : List Live) (l : Lent) → AllByRecursion (Handled x) live → ((t : Live) → is_abort (why t) ≡ true) → l.effects.commits ≡ [] → Q l → Q (close_all x.id why live l)
+  close_all-kept : (why : Live → Ending) (live : List Live) (l : Lent) → AllByRecursion (Closing why) live → ((t : Live) → is_abort (why t) ≡ true) → l.effects.commits ≡ [] → Q l → Q (close_all x.id why live l)
   close_all-kept why [] l all abort n p = p
-  close_all-kept why (t ∷ live) l all abort n p = close_all-kept why live (close x.id t (why t) l) all.1 abort (close-commits x.id t (why t) l ∙ n) (k.close t (why t) l all.0 (abort t) n p)
+  close_all-kept why (t ∷ live) l all abort n p = close_all-kept why live (close x.id t (why t) l) all.1 abort (close-commits x.id t (why t) l ∙ n) (k.close t (why t) l all.0.0 (abort t) n all.0.1 p)
 
   pub abandon-closed : Closed x (abandon x.id (lent_at x))
   unfolding abandon
@@ -98,20 +101,20 @@ module _ (catalogue : Catalogue) (x : SiteState) (given : Input) (Q : Lent → T
 
   pub abandon-kept : Q (abandon x.id (lent_at x))
   unfolding abandon
-  abandon-kept = close_all-kept (λ t. ViewChanged x.id t.view None) x.live (lent_at x) (all_handled x.live (λ t q. q)) (λ t. refl) refl h
+  abandon-kept = close_all-kept (λ t. ViewChanged x.id t.view None) x.live (lent_at x) (all_handled (λ t. ViewChanged x.id t.view None) x.live (λ t q. (q, Closes.left q))) (λ t. refl) refl h
 
   pub time_out_calls-kept : given ≡ input.Tick → Q (time_out_calls x.id (lent_at x))
   unfolding time_out_calls
   time_out_calls-kept c =
       let late = filter (λ (t : Live). is_marked_call t.pending) x.live in
-      k.mark_calls _ c (closed_all (λ t. TimedOut (least_missing t.pending)) late (lent_at x) closed_none) (close_all-kept (λ t. TimedOut (least_missing t.pending)) late (lent_at x) (all_handled late (λ t q. (filter_has (λ (t : Live). is_marked_call t.pending) x.live t q).0)) (λ t. refl) refl h)
+      k.mark_calls _ c (closed_all (λ t. TimedOut (least_missing t.pending)) late (lent_at x) closed_none) (close_all-kept (λ t. TimedOut (least_missing t.pending)) late (lent_at x) (all_handled (λ t. TimedOut (least_missing t.pending)) late (λ t q. let z = filter_has (λ (t : Live). is_marked_call t.pending) x.live t q in (z.0, Closes.timed_out z.0 z.1))) (λ t. refl) refl h)
 
-  on_begin-kept : (port : ℕ) → Q (on_begin (surroundings x) port (lent_at x))
+  on_begin-kept : (port : ℕ) → given ≡ input.Call port call.Begin → Q (on_begin (surroundings x) port (lent_at x))
   unfolding on_begin begin_in
-  on_begin-kept port = by_option Q _ _ _
-      (λ view e. by_test Q (nat_le 1024 (length x.live)) _ _ (λ many. k.answers _ port (Replies.other refl))
-      (λ few. by_test Q (x.seq == 2 ^ 32 - 1) _ _ (λ spent. k.answers _ port (Replies.other refl)) (λ left. k.begin port view e)))
-      (λ none. k.answers _ port (Replies.other refl))
+  on_begin-kept port comes = by_option Q _ _ _
+      (λ view e. by_test Q (nat_le 1024 (length x.live)) _ _ (λ many. k.answers _ port (Replies.other refl) (Says.full comes))
+      (λ few. by_test Q (x.seq == 2 ^ 32 - 1) _ _ (λ spent. k.answers _ port (Replies.other refl) (Says.spent comes)) (λ left. k.begin port view e comes left)))
+      (λ none. k.answers _ port (Replies.other refl) (Says.no_view comes))
 
   handled_by : (t : Live) (p : Pending) → Has x.live t → Handled x (handling t p)
   handled_by t p e = record { was = t; live = e; same = refl }
@@ -121,41 +124,41 @@ module _ (catalogue : Catalogue) (x : SiteState) (given : Input) (Q : Lent → T
 
   -- the next call of a live transaction t
   module _ (t : Live) (p : Pending) (here : Has x.live t) (next : IsNext given t p) where
-    closing-kept : (why : Ending) → is_abort why ≡ true → Q (close x.id (handling t p) why (lent_at x))
-    closing-kept why a = k.close (handling t p) why (lent_at x) (handled_by t p here) a refl h
+    closing-kept : (why : Ending) → is_abort why ≡ true → Closes x given (handling t p) why → Q (close x.id (handling t p) why (lent_at x))
+    closing-kept why a c = k.close (handling t p) why (lent_at x) (handled_by t p here) a refl c h
 
-    lock_here-kept : (name : List ℕ) (rec : ℕ) (exclusive : Bool) (stored : Stored) (rest : Lent → Lent) → is_usable catalogue x rec ≡ true → value_at rec x.copies ≡ Some stored → (conflict rec exclusive t.txn x.locks ≡ None → Q (take_lock t.txn rec exclusive (lent_at x)) → Q (rest (take_lock t.txn rec exclusive (lent_at x)))) → Q (lock_here x.id t p name rec exclusive rest (lent_at x))
+    lock_here-kept : (name : List ℕ) (rec : ℕ) (exclusive : Bool) (stored : Stored) (rest : Lent → Lent) → Names p.call name → is_usable catalogue x rec ≡ true → value_at rec x.copies ≡ Some stored → (conflict rec exclusive t.txn x.locks ≡ None → Q (take_lock t.txn rec exclusive (lent_at x)) → Q (rest (take_lock t.txn rec exclusive (lent_at x)))) → Q (lock_here x.id t p name rec exclusive rest (lent_at x))
     unfolding lock_here
-    lock_here-kept name rec exclusive stored rest a e n =
-        by_option Q _ _ _ (λ holder f. closing-kept (LockHeld name x.id holder) refl) (λ c. n c (k.take_lock t rec exclusive stored here next.idle a e c))
+    lock_here-kept name rec exclusive stored rest m a e n =
+        by_option Q _ _ _ (λ holder f. closing-kept (LockHeld name x.id holder) refl (Closes.held_here t p name rec exclusive holder here next refl m f)) (λ c. n c (k.take_lock t rec exclusive stored here next.idle a e c))
 
-    read-kept : (name : List ℕ) (rec : ℕ) → Reads catalogue p rec → is_usable catalogue x rec ≡ true → Q (read catalogue x.id x.held t p name rec (lent_at x))
+    read-kept : (name : List ℕ) (rec : ℕ) → nat_le 64 (length t.ops) ≡ false → Names p.call name → Reads catalogue p rec → is_usable catalogue x rec ≡ true → Q (read catalogue x.id x.held t p name rec (lent_at x))
     unfolding read take_lock
-    read-kept name rec r a =
-        by_option Q _ _ _ (λ value e. k.complete t p _ _ (lent_at x) here (Completes.own_write rec value next r a e refl refl refl) refl h)
+    read-kept name rec few m r a =
+        by_option Q _ _ _ (λ value e. k.complete t p _ _ (lent_at x) here (Completes.own_write rec value next r a e refl refl refl) (λ i. few) refl h)
         (λ n. by_option Q _ _ _
-        (λ stored e. lock_here-kept name rec false stored (answer_read t p rec stored.value) a e (λ c q. k.complete t p _ _ (take_lock t.txn rec false (lent_at x)) here (Completes.own_copy rec stored next r a n e c refl refl refl) refl q))
-        (λ none. by_some Q (first (other_holders catalogue x rec)) (read_at x.id t p rec) (lent_at x) (λ q e. k.read_at t p rec q here next r a n none (first_has _ q e)) h))
+        (λ stored e. lock_here-kept name rec false stored (answer_read t p rec stored.value) m a e (λ c q. k.complete t p _ _ (take_lock t.txn rec false (lent_at x)) here (Completes.own_copy rec stored next r a n e c refl refl refl) (λ i. few) refl q))
+        (λ none. by_some Q (first (other_holders catalogue x rec)) (read_at x.id t p rec) (lent_at x) (λ q e. k.read_at t p rec q here next r a n none (first_has _ q e) few) h))
 
-    write_elsewhere-kept : (rec : ℕ) (value : List ℕ) (l : Lent) → Writes catalogue p rec value → is_usable catalogue x rec ≡ true → value_at rec (last_writes t.ops) ≡ None → Locked x t rec l → l.live ≡ x.live → Q l → Q (write_elsewhere catalogue x.id x.held t p rec value l)
+    write_elsewhere-kept : (rec : ℕ) (value : List ℕ) (l : Lent) → nat_le 64 (length t.ops) ≡ false → Writes catalogue p rec value → is_usable catalogue x rec ≡ true → value_at rec (last_writes t.ops) ≡ None → Locked x t rec l → l.live ≡ x.live → Q l → Q (write_elsewhere catalogue x.id x.held t p rec value l)
     unfolding write_elsewhere
-    write_elsewhere-kept rec value l w a n taken live q =
-        by_test Q (is_empty (other_holders catalogue x rec)) _ _ (λ e. k.complete t p _ _ l here (Completes.write_alone rec value next w a n e refl refl taken) live q)
-        (λ e. k.write_at t p rec value l here next w a n e taken live q)
+    write_elsewhere-kept rec value l few w a n taken live q =
+        by_test Q (is_empty (other_holders catalogue x rec)) _ _ (λ e. k.complete t p _ _ l here (Completes.write_alone rec value next w a n e refl refl taken) (λ i. few) live q)
+        (λ e. k.write_at t p rec value l here next w a n e taken few live q)
 
-    write-kept : (name value : List ℕ) (rec : ℕ) → Writes catalogue p rec value → is_usable catalogue x rec ≡ true → Q (write catalogue x.id x.held t p name value rec (lent_at x))
+    write-kept : (name value : List ℕ) (rec : ℕ) → nat_le 64 (length t.ops) ≡ false → Names p.call name → Writes catalogue p rec value → is_usable catalogue x rec ≡ true → Q (write catalogue x.id x.held t p name value rec (lent_at x))
     unfolding write take_lock
-    write-kept name value rec w a =
-        by_option Q _ _ _ (λ before e. k.complete t p _ _ (lent_at x) here (Completes.write_again rec before value next w a e refl refl refl) refl h)
+    write-kept name value rec few m w a =
+        by_option Q _ _ _ (λ before e. k.complete t p _ _ (lent_at x) here (Completes.write_again rec before value next w a e refl refl refl) (λ i. few) refl h)
         (λ n. by_option Q _ _ _
-        (λ stored e. lock_here-kept name rec true stored (write_elsewhere catalogue x.id x.held t p rec value) a e (λ c q. write_elsewhere-kept rec value (take_lock t.txn rec true (lent_at x)) w a n (Locked.locked stored e c refl) refl q))
-        (λ none. write_elsewhere-kept rec value (lent_at x) w a n (Locked.no_copy none refl) refl h))
+        (λ stored e. lock_here-kept name rec true stored (write_elsewhere catalogue x.id x.held t p rec value) m a e (λ c q. write_elsewhere-kept rec value (take_lock t.txn rec true (lent_at x)) few w a n (Locked.locked stored e c refl) refl q))
+        (λ none. write_elsewhere-kept rec value (lent_at x) few w a n (Locked.no_copy none refl) refl h))
 
-    with_record-kept : (name : List ℕ) (use_record : ℕ → Lent → Lent) → ((rec : ℕ) → find_record catalogue name ≡ Some rec → is_usable catalogue x rec ≡ true → Q (use_record rec (lent_at x))) → Q (with_record catalogue x.held t p name use_record (lent_at x))
+    with_record-kept : (name : List ℕ) (use_record : ℕ → Lent → Lent) → Names p.call name → ((rec : ℕ) → find_record catalogue name ≡ Some rec → nat_le 64 (length t.ops) ≡ false → is_usable catalogue x rec ≡ true → Q (use_record rec (lent_at x))) → Q (with_record catalogue x.held t p name use_record (lent_at x))
     unfolding with_record
-    with_record-kept name use_record used = by_option Q _ _ _
-        (λ rec e. by_test Q (nat_le 64 (length t.ops)) _ _ (λ many. k.answers _ _ (Replies.other refl)) (λ few. by_test Q (is_usable catalogue x rec) _ _ (λ a. used rec e a) (λ not_usable. k.answers _ _ (Replies.other refl))))
-        (λ none. k.answers _ _ (Replies.other refl))
+    with_record-kept name use_record m used = by_option Q _ _ _
+        (λ rec e. by_test Q (nat_le 64 (length t.ops)) _ _ (λ many. k.answers _ _ (Replies.other refl) (Says.many t p.call p.number next.comes here next.number)) (λ few. by_test Q (is_usable catalogue x rec) _ _ (λ a. used rec e few a) (λ not_usable. k.answers _ _ (Replies.other refl) (Says.inaccessible t p.call p.number name rec next.comes here next.number m e))))
+        (λ none. k.answers _ _ (Replies.other refl) (Says.no_record t p.call p.number next.comes here next.number))
 
     commit-kept : is_commit p.call ≡ true → Q (commit catalogue x.id t p (lent_at x))
     unfolding commit
@@ -163,39 +166,39 @@ module _ (catalogue : Catalogue) (x : SiteState) (given : Input) (Q : Lent → T
 
     new_call-kept : (words : Call) → p.call ≡ words → Q (new_call catalogue x.id x.held t p words (lent_at x))
     unfolding new_call
-    new_call-kept (call.Read txn number name) e = with_record-kept name _ (λ rec f. read-kept name rec (record { txn = txn; number = number; name = name; words = e; found = f }))
-    new_call-kept (call.Write txn number name value) e = with_record-kept name _ (λ rec f. write-kept name value rec (record { txn = txn; number = number; name = name; words = e; found = f }))
+    new_call-kept (call.Read txn number name) e = let m : Names p.call name = Names.reads txn number e in with_record-kept name _ m (λ rec f few. read-kept name rec few m (record { txn = txn; number = number; name = name; words = e; found = f }))
+    new_call-kept (call.Write txn number name value) e = let m : Names p.call name = Names.writes txn number value e in with_record-kept name _ m (λ rec f few. write-kept name value rec few m (record { txn = txn; number = number; name = name; words = e; found = f }))
     new_call-kept (call.Commit txn number) e = commit-kept (rw e refl)
-    new_call-kept (call.Abort txn number) e = closing-kept Aborted refl
+    new_call-kept (call.Abort txn number) e = closing-kept Aborted refl (Closes.aborted t p here next refl)
     new_call-kept call.Begin e = h
     new_call-kept call.Regroup e = h
 
   live_call-kept : (t : Live) (p : Pending) → given ≡ input.Call p.port p.call → Has x.live t → Q (live_call catalogue x.id x.held t p (lent_at x))
   unfolding live_call
   live_call-kept t p comes here =
-      by_test Q (nat_le p.number (length t.answers)) _ _ (λ old. by_some Q _ (λ answer. lent_reply answer p.port) (lent_at x) (λ answer e. k.answers answer p.port (Replies.kept t here (slice_has t.answers (p.number - 1) answer e))) h)
-      (λ fresh. by_test Q (nat_lt (length t.answers + 1) p.number) _ _ (λ skipped. k.answers _ _ (Replies.other refl))
-      (λ fits. by_test Q (is_some t.pending) _ _ (λ busy. k.answers _ _ (Replies.other refl)) (λ idle. new_call-kept t p here (record { comes = comes; idle = idle; number = next_number p.number (length t.answers) fresh fits }) p.call refl)))
+      by_test Q (nat_le p.number (length t.answers)) _ _ (λ old. by_some Q _ (λ answer. lent_reply answer p.port) (lent_at x) (λ answer e. let q = slice_has t.answers (p.number - 1) answer e in k.answers answer p.port (Replies.kept t here q) (Says.again t p.call answer comes here q)) h)
+      (λ fresh. by_test Q (nat_lt (length t.answers + 1) p.number) _ _ (λ skipped. k.answers _ _ (Replies.other refl) (Says.skipped t p.call comes here))
+      (λ fits. by_test Q (is_some t.pending) _ _ (λ busy. k.answers _ _ (Replies.other refl) (Says.busy t p.call p.number comes here (next_number p.number (length t.answers) fresh fits))) (λ idle. new_call-kept t p here (record { comes = comes; idle = idle; number = next_number p.number (length t.answers) fresh fits }) p.call refl)))
 
-  finished_call-kept : (port number : ℕ) (f : Finished) → Has x.finished f → Q (finished_call port number f (lent_at x))
+  finished_call-kept : (port : ℕ) (words : Call) (txn : TxnId) (number : ℕ) (f : Finished) → given ≡ input.Call port words → IsCallOf words txn number → Has x.finished f → Q (finished_call port number f (lent_at x))
   unfolding finished_call
-  finished_call-kept port number f here = by_test Q (nat_le number (length f.answers)) _ _
-      (λ old. by_some Q _ (λ answer. lent_reply answer port) (lent_at x) (λ answer e. k.answers answer port (Replies.kept_end f here (slice_has f.answers (number - 1) answer e))) h)
-      (λ more. k.answers _ port (Replies.over f number here refl))
+  finished_call-kept port words txn number f comes own here = by_test Q (nat_le number (length f.answers)) _ _
+      (λ old. by_some Q _ (λ answer. lent_reply answer port) (lent_at x) (λ answer e. let q = slice_has f.answers (number - 1) answer e in k.answers answer port (Replies.kept_end f here q) (Says.again_ended f words answer comes here q)) h)
+      (λ more. k.answers _ port (Replies.over f number here refl) (Says.over f words txn number comes own here))
 
-  on_txn_call-kept : (port : ℕ) (txn : TxnId) (number : ℕ) (words : Call) → given ≡ input.Call port words → Q (on_txn_call catalogue x.id x.held port txn number words (lent_at x))
+  on_txn_call-kept : (port : ℕ) (txn : TxnId) (number : ℕ) (words : Call) → given ≡ input.Call port words → IsCallOf words txn number → Q (on_txn_call catalogue x.id x.held port txn number words (lent_at x))
   unfolding on_txn_call
-  on_txn_call-kept port txn number words comes =
-      by_option Q _ _ _ (λ t e. live_call-kept t (handled port number words) comes (live_of-has txn x.live t e)) (λ none. by_option Q (λ f. finished_call port number f (lent_at x)) (finished_of txn x.finished) (lent_reply (answer.Unknown txn) port (lent_at x)) (λ f e. finished_call-kept port number f (find_has (λ (t : Finished). same_txn t.txn txn) x.finished f e)) (λ unknown. k.answers (answer.Unknown txn) port (Replies.other refl)))
+  on_txn_call-kept port txn number words comes own =
+      by_option Q _ _ _ (λ t e. live_call-kept t (handled port number words) comes (live_of-has txn x.live t e)) (λ none. by_option Q (λ f. finished_call port number f (lent_at x)) (finished_of txn x.finished) (lent_reply (answer.Unknown txn) port (lent_at x)) (λ f e. finished_call-kept port words txn number f comes own (find_has (λ (t : Finished). same_txn t.txn txn) x.finished f e)) (λ unknown. k.answers (answer.Unknown txn) port (Replies.other refl) (Says.unknown words txn number comes own)))
 
   pub own_call-kept : (port : ℕ) (words : Call) → given ≡ input.Call port words → Q (own_call catalogue port words (surroundings x) (lent_at x))
   unfolding own_call
-  own_call-kept port call.Begin comes = on_begin-kept port
+  own_call-kept port call.Begin comes = on_begin-kept port comes
   own_call-kept port call.Regroup comes = h
-  own_call-kept port (call.Read txn number name) comes = on_txn_call-kept port txn number (call.Read txn number name) comes
-  own_call-kept port (call.Write txn number name value) comes = on_txn_call-kept port txn number (call.Write txn number name value) comes
-  own_call-kept port (call.Commit txn number) comes = on_txn_call-kept port txn number (call.Commit txn number) comes
-  own_call-kept port (call.Abort txn number) comes = on_txn_call-kept port txn number (call.Abort txn number) comes
+  own_call-kept port (call.Read txn number name) comes = on_txn_call-kept port txn number (call.Read txn number name) comes (IsCallOf.reads txn number name)
+  own_call-kept port (call.Write txn number name value) comes = on_txn_call-kept port txn number (call.Write txn number name value) comes (IsCallOf.writes txn number name value)
+  own_call-kept port (call.Commit txn number) comes = on_txn_call-kept port txn number (call.Commit txn number) comes (IsCallOf.commits txn number)
+  own_call-kept port (call.Abort txn number) comes = on_txn_call-kept port txn number (call.Abort txn number) comes (IsCallOf.aborts txn number)
 
   -- answers to this site's transactions
   with_missing-kept : (txn : TxnId) (from : ℕ) (f : Live → Pending → Lent → Lent) → ((t : Live) (p : Pending) → Has x.live t → t.txn ≡ txn → t.pending ≡ Some p → has p.missing from ≡ true → Q (f t p (lent_at x))) → Q (with_missing txn from f (lent_at x))
@@ -205,6 +208,10 @@ module _ (catalogue : Catalogue) (x : SiteState) (given : Input) (Q : Lent → T
 
   count_in-kept : (from : ℕ) (t : Live) (p : Pending) (done : Lent → Lent) → Has x.live t → t.pending ≡ Some p → has p.missing from ≡ true → Counts catalogue given t p from → (IsLast t p from → Q (done (lent_at x))) → Q (count_in from t p done (lent_at x))
   count_in-kept from t p done here e m c d = by_test Q (is_empty (remaining from p)) _ _ (λ last. d (record { pending = e; missing = m; last = last })) (λ more. k.still_waits t p from here e m more c)
+
+  -- a call is pending
+  is_pending : {A : Type 0} (t : Live) (p : Pending) → t.pending ≡ Some p → is_some t.pending ≡ false → A
+  is_pending t p f i = let z : is_some t.pending ≡ true = rw f refl in cc
 
   read_came : (from : ℕ) (t u : TxnId) (n m : ℕ) (value : List ℕ) → Comes given from (message.ReadAnswer t n value) → u ≡ t → m ≡ n → Comes given from (message.ReadAnswer u m value)
   read_came from t u n m value c e f = rw (e, f) c
@@ -221,7 +228,7 @@ module _ (catalogue : Catalogue) (x : SiteState) (given : Input) (Q : Lent → T
       let came : Comes given from (message.ReadAnswer t.txn p.number value) = read_came from txn t.txn number p.number value c same (eqb-true p.number number numbered) in
       by_some Q (find_record catalogue name) _ (lent_at x) (λ rec found.
       let reads : Reads catalogue p rec = record { txn = called; number = n; name = name; words = e; found = found } in
-      count_in-kept from t p (answer_read t p rec value) here f m (Counts.read rec value came reads) (λ last. k.complete t p _ _ (lent_at x) here (Completes.read_answered from rec value came last reads refl refl refl) refl h)) h)
+      count_in-kept from t p (answer_read t p rec value) here f m (Counts.read rec value came reads) (λ last. k.complete t p _ _ (lent_at x) here (Completes.read_answered from rec value came last reads refl refl refl) (is_pending t p f) refl h)) h)
       (λ other. h)
   read_answered-kept from txn number value t p (call.Write called n name v) e c here same f m = h
   read_answered-kept from txn number value t p (call.Commit called n) e c here same f m = h
@@ -239,7 +246,7 @@ module _ (catalogue : Catalogue) (x : SiteState) (given : Input) (Q : Lent → T
       let came : Comes given from (message.WriteAnswer t.txn p.number) = write_came from txn t.txn number p.number c same (eqb-true p.number number numbered) in
       by_some Q (find_record catalogue name) _ (lent_at x) (λ rec found.
       let writes : Writes catalogue p rec value = record { txn = called; number = n; name = name; words = e; found = found } in
-      count_in-kept from t p (answer_write t p rec value) here f m (Counts.written rec value came writes) (λ last. k.complete t p _ _ (lent_at x) here (Completes.write_answered from rec value came last writes refl refl refl) refl h)) h)
+      count_in-kept from t p (answer_write t p rec value) here f m (Counts.written rec value came writes) (λ last. k.complete t p _ _ (lent_at x) here (Completes.write_answered from rec value came last writes refl refl refl) (is_pending t p f) refl h)) h)
       (λ other. h)
   write_answered-kept from txn number t p (call.Read called n name) e c here same f m = h
   write_answered-kept from txn number t p (call.Commit called n) e c here same f m = h
@@ -251,18 +258,18 @@ module _ (catalogue : Catalogue) (x : SiteState) (given : Input) (Q : Lent → T
   unfolding on_write_answer
   on_write_answer-kept from txn number c = with_missing-kept txn from _ (λ t p here same f m. write_answered-kept from txn number t p p.call refl c here same f m)
 
-  refused_by-kept : (why : Obstacle) (words : Call) (from : ℕ) (t : Live) → Has x.live t → Q (refused_by x.id why words from t (lent_at x))
-  refused_by-kept (obstacle.Held holder) (call.Read txn number name) from t here = k.close t (LockHeld name from holder) (lent_at x) (handled_as t here) refl refl h
-  refused_by-kept (obstacle.Held holder) (call.Write txn number name value) from t here = k.close t (LockHeld name from holder) (lent_at x) (handled_as t here) refl refl h
-  refused_by-kept (obstacle.Held holder) (call.Commit txn number) from t here = h
-  refused_by-kept (obstacle.Held holder) (call.Abort txn number) from t here = h
-  refused_by-kept (obstacle.Held holder) call.Begin from t here = h
-  refused_by-kept (obstacle.Held holder) call.Regroup from t here = h
-  refused_by-kept (obstacle.OtherView now) words from t here = k.close t (ViewChanged from t.view now) (lent_at x) (handled_as t here) refl refl h
+  refused_by-kept : (why : Obstacle) (words : Call) (from : ℕ) (t : Live) (p : Pending) (txn : TxnId) (number : ℕ) → t.pending ≡ Some p → p.call ≡ words → Comes given from (message.Refuse txn number why) → Has x.live t → Q (refused_by x.id why words from t (lent_at x))
+  refused_by-kept (obstacle.Held holder) (call.Read txn number name) from t p u n f e c here = k.close t (LockHeld name from holder) (lent_at x) (handled_as t here) refl refl (Closes.held_there p u n from name holder here f (Names.reads txn number e) c) h
+  refused_by-kept (obstacle.Held holder) (call.Write txn number name value) from t p u n f e c here = k.close t (LockHeld name from holder) (lent_at x) (handled_as t here) refl refl (Closes.held_there p u n from name holder here f (Names.writes txn number value e) c) h
+  refused_by-kept (obstacle.Held holder) (call.Commit txn number) from t p u n f e c here = h
+  refused_by-kept (obstacle.Held holder) (call.Abort txn number) from t p u n f e c here = h
+  refused_by-kept (obstacle.Held holder) call.Begin from t p u n f e c here = h
+  refused_by-kept (obstacle.Held holder) call.Regroup from t p u n f e c here = h
+  refused_by-kept (obstacle.OtherView now) words from t p u n f e c here = k.close t (ViewChanged from t.view now) (lent_at x) (handled_as t here) refl refl (Closes.other_view u n from now here c) h
 
-  on_refuse-kept : (from : ℕ) (txn : TxnId) (number : ℕ) (why : Obstacle) → Q (on_refuse x.id from txn number why (lent_at x))
+  on_refuse-kept : (from : ℕ) (txn : TxnId) (number : ℕ) (why : Obstacle) → Comes given from (message.Refuse txn number why) → Q (on_refuse x.id from txn number why (lent_at x))
   unfolding on_refuse
-  on_refuse-kept from txn number why = with_missing-kept txn from _ (λ t p here same f m. by_test Q (p.number == number) _ _ (λ e. refused_by-kept why p.call from t here) (λ e. h))
+  on_refuse-kept from txn number why c = with_missing-kept txn from _ (λ t p here same f m. by_test Q (p.number == number) _ _ (λ e. refused_by-kept why p.call from t p txn number f refl c here) (λ e. h))
 
   voted-kept : (from : ℕ) (txn : TxnId) (t : Live) (p : Pending) (words : Call) → p.call ≡ words → Comes given from (message.Vote txn) → Has x.live t → t.txn ≡ txn → t.pending ≡ Some p → has p.missing from ≡ true → Q (voted catalogue x.id from t p words (lent_at x))
   voted-kept from txn t p (call.Commit called n) e c here same f m =
@@ -291,7 +298,7 @@ module _ (catalogue : Catalogue) (x : SiteState) (given : Input) (Q : Lent → T
   unfolding on_answer
   on_answer-kept from (message.ReadAnswer txn number value) c = on_read_answer-kept from txn number value c
   on_answer-kept from (message.WriteAnswer txn number) c = on_write_answer-kept from txn number c
-  on_answer-kept from (message.Refuse txn number why) c = on_refuse-kept from txn number why
+  on_answer-kept from (message.Refuse txn number why) c = on_refuse-kept from txn number why c
   on_answer-kept from (message.Vote txn) c = on_vote-kept from txn c
   on_answer-kept from (message.Ack txn) c = on_ack-kept from txn c
   on_answer-kept from (message.Inquire txn) c = on_inquire-kept from txn c

@@ -16,6 +16,19 @@ pub mod Rows
 pub mod LocalViews
 pub mod TableViews
 pub mod TableDurable
+pub mod ShapeLists
+pub mod ShapeNumbers
+pub mod ShapeDoubts
+pub mod ShapeCatalogue
+pub mod ShapeMoves
+pub mod ShapeViews
+pub mod ShapeParts
+pub mod ShapeLive
+pub mod ShapeCoordinator
+pub mod ShapeSteps
+pub mod ShapeLocks
+pub mod ShapeLog
+pub mod ShapeFold
 pub mod TableLed
 pub mod TableBelow
 pub mod TableNames
@@ -47,6 +60,7 @@ pub mod Scenes
 pub mod Events
 pub mod Worlds
 pub mod Occurs
+pub mod ShapeWorlds
 -- the invariant in every world, each group above the ones before it
 pub mod InvViews
 pub mod Agreement

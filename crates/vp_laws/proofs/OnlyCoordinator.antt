@@ -107,16 +107,16 @@ module _ (catalogue : Catalogue) (x : SiteState) (given : Input) (R : Coordinato
 
   own : OfCoordinator catalogue x given (Back x P)
   own = let m = k.moves in record {
-    begin = λ port view e. record { id = refl; kept = m.begin port view e };
-    answers = λ words port why. record { id = refl; kept = m.answers words port why };
+    begin = λ port view e g u. record { id = refl; kept = m.begin port view e g u };
+    answers = λ words port why y. record { id = refl; kept = m.answers words port why y };
     take_lock = λ t rec exclusive stored h i a v c. record { id = refl; kept = m.take_lock t rec exclusive stored h i a v c };
-    complete = λ t p operation words l h g e q. record { id = refl; kept = m.complete t p operation words l h g e q.kept };
-    read_at = λ t p rec q h n r a w c o. record { id = refl; kept = m.read_at t p rec q h n r a w c o };
-    write_at = λ t p rec value l h n w a e o d v q. record { id = refl; kept = m.write_at t p rec value l h n w a e o d v q.kept };
+    complete = λ t p operation words l h g y e q. record { id = refl; kept = m.complete t p operation words l h g y e q.kept };
+    read_at = λ t p rec q h n r a w c o y. record { id = refl; kept = m.read_at t p rec q h n r a w c o y };
+    write_at = λ t p rec value l h n w a e o d y v q. record { id = refl; kept = m.write_at t p rec value l h n w a e o d y v q.kept };
     prepare_parts = λ t p h i g e. record { id = refl; kept = m.prepare_parts t p h i g e };
     still_waits = λ t p from h e g f c. record { id = refl; kept = m.still_waits t p from h e g f c };
     decide = λ t n d. record { id = refl; kept = m.decide t n d };
-    close = λ t why l n a z q. record { id = refl; kept = m.close t why l n a z q.kept };
+    close = λ t why l n a z y q. record { id = refl; kept = m.close t why l n a z y q.kept };
     mark_calls = λ l c z q. record { id = refl; kept = m.mark_calls l c z q.kept };
     acknowledge = λ from txn c w. record { id = refl; kept = m.acknowledge from txn c w };
     answer_inquiry = λ from txn c s n. record { id = refl; kept = m.answer_inquiry from txn c s n };
@@ -137,7 +137,7 @@ module _ (catalogue : Catalogue) (x : SiteState) (given : Input) (R : Coordinato
     fix = λ view c e. many (begin_step x) (fix view (begin_step x)) (λ q. message.ViewCommit view.id view.members) (filter (λ q. not (q == x.id)) view.members) refl refl refl refl (λ q. refl) only_begins;
     without_wait = λ id c i w. silent (begin_step x) _ refl refl refl refl only_begins;
     probe = λ view c e. many (begin_step x) _ (λ q. message.Probe view.id) (other_sites catalogue x.id) refl refl refl refl (λ q. refl) only_begins;
-    answers_inviting = λ port s p. silent _ _ refl refl refl refl p;
+    answers_inviting = λ port c s p. silent _ _ refl refl refl refl p;
     start_refresh = λ view rec o e a h p. many o (start_refresh catalogue view rec o) (λ q. message.RefreshRequest view.id rec) (other_holders catalogue o.site rec) refl refl refl refl (λ q. refl) p;
     end_refresh = λ rec r own o e a d v p. ends_refresh r own o p;
     keep_answer = λ from view rec stored r c e f g. silent (begin_step x) _ refl refl refl refl only_begins;

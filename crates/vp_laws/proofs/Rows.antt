@@ -20,7 +20,7 @@ use Rattle.vp_model.specs.Step.{fix, without_wait, fix_view, ask_again, ask_agai
 use Rattle.vp_laws.proofs.Members.{Has, filter_has, has_first, has_more, both_true}
 use Rattle.vp_laws.proofs.Order.{is_view_is}
 use Rattle.vp_laws.proofs.Frames.{close_all-beside, close_all-none}
-use Rattle.vp_laws.proofs.Table.{Comes, Replies, Left, Joined, Requests, Asks, lent_at, Back, Table}
+use Rattle.vp_laws.proofs.Table.{Comes, Replies, Says, Left, Joined, Requests, Asks, lent_at, Back, Table}
 use Rattle.vp_laws.proofs.Coordinator.{by_test, abandon-closed, abandon-kept, time_out_calls-kept, own_call-kept, on_answer-kept}
 
 -- a record that is accessible and has a copy here
@@ -133,14 +133,14 @@ module _ (catalogue : Catalogue) (x : SiteState) (given : Input) (P : Stepped �
   unfolding on_refresh_answer
   on_refresh_answer-kept from view rec stored c = grind (arith, k.keep_answer from view rec stored, settle-kept rec, h)
 
-  on_regroup-kept : (port : ℕ) → P (on_regroup catalogue port (begin_step x))
+  on_regroup-kept : (port : ℕ) → given ≡ input.Call port call.Regroup → P (on_regroup catalogue port (begin_step x))
   unfolding on_regroup
-  on_regroup-kept port = by_test P (is_spent x.views) _ _ (λ e. k.coordinator.answers (answer.Spent (highest x.views)) port (Replies.other refl)) (λ e. k.answers_inviting port e invite-kept)
+  on_regroup-kept port comes = by_test P (is_spent x.views) _ _ (λ e. k.coordinator.answers (answer.Spent (highest x.views)) port (Replies.other refl) (Says.views_spent comes)) (λ e. k.answers_inviting port comes e invite-kept)
 
   on_call-kept : (port : ℕ) (words : Call) → given ≡ input.Call port words → P (on_call catalogue port words (begin_step x))
   unfolding on_call
   on_call-kept port call.Begin comes = own_call-kept catalogue x given K k.coordinator h port call.Begin comes
-  on_call-kept port call.Regroup comes = on_regroup-kept port
+  on_call-kept port call.Regroup comes = on_regroup-kept port comes
   on_call-kept port (call.Read txn number name) comes = own_call-kept catalogue x given K k.coordinator h port (call.Read txn number name) comes
   on_call-kept port (call.Write txn number name value) comes = own_call-kept catalogue x given K k.coordinator h port (call.Write txn number name value) comes
   on_call-kept port (call.Commit txn number) comes = own_call-kept catalogue x given K k.coordinator h port (call.Commit txn number) comes

@@ -1,7 +1,7 @@
 -- The table in small moves: what a property of a step's state has to survive, so that the whole step keeps it.
-use Rattle.std.proofs.Common.{◌≡◌, ◌⊎◌, ℕ, ◌+◌, Bool, true, false, List, [], map, length}
-use Rattle.std.specs.Prelude.{Some, None, is_some, filter, ◌==◌, ◌&&◌, not}
-use Rattle.vp_model.specs.Types.{ViewId, TxnId, View, Stored, Op, Owner, Answer, Message, Sent, Input, Part, Refreshing, Pending, Live, Ending, Finished}
+use Rattle.std.proofs.Common.{◌≡◌, ◌⊎◌, ℕ, ◌+◌, ◌-◌, ◌^◌, Bool, true, false, List, [], map, length}
+use Rattle.std.specs.Prelude.{Option, Some, None, is_some, filter, nat_le, ◌==◌, ◌&&◌, not}
+use Rattle.vp_model.specs.Types.{ViewId, TxnId, View, Stored, Op, Owner, Answer, Call, Message, Sent, Input, Part, Refreshing, Pending, Live, Ending, Finished}
 use Rattle.vp_base.specs.declared.site.Ending.TheVariants.{Committed, Aborted, LockHeld, ViewChanged, TimedOut}
 use Rattle.vp_model.specs.Types.answer
 use Rattle.vp_model.specs.Types.call
@@ -11,14 +11,15 @@ use Rattle.vp_model.specs.Types.message
 use Rattle.vp_model.specs.Types.obstacle
 use Rattle.vp_model.specs.Types.op
 use Rattle.vp_model.specs.Words.{view_before, is_view, has, has_txn, is_empty, value_at, keys}
-use Rattle.vp_model.specs.Catalogue.{Catalogue, find_record}
+use Rattle.vp_model.specs.Catalogue.{Catalogue, find_record, inside, total}
 use Rattle.vp_model.specs.Durable.{Decision, doubt_of}
 use Rattle.vp_model.specs.Locks.{conflict}
 use Rattle.vp_model.specs.Site.{SiteState, Lent, Stepped, begin_step, force, send, reply, change_views, change_participant, change_refresh, surroundings, lent, put_back, lent_force, lent_send, lent_reply, lent_coordinator}
 use Rattle.vp_model.specs.Transactions.{last_writes, answer_of, close, decide, complete, wait_for}
-use Rattle.vp_model.specs.Refresh.{is_usable, other_holders, is_doubtful, refreshing_of, unanswered, end_refresh, start_refresh}
+use Rattle.vp_model.specs.Refresh.{members, is_usable, other_holders, is_doubtful, refreshing_of, unanswered, end_refresh, start_refresh}
 use Rattle.vp_model.specs.Views.{part_of, has_doubt, without_view, without_parts, highest, is_spent, drop_view, start_inviting, invite, hold}
 use Rattle.vp_model.specs.Calls.{next_txn, start_txn, handling, take_lock, read_at, write_at, prepare_parts}
+use Rattle.vp_model.specs.Step.{is_marked_call, least_missing}
 use Rattle.vp_model.specs.Answers.{waits_for, with_acknowledged, is_live, is_decided}
 use Rattle.vp_model.specs.Messages.{holds_view, accept, on_accept, on_stale, with_heard, refuse_view, grant, has_all_locks, with_vote, with_new_doubt, end_here, with_answer}
 use Rattle.vp_model.specs.Step.{fix, without_wait, probe_all, mark_calls, ask_again, resend_one, known, inquire}
@@ -163,18 +164,55 @@ pub data Replies (x : SiteState) (words : Answer) : Type 0 where
   kept_end : (f : Finished) → Has x.finished f → Has f.answers words → Replies x words
   over : (f : Finished) (number : ℕ) → Has x.finished f → answer_of f.txn number f.ending ≡ words → Replies x words
 
+-- the call is of this transaction and has this number
+pub data IsCallOf : Call → TxnId → ℕ → Type 0 where
+  reads : (txn : TxnId) (number : ℕ) (name : List ℕ) → IsCallOf (call.Read txn number name) txn number
+  writes : (txn : TxnId) (number : ℕ) (name value : List ℕ) → IsCallOf (call.Write txn number name value) txn number
+  commits : (txn : TxnId) (number : ℕ) → IsCallOf (call.Commit txn number) txn number
+  aborts : (txn : TxnId) (number : ℕ) → IsCallOf (call.Abort txn number) txn number
+
+-- the call names this record
+pub data Names (words : Call) (name : List ℕ) : Type 0 where
+  reads : (txn : TxnId) (number : ℕ) → words ≡ call.Read txn number name → Names words name
+  writes : (txn : TxnId) (number : ℕ) (value : List ℕ) → words ≡ call.Write txn number name value → Names words name
+
+-- what a call that came is told, where nothing changes
+pub data Says (catalogue : Catalogue) (x : SiteState) (given : Input) (port : ℕ) : Answer → Type 0 where
+  views_spent : given ≡ input.Call port call.Regroup → Says catalogue x given port (answer.Spent (highest x.views))
+  no_view : given ≡ input.Call port call.Begin → Says catalogue x given port (answer.NoView x.promise)
+  full : given ≡ input.Call port call.Begin → Says catalogue x given port answer.TooManyLive
+  spent : given ≡ input.Call port call.Begin → Says catalogue x given port (answer.Spent (2 ^ 32 - 1))
+  no_record : (t : Live) (words : Call) (number : ℕ) → given ≡ input.Call port words → Has x.live t → number ≡ length t.answers + 1 → Says catalogue x given port (answer.NoRecord t.txn number)
+  many : (t : Live) (words : Call) (number : ℕ) → given ≡ input.Call port words → Has x.live t → number ≡ length t.answers + 1 → Says catalogue x given port (answer.TooManyOps t.txn number)
+  busy : (t : Live) (words : Call) (number : ℕ) → given ≡ input.Call port words → Has x.live t → number ≡ length t.answers + 1 → Says catalogue x given port (answer.Busy t.txn number)
+  skipped : (t : Live) (words : Call) → given ≡ input.Call port words → Has x.live t → Says catalogue x given port (answer.Skipped t.txn (length t.answers + 1))
+  inaccessible : (t : Live) (words : Call) (number : ℕ) (name : List ℕ) (rec : ℕ) → given ≡ input.Call port words → Has x.live t → number ≡ length t.answers + 1 → Names words name → find_record catalogue name ≡ Some rec → Says catalogue x given port (answer.Inaccessible t.txn number name (inside catalogue rec (members x)) (total catalogue rec))
+  again : (t : Live) (words : Call) (said : Answer) → given ≡ input.Call port words → Has x.live t → Has t.answers said → Says catalogue x given port said
+  again_ended : (f : Finished) (words : Call) (said : Answer) → given ≡ input.Call port words → Has x.finished f → Has f.answers said → Says catalogue x given port said
+  over : (f : Finished) (words : Call) (txn : TxnId) (number : ℕ) → given ≡ input.Call port words → IsCallOf words txn number → Has x.finished f → Says catalogue x given port (answer_of f.txn number f.ending)
+  unknown : (words : Call) (txn : TxnId) (number : ℕ) → given ≡ input.Call port words → IsCallOf words txn number → Says catalogue x given port (answer.Unknown txn)
+
+-- why a transaction is closed
+pub data Closes (x : SiteState) (given : Input) (t : Live) : Ending → Type 0 where
+  aborted : (was : Live) (p : Pending) → Has x.live was → IsNext given was p → t ≡ handling was p → Closes x given t Aborted
+  held_here : (was : Live) (p : Pending) (name : List ℕ) (rec : ℕ) (exclusive : Bool) (holder : Owner) → Has x.live was → IsNext given was p → t ≡ handling was p → Names p.call name → conflict rec exclusive was.txn x.locks ≡ Some holder → Closes x given t (LockHeld name x.id holder)
+  held_there : (p : Pending) (txn : TxnId) (number from : ℕ) (name : List ℕ) (holder : Owner) → Has x.live t → t.pending ≡ Some p → Names p.call name → Comes given from (message.Refuse txn number (obstacle.Held holder)) → Closes x given t (LockHeld name from holder)
+  other_view : (txn : TxnId) (number from : ℕ) (now : Option ViewId) → Has x.live t → Comes given from (message.Refuse txn number (obstacle.OtherView now)) → Closes x given t (ViewChanged from t.view now)
+  left : Has x.live t → Closes x given t (ViewChanged x.id t.view None)
+  timed_out : Has x.live t → is_marked_call t.pending ≡ true → Closes x given t (TimedOut (least_missing t.pending))
+
 -- Q speaks of what the coordinator has done so far, in a step from x for the input `given`
 pub record OfCoordinator (catalogue : Catalogue) (x : SiteState) (given : Input) (Q : Lent → Type 0) : Type 0 where
-  pub begin : (port : ℕ) (view : View) → x.held ≡ Some view → Q (start_txn (next_name x) port view.id (lent_at x))
-  pub answers : (words : Answer) (port : ℕ) → Replies x words → Q (lent_reply words port (lent_at x))
+  pub begin : (port : ℕ) (view : View) → x.held ≡ Some view → given ≡ input.Call port call.Begin → (x.seq == 2 ^ 32 - 1) ≡ false → Q (start_txn (next_name x) port view.id (lent_at x))
+  pub answers : (words : Answer) (port : ℕ) → Replies x words → Says catalogue x given port words → Q (lent_reply words port (lent_at x))
   pub take_lock : (t : Live) (rec : ℕ) (exclusive : Bool) (stored : Stored) → Has x.live t → is_some t.pending ≡ false → is_usable catalogue x rec ≡ true → value_at rec x.copies ≡ Some stored → conflict rec exclusive t.txn x.locks ≡ None → Q (take_lock t.txn rec exclusive (lent_at x))
-  pub complete : (t : Live) (p : Pending) (operation : Op) (words : Answer) (l : Lent) → Has x.live t → Completes catalogue x given t p operation words l → l.live ≡ x.live → Q l → Q (complete t p operation words l)
-  pub read_at : (t : Live) (p : Pending) (rec q : ℕ) → Has x.live t → IsNext given t p → Reads catalogue p rec → is_usable catalogue x rec ≡ true → value_at rec (last_writes t.ops) ≡ None → value_at rec x.copies ≡ None → Has (other_holders catalogue x rec) q → Q (read_at x.id t p rec q (lent_at x))
-  pub write_at : (t : Live) (p : Pending) (rec : ℕ) (value : List ℕ) (l : Lent) → Has x.live t → IsNext given t p → Writes catalogue p rec value → is_usable catalogue x rec ≡ true → value_at rec (last_writes t.ops) ≡ None → is_empty (other_holders catalogue x rec) ≡ false → Locked x t rec l → l.live ≡ x.live → Q l → Q (write_at x.id t p rec (other_holders catalogue x rec) l)
+  pub complete : (t : Live) (p : Pending) (operation : Op) (words : Answer) (l : Lent) → Has x.live t → Completes catalogue x given t p operation words l → (is_some t.pending ≡ false → nat_le 64 (length t.ops) ≡ false) → l.live ≡ x.live → Q l → Q (complete t p operation words l)
+  pub read_at : (t : Live) (p : Pending) (rec q : ℕ) → Has x.live t → IsNext given t p → Reads catalogue p rec → is_usable catalogue x rec ≡ true → value_at rec (last_writes t.ops) ≡ None → value_at rec x.copies ≡ None → Has (other_holders catalogue x rec) q → nat_le 64 (length t.ops) ≡ false → Q (read_at x.id t p rec q (lent_at x))
+  pub write_at : (t : Live) (p : Pending) (rec : ℕ) (value : List ℕ) (l : Lent) → Has x.live t → IsNext given t p → Writes catalogue p rec value → is_usable catalogue x rec ≡ true → value_at rec (last_writes t.ops) ≡ None → is_empty (other_holders catalogue x rec) ≡ false → Locked x t rec l → nat_le 64 (length t.ops) ≡ false → l.live ≡ x.live → Q l → Q (write_at x.id t p rec (other_holders catalogue x rec) l)
   pub prepare_parts : (t : Live) (p : Pending) → Has x.live t → IsNext given t p → is_commit p.call ≡ true → is_empty t.parts ≡ false → Q (prepare_parts catalogue x.id t p (lent_at x))
   pub still_waits : (t : Live) (p : Pending) (from : ℕ) → Has x.live t → t.pending ≡ Some p → has p.missing from ≡ true → is_empty (remaining from p) ≡ false → Counts catalogue given t p from → Q (wait_for t p (remaining from p) (lent_at x))
   pub decide : (t : Live) → Handled x t → Decides catalogue x given t → Q (decide catalogue x.id t (lent_at x))
-  pub close : (t : Live) (why : Ending) (l : Lent) → Handled x t → is_abort why ≡ true → l.effects.commits ≡ [] → Q l → Q (close x.id t why l)
+  pub close : (t : Live) (why : Ending) (l : Lent) → Handled x t → is_abort why ≡ true → l.effects.commits ≡ [] → Closes x given t why → Q l → Q (close x.id t why l)
   pub mark_calls : (l : Lent) → given ≡ input.Tick → Closed x l → Q l → Q (mark_calls l)
   pub acknowledge : (from : ℕ) (txn : TxnId) → Comes given from (message.Ack txn) → waits_for txn from x.decisions ≡ true → Q (lent_coordinator (with_acknowledged txn from) (lent_force (entry.Acked txn from) (lent_at x)))
   pub answer_inquiry : (from : ℕ) (txn : TxnId) → Comes given from (message.Inquire txn) → (txn.site == x.id) ≡ true → is_live txn x.live ≡ false → Q (lent_send x.id (message.Outcome txn (is_decided txn x.decisions)) from (lent_at x))
@@ -198,7 +236,7 @@ pub record Table (catalogue : Catalogue) (x : SiteState) (given : Input) (P : St
   pub fix : (view : View) → given ≡ input.Tick → x.inviting ≡ Some (view.id, view.members) → P (fix view (begin_step x))
   pub without_wait : (id : ViewId) → given ≡ input.Tick → x.inviting ≡ None → x.waiting ≡ Some id → P (change_views without_wait (begin_step x))
   pub probe : (view : View) → given ≡ input.Probe → x.held ≡ Some view → P (probe_all catalogue view (begin_step x))
-  pub answers_inviting : (port : ℕ) → is_spent x.views ≡ false → P (invite catalogue (begin_step x)) → P (reply (answer.Inviting (next_view x)) port (invite catalogue (begin_step x)))
+  pub answers_inviting : (port : ℕ) → given ≡ input.Call port call.Regroup → is_spent x.views ≡ false → P (invite catalogue (begin_step x)) → P (reply (answer.Inviting (next_view x)) port (invite catalogue (begin_step x)))
   -- refresh
   pub start_refresh : (view : View) (rec : ℕ) (o : Stepped) → Joined x view o → is_usable catalogue o.site rec ≡ true → Has (keys o.site.copies) rec → P o → P (start_refresh catalogue view rec o)
   pub end_refresh : (rec : ℕ) (r : Refreshing) (own : Stored) (o : Stepped) → refreshing_of rec o.site.refresh ≡ Some r → is_empty (unanswered catalogue o.site r) ≡ true → is_doubtful o.site r.rec ≡ false → value_at r.rec o.site.copies ≡ Some own → P o → P (end_refresh r own o)

@@ -35,16 +35,16 @@ module _ (catalogue : Catalogue) (x : SiteState) (given : Input) where
   moves : OfCoordinator catalogue x given L
   unfolding start_txn take_lock complete read_at write_at prepare_parts mark_calls
   moves = record {
-    begin = λ port view e. inl refl;
-    answers = λ words port why. inl refl;
+    begin = λ port view e g u. inl refl;
+    answers = λ words port why y. inl refl;
     take_lock = λ t rec exclusive stored h i a v c. inl refl;
-    complete = λ t p operation words l h g e r. inl (ap (λ (e : Effects). e.commits) (completes_effects catalogue x given t p operation words l g));
-    read_at = λ t p rec q h n r a w c o. inl refl;
-    write_at = λ t p rec value l h n w a e o d v r. inl (ap (λ (e : Effects). e.commits) (locked_effects x t rec l d));
+    complete = λ t p operation words l h g y e r. inl (ap (λ (e : Effects). e.commits) (completes_effects catalogue x given t p operation words l g));
+    read_at = λ t p rec q h n r a w c o y. inl refl;
+    write_at = λ t p rec value l h n w a e o d y v r. inl (ap (λ (e : Effects). e.commits) (locked_effects x t rec l d));
     prepare_parts = λ t p h i g e. inl refl;
     still_waits = λ t p from h e m f c. inl refl;
     decide = λ t n d. decides t;
-    close = λ t why l n a z r. inl (close-commits x.id t why l ∙ z);
+    close = λ t why l n a z y r. inl (close-commits x.id t why l ∙ z);
     mark_calls = λ l c z r. inl z.commits;
     acknowledge = λ from txn c w. inl refl;
     answer_inquiry = λ from txn c s n. inl refl;

@@ -414,21 +414,21 @@ module _ (catalogue : Catalogue) (x : SiteState) (given : Input) (tidy : Tidy x)
     vote_writing = λ from txn view number reads writes part c e n d f v a w. votes_writing from part writes (part_there txn part f);
     end_here = λ from txn commit c. ends_here from txn commit (doubt_of txn x.doubts) refl;
     coordinator = record {
-      begin = λ port view e. hushed (lent_at x) _ refl refl begins;
-      answers = λ words port why. hushed (lent_at x) _ refl refl begins;
+      begin = λ port view e g u. hushed (lent_at x) _ refl refl begins;
+      answers = λ words port why y. hushed (lent_at x) _ refl refl begins;
       take_lock = λ t rec exclusive stored h i a v c. hushed (lent_at x) _ refl refl begins;
-      complete = λ t p operation words l h g e q. hushed l _ refl refl q;
-      read_at = λ t p rec q h n r a w c o. one _ x.id q (message.ReadRequest t.txn t.view p.number rec) refl (same_but _ x refl refl refl refl refl) refl;
-      write_at = λ t p rec value l h n w a e o d v q. writes_at t p rec (other_holders catalogue x rec) l q;
+      complete = λ t p operation words l h g y e q. hushed l _ refl refl q;
+      read_at = λ t p rec q h n r a w c o y. one _ x.id q (message.ReadRequest t.txn t.view p.number rec) refl (same_but _ x refl refl refl refl refl) refl;
+      write_at = λ t p rec value l h n w a e o d y v q. writes_at t p rec (other_holders catalogue x rec) l q;
       prepare_parts = λ t p h i g e. plain (lent_at x) _ (letters x.id (prepare_for catalogue t p) t.parts) refl refl (letters_undated x.id (prepare_for catalogue t p) t.parts (λ q. refl)) begins;
       still_waits = λ t p from h e m f c. hushed (lent_at x) _ refl refl begins;
       decide = λ t n d. decide-cases K catalogue x.id t (lent_at x) (λ e. ends t Committed true _ _ (decided-ends x.id t (lent_at x)) begins) (λ e. ends t Committed true _ _ (decided-ends x.id t _) (keeps_writes t n));
-      close = λ t why l n a z q. ends t why false l _ (close-ends x.id t why l) q;
+      close = λ t why l n a z y q. ends t why false l _ (close-ends x.id t why l) q;
       mark_calls = λ l c z q. hushed l _ refl refl q;
       acknowledge = λ from txn c w. hushed (lent_at x) _ refl refl begins;
       answer_inquiry = λ from txn c s n. one _ x.id from (message.Outcome txn (is_decided txn x.decisions)) refl (self_same x) refl;
     };
-    answers_inviting = λ port s l. silent _ _ (self_same _) refl l;
+    answers_inviting = λ port c s l. silent _ _ (self_same _) refl l;
     resend_one = λ d o c h l. resends d o l;
     inquire = λ o c l. inquires (known o.site.participant) o l;
   }

@@ -315,7 +315,7 @@ module _ (catalogue : Catalogue) (x : SiteState) (given : Input) (tidy : Tidy x)
     fix = λ view c e. fresh (begin_step x) _ refl refl (not_held (tidy.inviting (view.id, view.members) e).1) refl refl starts;
     without_wait = λ id c i w. same (begin_step x) _ refl refl refl refl refl refl starts;
     probe = λ view c e. same (begin_step x) _ refl refl refl refl refl refl starts;
-    answers_inviting = λ port s p. same _ _ refl refl refl refl refl refl p;
+    answers_inviting = λ port c s p. same _ _ refl refl refl refl refl refl p;
     start_refresh = λ view rec o e a h p. refreshes view rec o p;
     end_refresh = λ rec r own o e a d v p. finishes rec r own o e a d v p;
     keep_answer = λ from view rec stored r c e f g. keeps_answer from view rec stored r c e f g;
@@ -331,16 +331,16 @@ module _ (catalogue : Catalogue) (x : SiteState) (given : Input) (tidy : Tidy x)
     vote_writing = λ from txn view number reads writes part c e n d f v a w. taken_none _ refl refl refl refl refl (λ other u k g. absurd (let z = sym k ∙ c in cc));
     end_here = λ from txn commit c. ends_here from txn commit (doubt_of txn x.doubts) refl c;
     coordinator = record {
-      begin = λ port view e. quiet (lent_at x) _ refl refl starts;
-      answers = λ words port why. quiet (lent_at x) _ refl refl starts;
+      begin = λ port view e g u. quiet (lent_at x) _ refl refl starts;
+      answers = λ words port why y. quiet (lent_at x) _ refl refl starts;
       take_lock = λ t rec exclusive stored h i a v c. quiet (lent_at x) _ refl refl starts;
-      complete = λ t p operation words l h g e q. quiet l _ refl refl q;
-      read_at = λ t p rec q h n r a w c o. quiet (lent_at x) _ refl refl starts;
-      write_at = λ t p rec value l h n w a e o d v q. quiet l _ refl refl q;
+      complete = λ t p operation words l h g y e q. quiet l _ refl refl q;
+      read_at = λ t p rec q h n r a w c o y. quiet (lent_at x) _ refl refl starts;
+      write_at = λ t p rec value l h n w a e o d y v q. quiet l _ refl refl q;
       prepare_parts = λ t p h i g e. quiet (lent_at x) _ refl refl starts;
       still_waits = λ t p from h e m f c. quiet (lent_at x) _ refl refl starts;
       decide = λ t n d. decides t;
-      close = λ t why l n a z q. closes t why l q;
+      close = λ t why l n a z y q. closes t why l q;
       mark_calls = λ l c z q. quiet l _ refl refl q;
       acknowledge = λ from txn c w. quiet (lent_at x) _ refl refl starts;
       answer_inquiry = λ from txn c s n. quiet (lent_at x) _ refl refl starts;

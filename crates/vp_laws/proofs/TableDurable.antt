@@ -93,21 +93,21 @@ module _ (catalogue : Catalogue) (x : SiteState) (given : Input) where
     vote_writing = λ from txn view number reads writes part c e n d f v a w. refl;
     end_here = λ from txn commit c. ends_here from txn commit (doubt_of txn x.doubts) refl;
     coordinator = record {
-      begin = λ port view e. refl;
-      answers = λ words port why. refl;
+      begin = λ port view e g u. refl;
+      answers = λ words port why y. refl;
       take_lock = λ t rec exclusive stored q i a v c. refl;
-      complete = λ t p operation words l q g e h. h;
-      read_at = λ t p rec q l n r a w c o. refl;
-      write_at = λ t p rec value l q n w a e o d v h. h;
+      complete = λ t p operation words l q g y e h. h;
+      read_at = λ t p rec q l n r a w c o y. refl;
+      write_at = λ t p rec value l q n w a e o d y v h. h;
       prepare_parts = λ t p q i g e. refl;
       still_waits = λ t p from q e m f c. refl;
       decide = λ t q d. decide-cases K catalogue x.id t (lent_at x) (λ e. ends t Committed true _ _ (decided-ends x.id t (lent_at x)) refl) (λ e. ends t Committed true _ _ (decided-ends x.id t _) (keeps_writes t (lent_at x) refl));
-      close = λ t why l q a z h. ends t why false l _ (close-ends x.id t why l) h;
+      close = λ t why l q a z y h. ends t why false l _ (close-ends x.id t why l) h;
       mark_calls = λ l c z h. h;
       acknowledge = λ from txn c w. refl;
       answer_inquiry = λ from txn c s n. refl;
     };
-    answers_inviting = λ port s h. h;
+    answers_inviting = λ port c s h. h;
     resend_one = λ d o c q h. h;
     inquire = λ o c h. h;
   }

@@ -342,19 +342,19 @@ module _ (catalogue : Catalogue) (x : SiteState) (given : Input) (led : Led x) (
   pub moves : OfCoordinator catalogue x given L
   unfolding start_txn take_lock complete read_at write_at prepare_parts mark_calls
   moves = record {
-    begin = λ port view e. begun_now view;
-    answers = λ words port why. begins;
+    begin = λ port view e g u. begun_now view;
+    answers = λ words port why y. begins;
     take_lock = λ t rec exclusive stored h i a v c. begins;
-    complete = λ t p operation words l h g e r. moves_on (record t { ops = t.ops ++ operation ∷ []; answers = t.answers ++ words ∷ []; pending = None }) t l.coordinator l.effects.messages l.effects.commits (rw e h) refl r;
-    read_at = λ t p rec q h n r a w c o. more _ [] (letter x.id q (message.ReadRequest t.txn t.view p.number rec) ∷ []) [] (letters_tell x.id (λ q. message.ReadRequest t.txn t.view p.number rec) (q ∷ []) (λ q. refl))
+    complete = λ t p operation words l h g y e r. moves_on (record t { ops = t.ops ++ operation ∷ []; answers = t.answers ++ words ∷ []; pending = None }) t l.coordinator l.effects.messages l.effects.commits (rw e h) refl r;
+    read_at = λ t p rec q h n r a w c o y. more _ [] (letter x.id q (message.ReadRequest t.txn t.view p.number rec) ∷ []) [] (letters_tell x.id (λ q. message.ReadRequest t.txn t.view p.number rec) (q ∷ []) (λ q. refl))
         (moves_on (record t { remote = t.remote ++ (q, rec) ∷ []; parts = put_number q t.parts; pending = Some (record p { missing = q ∷ [] }) }) t x.coordinator [] [] h refl begins);
-    write_at = λ t p rec value l h n w a e o d v r. more _ l.effects.messages (letters x.id (λ q. message.WriteRequest t.txn t.view p.number rec) (other_holders catalogue x rec)) l.effects.commits (letters_tell x.id (λ q. message.WriteRequest t.txn t.view p.number rec) (other_holders catalogue x rec) (λ q. refl))
+    write_at = λ t p rec value l h n w a e o d y v r. more _ l.effects.messages (letters x.id (λ q. message.WriteRequest t.txn t.view p.number rec) (other_holders catalogue x rec)) l.effects.commits (letters_tell x.id (λ q. message.WriteRequest t.txn t.view p.number rec) (other_holders catalogue x rec) (λ q. refl))
         (moves_on (record t { parts = for_each (other_holders catalogue x rec) put_number t.parts; pending = Some (record p { missing = other_holders catalogue x rec }) }) t l.coordinator l.effects.messages l.effects.commits (rw v h) refl r);
     prepare_parts = λ t p h i g e. more _ [] (letters x.id (prepare_for catalogue t p) t.parts) [] (letters_tell x.id (prepare_for catalogue t p) t.parts (λ q. refl))
         (moves_on (record t { pending = Some (record p { missing = t.parts }) }) t x.coordinator [] [] h refl begins);
     still_waits = λ t p from h e m f c. moves_on (record t { pending = Some (record p { missing = remaining from p }) }) t x.coordinator [] [] h refl begins;
     decide = λ t n d. decides t n;
-    close = λ t why l n a z r. closed t why l _ n a z r.up (close-ends x.id t why l) (close-commits x.id t why l) r;
+    close = λ t why l n a z y r. closed t why l _ n a z r.up (close-ends x.id t why l) (close-commits x.id t why l) r;
     mark_calls = λ l c z r. marks l.coordinator l.effects.messages l.effects.commits r;
     acknowledge = λ from txn c w. acknowledges txn from;
     answer_inquiry = λ from txn c s n. record {

@@ -45,16 +45,16 @@ module _ (catalogue : Catalogue) (x : SiteState) (given : Input) where
   moves : OfCoordinator catalogue x given L
   unfolding start_txn take_lock complete read_at write_at prepare_parts mark_calls
   moves = record {
-    begin = λ port view e. starts;
-    answers = λ words port why. starts;
+    begin = λ port view e g u. starts;
+    answers = λ words port why y. starts;
     take_lock = λ t rec exclusive stored h i a v c. starts;
-    complete = λ t p operation words l h g e r. r;
-    read_at = λ t p rec q h n r a w c o. starts;
-    write_at = λ t p rec value l h n w a e o d v r. r;
+    complete = λ t p operation words l h g y e r. r;
+    read_at = λ t p rec q h n r a w c o y. starts;
+    write_at = λ t p rec value l h n w a e o d y v r. r;
     prepare_parts = λ t p h i g e. starts;
     still_waits = λ t p from h e m f c. starts;
     decide = λ t n d. decides t n;
-    close = λ t why l n a z r. ends t why false l (close x.id t why l) n (close-ends x.id t why l) r;
+    close = λ t why l n a z y r. ends t why false l (close x.id t why l) n (close-ends x.id t why l) r;
     mark_calls = λ l c z r. r;
     acknowledge = λ from txn c w. starts;
     answer_inquiry = λ from txn c s n. starts;

@@ -484,21 +484,21 @@ module _ (catalogue : Catalogue) (x : SiteState) (given : Input) (tidy : Tidy x)
     vote_writing = λ from txn view number reads writes part c e n d f v a w. one _ x.id from (message.Vote part.txn) refl (plain_but _ refl refl refl refl refl refl refl) refl refl;
     end_here = λ from txn commit c. ends_here from txn commit (doubt_of txn x.doubts);
     coordinator = record {
-      begin = λ port view e. begins_one port view e;
-      answers = λ words port why. plain (lent_at x) _ refl refl refl refl begins;
+      begin = λ port view e g u. begins_one port view e;
+      answers = λ words port why y. plain (lent_at x) _ refl refl refl refl begins;
       take_lock = λ t rec exclusive stored h i a v c. plain (lent_at x) _ refl refl refl refl begins;
-      complete = λ t p operation words l h g e q. completes t p operation words l h e q;
-      read_at = λ t p rec q h n r a w c o. reads_at t p rec q h o;
-      write_at = λ t p rec value l h n w a e o d v q. writes_at t p rec l h v q;
+      complete = λ t p operation words l h g y e q. completes t p operation words l h e q;
+      read_at = λ t p rec q h n r a w c o y. reads_at t p rec q h o;
+      write_at = λ t p rec value l h n w a e o d y v q. writes_at t p rec l h v q;
       prepare_parts = λ t p h i g e. prepares t p h;
       still_waits = λ t p from h e m f c. waits t p _ h;
       decide = λ t n d. decide-cases K catalogue x.id t (lent_at x) (λ e. decideds t (lent_at x) n begins) (λ e. decideds t _ n (keeps_writes t (lent_at x) begins));
-      close = λ t why l n a z q. closes t why l q;
+      close = λ t why l n a z y q. closes t why l q;
       mark_calls = λ l c z q. marks l q;
       acknowledge = λ from txn c w. plain (lent_at x) _ refl refl refl refl begins;
       answer_inquiry = λ from txn c s n. one _ x.id from (message.Outcome txn (is_decided txn x.decisions)) refl (self_same x) refl refl;
     };
-    answers_inviting = λ port s l. silent _ _ (self_same _) refl refl l;
+    answers_inviting = λ port c s l. silent _ _ (self_same _) refl refl l;
     resend_one = λ d o c h l. resends d o l;
     inquire = λ o c l. inquires (known o.site.participant) o l;
   }

@@ -524,21 +524,21 @@ module _ (N : TxnId → Type 0) (A : ViewId → Type 0) where
       vote_writing = λ from txn view number reads writes part c e n d f v a w. votes_writing from part writes (part_there txn part f);
       end_here = λ from txn commit c. ends_here from txn commit (arrived from (message.Outcome txn commit) c);
       coordinator = record {
-        begin = λ port view e. hushed (lent_at x) _ refl refl refl begins;
-        answers = λ words port why. hushed (lent_at x) _ refl refl refl begins;
+        begin = λ port view e g u. hushed (lent_at x) _ refl refl refl begins;
+        answers = λ words port why y. hushed (lent_at x) _ refl refl refl begins;
         take_lock = λ t rec exclusive stored h i a v c. takes_lock t rec exclusive h;
-        complete = λ t p operation words l h g e q. hushed l _ refl refl refl q;
-        read_at = λ t p rec q h n r a w c o. plain (lent_at x) _ (letter x.id q (message.ReadRequest t.txn t.view p.number rec) ∷ []) refl refl refl (letter_named x.id q (message.ReadRequest t.txn t.view p.number rec) (here_named t h)) begins;
-        write_at = λ t p rec value l h n w a e o d v q. writes_at t p rec (other_holders catalogue x rec) l h q;
+        complete = λ t p operation words l h g y e q. hushed l _ refl refl refl q;
+        read_at = λ t p rec q h n r a w c o y. plain (lent_at x) _ (letter x.id q (message.ReadRequest t.txn t.view p.number rec) ∷ []) refl refl refl (letter_named x.id q (message.ReadRequest t.txn t.view p.number rec) (here_named t h)) begins;
+        write_at = λ t p rec value l h n w a e o d y v q. writes_at t p rec (other_holders catalogue x rec) l h q;
         prepare_parts = λ t p h i g e. plain (lent_at x) _ (letters x.id (prepare_for catalogue t p) t.parts) refl refl refl (letters_named x.id (prepare_for catalogue t p) t.parts (λ q. here_named t h)) begins;
         still_waits = λ t p from h e m f c. hushed (lent_at x) _ refl refl refl begins;
         decide = λ t n d. decide-cases K catalogue x.id t (lent_at x) (λ e. ends t Committed true _ _ n (decided-ends x.id t (lent_at x)) begins) (λ e. ends t Committed true _ _ n (decided-ends x.id t _) (keeps_writes t n));
-        close = λ t why l n a z q. ends t why false l _ n (close-ends x.id t why l) q;
+        close = λ t why l n a z y q. ends t why false l _ n (close-ends x.id t why l) q;
         mark_calls = λ l c z q. hushed l _ refl refl refl q;
         acknowledge = λ from txn c w. silent (begin_step x) _ (coordinator_now (with_acknowledged txn from x.coordinator) (acknowledged_named txn from x.decisions names.decisions)) refl begins;
         answer_inquiry = λ from txn c s n. one _ x.id from (message.Outcome txn (is_decided txn x.decisions)) names (arrived from (message.Inquire txn) c) refl;
       };
-      answers_inviting = λ port s l. silent _ _ l.names refl l;
+      answers_inviting = λ port c s l. silent _ _ l.names refl l;
       resend_one = λ d o c h l. resends d o h l;
       inquire = λ o c l. inquires o l;
     }

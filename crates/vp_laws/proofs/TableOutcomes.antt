@@ -183,21 +183,21 @@ module _ (catalogue : Catalogue) (x : SiteState) (given : Input) where
     };
     end_here = λ from txn commit c. ends_here from txn commit (doubt_of txn x.doubts) c refl;
     coordinator = record {
-      begin = λ port view e. none _ refl refl;
-      answers = λ words port why. none _ refl refl;
+      begin = λ port view e g u. none _ refl refl;
+      answers = λ words port why y. none _ refl refl;
       take_lock = λ t rec exclusive stored q i a v c. none _ refl refl;
-      complete = λ t p operation words l q g e h. alike (put_back (begin_step x) l) _ refl refl h;
-      read_at = λ t p rec q l n r a w c o. none _ refl refl;
-      write_at = λ t p rec value l q n w a e o d v h. alike (put_back (begin_step x) l) _ refl refl h;
+      complete = λ t p operation words l q g y e h. alike (put_back (begin_step x) l) _ refl refl h;
+      read_at = λ t p rec q l n r a w c o y. none _ refl refl;
+      write_at = λ t p rec value l q n w a e o d y v h. alike (put_back (begin_step x) l) _ refl refl h;
       prepare_parts = λ t p q i g e. none _ refl refl;
       still_waits = λ t p from q e m f c. none _ refl refl;
       decide = λ t q d. decide-cases K catalogue x.id t (lent_at x) (λ e. ends t Committed true _ _ (decided-ends x.id t (lent_at x)) starts) (λ e. ends t Committed true _ _ (decided-ends x.id t _) (keeps_writes t (lent_at x) starts));
-      close = λ t why l q a z h. ends t why false l _ (close-ends x.id t why l) h;
+      close = λ t why l q a z y h. ends t why false l _ (close-ends x.id t why l) h;
       mark_calls = λ l c z h. alike (put_back (begin_step x) l) _ refl refl h;
       acknowledge = λ from txn c w. more (begin_step x) _ (entry.Acked txn from) refl refl refl starts;
       answer_inquiry = λ from txn c s n. none _ refl refl;
     };
-    answers_inviting = λ port s h. alike _ _ refl refl h;
+    answers_inviting = λ port c s h. alike _ _ refl refl h;
     resend_one = λ d o c q h. alike o _ refl refl h;
     inquire = λ o c h. alike o _ refl refl h;
   }

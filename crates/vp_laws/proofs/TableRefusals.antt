@@ -141,7 +141,7 @@ module _ (catalogue : Catalogue) (x : SiteState) (given : Input) where
     fix = λ view c e. many (begin_step x) (fix view (begin_step x)) x.id (λ q. message.ViewCommit view.id view.members) (filter (λ q. not (q == x.id)) view.members) refl refl (λ q. refl) begins;
     without_wait = λ id c i w. silent (begin_step x) _ refl refl begins;
     probe = λ view c e. many (begin_step x) _ x.id (λ q. message.Probe view.id) (other_sites catalogue x.id) refl refl (λ q. refl) begins;
-    answers_inviting = λ port s p. silent _ _ refl refl p;
+    answers_inviting = λ port c s p. silent _ _ refl refl p;
     start_refresh = λ view rec o e a h p. many o (start_refresh catalogue view rec o) o.site.id (λ q. message.RefreshRequest view.id rec) (other_holders catalogue o.site rec) refl refl (λ q. refl) p;
     end_refresh = λ rec r own o e a d v p. ends_refresh r own o p;
     keep_answer = λ from view rec stored r c e f g. silent (begin_step x) _ refl refl begins;
@@ -157,16 +157,16 @@ module _ (catalogue : Catalogue) (x : SiteState) (given : Input) where
     vote_writing = λ from txn view number reads writes part c e n d f v a w. one _ from (message.Vote part.txn) refl refl refl;
     end_here = λ from txn commit c. ends_here from txn commit (doubt_of txn x.doubts);
     coordinator = record {
-      begin = λ port view e. hushed (lent_at x) _ refl begins;
-      answers = λ words port why. hushed (lent_at x) _ refl begins;
+      begin = λ port view e g u. hushed (lent_at x) _ refl begins;
+      answers = λ words port why y. hushed (lent_at x) _ refl begins;
       take_lock = λ t rec exclusive stored h i a v c. hushed (lent_at x) _ refl begins;
-      complete = λ t p operation words l h g e q. hushed l _ refl q;
-      read_at = λ t p rec q h n r a w c o. one _ q (message.ReadRequest t.txn t.view p.number rec) refl refl refl;
-      write_at = λ t p rec value l h n w a e o d v q. writes_at t p rec (other_holders catalogue x rec) l q;
+      complete = λ t p operation words l h g y e q. hushed l _ refl q;
+      read_at = λ t p rec q h n r a w c o y. one _ q (message.ReadRequest t.txn t.view p.number rec) refl refl refl;
+      write_at = λ t p rec value l h n w a e o d y v q. writes_at t p rec (other_holders catalogue x rec) l q;
       prepare_parts = λ t p h i g e. says (lent_at x) _ (prepare_for catalogue t p) t.parts refl (λ q. refl) begins;
       still_waits = λ t p from h e m f c. hushed (lent_at x) _ refl begins;
       decide = λ t n d. decide-cases K catalogue x.id t (lent_at x) (λ e. ends t Committed true _ _ (decided-ends x.id t (lent_at x)) begins) (λ e. ends t Committed true _ _ (decided-ends x.id t _) (keeps_writes t));
-      close = λ t why l n a z q. ends t why false l _ (close-ends x.id t why l) q;
+      close = λ t why l n a z y q. ends t why false l _ (close-ends x.id t why l) q;
       mark_calls = λ l c z q. hushed l _ refl q;
       acknowledge = λ from txn c w. hushed (lent_at x) _ refl begins;
       answer_inquiry = λ from txn c s n. one _ from (message.Outcome txn (is_decided txn x.decisions)) refl refl refl;

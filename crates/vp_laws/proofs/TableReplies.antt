@@ -216,7 +216,7 @@ module _ (catalogue : Catalogue) (x : SiteState) (given : Input) (led : Led x) (
     fix = λ view c e. quiet _ (b.fix view c e) refl refl;
     without_wait = λ id c i w. quiet _ (b.without_wait id c i w) refl refl;
     probe = λ view c e. quiet _ (b.probe view c e) refl refl;
-    answers_inviting = λ port s p. told_inviting port (b.answers_inviting port s p.base) p;
+    answers_inviting = λ port c s p. told_inviting port (b.answers_inviting port c s p.base) p;
     start_refresh = λ view rec o e a h p. silent o _ (b.start_refresh view rec o e a h p.base) refl refl refl p;
     end_refresh = λ rec r own o e a d v p. ends_refresh r own o (b.end_refresh rec r own o e a d v p.base) p;
     keep_answer = λ from view rec stored r c e f g. quiet _ (b.keep_answer from view rec stored r c e f g) refl refl;
@@ -232,16 +232,16 @@ module _ (catalogue : Catalogue) (x : SiteState) (given : Input) (led : Led x) (
     vote_writing = λ from txn view number reads writes part c e n d f v a w. quiet _ (b.vote_writing from txn view number reads writes part c e n d f v a w) refl refl;
     end_here = λ from txn commit c. ends_here from txn commit (doubt_of txn x.doubts) (b.end_here from txn commit c);
     coordinator = let m = b.coordinator in record {
-      begin = λ port view e. one _ _ (m.begin port view e) refl refl (Replies.other refl);
-      answers = λ words port why. one _ _ (m.answers words port why) refl refl why;
+      begin = λ port view e g u. one _ _ (m.begin port view e g u) refl refl (Replies.other refl);
+      answers = λ words port why y. one _ _ (m.answers words port why y) refl refl why;
       take_lock = λ t rec exclusive stored h i a v c. quiet _ (m.take_lock t rec exclusive stored h i a v c) refl refl;
-      complete = λ t p operation words l h g e q. completes t p operation words l (m.complete t p operation words l h g e q.base) g;
-      read_at = λ t p rec q h n r a w c o. quiet _ (m.read_at t p rec q h n r a w c o) refl refl;
-      write_at = λ t p rec value l h n w a e o d v q. let f = locked_effects x t rec l d in quiet _ (m.write_at t p rec value l h n w a e o d v q.base) (ap (λ (e : Effects). e.commits) f) (ap (λ (e : Effects). e.replies) f);
+      complete = λ t p operation words l h g y e q. completes t p operation words l (m.complete t p operation words l h g y e q.base) g;
+      read_at = λ t p rec q h n r a w c o y. quiet _ (m.read_at t p rec q h n r a w c o y) refl refl;
+      write_at = λ t p rec value l h n w a e o d y v q. let f = locked_effects x t rec l d in quiet _ (m.write_at t p rec value l h n w a e o d y v q.base) (ap (λ (e : Effects). e.commits) f) (ap (λ (e : Effects). e.replies) f);
       prepare_parts = λ t p h i g e. quiet _ (m.prepare_parts t p h i g e) refl refl;
       still_waits = λ t p from h e g f c. quiet _ (m.still_waits t p from h e g f c) refl refl;
       decide = λ t n d. decides t d (m.decide t n d);
-      close = λ t why l n a z q. closes t why l (m.close t why l n a z q.base) n a z q;
+      close = λ t why l n a z y q. closes t why l (m.close t why l n a z y q.base) n a z q;
       mark_calls = λ l c z q. marks l (m.mark_calls l c z q.base) q;
       acknowledge = λ from txn c w. quiet _ (m.acknowledge from txn c w) refl refl;
       answer_inquiry = λ from txn c s n. quiet _ (m.answer_inquiry from txn c s n) refl refl;

@@ -314,7 +314,7 @@ module _ (catalogue : Catalogue) (x : SiteState) (given : Input) where
     fix = λ view c e. many (begin_step x) (fix view (begin_step x)) (λ q. message.ViewCommit view.id view.members) (filter (λ q. not (q == x.id)) view.members) refl refl refl (λ q. refl) starts;
     without_wait = λ id c i w. silent (begin_step x) _ refl refl refl starts;
     probe = λ view c e. many (begin_step x) _ (λ q. message.Probe view.id) (other_sites catalogue x.id) refl refl refl (λ q. refl) starts;
-    answers_inviting = λ port s p. silent _ _ refl refl refl p;
+    answers_inviting = λ port c s p. silent _ _ refl refl refl p;
     start_refresh = λ view rec o e a h p. many o (start_refresh catalogue view rec o) (λ q. message.RefreshRequest view.id rec) (other_holders catalogue o.site rec) refl refl refl (λ q. refl) p;
     end_refresh = λ rec r own o e a d v p. ends_refresh r own o p;
     keep_answer = λ from view rec stored r c e f g. silent (begin_step x) _ refl refl refl starts;
@@ -335,18 +335,18 @@ module _ (catalogue : Catalogue) (x : SiteState) (given : Input) where
     vote_writing = λ from txn view number reads writes part c e n d f v a w. votes_writing from part reads writes (prepared_by from txn view number reads writes part c e n d f v a) w _ refl refl refl;
     end_here = λ from txn commit c. ends_here from txn commit (doubt_of txn x.doubts) c;
     coordinator = record {
-      begin = λ port view e. hushed (lent_at x) _ refl starts;
-      answers = λ words port why. hushed (lent_at x) _ refl starts;
+      begin = λ port view e g u. hushed (lent_at x) _ refl starts;
+      answers = λ words port why y. hushed (lent_at x) _ refl starts;
       take_lock = λ t rec exclusive stored h i a v c. hushed (lent_at x) _ refl starts;
-      complete = λ t p operation words l h g e q. hushed l _ refl q;
-      read_at = λ t p rec q h n r a w c o. asking (lent_at x) _ (λ a. message.ReadRequest t.txn t.view p.number rec) (q ∷ []) refl (λ q. refl) starts;
-      write_at = λ t p rec value l h n w a e o d v q. asking l _ (λ a. message.WriteRequest t.txn t.view p.number rec) (other_holders catalogue x rec) refl (λ q. refl) q;
+      complete = λ t p operation words l h g y e q. hushed l _ refl q;
+      read_at = λ t p rec q h n r a w c o y. asking (lent_at x) _ (λ a. message.ReadRequest t.txn t.view p.number rec) (q ∷ []) refl (λ q. refl) starts;
+      write_at = λ t p rec value l h n w a e o d y v q. asking l _ (λ a. message.WriteRequest t.txn t.view p.number rec) (other_holders catalogue x rec) refl (λ q. refl) q;
       prepare_parts = λ t p h i g e. asking (lent_at x) _ (prepare_for catalogue t p) t.parts refl (λ q. refl) starts;
       still_waits = λ t p from h e m f c. hushed (lent_at x) _ refl starts;
       decide = λ t n d. decide-cases K catalogue x.id t (lent_at x)
           (λ e. asking (lent_at x) _ (λ q. message.Outcome t.txn true) t.parts (decided-ends x.id t (lent_at x)).messages (λ q. refl) starts)
           (λ e. asking (keep_writes catalogue x.id t (lent_at x)) _ (λ q. message.Outcome t.txn true) t.parts (decided-ends x.id t _).messages (λ q. refl) (keeps_writes t (lent_at x) starts));
-      close = λ t why l n a z q. asking l _ (λ q. message.Outcome t.txn false) t.parts (close-ends x.id t why l).messages (λ q. refl) q;
+      close = λ t why l n a z y q. asking l _ (λ q. message.Outcome t.txn false) t.parts (close-ends x.id t why l).messages (λ q. refl) q;
       mark_calls = λ l c z q. hushed l _ refl q;
       acknowledge = λ from txn c w. hushed (lent_at x) _ refl starts;
       answer_inquiry = λ from txn c s n. asking (lent_at x) _ (λ q. message.Outcome txn (is_decided txn x.decisions)) (from ∷ []) refl (λ q. refl) starts;

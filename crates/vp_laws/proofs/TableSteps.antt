@@ -226,21 +226,21 @@ module _ (catalogue : Catalogue) (x : SiteState) (given : Input) (led : Led x) (
   pub moves : OfCoordinator catalogue x given L
   unfolding start_txn take_lock mark_calls
   moves = record {
-    begin = λ port view e. record {
+    begin = λ port view e g u. record {
       apart = apart_more (begun (next_name x) view.id) x.live apart not_named;
       live = λ t h. ⊎_elim (λ old. LiveNow.still old) (λ new. LiveNow.begins view e (has_one_is (begun (next_name x) view.id) t new)) (has_cases x.live (begun (next_name x) view.id ∷ []) t h);
       sent = λ m h. absurd (has_none m h);
       entered = λ e h. absurd (has_none e h);
     };
-    answers = λ words port why. starts;
+    answers = λ words port why y. starts;
     take_lock = λ t rec exclusive stored h i a v c. starts;
-    complete = λ t p operation words l h g e r. completes t p operation words l h g e;
-    read_at = λ t p rec q h n r a w c o. reads_at t p rec q h (record { next = n; reads = r; usable = a; unwritten = w; no_copy = c; holder = o });
-    write_at = λ t p rec value l h n w a e o d v r. writes_at t p rec value l h (record { next = n; writes = w; usable = a; unwritten = e; others = o }) d v;
+    complete = λ t p operation words l h g y e r. completes t p operation words l h g e;
+    read_at = λ t p rec q h n r a w c o y. reads_at t p rec q h (record { next = n; reads = r; usable = a; unwritten = w; no_copy = c; holder = o });
+    write_at = λ t p rec value l h n w a e o d y v r. writes_at t p rec value l h (record { next = n; writes = w; usable = a; unwritten = e; others = o }) d v;
     prepare_parts = λ t p h i g e. asks_votes t p h (record { next = i; commit = g; parts = e });
     still_waits = λ t p from h e m f c. moves_on (waiting t p (remaining from p)) x.coordinator [] refl (LiveNow.waits t p from h e m f c refl) (λ m k o. absurd (has_none m k));
     decide = λ t n d. decides t n d;
-    close = λ t why l n a z r. closes t why l r;
+    close = λ t why l n a z y r. closes t why l r;
     mark_calls = λ l c z r. marks l c z r;
     acknowledge = λ from txn c w. starts_with (with_acknowledged txn from x.coordinator) refl;
     answer_inquiry = λ from txn c s n. record {

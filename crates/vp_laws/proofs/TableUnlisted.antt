@@ -200,7 +200,7 @@ module _ (catalogue : Catalogue) (x : SiteState) (given : Input) (tidy : Tidy x)
     fix = λ view c e. record { base = b.fix view c e; unlisted = λ k u h none. Unlisted.joined view refl (Joins.fixed c e) };
     without_wait = λ id c i w. stays _ refl refl (b.without_wait id c i w);
     probe = λ view c e. stays _ refl refl (b.probe view c e);
-    answers_inviting = λ port s p. same _ _ refl refl refl refl (λ r h. each _ r h) (b.answers_inviting port s p.base) p;
+    answers_inviting = λ port c s p. same _ _ refl refl refl refl (λ r h. each _ r h) (b.answers_inviting port c s p.base) p;
     start_refresh = λ view rec o e a h p. refreshes view rec o (b.start_refresh view rec o e a h p.base) p;
     end_refresh = λ rec r own o e a d v p. finishes rec r own o e a d v (b.end_refresh rec r own o e a d v p.base) p;
     keep_answer = λ from view rec stored r c e f g. first _ refl (λ q h. (with_answer rec from stored q, mapped_has (with_answer rec from stored) x.refresh q h, rec_same rec from stored q)) (b.keep_answer from view rec stored r c e f g);
@@ -216,16 +216,16 @@ module _ (catalogue : Catalogue) (x : SiteState) (given : Input) (tidy : Tidy x)
     vote_writing = λ from txn view number reads writes part c e n d f v a w. stays _ refl refl (b.vote_writing from txn view number reads writes part c e n d f v a w);
     end_here = λ from txn commit c. ends_here from txn commit (doubt_of txn x.doubts) (b.end_here from txn commit c);
     coordinator = record {
-      begin = λ port view e. stays _ refl refl (b.coordinator.begin port view e);
-      answers = λ words port why. stays _ refl refl (b.coordinator.answers words port why);
+      begin = λ port view e g u. stays _ refl refl (b.coordinator.begin port view e g u);
+      answers = λ words port why y. stays _ refl refl (b.coordinator.answers words port why y);
       take_lock = λ t rec exclusive stored h i a v c. stays _ refl refl (b.coordinator.take_lock t rec exclusive stored h i a v c);
-      complete = λ t p operation words l h g e q. stays _ refl refl (b.coordinator.complete t p operation words l h g e q.base);
-      read_at = λ t p rec q h n r a w c o. stays _ refl refl (b.coordinator.read_at t p rec q h n r a w c o);
-      write_at = λ t p rec value l h n w a e o d v q. stays _ refl refl (b.coordinator.write_at t p rec value l h n w a e o d v q.base);
+      complete = λ t p operation words l h g y e q. stays _ refl refl (b.coordinator.complete t p operation words l h g y e q.base);
+      read_at = λ t p rec q h n r a w c o y. stays _ refl refl (b.coordinator.read_at t p rec q h n r a w c o y);
+      write_at = λ t p rec value l h n w a e o d y v q. stays _ refl refl (b.coordinator.write_at t p rec value l h n w a e o d y v q.base);
       prepare_parts = λ t p h i g e. stays _ refl refl (b.coordinator.prepare_parts t p h i g e);
       still_waits = λ t p from h e m f c. stays _ refl refl (b.coordinator.still_waits t p from h e m f c);
       decide = λ t n d. stays _ refl refl (b.coordinator.decide t n d);
-      close = λ t why l n a z q. stays _ refl refl (b.coordinator.close t why l n a z q.base);
+      close = λ t why l n a z y q. stays _ refl refl (b.coordinator.close t why l n a z y q.base);
       mark_calls = λ l c z q. stays _ refl refl (b.coordinator.mark_calls l c z q.base);
       acknowledge = λ from txn c w. stays _ refl refl (b.coordinator.acknowledge from txn c w);
       answer_inquiry = λ from txn c s n. stays _ refl refl (b.coordinator.answer_inquiry from txn c s n);

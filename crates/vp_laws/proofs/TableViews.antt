@@ -340,21 +340,21 @@ module _ (catalogue : Catalogue) (x : SiteState) (given : Input) (tidy : Tidy x)
     vote_writing = λ from txn view number reads writes part c e n d f v a w. one_more_beside from (message.Vote part.txn) refl _ refl refl refl;
     end_here = λ from txn commit c. ends_here from txn commit (doubt_of txn x.doubts);
     coordinator = record {
-      begin = λ port view e. hushed (lent_at x) _ refl begins;
-      answers = λ words port why. hushed (lent_at x) _ refl begins;
+      begin = λ port view e g u. hushed (lent_at x) _ refl begins;
+      answers = λ words port why y. hushed (lent_at x) _ refl begins;
       take_lock = λ t rec exclusive stored h i a v c. hushed (lent_at x) _ refl begins;
-      complete = λ t p operation words l h g e q. hushed l _ refl q;
-      read_at = λ t p rec q h n r a w c o. one_more_beside q _ refl _ refl refl refl;
-      write_at = λ t p rec value l h n w a e o d v q. writes_at t p rec (other_holders catalogue x rec) l q;
+      complete = λ t p operation words l h g y e q. hushed l _ refl q;
+      read_at = λ t p rec q h n r a w c o y. one_more_beside q _ refl _ refl refl refl;
+      write_at = λ t p rec value l h n w a e o d y v q. writes_at t p rec (other_holders catalogue x rec) l q;
       prepare_parts = λ t p h i g e. beside x given (begin_step x) _ _ refl refl refl (letters_quiet x given x.id (prepare_for catalogue t p) t.parts (λ q. refl)) begins;
       still_waits = λ t p from h e m f c. hushed (lent_at x) _ refl begins;
       decide = λ t h d. decides t;
-      close = λ t why l h a z q. ends t why false l _ (close-ends x.id t why l) q;
+      close = λ t why l h a z y q. ends t why false l _ (close-ends x.id t why l) q;
       mark_calls = λ l c z q. hushed l _ refl q;
       acknowledge = λ from txn c w. hushed (lent_at x) _ refl begins;
       answer_inquiry = λ from txn c s n. one_more _ from tt;
     };
-    answers_inviting = λ port s l. silent x given _ _ refl refl refl l;
+    answers_inviting = λ port c s l. silent x given _ _ refl refl refl l;
     resend_one = λ d o c h l. resends d o l;
     inquire = λ o c l. inquires (known o.site.participant) o l;
   }

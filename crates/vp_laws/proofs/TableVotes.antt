@@ -336,21 +336,21 @@ module _ (catalogue : Catalogue) (x : SiteState) (given : Input) (led : Led x) (
     vote_writing = λ from txn view number reads writes part c e n d f v a w. voted _ from txn part.txn view number reads writes c (part_same txn part f) refl refl refl;
     end_here = λ from txn commit c. ends_here from txn commit (doubt_of txn x.doubts);
     coordinator = record {
-      begin = λ port view e. begins_one port view;
-      answers = λ words port why. hushed (lent_at x) _ refl refl begins;
+      begin = λ port view e g u. begins_one port view;
+      answers = λ words port why y. hushed (lent_at x) _ refl refl begins;
       take_lock = λ t rec exclusive stored h i a v c. hushed (lent_at x) _ refl refl begins;
-      complete = λ t p operation words l h g e q. put_on (record t { ops = t.ops ++ operation ∷ []; answers = t.answers ++ words ∷ []; pending = None }) t (put_back (begin_step x) l) (put_back (begin_step x) (complete t p operation words l)) [] h (completes_operating catalogue x given t p operation words l g) refl e refl refl (sym (append-nil l.effects.messages)) (λ m k. absurd (has_none m k)) q;
-      read_at = λ t p rec q h n r a w c o. put_on (record t { remote = t.remote ++ (q, rec) ∷ []; parts = put_number q t.parts; pending = Some (record p { missing = q ∷ [] }) }) t (begin_step x) (put_back (begin_step x) (read_at x.id t p rec q (lent_at x))) (letter x.id q (message.ReadRequest t.txn t.view p.number rec) ∷ []) h (inl n.idle) refl refl refl refl refl (letter_still x.id q (message.ReadRequest t.txn t.view p.number rec) refl) begins;
-      write_at = λ t p rec value l h n w a e o d v q. put_on (record t { parts = for_each (other_holders catalogue x rec) put_number t.parts; pending = Some (record p { missing = other_holders catalogue x rec }) }) t (put_back (begin_step x) l) (put_back (begin_step x) (write_at x.id t p rec (other_holders catalogue x rec) l)) (letters x.id (λ q. message.WriteRequest t.txn t.view p.number rec) (other_holders catalogue x rec)) h (inl n.idle) refl v refl refl refl (letters_still x.id (λ q. message.WriteRequest t.txn t.view p.number rec) (other_holders catalogue x rec) (λ q. refl)) q;
+      complete = λ t p operation words l h g y e q. put_on (record t { ops = t.ops ++ operation ∷ []; answers = t.answers ++ words ∷ []; pending = None }) t (put_back (begin_step x) l) (put_back (begin_step x) (complete t p operation words l)) [] h (completes_operating catalogue x given t p operation words l g) refl e refl refl (sym (append-nil l.effects.messages)) (λ m k. absurd (has_none m k)) q;
+      read_at = λ t p rec q h n r a w c o y. put_on (record t { remote = t.remote ++ (q, rec) ∷ []; parts = put_number q t.parts; pending = Some (record p { missing = q ∷ [] }) }) t (begin_step x) (put_back (begin_step x) (read_at x.id t p rec q (lent_at x))) (letter x.id q (message.ReadRequest t.txn t.view p.number rec) ∷ []) h (inl n.idle) refl refl refl refl refl (letter_still x.id q (message.ReadRequest t.txn t.view p.number rec) refl) begins;
+      write_at = λ t p rec value l h n w a e o d y v q. put_on (record t { parts = for_each (other_holders catalogue x rec) put_number t.parts; pending = Some (record p { missing = other_holders catalogue x rec }) }) t (put_back (begin_step x) l) (put_back (begin_step x) (write_at x.id t p rec (other_holders catalogue x rec) l)) (letters x.id (λ q. message.WriteRequest t.txn t.view p.number rec) (other_holders catalogue x rec)) h (inl n.idle) refl v refl refl refl (letters_still x.id (λ q. message.WriteRequest t.txn t.view p.number rec) (other_holders catalogue x rec) (λ q. refl)) q;
       prepare_parts = λ t p h i g e. prepares_parts t p h i.idle g;
       still_waits = λ t p from h e m f c. waits_on t p (remaining from p) h e;
       decide = λ t n d. decide-cases K catalogue x.id t (lent_at x) (λ e. ends t Committed true _ _ (decided-ends x.id t (lent_at x)) begins) (λ e. ends t Committed true _ _ (decided-ends x.id t _) (keeps_writes t (lent_at x) begins));
-      close = λ t why l n a z q. ends t why false l _ (close-ends x.id t why l) q;
+      close = λ t why l n a z y q. ends t why false l _ (close-ends x.id t why l) q;
       mark_calls = λ l c z q. marks l q;
       acknowledge = λ from txn c w. hushed (lent_at x) _ refl refl begins;
       answer_inquiry = λ from txn c s n. plain (lent_at x) _ (letter x.id from (message.Outcome txn (is_decided txn x.decisions)) ∷ []) refl refl (letter_still x.id from (message.Outcome txn (is_decided txn x.decisions)) refl) begins;
     };
-    answers_inviting = λ port s l. silent (invite catalogue (begin_step x)) (reply (answer.Inviting (next_view x)) port (invite catalogue (begin_step x))) refl refl refl l;
+    answers_inviting = λ port c s l. silent (invite catalogue (begin_step x)) (reply (answer.Inviting (next_view x)) port (invite catalogue (begin_step x))) refl refl refl l;
     resend_one = λ d o c h l. alike o (put_back o (resend_one o.site.id d (lent o))) (letters o.site.id (λ q. message.Outcome d.0 true) d.1) refl refl refl (letters_still o.site.id (λ q. message.Outcome d.0 true) d.1 (λ q. refl)) l;
     inquire = λ o c l. inquires (known o.site.participant) o l;
   }

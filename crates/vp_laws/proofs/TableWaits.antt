@@ -133,16 +133,16 @@ module _ (catalogue : Catalogue) (x : SiteState) (given : Input) (settled : (d :
   pub moves : OfCoordinator catalogue x given L
   unfolding start_txn take_lock complete read_at write_at prepare_parts mark_calls
   moves = record {
-    begin = λ port view e. beside x.coordinator _ [] _ [] refl starts;
-    answers = λ words port why. starts;
+    begin = λ port view e g u. beside x.coordinator _ [] _ [] refl starts;
+    answers = λ words port why y. starts;
     take_lock = λ t rec exclusive stored h i a v c. starts;
-    complete = λ t p operation words l h g e r. beside l.coordinator _ l.effects.messages _ l.effects.commits refl r;
-    read_at = λ t p rec q h n r a w c o. beside x.coordinator _ [] _ [] refl starts;
-    write_at = λ t p rec value l h n w a e o d v r. beside l.coordinator _ l.effects.messages _ l.effects.commits refl r;
+    complete = λ t p operation words l h g y e r. beside l.coordinator _ l.effects.messages _ l.effects.commits refl r;
+    read_at = λ t p rec q h n r a w c o y. beside x.coordinator _ [] _ [] refl starts;
+    write_at = λ t p rec value l h n w a e o d y v r. beside l.coordinator _ l.effects.messages _ l.effects.commits refl r;
     prepare_parts = λ t p h i g e. beside x.coordinator _ [] _ [] refl starts;
     still_waits = λ t p from h e m f c. beside x.coordinator _ [] _ [] refl starts;
     decide = λ t n d. decides t n;
-    close = λ t why l n a z r. closes t why l r;
+    close = λ t why l n a z y r. closes t why l r;
     mark_calls = λ l c z r. beside l.coordinator _ l.effects.messages _ l.effects.commits refl r;
     acknowledge = λ from txn c w. acknowledges txn from c;
     answer_inquiry = λ from txn c s n. beside x.coordinator _ [] _ [] refl starts;
