@@ -1,9 +1,9 @@
 -- A record that is closed for a view stays closed.
-use Rattle.std.proofs.Common.{◌≡◌, ◌∙◌, ap, subst, ℕ, List}
+use Rattle.std.proofs.Common.{◌≡◌, ◌∙◌, ap, subst, ℕ, true, List}
 use Rattle.std.specs.Prelude.{Some}
 use Rattle.vp_model.specs.Types.{ViewId, View, Input, Part}
 use Rattle.vp_model.specs.Words.{keys}
-use Rattle.vp_model.specs.Catalogue.{Catalogue, holders}
+use Rattle.vp_model.specs.Catalogue.{Catalogue, holders, accessible}
 use Rattle.vp_model.specs.Durable.{DurableState, Doubt}
 use Rattle.vp_model.specs.Site.{SiteState, Stepped}
 use Rattle.vp_model.specs.Step.{durable_of}
@@ -25,6 +25,15 @@ pub record ClosedAt (w : Scene) (q rec : ℕ) (i : ViewId) : Type 0 where
 -- no transaction of a lower view that writes the record can be decided any more
 abbrev pub Closed : Catalogue → Scene → ℕ → View → Type 0
 Closed catalogue w rec v = (q : ℕ) → Has (holders catalogue rec) q → Has v.members q → ClosedAt w q rec v.id
+
+-- the record may be used in the view
+abbrev pub InForce : Catalogue → Scene → ℕ → View → Type 0
+InForce catalogue w rec v = accessible catalogue rec v.members ≡ true
+
+-- both: what is known of each record that is used in the view
+pub record Open (catalogue : Catalogue) (w : Scene) (rec : ℕ) (v : View) : Type 0 where
+  pub closed : Closed catalogue w rec v
+  pub usable : InForce catalogue w rec v
 
 module _ (catalogue : Catalogue) (w new : Scene) (s : ℕ) (x : SiteState) (given : Input) (o : Stepped) (up : plain_at w s ≡ Some x) (kept : durable_of x ≡ kept_at w s) (parts : (p : Part) → Has x.parts p → PartOk x p) (p : Shares x given o) (v : Leaves x given o) (st : Acted w new s x o) where
   pub closed_at_lasts : (q rec : ℕ) (i : ViewId) → ClosedAt w q rec i → ClosedAt new q rec i

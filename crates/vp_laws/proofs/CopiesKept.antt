@@ -22,7 +22,7 @@ use Rattle.vp_laws.proofs.InvShares.{InDoubt}
 use Rattle.vp_laws.proofs.InvEntered.{Wrote, AgreedAs, written_op}
 use Rattle.vp_laws.proofs.InvHeld.{has_copy, holds_copy}
 use Rattle.vp_laws.proofs.InvListed.{not_below_itself}
-use Rattle.vp_laws.proofs.Closing.{Closed, closed_lasts}
+use Rattle.vp_laws.proofs.Closing.{Closed, Open, closed_lasts}
 use Rattle.vp_laws.proofs.Stopping.{shared_holder}
 use Rattle.vp_laws.proofs.ValuesAfter.{value_after, without_entry}
 use Rattle.vp_laws.proofs.CopyInvariants.{FromView, DoubtOn, InvCopies, InvRefresh}
@@ -60,9 +60,12 @@ module _ (catalogue : Catalogue) (w new : Scene) (s : ℕ) (x : SiteState) (give
   pub closed_now : (rec : ℕ) (v : View) → Closed catalogue w rec v → Closed catalogue new rec v
   closed_now rec v h = closed_lasts catalogue w new s x given o d.up d.here.kept d.below.parts d.shares d.leaves d.st rec v h
 
+  pub open_now : (rec : ℕ) (v : View) → Open catalogue w rec v → Open catalogue new rec v
+  open_now rec v h = record { closed = closed_now rec v h.closed; usable = h.usable }
+
   pub from_lasts : (j rec : ℕ) (date : ViewId) → FromView catalogue w j rec date → FromView catalogue new j rec date
   from_lasts j rec date (FromView.member v agreed m) = FromView.member v (d.st.moved.agreed v agreed.0, agreed.1) m
-  from_lasts j rec date (FromView.closed v agreed later m usable closed) = FromView.closed v (d.st.moved.agreed v agreed) later m usable (closed_now rec v closed)
+  from_lasts j rec date (FromView.closed v agreed later m opened) = FromView.closed v (d.st.moved.agreed v agreed) later m (open_now rec v opened)
 
   module _ (j rec : ℕ) (c : Stored) (h : value_at rec (kept_at new j).copies ≡ Some c) where
     holder : Has (holders catalogue rec) j
@@ -131,8 +134,8 @@ module _ (catalogue : Catalogue) (w new : Scene) (s : ℕ) (x : SiteState) (give
     before : (b : Stored) × (value_at rec x.copies ≡ Some b)
     before = has_copy catalogue w s x d.up d.here.kept k.held rec its_holder
 
-    still_closed : IsUnlisted x.refresh rec → o.site.held ≡ x.held → Closed catalogue w rec v
-    still_closed none same = copies.usable s rec x v before.0 d.up (sym same ∙ held) (subst (λ (held : Option View). is_usable_in catalogue held rec ≡ true) same usable) (unlisted_none rec x.refresh none) before.1
+    still_closed : IsUnlisted x.refresh rec → o.site.held ≡ x.held → Open catalogue w rec v
+    still_closed none same = copies.open_copy s rec x v before.0 d.up (sym same ∙ held) (subst (λ (held : Option View). is_usable_in catalogue held rec ≡ true) same usable) (unlisted_none rec x.refresh none) before.1
 
     -- its refresh has ended in this step
     module _ (q : Ended catalogue x given o rec) where
@@ -173,12 +176,12 @@ module _ (catalogue : Catalogue) (w new : Scene) (s : ℕ) (x : SiteState) (give
               not_below_itself e.view v.id below (sym g.is ∙ ap (λ (v : View). v.id) same))
               (d.st.entered e there)
 
-    usable_here : Closed catalogue new rec v
+    usable_here : Open catalogue new rec v
     usable_here = go why
       where
-        go : Quits catalogue x given o rec → Closed catalogue new rec v
-        go (Quits.still none same) = closed_now rec v (still_closed none same)
-        go (Quits.ended q) = ended_closed q
+        go : Quits catalogue x given o rec → Open catalogue new rec v
+        go (Quits.still none same) = open_now rec v (still_closed none same)
+        go (Quits.ended q) = record { closed = ended_closed q; usable = in_view }
 
     between_here : (e : Commit) → Has new.journal e → Wrote e rec → Precedes c.date e.view → Precedes e.view v.id → ⊥
     between_here e there wrote later below = go why
@@ -191,7 +194,7 @@ module _ (catalogue : Catalogue) (w new : Scene) (s : ℕ) (x : SiteState) (give
             copies.between s rec x v c e d.up (sym same ∙ held) (subst (λ (held : Option View). is_usable_in catalogue held rec ≡ true) same usable) (unlisted_none rec x.refresh none)
             (subst (λ (k : DurableState). value_at rec k.copies ≡ Some c) (sym d.here.kept) t.was) old wrote later below
         still none same (Origin.plain (Own.outcome a)) old =
-            ((still_closed none same) s its_holder member).certain a.doubt a.was (applied_on catalogue w new s x given o k n d copies refresh s rec c its_holder a)
+            ((still_closed none same).closed s its_holder member).certain a.doubt a.was (applied_on catalogue w new s x given o k n d copies refresh s rec c its_holder a)
             (subst (λ (i : ViewId). Precedes i v.id) (sym (applied_date catalogue w new s x given o k n d copies refresh s rec c its_holder a)) (Precedes-trans c.date e.view v.id later below))
         still none same (Origin.plain (Own.entered b)) old =
             let f = entering catalogue w new s x given o k n d b.entry b.entered in
@@ -204,7 +207,7 @@ module _ (catalogue : Catalogue) (w new : Scene) (s : ℕ) (x : SiteState) (give
         go : Quits catalogue x given o rec → ⊥
         go (Quits.still none same) = ⊎_elim
             (λ old. still none same (origin catalogue w new s x given o k n d s rec c kept_copy) old)
-            (λ more. stops catalogue w new s x given o k n d e v rec more wrote below in_view (still_closed none same))
+            (λ more. stops catalogue w new s x given o k n d e v rec more wrote below (still_closed none same))
             (d.st.entered e there)
         go (Quits.ended q) = ended_between q e there wrote later below
 
@@ -216,11 +219,11 @@ module _ (catalogue : Catalogue) (w new : Scene) (s : ℕ) (x : SiteState) (give
     above = λ j rec c e v h there wrote later agreed member. above_kept j rec c h e v there wrote later agreed member;
     from = λ j rec c h. from_kept j rec c h;
     between = λ j rec y v c e up held usable unlisted h there wrote later below. between_at j rec y v c e held usable unlisted h there wrote later below (now_is w new s x o d.st j y up);
-    usable = λ j rec y v c up held usable unlisted h. usable_at j rec y v c held usable unlisted h (now_is w new s x o d.st j y up);
+    open_copy = λ j rec y v c up held usable unlisted h. usable_at j rec y v c held usable unlisted h (now_is w new s x o d.st j y up);
   }
     where
-      usable_at : (j rec : ℕ) (y : SiteState) (v : View) (c : Stored) → y.held ≡ Some v → is_usable catalogue y rec ≡ true → refreshing_of rec y.refresh ≡ None → value_at rec y.copies ≡ Some c → NowIs w s o.site j y → Closed catalogue new rec v
-      usable_at j rec y v c held usable unlisted h (NowIs.other m old) = closed_now rec v (copies.usable j rec y v c old held usable unlisted h)
+      usable_at : (j rec : ℕ) (y : SiteState) (v : View) (c : Stored) → y.held ≡ Some v → is_usable catalogue y rec ≡ true → refreshing_of rec y.refresh ≡ None → value_at rec y.copies ≡ Some c → NowIs w s o.site j y → Open catalogue new rec v
+      usable_at j rec y v c held usable unlisted h (NowIs.other m old) = open_now rec v (copies.open_copy j rec y v c old held usable unlisted h)
       usable_at j rec y v c held usable unlisted h (NowIs.here z same) =
           usable_here rec v c (ap (λ (y : SiteState). y.held) same ∙ held) (subst (λ (y : SiteState). is_usable catalogue y rec ≡ true) (sym same) usable) (subst (λ (y : SiteState). refreshing_of rec y.refresh ≡ None) (sym same) unlisted) (subst (λ (y : SiteState). value_at rec y.copies ≡ Some c) (sym same) h)
 
@@ -229,5 +232,5 @@ module _ (catalogue : Catalogue) (w new : Scene) (s : ℕ) (x : SiteState) (give
           between_here rec v c (ap (λ (y : SiteState). y.held) same ∙ held) (subst (λ (y : SiteState). is_usable catalogue y rec ≡ true) (sym same) usable) (subst (λ (y : SiteState). refreshing_of rec y.refresh ≡ None) (sym same) unlisted) (subst (λ (y : SiteState). value_at rec y.copies ≡ Some c) (sym same) h) e there wrote later below
       between_at j rec y v c e held usable unlisted h there wrote later below (NowIs.other m old) = ⊎_elim
           (λ was. copies.between j rec y v c e old held usable unlisted h was wrote later below)
-          (λ more. stops catalogue w new s x given o k n d e v rec more wrote below (subst (λ (held : Option View). is_usable_in catalogue held rec ≡ true) held usable) (copies.usable j rec y v c old held usable unlisted h))
+          (λ more. stops catalogue w new s x given o k n d e v rec more wrote below (copies.open_copy j rec y v c old held usable unlisted h))
           (d.st.entered e there)

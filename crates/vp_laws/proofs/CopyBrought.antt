@@ -95,10 +95,13 @@ module _ (catalogue : Catalogue) (w new : Scene) (s : ℕ) (x : SiteState) (give
         ∙ subst (λ (c : Stored). value_after catalogue w.journal c.date rec ≡ Some c.value) b.refreshed.taken.2 (refresh.value b.refreshed.taken.0.0 s rec u.id b.refreshed.taken.0.1.date b.refreshed.taken.0.1.value answer.sent answer.low)
 
     pub brought_from : FromView catalogue new j rec c.date
-    brought_from = FromView.closed u (d.st.moved.agreed u (d.here.held u held)) low (subst (Has u.members) (sym b.here) member) usable
-        (all_closed catalogue w new s x given o k n d refresh rec u b.refreshed.r x d.here.id held b.refreshed.on b.refreshed.all b.refreshed.answers (λ p h. held)
-        (λ i below. left_below catalogue w new s x given o k n d u i held below)
-        (subst (λ (j : ℕ). Certain (kept_at new j).doubts rec) b.here brought_sure))
+    brought_from = FromView.closed u (d.st.moved.agreed u (d.here.held u held)) low (subst (Has u.members) (sym b.here) member)
+        (record {
+          usable = usable;
+          closed = all_closed catalogue w new s x given o k n d refresh rec u b.refreshed.r x d.here.id held b.refreshed.on b.refreshed.all b.refreshed.answers (λ p h. held)
+              (λ i below. left_below catalogue w new s x given o k n d u i held below)
+              (subst (λ (j : ℕ). Certain (kept_at new j).doubts rec) b.here brought_sure);
+        })
 
     pub brought_above : (e : Commit) (v : View) → Has new.journal e → Wrote e rec → Precedes c.date e.view → AgreedAs new e.view v → Has v.members j → InDoubt new j e.txn
     brought_above e v h wrote later agreed in_view = ⊎_elim old (λ entered. absurd (answer_unwritten catalogue w new s x given o k n d rec b.refreshed.taken.0 taken e entered wrote)) (d.st.entered e h)

@@ -4,7 +4,7 @@ use Rattle.std.specs.Prelude.{Some}
 use Rattle.vp_model.specs.Types.{ViewId, View, Commit, Stored}
 use Rattle.vp_model.specs.Types.op
 use Rattle.vp_model.specs.Words.{keys, opening, same_view, view_before, value_at}
-use Rattle.vp_model.specs.Catalogue.{Catalogue, holders, accessible}
+use Rattle.vp_model.specs.Catalogue.{Catalogue, holders}
 use Rattle.vp_model.specs.Durable.{Doubt}
 use Rattle.vp_laws.proofs.Members.{Has}
 use Rattle.vp_laws.proofs.Lists.{mapped_has}
@@ -15,7 +15,7 @@ use Rattle.vp_laws.proofs.TableCopies.{value_pair}
 use Rattle.vp_laws.proofs.InvEntered.{Wrote, AgreedAs, written_op}
 use Rattle.vp_laws.proofs.InvDated.{IsDated}
 use Rattle.vp_laws.proofs.InvHeld.{holder_kept}
-use Rattle.vp_laws.proofs.Closing.{Closed}
+use Rattle.vp_laws.proofs.Closing.{Open}
 use Rattle.vp_laws.proofs.CopyInvariants.{FromView, InvCopies, InvRefresh}
 use Rattle.vp_laws.proofs.Tower.{Known}
 
@@ -37,8 +37,7 @@ pub record ClosedAbove (catalogue : Catalogue) (w : Scene) (s rec : ℕ) (j : Vi
   pub agreed : Has w.agreed view
   pub member : Has view.members s
   pub above : Precedes j view.id
-  pub usable : accessible catalogue rec view.members ≡ true
-  pub closed : Closed catalogue w rec view
+  pub opened : Open catalogue w rec view
 
 module _ (catalogue : Catalogue) (w : Scene) (k : Known catalogue w) where
   pub copy_dated : (s rec : ℕ) (c : Stored) → value_at rec (kept_at w s).copies ≡ Some c → IsDated w rec c.date
@@ -49,18 +48,18 @@ module _ (catalogue : Catalogue) (w : Scene) (k : Known catalogue w) where
 
 module _ (catalogue : Catalogue) (w : Scene) (k : Known catalogue w) (refresh : InvRefresh catalogue w) where
   -- the view of an entry
-  pub entry_closes : (e : Commit) (rec : ℕ) (v : View) → Has w.journal e → Wrote e rec → AgreedAs w e.view v → Closed catalogue w rec v × (accessible catalogue rec v.members ≡ true)
+  pub entry_closes : (e : Commit) (rec : ℕ) (v : View) → Has w.journal e → Wrote e rec → AgreedAs w e.view v → Open catalogue w rec v
   entry_closes e rec v h wrote a =
       let did = written_op e.ops rec wrote in
-      (refresh.entry e v (op.Write rec did.0) h a did.1, k.entered.accessible e v (op.Write rec did.0) h a did.1)
+      refresh.entry e v (op.Write rec did.0) h a did.1
 
   pub closed_above : (s rec : ℕ) (date j : ViewId) → FromView catalogue w s rec date → IsDated w rec date → Precedes j date → ClosedAbove catalogue w s rec j
-  closed_above s rec date j (FromView.closed v agreed later member usable closed) dated below = record { view = v; agreed = agreed; member = member; above = Precedes-trans j date v.id below later; usable = usable; closed = closed }
+  closed_above s rec date j (FromView.closed v agreed later member opened) dated below = record { view = v; agreed = agreed; member = member; above = Precedes-trans j date v.id below later; opened = opened }
   closed_above s rec date j (FromView.member v agreed member) dated below = ⊎_elim
       (λ (first : date ≡ opening). absurd (not_both j opening (subst (Precedes j) first below) (opening_least j)))
       (λ (q : (e : Commit) × Has w.journal e × Wrote e rec × (e.view ≡ date)).
       let c = entry_closes q.0 rec v q.1 q.2 (agreed.0, agreed.1 ∙ sym q.3) in
-      record { view = v; agreed = agreed.0; member = member; above = subst (Precedes j) (sym agreed.1) below; usable = c.1; closed = c.0 })
+      record { view = v; agreed = agreed.0; member = member; above = subst (Precedes j) (sym agreed.1) below; opened = c })
       dated
 
 module _ (catalogue : Catalogue) (w : Scene) (k : Known catalogue w) (copies : InvCopies catalogue w) (refresh : InvRefresh catalogue w) where
@@ -71,4 +70,4 @@ module _ (catalogue : Catalogue) (w : Scene) (k : Known catalogue w) (copies : I
   pub no_doubt_below : (s rec : ℕ) (c : Stored) (u : Doubt) → value_at rec (kept_at w s).copies ≡ Some c → Has (kept_at w s).doubts u → Has (keys u.2) rec → Precedes u.1 c.date → ⊥
   no_doubt_below s rec c u e there on below =
       let a = copy_closed s rec c u.1 e below in
-      (a.closed s (copy_holder catalogue w k s rec c e) a.member).certain u there on a.above
+      (a.opened.closed s (copy_holder catalogue w k s rec c e) a.member).certain u there on a.above

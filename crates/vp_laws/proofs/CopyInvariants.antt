@@ -15,14 +15,14 @@ use Rattle.vp_laws.proofs.Scenes.{Scene, plain_at, kept_at}
 use Rattle.vp_laws.proofs.InvShares.{HasRequest, InDoubt}
 use Rattle.vp_laws.proofs.InvOps.{record_of}
 use Rattle.vp_laws.proofs.InvEntered.{Wrote, AgreedAs}
-use Rattle.vp_laws.proofs.Closing.{ClosedAt, Closed}
+use Rattle.vp_laws.proofs.Closing.{ClosedAt, Open}
 use Rattle.vp_laws.proofs.InvUsed.{HasAnswered}
 use Rattle.vp_laws.proofs.ValuesAfter.{value_after, without_entry}
 
 -- the site holds the record in the date's view, or the record is closed for a later view of the site
 pub data FromView (catalogue : Catalogue) (w : Scene) (s rec : ℕ) (date : ViewId) : Type 0 where
   member : (v : View) → AgreedAs w date v → Has v.members s → FromView catalogue w s rec date
-  closed : (v : View) → Has w.agreed v → Precedes date v.id → Has v.members s → accessible catalogue rec v.members ≡ true → Closed catalogue w rec v → FromView catalogue w s rec date
+  closed : (v : View) → Has w.agreed v → Precedes date v.id → Has v.members s → Open catalogue w rec v → FromView catalogue w s rec date
 
 -- the transaction in doubt here of the date's view that writes the record
 abbrev pub DoubtOn : Scene → ℕ → ℕ → ViewId → Doubt → Type 0
@@ -40,7 +40,7 @@ pub record InvCopies (catalogue : Catalogue) (w : Scene) : Type 0 where
   pub from : (s rec : ℕ) (c : Stored) → value_at rec (kept_at w s).copies ≡ Some c → FromView catalogue w s rec c.date
   -- a copy that may be used and is not under refresh has missed no entry below the held view, and its record is closed for it
   pub between : (s rec : ℕ) (x : SiteState) (v : View) (c : Stored) (e : Commit) → plain_at w s ≡ Some x → x.held ≡ Some v → is_usable catalogue x rec ≡ true → refreshing_of rec x.refresh ≡ None → value_at rec x.copies ≡ Some c → Has w.journal e → Wrote e rec → Precedes c.date e.view → Precedes e.view v.id → ⊥
-  pub usable : (s rec : ℕ) (x : SiteState) (v : View) (c : Stored) → plain_at w s ≡ Some x → x.held ≡ Some v → is_usable catalogue x rec ≡ true → refreshing_of rec x.refresh ≡ None → value_at rec x.copies ≡ Some c → Closed catalogue w rec v
+  pub open_copy : (s rec : ℕ) (x : SiteState) (v : View) (c : Stored) → plain_at w s ≡ Some x → x.held ≡ Some v → is_usable catalogue x rec ≡ true → refreshing_of rec x.refresh ≡ None → value_at rec x.copies ≡ Some c → Open catalogue w rec v
 
 pub record InvRefresh (catalogue : Catalogue) (w : Scene) : Type 0 where
   -- an answer to a refresh comes from a holder
@@ -52,8 +52,8 @@ pub record InvRefresh (catalogue : Catalogue) (w : Scene) : Type 0 where
   pub between : (p to rec : ℕ) (view date : ViewId) (value : List ℕ) (e : Commit) (v : View) → Has w.sent (letter p to (message.RefreshAnswer view rec value date)) → Has w.journal e → Wrote e rec → Precedes date e.view → Precedes e.view view → AgreedAs w e.view v → Has v.members p → ⊥
   pub from : (p to rec : ℕ) (view date : ViewId) (value : List ℕ) → Has w.sent (letter p to (message.RefreshAnswer view rec value date)) → Precedes date view → FromView catalogue w p rec date
   -- a record that an entry uses is closed for its view
-  pub entry : (e : Commit) (v : View) (operation : Op) → Has w.journal e → AgreedAs w e.view v → Has e.ops operation → Closed catalogue w (record_of operation) v
+  pub entry : (e : Commit) (v : View) (operation : Op) → Has w.journal e → AgreedAs w e.view v → Has e.ops operation → Open catalogue w (record_of operation) v
   -- and so is one that a site has answered for a live transaction
-  pub used : (s q rec : ℕ) (exclusive : Bool) (x : SiteState) (t : Live) (v : View) → plain_at w s ≡ Some x → Has x.live t → HasAnswered w q t.txn rec exclusive → AgreedAs w t.view v → Closed catalogue w rec v
+  pub used : (s q rec : ℕ) (exclusive : Bool) (x : SiteState) (t : Live) (v : View) → plain_at w s ≡ Some x → Has x.live t → HasAnswered w q t.txn rec exclusive → AgreedAs w t.view v → Open catalogue w rec v
   -- each record that a site is asked for a lock on is accessible in the view, and the site holds it
   pub asked : (from to number rec : ℕ) (txn : TxnId) (view : ViewId) (exclusive : Bool) (v : View) → HasRequest w from to txn view number rec exclusive → AgreedAs w view v → (accessible catalogue rec v.members ≡ true) × Has (holders catalogue rec) to

@@ -6,6 +6,7 @@ use Rattle.std.specs.List.{enumerate_from}
 use Rattle.std.proofs.lemmas.Option.{slice_get-map}
 use Rattle.vp_model.specs.Types.{ViewId, TxnId, View, Commit, Stored, Live}
 use Rattle.vp_model.specs.Words.{has, keys, opening, value_at}
+use Rattle.vp_model.specs.Refresh.{is_usable_in}
 use Rattle.vp_model.specs.Catalogue.{Catalogue, RecordEntry, sites_of, start_values, copies_from, start_copies}
 use Rattle.vp_model.specs.Durable.{DurableState, Doubt, empty_durable, apply}
 use Rattle.vp_model.specs.Site.{SiteState}
@@ -24,7 +25,7 @@ use Rattle.vp_laws.proofs.InvEntered.{AgreedAs}
 use Rattle.vp_laws.proofs.InvLived.{InvLived, start_unused}
 use Rattle.vp_laws.proofs.InvUsed.{request_on, answered_on}
 use Rattle.vp_laws.proofs.InvListed.{Seventeenth, listed_last}
-use Rattle.vp_laws.proofs.Closing.{Closed, closed_quiet}
+use Rattle.vp_laws.proofs.Closing.{Open, Closed, closed_quiet}
 use Rattle.vp_laws.proofs.ValuesAfter.{value_after, without_entry}
 use Rattle.vp_laws.proofs.CopyInvariants.{FromView, DoubtOn, InvCopies, InvRefresh}
 use Rattle.vp_laws.proofs.CopiesKept.{copies_keep}
@@ -126,7 +127,7 @@ module _ (catalogue : Catalogue) where
       above = λ s rec c e v h there wrote later agreed member. absurd (start_entered catalogue e there);
       from = start_from;
       between = λ s rec x v c e up held usable unlisted h there wrote later below. start_entered catalogue e there;
-      usable = λ s rec x v c up held usable unlisted h. start_closed s rec x v up held;
+      open_copy = λ s rec x v c up held usable unlisted h. record { closed = start_closed s rec x v up held; usable = subst (λ (held : Option View). is_usable_in catalogue held rec ≡ true) held usable };
     };
     refresh = record {
       holder = λ p to rec view date value h. absurd (start_sent catalogue _ h);
@@ -157,12 +158,12 @@ module _ (catalogue : Catalogue) (w new : Scene) (s : ℕ) (q : Quiet catalogue 
   agreed_was : (i : ViewId) (v : View) → AgreedAs new i v → AgreedAs w i v
   agreed_was i v a = (rw q.agreed at a.0, a.1)
 
-  closed_now : (rec : ℕ) (v : View) → Closed catalogue w rec v → Closed catalogue new rec v
-  closed_now rec v h a holder member = closed_quiet catalogue w new s q lived a rec v.id (h a holder member)
+  open_now : (rec : ℕ) (v : View) → Open catalogue w rec v → Open catalogue new rec v
+  open_now rec v h = record { closed = λ a holder member. closed_quiet catalogue w new s q lived a rec v.id (h.closed a holder member); usable = h.usable }
 
   from_now : (j rec : ℕ) (date : ViewId) → FromView catalogue w j rec date → FromView catalogue new j rec date
   from_now j rec date (FromView.member v agreed m) = FromView.member v (q.moved.agreed v agreed.0, agreed.1) m
-  from_now j rec date (FromView.closed v agreed later m usable closed) = FromView.closed v (q.moved.agreed v agreed) later m usable (closed_now rec v closed)
+  from_now j rec date (FromView.closed v agreed later m opened) = FromView.closed v (q.moved.agreed v agreed) later m (open_now rec v opened)
 
   value_same : (date : ViewId) (rec : ℕ) (value : List ℕ) → value_after catalogue w.journal date rec ≡ Some value → value_after catalogue new.journal date rec ≡ Some value
   value_same date rec value h = subst (λ (es : List Commit). value_after catalogue es date rec ≡ Some value) (sym q.journal) h
@@ -198,7 +199,7 @@ module _ (catalogue : Catalogue) (w new : Scene) (s : ℕ) (q : Quiet catalogue 
           (u.0, subst (λ (us : List Doubt). Has us u.0) (sym (doubts_same j)) u.1, u.2);
       from = λ j rec c h. from_now j rec c.date (copies.from j rec c (copy_was j rec c h));
       between = λ j rec y v c e up held usable unlisted h there wrote later below. copies.between j rec y v c e (still_held j y v up held) held usable unlisted h (entry_was e there) wrote later below;
-      usable = λ j rec y v c up held usable unlisted h. closed_now rec v (copies.usable j rec y v c (still_held j y v up held) held usable unlisted h);
+      open_copy = λ j rec y v c up held usable unlisted h. open_now rec v (copies.open_copy j rec y v c (still_held j y v up held) held usable unlisted h);
     };
     refresh = record {
       holder = λ p to rec view date value h. refresh.holder p to rec view date value (rw q.sent at h);
@@ -206,8 +207,8 @@ module _ (catalogue : Catalogue) (w new : Scene) (s : ℕ) (q : Quiet catalogue 
       value = λ p to rec view date value h low. value_same date rec value (refresh.value p to rec view date value (rw q.sent at h) low);
       between = λ p to rec view date value e v h there wrote later below agreed member. refresh.between p to rec view date value e v (rw q.sent at h) (entry_was e there) wrote later below (agreed_was e.view v agreed) member;
       from = λ p to rec view date value h low. from_now p rec date (refresh.from p to rec view date value (rw q.sent at h) low);
-      entry = λ e v operation h agreed did. closed_now _ v (refresh.entry e v operation (entry_was e h) (agreed_was e.view v agreed) did);
-      used = λ j a rec exclusive y t v up h has agreed. closed_now rec v (refresh.used j a rec exclusive y t v (still_live j y t up h) h (answered_on w new q.sent a t.txn rec exclusive has) (agreed_was t.view v agreed));
+      entry = λ e v operation h agreed did. open_now _ v (refresh.entry e v operation (entry_was e h) (agreed_was e.view v agreed) did);
+      used = λ j a rec exclusive y t v up h has agreed. open_now rec v (refresh.used j a rec exclusive y t v (still_live j y t up h) h (answered_on w new q.sent a t.txn rec exclusive has) (agreed_was t.view v agreed));
       asked = λ from to number rec txn view exclusive v h agreed. refresh.asked from to number rec txn view exclusive v (request_on w new q.sent from to txn view number rec exclusive h) (agreed_was view v agreed);
     };
   }

@@ -58,7 +58,7 @@ module _ (catalogue : Catalogue) (w new : Scene) (s : ℕ) (x : SiteState) (give
     above_none g there above operation did wrote =
         let v = k.led.entry g there in
         stops catalogue w new s x given o k n d e v.0 (record_of operation) h (subst (Wrote e) (same_record operation) wrote) (subst (Precedes e.view) (sym v.2) above)
-        (k.entered.accessible g v.0 operation there (v.1, v.2) did) (refresh.entry g v.0 operation there (v.1, v.2) did)
+        (refresh.entry g v.0 operation there (v.1, v.2) did)
 
     has_written : (rec : ℕ) → Wrote e rec → HasWritten f.was rec
     has_written rec wrote = let did = written_op e.ops rec wrote in (did.0, rw f.done did.1)
@@ -81,7 +81,7 @@ module _ (catalogue : Catalogue) (w new : Scene) (s : ℕ) (x : SiteState) (give
 
       higher_none : Precedes e.view t.view → WritesNone e t.ops
       higher_none below operation did wrote =
-          stops catalogue w new s x given o k n d e of.0 (record_of operation) h (subst (Wrote e) (same_record operation) wrote) (subst (Precedes e.view) (sym of.2) below) (usable operation did)
+          stops catalogue w new s x given o k n d e of.0 (record_of operation) h (subst (Wrote e) (same_record operation) wrote) (subst (Precedes e.view) (sym of.2) below)
           (ops_closed catalogue w k copies j y t up live refresh of.0 agreed (λ rec value there none. reading.done j y t rec value up live there none) operation did)
 
       plays_grow : Plays (content first (w.journal ++ e ∷ []) t.view) t.ops
@@ -121,7 +121,7 @@ module _ (catalogue : Catalogue) (w new : Scene) (s : ℕ) (x : SiteState) (give
 
           none : Wrote e rec → AtMost e.view t.view → ⊥
           none wrote le = ⊎_elim
-              (λ below. stops catalogue w new s x given o k n d e of.0 rec h wrote (subst (Precedes e.view) (sym of.2) below) a.0 (refresh.used j q rec false y t of.0 up live (HasAnswered.read r) agreed))
+              (λ below. stops catalogue w new s x given o k n d e of.0 rec h wrote (subst (Precedes e.view) (sym of.2) below) (refresh.used j q rec false y t of.0 up live (HasAnswered.read r) agreed))
               (λ q. ⊎_elim (λ same. equal wrote same) (λ above. not_both t.view e.view above le) q)
               (three_ways e.view t.view)
 

@@ -96,6 +96,9 @@ pub mod NewEntries
 pub mod JournalPlaces
 pub mod ValuesAfter
 pub mod ValuesGrow
+pub mod Force
+pub mod Acts
+pub mod ForceAt
 -- copies and their refresh, in one induction
 pub mod CopyInvariants
 pub mod CopyFacts
@@ -107,6 +110,7 @@ pub mod CopyBrought
 pub mod CopiesKept
 pub mod OwnUse
 pub mod RefreshKept
+pub mod DoubtBase
 pub mod InvCopies
 pub mod UsableCopies
 -- the order of the entries

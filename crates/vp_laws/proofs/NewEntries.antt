@@ -1,11 +1,11 @@
 -- What an entry of a step means for others: it is of a live transaction here, each other holder of what it wrote is in doubt about it,
 -- nothing here is in doubt on that or under refresh, and no record that is closed for a higher view was written.
-use Rattle.std.proofs.Common.{◌≡◌, ◌≢◌, ◌⊎◌, ◌∙◌, ap, sym, subst, ℕ, Bool, true, false, List, [], ◌∷◌, ◌++◌, refl, inl, inr, ⊎_elim, append-nil}
+use Rattle.std.proofs.Common.{◌≡◌, ◌≢◌, ◌⊎◌, ◌∙◌, ap, sym, subst, ℕ, Bool, false, List, [], ◌∷◌, ◌++◌, refl, inl, inr, ⊎_elim, append-nil}
 use Rattle.std.specs.Prelude.{Some}
 use Rattle.vp_model.specs.Types.{TxnId, View, Message, Commit, Input, Part, Live, Refreshing}
 use Rattle.vp_model.specs.Types.message
 use Rattle.vp_model.specs.Words.{is_empty, same_txn, keys}
-use Rattle.vp_model.specs.Catalogue.{Catalogue, holders, accessible}
+use Rattle.vp_model.specs.Catalogue.{Catalogue, holders}
 use Rattle.vp_model.specs.Durable.{DurableState, Doubt}
 use Rattle.vp_model.specs.Transactions.{last_writes, writes_held}
 use Rattle.vp_model.specs.Site.{SiteState, Stepped}
@@ -24,7 +24,7 @@ use Rattle.vp_laws.proofs.InvSettled.{some_not_empty, doubt_was}
 use Rattle.vp_laws.proofs.InvGuards.{txn_same}
 use Rattle.vp_laws.proofs.InvHeld.{holds_copy}
 use Rattle.vp_laws.proofs.InvListed.{wrote_here, not_below_itself}
-use Rattle.vp_laws.proofs.Closing.{Closed}
+use Rattle.vp_laws.proofs.Closing.{Open}
 use Rattle.vp_laws.proofs.Stopping.{closed_stops}
 use Rattle.vp_laws.proofs.Worlds.{KeptIs, kept_is}
 use Rattle.vp_laws.proofs.Tower.{Known, Does}
@@ -178,11 +178,11 @@ module _ (catalogue : Catalogue) (w new : Scene) (s : ℕ) (x : SiteState) (give
       not_below_itself u.0.1 low.0.id u.3 (sym says.0 ∙ sym f.is ∙ ap (λ (v : View). v.id) same)
 
   -- it wrote no record that is closed for a higher view
-  pub stops : (e : Commit) (u : View) (rec : ℕ) → Has o.effects.commits e → Wrote e rec → Precedes e.view u.id → accessible catalogue rec u.members ≡ true → Closed catalogue w rec u → ⊥
-  stops e u rec h wrote below usable closed =
+  pub stops : (e : Commit) (u : View) (rec : ℕ) → Has o.effects.commits e → Wrote e rec → Precedes e.view u.id → Open catalogue w rec u → ⊥
+  stops e u rec h wrote below opened =
       let f = entering e h in
       let agreed = entering_agreed e f in
-      closed_stops catalogue w new s x given o d.up d.here.id d.led k.shares n.shares n.entered d.steps d.shares d.st e f.view u rec h (d.st.moved.agreed f.view agreed.0, agreed.1) wrote below usable closed
+      closed_stops catalogue w new s x given o d.up d.here.id d.led k.shares n.shares n.entered d.steps d.shares d.st e f.view u rec h (d.st.moved.agreed f.view agreed.0, agreed.1) wrote below opened
 
   -- what an old entry's view was
   pub agreed_was : (e : Commit) (v : View) → Has w.journal e → AgreedAs new e.view v → AgreedAs w e.view v

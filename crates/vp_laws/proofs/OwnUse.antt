@@ -22,7 +22,7 @@ use Rattle.vp_laws.proofs.InvAnswers.{HasRead}
 use Rattle.vp_laws.proofs.InvEntered.{AgreedAs, other_holder}
 use Rattle.vp_laws.proofs.InvUsed.{HasAnswered}
 use Rattle.vp_laws.proofs.InvHeld.{holds_copy}
-use Rattle.vp_laws.proofs.Closing.{Closed}
+use Rattle.vp_laws.proofs.Closing.{Open}
 use Rattle.vp_laws.proofs.Stopping.{shared_holder}
 use Rattle.vp_laws.proofs.CopyInvariants.{InvCopies, InvRefresh}
 use Rattle.vp_laws.proofs.CopiesKept.{unlisted_none}
@@ -42,8 +42,8 @@ module _ (catalogue : Catalogue) (w : Scene) (k : Known catalogue w) (copies : I
   pub view_is : (v : View) → AgreedAs w t.view v → x.held ≡ Some v
   view_is v a = of.1 ∙ ap (λ (v : View). Some v) (k.views.unique of.0 v ((k.views.site s x up).held of.0 of.1) a.0 (of.2 ∙ sym a.1))
 
-  pub own_closed : (rec : ℕ) (exclusive : Bool) (v : View) (stored : Stored) → HasLock rec exclusive (owner.Txn t.txn) x.locks → x.held ≡ Some v → value_at rec x.copies ≡ Some stored → is_usable catalogue x rec ≡ true → Closed catalogue w rec v
-  own_closed rec exclusive v stored lock held copy usable = copies.usable s rec x v stored up held usable (unlisted_none rec x.refresh (lock_unlisted rec exclusive lock)) copy
+  pub own_closed : (rec : ℕ) (exclusive : Bool) (v : View) (stored : Stored) → HasLock rec exclusive (owner.Txn t.txn) x.locks → x.held ≡ Some v → value_at rec x.copies ≡ Some stored → is_usable catalogue x rec ≡ true → Open catalogue w rec v
+  own_closed rec exclusive v stored lock held copy usable = copies.open_copy s rec x v stored up held usable (unlisted_none rec x.refresh (lock_unlisted rec exclusive lock)) copy
 
   module _ (refresh : InvRefresh catalogue w) (v : View) (agreed : AgreedAs w t.view v) where
     copied : (rec : ℕ) (stored : Stored) → value_at rec x.copies ≡ Some stored → Has (keys x.copies) rec
@@ -53,7 +53,7 @@ module _ (catalogue : Catalogue) (w : Scene) (k : Known catalogue w) (copies : I
     usable_in_view operation h = subst (λ (held : Option View). is_usable_in catalogue held (record_of operation) ≡ true) (view_is v agreed) ((k.ops.live s x t up live).usable operation h)
 
     -- it was written elsewhere, where there is no copy here
-    elsewhere : (rec : ℕ) → HasWritten t rec → value_at rec x.copies ≡ None → Closed catalogue w rec v
+    elsewhere : (rec : ℕ) → HasWritten t rec → value_at rec x.copies ≡ None → Open catalogue w rec v
     elsewhere rec wrote none =
         let usable = usable_in_view (op.Write rec wrote.0) wrote.1 in
         let q = shared_holder catalogue rec v.members v.members usable usable in
@@ -61,10 +61,10 @@ module _ (catalogue : Catalogue) (w : Scene) (k : Known catalogue w) (copies : I
         let holder = subst (λ (held : Option View). Has (other_holders_in catalogue x.id held rec) q.0) (sym (view_is v agreed)) (other_holder catalogue x.id rec q.0 v q.1 q.2 other) in
         refresh.used s q.0 rec true x t v up live (HasAnswered.wrote ((k.answers.live s x t up live).wrote rec wrote q.0 holder)) agreed
 
-    pub written_closed : (rec : ℕ) → HasWritten t rec → Closed catalogue w rec v
+    pub written_closed : (rec : ℕ) → HasWritten t rec → Open catalogue w rec v
     written_closed rec wrote = go (value_at rec x.copies) refl
       where
-        go : (c : Option Stored) → value_at rec x.copies ≡ c → Closed catalogue w rec v
+        go : (c : Option Stored) → value_at rec x.copies ≡ c → Open catalogue w rec v
         go None e = elsewhere rec wrote e
         go (Some stored) e = own_closed rec true v stored (((k.guards.site s x up).own t live).wrote rec wrote.0 wrote.1 (copied rec stored e)) (view_is v agreed) e ((k.ops.live s x t up live).usable (op.Write rec wrote.0) wrote.1)
 
@@ -80,16 +80,16 @@ module _ (catalogue : Catalogue) (w : Scene) (k : Known catalogue w) (copies : I
 
     -- what it has done is closed for its view, where each read elsewhere has been answered
     module _ (reads : (rec : ℕ) (value : List ℕ) → Has t.ops (op.Read rec value) → value_at rec x.copies ≡ None → HasWritten t rec ⊎ ((q : ℕ) × HasRead w q t.txn rec)) where
-      read_closed : (rec : ℕ) (value : List ℕ) → Has t.ops (op.Read rec value) → Closed catalogue w rec v
+      read_closed : (rec : ℕ) (value : List ℕ) → Has t.ops (op.Read rec value) → Open catalogue w rec v
       read_closed rec value h = go (value_at rec x.copies) refl
         where
-          go : (c : Option Stored) → value_at rec x.copies ≡ c → Closed catalogue w rec v
+          go : (c : Option Stored) → value_at rec x.copies ≡ c → Open catalogue w rec v
           go (Some stored) e = own_closed rec false v stored (((k.guards.site s x up).own t live).read rec value h (copied rec stored e)) (view_is v agreed) e ((k.ops.live s x t up live).usable (op.Read rec value) h)
           go None e = ⊎_elim
               (λ wrote. written_closed rec wrote)
               (λ (r : (q : ℕ) × HasRead w q t.txn rec). refresh.used s r.0 rec false x t v up live (HasAnswered.read r.1) agreed)
               (reads rec value h e)
 
-      pub ops_closed : (operation : Op) → Has t.ops operation → Closed catalogue w (record_of operation) v
+      pub ops_closed : (operation : Op) → Has t.ops operation → Open catalogue w (record_of operation) v
       ops_closed (op.Read rec value) h = read_closed rec value h
       ops_closed (op.Write rec value) h = written_closed rec (value, h)

@@ -32,7 +32,7 @@ use Rattle.vp_laws.proofs.InvOps.{record_of}
 use Rattle.vp_laws.proofs.InvEntered.{Wrote, AgreedAs}
 use Rattle.vp_laws.proofs.InvSettled.{holding}
 use Rattle.vp_laws.proofs.InvUsed.{HasAnswered, Was, Split}
-use Rattle.vp_laws.proofs.Closing.{ClosedAt, Closed, closed_at_lasts}
+use Rattle.vp_laws.proofs.Closing.{ClosedAt, Open, closed_at_lasts}
 use Rattle.vp_laws.proofs.ValuesAfter.{value_after}
 use Rattle.vp_laws.proofs.CopyInvariants.{FromView, InvCopies, InvRefresh}
 use Rattle.vp_laws.proofs.CopyFacts.{three_ways, copy_holder, closed_above}
@@ -40,7 +40,7 @@ use Rattle.vp_laws.proofs.Worlds.{now_is}
 use Rattle.vp_laws.proofs.NewEntries.{none_entered, journal_same, Entering, entering, doubted, stops, agreed_was, Fresh, doubt_from}
 use Rattle.vp_laws.proofs.CopyValues.{value_now}
 use Rattle.vp_laws.proofs.CopyBrought.{doubt_on}
-use Rattle.vp_laws.proofs.CopiesKept.{closed_now, from_lasts, unlisted_none}
+use Rattle.vp_laws.proofs.CopiesKept.{open_now, from_lasts, unlisted_none}
 use Rattle.vp_laws.proofs.OwnUse.{idle_reads, ops_closed}
 use Rattle.vp_laws.proofs.Refreshes.{certain_from, left_below}
 use Rattle.vp_laws.proofs.Tower.{Known, Does}
@@ -151,11 +151,11 @@ module _ (catalogue : Catalogue) (w new : Scene) (s : ℕ) (x : SiteState) (give
       from = refresh.from p to rec view date value sent low
 
       below : Precedes e.view date → ⊥
-      below b = let a = closed_above catalogue w k refresh p rec date e.view from (k.dated.sent p to rec view date value sent) b in stops catalogue w new s x given o k n d e a.view rec h wrote a.above a.usable a.closed
+      below b = let a = closed_above catalogue w k refresh p rec date e.view from (k.dated.sent p to rec view date value sent) b in stops catalogue w new s x given o k n d e a.view rec h wrote a.above a.opened
 
       equal : FromView catalogue w p rec date → e.view ≡ date → ⊥
       equal (FromView.member v agreed member) same = answer_stops p to rec view date value e v sent low h wrote (subst (λ (i : ViewId). Precedes i view) (sym same) low) (d.st.moved.agreed v agreed.0, agreed.1 ∙ sym same) member
-      equal (FromView.closed v agreed later member usable closed) same = stops catalogue w new s x given o k n d e v rec h wrote (subst (λ (i : ViewId). Precedes i v.id) (sym same) later) usable closed
+      equal (FromView.closed v agreed later member opened) same = stops catalogue w new s x given o k n d e v rec h wrote (subst (λ (i : ViewId). Precedes i v.id) (sym same) later) opened
 
   -- what a new entry used is closed for its view
   no_reads : (p : Pending) (rec : ℕ) → is_commit p.call ≡ true → Reads catalogue p rec → ⊥
@@ -173,11 +173,11 @@ module _ (catalogue : Catalogue) (w new : Scene) (s : ℕ) (x : SiteState) (give
           let is : p ≡ a = (let z = sym pending ∙ ap (λ (t : Live). t.pending) (same t there named) ∙ last.pending in cc) in
           no_reads a rec commit (subst (λ (p : Pending). Reads catalogue p rec) is reads)
 
-  entry_new : (e : Commit) (v : View) (operation : Op) → Has o.effects.commits e → AgreedAs new e.view v → Has e.ops operation → Closed catalogue new (record_of operation) v
+  entry_new : (e : Commit) (v : View) (operation : Op) → Has o.effects.commits e → AgreedAs new e.view v → Has e.ops operation → Open catalogue new (record_of operation) v
   entry_new e v operation h agreed did =
       let f = entering catalogue w new s x given o k n d e h in
       let same : f.view ≡ v = n.views.unique f.view v (d.st.moved.agreed f.view (d.here.held f.view f.held)) agreed.0 (f.is ∙ sym agreed.1) in
-      closed_now catalogue w new s x given o k n d copies refresh (record_of operation) v
+      open_now catalogue w new s x given o k n d copies refresh (record_of operation) v
       (ops_closed catalogue w k copies s x f.was d.up f.live refresh v (subst (Has w.agreed) same (d.here.held f.view f.held), agreed.1 ∙ sym f.viewed) (idle_reads catalogue w k copies s x f.was d.up f.live refresh v (subst (Has w.agreed) same (d.here.held f.view f.held), agreed.1 ∙ sym f.viewed) (deciding e h f)) operation (rw f.done did))
 
   -- each record that is asked for is accessible
@@ -256,18 +256,18 @@ module _ (catalogue : Catalogue) (w new : Scene) (s : ℕ) (x : SiteState) (give
       no_refresh : (txn : TxnId) → owner.Refresh ≡ owner.Txn txn → ⊥
       no_refresh txn e = cc
 
-  granted_closed : (to number rec : ℕ) (txn : TxnId) (exclusive : Bool) (stored : Stored) (g : Granted x given to txn number rec exclusive stored) (v : View) → AgreedAs new g.view v → Closed catalogue w rec v
+  granted_closed : (to number rec : ℕ) (txn : TxnId) (exclusive : Bool) (stored : Stored) (g : Granted x given to txn number rec exclusive stored) (v : View) → AgreedAs new g.view v → Open catalogue w rec v
   granted_closed to number rec txn exclusive stored g v agreed =
       let h = holding x g.view g.held in
       let same : h.0 ≡ v = n.views.unique h.0 v (d.st.moved.agreed h.0 (d.here.held h.0 h.1)) agreed.0 (h.2 ∙ sym agreed.1) in
       let held : x.held ≡ Some v = h.1 ∙ ap (λ (v : View). Some v) same in
       let request = request_was to number rec txn g.view exclusive g.comes in
       let usable = (refresh.asked to s number rec txn g.view exclusive v request (agreed_of to s number rec txn g.view exclusive v request agreed)).0 in
-      copies.usable s rec x v stored d.up held (subst (λ (held : Option View). is_usable_in catalogue held rec ≡ true) (sym held) usable)
+      copies.open_copy s rec x v stored d.up held (subst (λ (held : Option View). is_usable_in catalogue held rec ≡ true) (sym held) usable)
       (unlisted_none rec x.refresh (free_unlisted rec exclusive txn (free_from_none rec exclusive txn x.locks g.free))) g.copy
 
-  used_new : (j q rec : ℕ) (exclusive : Bool) (y : SiteState) (t : Live) (v : View) → plain_at new j ≡ Some y → Has y.live t → HasAnswered new q t.txn rec exclusive → AgreedAs new t.view v → Closed catalogue new rec v
-  used_new j q rec exclusive y t v up live has agreed = closed_now catalogue w new s x given o k n d copies refresh rec v (go (d.split j y t (now_is w new s x o d.st j y up) live q rec exclusive has))
+  used_new : (j q rec : ℕ) (exclusive : Bool) (y : SiteState) (t : Live) (v : View) → plain_at new j ≡ Some y → Has y.live t → HasAnswered new q t.txn rec exclusive → AgreedAs new t.view v → Open catalogue new rec v
+  used_new j q rec exclusive y t v up live has agreed = open_now catalogue w new s x given o k n d copies refresh rec v (go (d.split j y t (now_is w new s x o d.st j y up) live q rec exclusive has))
     where
       view_then : Was w j t → AgreedAs w t.view v
       view_then old =
@@ -279,7 +279,7 @@ module _ (catalogue : Catalogue) (w new : Scene) (s : ℕ) (x : SiteState) (give
       at_site : (old : Was w j t) → plain_at w t.txn.site ≡ Some old.site
       at_site old = rw (ap (λ (t : TxnId). t.site) (sym old.named) ∙ ((k.led.site j old.site old.up_then).names old.u old.here).0 ∙ (k.views.site j old.site old.up_then).id) old.up_then
 
-      go : Split w s x given o j t q rec exclusive → Closed catalogue w rec v
+      go : Split w s x given o j t q rec exclusive → Open catalogue w rec v
       go (Split.before old had) =
           let a = view_then old in
           refresh.used j q rec exclusive old.site old.u v old.up_then old.here (subst (λ (txn : TxnId). HasAnswered w q txn rec exclusive) (sym old.named) had) (a.0, a.1 ∙ sym old.viewed)
@@ -306,7 +306,7 @@ module _ (catalogue : Catalogue) (w new : Scene) (s : ℕ) (x : SiteState) (give
         (λ old. from_lasts catalogue w new s x given o k n d copies refresh p rec date (refresh.from p to rec view date value old low))
         (λ more. replied_from p rec view date value (sent_now p to rec view date value more)) (d.st.sent _ h);
     entry = λ e v operation h agreed did. ⊎_elim
-        (λ old. closed_now catalogue w new s x given o k n d copies refresh (record_of operation) v (refresh.entry e v operation old (agreed_was catalogue w new s x given o k n d e v old agreed) did))
+        (λ old. open_now catalogue w new s x given o k n d copies refresh (record_of operation) v (refresh.entry e v operation old (agreed_was catalogue w new s x given o k n d e v old agreed) did))
         (λ more. entry_new e v operation more agreed did)
         (d.st.entered e h);
     used = used_new;

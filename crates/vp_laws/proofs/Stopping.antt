@@ -21,7 +21,7 @@ use Rattle.vp_laws.proofs.Scenes.{Scene, plain_at, Acted}
 use Rattle.vp_laws.proofs.InvShares.{InDoubt, InvShares}
 use Rattle.vp_laws.proofs.InvEntered.{Wrote, AgreedAs, InvEntered, has_test, written_op}
 use Rattle.vp_laws.proofs.InvSettled.{some_not_empty}
-use Rattle.vp_laws.proofs.Closing.{ClosedAt, Closed}
+use Rattle.vp_laws.proofs.Closing.{ClosedAt, Open}
 
 -- two sets of sites in which a record is accessible share a holder
 pub shared_holder : (catalogue : Catalogue) (rec : ℕ) (sites others : List ℕ) → accessible catalogue rec sites ≡ true → accessible catalogue rec others ≡ true → (q : ℕ) × Has (holders catalogue rec) q × Has sites q × Has others q
@@ -31,11 +31,12 @@ shared_holder catalogue rec sites others a b =
     (r.0.0, mapped_has (λ (w : ℕ × ℕ). w.0) (weights_of catalogue rec) r.0 r.1, has_from_test sites r.0.0 t.0, has_from_test others r.0.0 t.1)
 
 module _ (catalogue : Catalogue) (w new : Scene) (s : ℕ) (x : SiteState) (given : Input) (o : Stepped) (up : plain_at w s ≡ Some x) (id : x.id ≡ s) (led : Led x) (shares : InvShares catalogue w) (shares_now : InvShares catalogue new) (entered_now : InvEntered catalogue new) (steps : Steps catalogue x given o.site.coordinator o.effects.messages o.effects.commits) (p : Shares x given o) (st : Acted w new s x o) where
-  pub closed_stops : (e : Commit) (v u : View) (rec : ℕ) → Has o.effects.commits e → AgreedAs new e.view v → Wrote e rec → Precedes e.view u.id → accessible catalogue rec u.members ≡ true → Closed catalogue w rec u → ⊥
-  closed_stops e v u rec h agreed wrote below usable closed = ⊎_elim
-      (λ (own : q.0 ≡ e.txn.site). (c.left e.view below).unused x (rw (own ∙ site) up) (Uses.held of.0 of.1 (of.2 ∙ viewed)))
-      (λ (other : q.0 ≢ e.txn.site). certain other)
-      (same_site q.0 e.txn.site)
+  -- a holder in its view which has left it for a view for which the record is closed there
+  pub met_stops : (e : Commit) (v : View) (rec q : ℕ) (i : ViewId) → Has o.effects.commits e → AgreedAs new e.view v → Wrote e rec → Has (holders catalogue rec) q → Has v.members q → Precedes e.view i → ClosedAt w q rec i → ⊥
+  met_stops e v rec q i h agreed wrote holder member below c = ⊎_elim
+      (λ (own : q ≡ e.txn.site). (c.left e.view below).unused x (rw (own ∙ site) up) (Uses.held of.0 of.1 (of.2 ∙ viewed)))
+      (λ (other : q ≢ e.txn.site). certain other)
+      (same_site q e.txn.site)
     where
       f : EnteredFor catalogue x given e
       f = steps.entered e h
@@ -55,35 +56,32 @@ module _ (catalogue : Catalogue) (w new : Scene) (s : ℕ) (x : SiteState) (give
       of : IsOf x f.handled.was
       of = led.live f.handled.was f.handled.live
 
-      written : (value : List ℕ) × Has e.ops (op.Write rec value)
-      written = written_op e.ops rec wrote
-
-      q : (q : ℕ) × Has (holders catalogue rec) q × Has v.members q × Has u.members q
-      q = shared_holder catalogue rec v.members u.members (entered_now.accessible e v (op.Write rec written.0) (st.enters e h) agreed written.1) usable
-
-      c : ClosedAt w q.0 rec u.id
-      c = closed q.0 q.1 q.3
-
-      writes : Has (keys (writes_held catalogue q.0 (last_writes e.ops))) rec
+      writes : Has (keys (writes_held catalogue q (last_writes e.ops))) rec
       writes =
           let r = map_has (λ (p : ℕ × List ℕ). p.0) (last_writes e.ops) rec wrote in
-          let k = filter_keeps (λ (w : ℕ × List ℕ). has (holders catalogue w.0) q.0) (last_writes e.ops) r.0 r.1 (has_test (holders catalogue r.0.0) q.0 (subst (λ (n : ℕ). Has (holders catalogue n) q.0) (sym r.2) q.1)) in
-          subst (Has (keys (writes_held catalogue q.0 (last_writes e.ops)))) r.2 (mapped_has (λ (p : ℕ × List ℕ). p.0) _ r.0 k)
+          let k = filter_keeps (λ (w : ℕ × List ℕ). has (holders catalogue w.0) q) (last_writes e.ops) r.0 r.1 (has_test (holders catalogue r.0.0) q (subst (λ (n : ℕ). Has (holders catalogue n) q) (sym r.2) holder)) in
+          subst (Has (keys (writes_held catalogue q (last_writes e.ops)))) r.2 (mapped_has (λ (p : ℕ × List ℕ). p.0) _ r.0 k)
 
-      some : is_empty (writes_held catalogue q.0 (last_writes e.ops)) ≡ false
+      some : is_empty (writes_held catalogue q (last_writes e.ops)) ≡ false
       some = let r = map_has (λ (p : ℕ × List ℕ). p.0) _ rec writes in some_not_empty _ r.0 r.1
 
-      doubted : q.0 ≢ e.txn.site → InDoubt w q.0 e.txn
+      doubted : q ≢ e.txn.site → InDoubt w q e.txn
       doubted other =
-          let vote = entered_now.voted e q.0 (st.enters e h) (record { view = v; agreed = agreed; rec = rec; wrote = wrote; holder = q.1; member = q.2 }) other in
+          let vote = entered_now.voted e q (st.enters e h) (record { view = v; agreed = agreed; rec = rec; wrote = wrote; holder = holder; member = member }) other in
           ⊎_elim
-          (λ old. shares.says (letter q.0 vote.0 (message.Vote e.txn)) old x f.handled.was (rw site up) f.handled.live named (rw done some))
-          (λ more. absurd (other (p.from (letter q.0 vote.0 (message.Vote e.txn)) more ∙ id ∙ sym site)))
-          (st.sent (letter q.0 vote.0 (message.Vote e.txn)) vote.1)
+          (λ old. shares.says (letter q vote.0 (message.Vote e.txn)) old x f.handled.was (rw site up) f.handled.live named (rw done some))
+          (λ more. absurd (other (p.from (letter q vote.0 (message.Vote e.txn)) more ∙ id ∙ sym site)))
+          (st.sent (letter q vote.0 (message.Vote e.txn)) vote.1)
 
-      certain : q.0 ≢ e.txn.site → ⊥
+      certain : q ≢ e.txn.site → ⊥
       certain other =
           let d = doubted other in
-          let g = (shares.doubts q.0 d.0 d.1).0 in
-          let says = shares_now.entry e (st.enters e h) g.0 q.0 d.0.1 g.1 g.2 d.0.2 (subst (λ (t : TxnId). Has new.sent (letter g.0 q.0 (message.Prepare t d.0.1 g.1 g.2 d.0.2))) d.2 (st.moved.sent _ g.3)) in
-          c.certain d.0 d.1 (subst (λ (ws : List (ℕ × List ℕ)). Has (keys ws) rec) says.1 writes) (subst (λ (i : ViewId). Precedes i u.id) says.0 below)
+          let g = (shares.doubts q d.0 d.1).0 in
+          let says = shares_now.entry e (st.enters e h) g.0 q d.0.1 g.1 g.2 d.0.2 (subst (λ (t : TxnId). Has new.sent (letter g.0 q (message.Prepare t d.0.1 g.1 g.2 d.0.2))) d.2 (st.moved.sent _ g.3)) in
+          c.certain d.0 d.1 (subst (λ (ws : List (ℕ × List ℕ)). Has (keys ws) rec) says.1 writes) (subst (λ (j : ViewId). Precedes j i) says.0 below)
+
+  pub closed_stops : (e : Commit) (v u : View) (rec : ℕ) → Has o.effects.commits e → AgreedAs new e.view v → Wrote e rec → Precedes e.view u.id → Open catalogue w rec u → ⊥
+  closed_stops e v u rec h agreed wrote below opened =
+      let did = written_op e.ops rec wrote in
+      let q = shared_holder catalogue rec v.members u.members (entered_now.accessible e v (op.Write rec did.0) (st.enters e h) agreed did.1) opened.usable in
+      met_stops e v rec q.0 u.id h agreed wrote q.1 q.2 below (opened.closed q.0 q.1 q.3)
