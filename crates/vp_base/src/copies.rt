@@ -1,7 +1,7 @@
 //! Copies of the shared types.
 
 use crate::answer::{Answer, Reply};
-use crate::entry::{Commit, LogRecord, Op, Owner, Stored, View};
+use crate::entry::{Commit, Decision, Doubt, LogRecord, Op, Owner, Stored, View};
 use crate::event::{Call, Effects, Event, Input, Line, Shown};
 use crate::ids::{CallNo, RecId, SiteId, TxnId, ViewId};
 use crate::memory::NoMemory;
@@ -64,9 +64,22 @@ impl<A: CopyOf, B: CopyOf> CopyOf for (A, B) {
     }
 }
 
-impl<A: CopyOf, B: CopyOf, C: CopyOf> CopyOf for (A, B, C) {
-    fn copy_of(&self) -> Result<(A, B, C), NoMemory> {
-        Ok((self.0.copy_of()?, self.1.copy_of()?, self.2.copy_of()?))
+impl CopyOf for Doubt {
+    fn copy_of(&self) -> Result<Doubt, NoMemory> {
+        Ok(Doubt {
+            txn: self.txn,
+            view: self.view,
+            writes: self.writes.copy_of()?,
+        })
+    }
+}
+
+impl CopyOf for Decision {
+    fn copy_of(&self) -> Result<Decision, NoMemory> {
+        Ok(Decision {
+            txn: self.txn,
+            waiting: self.waiting.copy_of()?,
+        })
     }
 }
 
@@ -327,16 +340,10 @@ impl CopyOf for Message {
                 view: *view,
                 rec: *rec,
             },
-            Message::RefreshAnswer {
-                view,
-                rec,
-                value,
-                date,
-            } => Message::RefreshAnswer {
+            Message::RefreshAnswer { view, rec, stored } => Message::RefreshAnswer {
                 view: *view,
                 rec: *rec,
-                value: value.copy_of()?,
-                date: *date,
+                stored: stored.copy_of()?,
             },
             Message::Probe { view } => Message::Probe { view: *view },
         })

@@ -1,10 +1,15 @@
 //! What comes to a site, what it gives, and the events and lines of a schedule.
 
-ghost use Rattle.std.specs.Prelude.{◌≡◌, []};
+ghost use Rattle.std.specs.Prelude.{◌≡◌, [], OnOk};
+ghost use Rattle.vp_base.specs.Effects.{with_entry, with_commit, with_reply, with_message, with_messages};
 
+use crate::answer::{Answer, Reply};
+use crate::entry::{Commit, LogRecord};
 use crate::ids::{CallNo, SiteId, TxnId};
 use crate::lists::{Batch, Commits, Messages, Replies};
-use crate::message::Message;
+use crate::memory::NoMemory;
+use crate::message::{Message, Sent};
+use crate::seq::CopyOf;
 use crate::text::{Name, Value};
 use std::alloc::Global;
 
@@ -56,7 +61,8 @@ pub enum Event {
     Restart { site: SiteId },
 }
 
-/// What a step gives.
+/// What a step gives. The records are synced before a message or a reply leaves the site. Without memory a method of it may have
+/// appended a part of what it appends, so the effects are then to be dropped.
 #[derive(Drop)]
 pub struct Effects {
     pub records: Batch,
@@ -75,6 +81,48 @@ impl Effects {
             messages: Messages::new(alloc),
             replies: Replies::new(alloc),
         }
+    }
+
+    /// The record is to be forced to the log.
+    pub fn force(&mut self, entry: LogRecord) -> Result<(), NoMemory>
+        ensures { OnOk result (self.new ≡ with_entry entry self.old) }
+    {
+        self.records.push(entry)
+    }
+
+    /// The transaction is committed.
+    pub fn commit(&mut self, commit: Commit) -> Result<(), NoMemory>
+        ensures { OnOk result (self.new ≡ with_commit commit self.old) }
+    {
+        self.commits.push(commit)
+    }
+
+    /// Answers the client at the port.
+    pub fn reply(&mut self, to: u16, answer: Answer) -> Result<(), NoMemory>
+        ensures { OnOk result (self.new ≡ with_reply answer to self.old) }
+    {
+        self.replies.push(Reply { to, answer })
+    }
+
+    pub fn send(&mut self, from: SiteId, to: SiteId, message: Message) -> Result<(), NoMemory>
+        ensures { OnOk result (self.new ≡ with_message from message to self.old) }
+    {
+        self.messages.push(Sent { from, to, message })
+    }
+
+    /// Sends the same message to each of the sites, in order.
+    pub fn send_all(
+        &mut self,
+        from: SiteId,
+        sites: &[SiteId],
+        message: &Message,
+    ) -> Result<(), NoMemory>
+        ensures { OnOk result (self.new ≡ with_messages from message.now sites.now self.old) }
+    {
+        for site in sites {
+            self.send(from, *site, message.copy_of()?)?;
+        }
+        Ok(())
     }
 }
 

@@ -1,9 +1,9 @@
 //! The lists that sites, logs and schedules share.
 
 use crate::answer::Reply;
-use crate::entry::{Commit, LogRecord, Op, Stored};
+use crate::entry::{Commit, Decision, Doubt, LogRecord, Op, Stored};
 use crate::event::Event;
-use crate::ids::{RecId, SiteId, TxnId, ViewId};
+use crate::ids::{RecId, SiteId, TxnId};
 use crate::message::Sent;
 use crate::seq::Seq;
 use crate::text::{Name, Value};
@@ -32,10 +32,10 @@ pub type Recs = Seq<RecId>;
 pub type Writes = Seq<(RecId, Value)>;
 /// Copies, ascending by record.
 pub type Copies = Seq<(RecId, Stored)>;
-/// Transactions that voted yes, with their view and writes, ascending.
-pub type InDoubt = Seq<(TxnId, ViewId, Writes)>;
-/// Decided transactions with the sites that have not acknowledged, ascending.
-pub type Decisions = Seq<(TxnId, Sites)>;
+/// Transactions in doubt, ascending.
+pub type InDoubt = Seq<Doubt>;
+/// Decisions, ascending by transaction.
+pub type Decisions = Seq<Decision>;
 /// Batches of log records, in the order in which they were appended.
 pub type Batches = Seq<Batch>;
 /// One word of a command line, as its bytes; the program's name is no word.

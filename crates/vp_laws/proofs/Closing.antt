@@ -1,10 +1,10 @@
 -- A record that is closed for a view stays closed.
 use Rattle.std.proofs.Common.{◌≡◌, ◌∙◌, ap, subst, ℕ, true, List}
 use Rattle.std.specs.Prelude.{Some}
-use Rattle.vp_model.specs.Types.{ViewId, View, Input, Part}
+use Rattle.vp_model.specs.Types.{ViewId, View, Input, Part, Doubt}
 use Rattle.vp_model.specs.Words.{keys}
 use Rattle.vp_model.specs.Catalogue.{Catalogue, holders, accessible}
-use Rattle.vp_model.specs.Durable.{DurableState, Doubt}
+use Rattle.vp_model.specs.Durable.{DurableState}
 use Rattle.vp_model.specs.Site.{SiteState, Stepped}
 use Rattle.vp_model.specs.Step.{durable_of}
 use Rattle.vp_laws.proofs.Members.{Has}

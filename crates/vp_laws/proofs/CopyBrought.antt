@@ -2,12 +2,12 @@
 -- what a refresh brings is the newest copy of the members.
 use Rattle.std.proofs.Common.{◌≡◌, ◌≢◌, ◌∙◌, ap, sym, subst, ℕ, true, List, ⊎_elim}
 use Rattle.std.specs.Prelude.{Some}
-use Rattle.vp_model.specs.Types.{TxnId, View, Commit, Input, Stored}
+use Rattle.vp_model.specs.Types.{TxnId, View, Commit, Input, Stored, Doubt}
 use Rattle.vp_model.specs.Types.message
 use Rattle.vp_model.specs.Types.op
 use Rattle.vp_model.specs.Words.{keys}
 use Rattle.vp_model.specs.Catalogue.{Catalogue, holders, accessible}
-use Rattle.vp_model.specs.Durable.{DurableState, Doubt}
+use Rattle.vp_model.specs.Durable.{DurableState}
 use Rattle.vp_model.specs.Site.{SiteState, Stepped}
 use Rattle.vp_laws.proofs.Members.{Has}
 use Rattle.vp_laws.proofs.Order.{AtMost, Precedes, AtMost-along, not_both, same_site}

@@ -1,11 +1,10 @@
 -- What the invariant of copies gives in one world: a date closes its record, and so does a view above it.
 use Rattle.std.proofs.Common.{◌≡◌, ◌⊎◌, ◌∙◌, sym, subst, ℕ, Bool, true, false, inl, inr, refl, arith, ⊎_elim}
 use Rattle.std.specs.Prelude.{Some}
-use Rattle.vp_model.specs.Types.{ViewId, View, Commit, Stored}
+use Rattle.vp_model.specs.Types.{ViewId, View, Commit, Stored, Doubt}
 use Rattle.vp_model.specs.Types.op
 use Rattle.vp_model.specs.Words.{keys, opening, same_view, view_before, value_at}
 use Rattle.vp_model.specs.Catalogue.{Catalogue, holders}
-use Rattle.vp_model.specs.Durable.{Doubt}
 use Rattle.vp_laws.proofs.Members.{Has}
 use Rattle.vp_laws.proofs.Lists.{mapped_has}
 use Rattle.vp_laws.proofs.Order.{AtMost, Precedes, not_both, opening_least, from_before, same_is}

@@ -1,11 +1,10 @@
 -- What holds of copies, of answers to a refresh and of closed records, as one invariant: each part needs the others.
 use Rattle.std.proofs.Common.{◌≡◌, ◌≢◌, ℕ, Bool, true, List, ◌∷◌, ◌++◌}
 use Rattle.std.specs.Prelude.{Some, None}
-use Rattle.vp_model.specs.Types.{ViewId, TxnId, View, Commit, Op, Stored, Live}
+use Rattle.vp_model.specs.Types.{ViewId, TxnId, View, Commit, Op, Stored, Live, Doubt}
 use Rattle.vp_model.specs.Types.message
 use Rattle.vp_model.specs.Words.{keys, value_at}
 use Rattle.vp_model.specs.Catalogue.{Catalogue, holders, accessible}
-use Rattle.vp_model.specs.Durable.{Doubt}
 use Rattle.vp_model.specs.Site.{SiteState}
 use Rattle.vp_model.specs.Refresh.{is_usable, refreshing_of}
 use Rattle.vp_laws.proofs.Members.{Has}

@@ -2,11 +2,11 @@
 -- refresh brought it.
 use Rattle.std.proofs.Common.{◌≡◌, ◌≢◌, ◌⊎◌, ◌∙◌, ap, sym, subst, ℕ, Bool, true, false, List, refl, inl, inr, ⊎_elim}
 use Rattle.std.specs.Prelude.{Some}
-use Rattle.vp_model.specs.Types.{ViewId, TxnId, Commit, Input, Stored}
+use Rattle.vp_model.specs.Types.{ViewId, TxnId, Commit, Input, Stored, Doubt}
 use Rattle.vp_model.specs.Types.message
 use Rattle.vp_model.specs.Words.{keys, value_at, same_view}
 use Rattle.vp_model.specs.Catalogue.{Catalogue, holders}
-use Rattle.vp_model.specs.Durable.{DurableState, Doubt, doubt_of}
+use Rattle.vp_model.specs.Durable.{DurableState, doubt_of}
 use Rattle.vp_model.specs.Transactions.{last_writes, writes_held}
 use Rattle.vp_model.specs.Site.{SiteState, Stepped}
 use Rattle.vp_model.specs.Step.{durable_of}

@@ -1,10 +1,9 @@
 -- The value of each copy after a step is the one after the entries of views up to its date, but for the entry of a doubt of that view.
 use Rattle.std.proofs.Common.{◌≡◌, ◌≢◌, ◌∙◌, ap, sym, subst, ℕ, Bool, true, false, List, [], ◌∷◌, ◌++◌, refl, ⊎_elim}
 use Rattle.std.specs.Prelude.{Some}
-use Rattle.vp_model.specs.Types.{ViewId, TxnId, Commit, Input, Stored}
+use Rattle.vp_model.specs.Types.{ViewId, TxnId, Commit, Input, Stored, Doubt}
 use Rattle.vp_model.specs.Words.{keys, same_txn}
 use Rattle.vp_model.specs.Catalogue.{Catalogue}
-use Rattle.vp_model.specs.Durable.{Doubt}
 use Rattle.vp_model.specs.Site.{SiteState, Stepped}
 use Rattle.vp_laws.proofs.Members.{Has, has_none, has_cases, has_one_is}
 use Rattle.vp_laws.proofs.Apart.{same_txn-is, same_txn-not}

@@ -2,10 +2,10 @@
 use Rattle.std.proofs.Common.{◌≡◌, ◌⊎◌, ◌∙◌, sym, subst, ℕ, Bool, true, false, inl, inr, ⊎_elim}
 use Rattle.std.specs.Prelude.{Some}
 use Rattle.std.specs.List.{Contains}
-use Rattle.vp_model.specs.Types.{TxnId, Message, Input}
+use Rattle.vp_model.specs.Types.{TxnId, Message, Input, Doubt}
 use Rattle.vp_model.specs.Types.message
 use Rattle.vp_model.specs.Catalogue.{Catalogue}
-use Rattle.vp_model.specs.Durable.{Doubt, DurableState}
+use Rattle.vp_model.specs.Durable.{DurableState}
 use Rattle.vp_model.specs.Site.{SiteState}
 use Rattle.vp_model.specs.Step.{step}
 use Rattle.vp_model.specs.World.{WorldState, Schedule, Moment, site_of, moments_of, journal_of}

@@ -4,12 +4,11 @@ use Rattle.std.specs.Prelude.{Option, Some, None}
 use Rattle.std.proofs.lemmas.Bool.Decides.{nat_tests}
 use Rattle.std.proofs.lemmas.List.Kept.{AllPairs-cons}
 use Rattle.std.proofs.lemmas.List.Elements.{All-from_recursion}
-use Rattle.vp_model.specs.Types.{ViewId, TxnId, Commit, Op}
+use Rattle.vp_model.specs.Types.{ViewId, TxnId, Commit, Op, Doubt}
 use Rattle.vp_model.specs.Types.op
 use Rattle.vp_model.specs.Catalogue.{accessible}
 use Rattle.vp_model.specs.Types.message
 use Rattle.vp_model.specs.Words.{same_txn}
-use Rattle.vp_model.specs.Durable.{Doubt}
 use Rattle.vp_model.specs.World.{Place, Schedule, run_of, journal_of, place_of}
 use Rattle.vp_laws.specs.Entries.{IsOnce, doubts_in, VotesLeaveDoubts, record_in, EntriesAreAccessible}
 use Rattle.vp_laws.proofs.Members.{has_of, contains, all_of}

@@ -1,7 +1,7 @@
 -- A whole step is made of the small moves that clients see, and of moves that they do not see.
 use Rattle.std.proofs.Common.{◌≡◌, ◌∙◌, sym, subst, ℕ, Bool, true, false, List, [], refl, arith}
 use Rattle.std.specs.Prelude.{Option, Some, None, map}
-use Rattle.vp_model.specs.Types.{ViewId, View, TxnId, Stored, Owner, Commit, Reply, Call, Message, Input, Refreshing, Part}
+use Rattle.vp_model.specs.Types.{ViewId, View, TxnId, Stored, Owner, Commit, Reply, Call, Message, Input, Refreshing, Part, Decision, Doubt}
 use Rattle.vp_model.specs.Types.entry
 use Rattle.vp_model.specs.Types.obstacle
 use Rattle.vp_model.specs.Types.call
@@ -9,7 +9,7 @@ use Rattle.vp_model.specs.Types.input
 use Rattle.vp_model.specs.Types.message
 use Rattle.vp_model.specs.Words.{view_before, for_each}
 use Rattle.vp_model.specs.Catalogue.{Catalogue}
-use Rattle.vp_model.specs.Durable.{Decision, Doubt, doubt_of}
+use Rattle.vp_model.specs.Durable.{doubt_of}
 use Rattle.vp_model.specs.Site.{CoordinatorState, SiteState, Lent, Stepped, begin_step, lent, put_back, send, force, change_views, change_refresh, change_participant}
 use Rattle.vp_model.specs.Refresh.{newest, take_newer, end_refresh, settle_one, settle, settle_all, start_refresh, start_refresh_all, refreshing_of}
 use Rattle.vp_model.specs.Views.{drop_view, leave, start_inviting, invite, refresh_here, hold, join, is_spent, usable_here}

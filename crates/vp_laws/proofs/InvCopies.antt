@@ -4,11 +4,11 @@ use Rattle.std.proofs.Common.{◌≡◌, ◌∙◌, ap, sym, subst, ℕ, ◌+◌
 use Rattle.std.specs.Prelude.{Option, Some, None, option_map, slice_get, filter}
 use Rattle.std.specs.List.{enumerate_from}
 use Rattle.std.proofs.lemmas.Option.{slice_get-map}
-use Rattle.vp_model.specs.Types.{ViewId, TxnId, View, Commit, Stored, Live}
+use Rattle.vp_model.specs.Types.{ViewId, TxnId, View, Commit, Stored, Live, Doubt}
 use Rattle.vp_model.specs.Words.{has, keys, opening, value_at}
 use Rattle.vp_model.specs.Refresh.{is_usable_in}
 use Rattle.vp_model.specs.Catalogue.{Catalogue, RecordEntry, sites_of, start_values, copies_from, start_copies}
-use Rattle.vp_model.specs.Durable.{DurableState, Doubt, empty_durable, apply}
+use Rattle.vp_model.specs.Durable.{DurableState, empty_durable, apply}
 use Rattle.vp_model.specs.Site.{SiteState}
 use Rattle.vp_model.specs.Step.{start, start_record, step}
 use Rattle.vp_model.specs.World.{Place, place_of, start_place, start_world}

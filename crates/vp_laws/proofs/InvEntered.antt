@@ -3,12 +3,12 @@
 use Rattle.std.proofs.Common.{◌≡◌, ◌≢◌, ◌∙◌, ap, sym, subst, ℕ, Bool, true, false, List, [], ◌∷◌, refl, arith, ⊎_elim}
 use Rattle.std.specs.Prelude.{Option, Some, None, option_map, ◌&&◌, ◌==◌, not}
 use Rattle.std.proofs.lemmas.Bool.Decides.{nat_tests}
-use Rattle.vp_model.specs.Types.{ViewId, TxnId, View, Commit, Message, Input, Op, Live}
+use Rattle.vp_model.specs.Types.{ViewId, TxnId, View, Commit, Message, Input, Op, Live, Doubt}
 use Rattle.vp_model.specs.Types.message
 use Rattle.vp_model.specs.Types.op
 use Rattle.vp_model.specs.Words.{is_empty, has, is_view, keys}
 use Rattle.vp_model.specs.Catalogue.{Catalogue, holders, accessible, start_copies}
-use Rattle.vp_model.specs.Durable.{DurableState, Doubt, empty_durable}
+use Rattle.vp_model.specs.Durable.{DurableState, empty_durable}
 use Rattle.vp_model.specs.Site.{SiteState, Stepped}
 use Rattle.vp_model.specs.Transactions.{last_writes}
 use Rattle.vp_model.specs.Refresh.{is_usable_in, other_holders_in}

@@ -2,12 +2,12 @@
 use Rattle.std.proofs.Common.{◌≡◌, ◌≢◌, ◌∙◌, ap, sym, subst, ℕ, Bool, true, false, List, [], ◌∷◌, refl, arith, inr, ⊎_elim}
 use Rattle.std.specs.Prelude.{Some, flat_map}
 use Rattle.std.proofs.lemmas.Bool.Decides.{nat_tests}
-use Rattle.vp_model.specs.Types.{ViewId, TxnId, Input, Lock}
+use Rattle.vp_model.specs.Types.{ViewId, TxnId, Input, Lock, Doubt}
 use Rattle.vp_model.specs.Types.message
 use Rattle.vp_model.specs.Types.owner
 use Rattle.vp_model.specs.Words.{same_view, keys, opening}
 use Rattle.vp_model.specs.Catalogue.{Catalogue, start_copies}
-use Rattle.vp_model.specs.Durable.{DurableState, Doubt, empty_durable}
+use Rattle.vp_model.specs.Durable.{DurableState, empty_durable}
 use Rattle.vp_model.specs.Site.{SiteState, Stepped}
 use Rattle.vp_model.specs.Step.{locks_in_doubt, start, step, durable_of}
 use Rattle.vp_laws.proofs.Members.{Has, has_none, has_first, has_more, has_cons, has_cases, has_left, has_right, map_has}

@@ -1,11 +1,11 @@
 -- Records under refresh, in every world: each has a copy here and may be used, and no entry of the held view has written it.
 use Rattle.std.proofs.Common.{◌≡◌, ◌≢◌, ◌⊎◌, ◌∙◌, ap, sym, subst, ℕ, true, false, List, refl, arith, ⊎_elim}
 use Rattle.std.specs.Prelude.{Some, None}
-use Rattle.vp_model.specs.Types.{ViewId, TxnId, View, Commit, Input, Live, Refreshing}
+use Rattle.vp_model.specs.Types.{ViewId, TxnId, View, Commit, Input, Live, Refreshing, Doubt}
 use Rattle.vp_model.specs.Types.message
 use Rattle.vp_model.specs.Words.{is_empty, has, has_txn, keys}
 use Rattle.vp_model.specs.Catalogue.{Catalogue, holders, start_copies}
-use Rattle.vp_model.specs.Durable.{DurableState, Doubt, empty_durable}
+use Rattle.vp_model.specs.Durable.{DurableState, empty_durable}
 use Rattle.vp_model.specs.Transactions.{last_writes, writes_held}
 use Rattle.vp_model.specs.Site.{SiteState, Stepped}
 use Rattle.vp_model.specs.Step.{start, step}

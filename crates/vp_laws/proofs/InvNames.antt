@@ -2,13 +2,13 @@
 use Rattle.std.proofs.Common.{◌≡◌, ◌≢◌, ◌⊎◌, ◌∙◌, ap, sym, subst, ℕ, ◌≤◌, ◌<◌, true, List, ◌∷◌, [], map, refl, arith, inl, inr, ⊎_elim}
 use Rattle.std.specs.Prelude.{Option, Some, None, option_map, flat_map, ◌==◌, ◌&&◌}
 use Rattle.std.proofs.lemmas.Option.{cond_some}
-use Rattle.vp_model.specs.Types.{ViewId, TxnId, View, Stored, Sent, Commit, Owner, Obstacle, Message, Input, Lock, Live}
+use Rattle.vp_model.specs.Types.{ViewId, TxnId, View, Stored, Sent, Commit, Owner, Obstacle, Message, Input, Lock, Live, Doubt, Decision}
 use Rattle.vp_model.specs.Types.message
 use Rattle.vp_model.specs.Types.obstacle
 use Rattle.vp_model.specs.Types.owner
 use Rattle.vp_model.specs.Words.{opening, same_view}
 use Rattle.vp_model.specs.Catalogue.{Catalogue, RecordEntry, sites_of, start_copies}
-use Rattle.vp_model.specs.Durable.{DurableState, Doubt, Decision, empty_durable, apply}
+use Rattle.vp_model.specs.Durable.{DurableState, empty_durable, apply}
 use Rattle.vp_model.specs.Site.{SiteState}
 use Rattle.vp_model.specs.Step.{start, start_record, locks_in_doubt, step}
 use Rattle.vp_model.specs.World.{Place, start_place, start_world, place_of, restart_place}

@@ -2,11 +2,11 @@
 -- coordinator's decision, or has applied it and has it in its ended list, or has left its view.
 use Rattle.std.proofs.Common.{◌≡◌, ◌≢◌, ◌⊎◌, ◌∙◌, ap, sym, subst, ℕ, Bool, true, false, List, [], ◌∷◌, refl, inl, inr, ⊎_elim}
 use Rattle.std.specs.Prelude.{Option, Some, None, option_map}
-use Rattle.vp_model.specs.Types.{ViewId, TxnId, View, Sent, Commit, Message, Input, Part, Live}
+use Rattle.vp_model.specs.Types.{ViewId, TxnId, View, Sent, Commit, Message, Input, Part, Live, Doubt, Decision}
 use Rattle.vp_model.specs.Types.message
 use Rattle.vp_model.specs.Words.{same_txn, has_txn, is_empty, is_view, has}
 use Rattle.vp_model.specs.Catalogue.{Catalogue, holders}
-use Rattle.vp_model.specs.Durable.{DurableState, Doubt, Decision}
+use Rattle.vp_model.specs.Durable.{DurableState}
 use Rattle.vp_model.specs.Site.{SiteState, Stepped}
 use Rattle.vp_model.specs.Transactions.{last_writes, writes_held}
 use Rattle.vp_model.specs.Views.{has_doubt}

@@ -3,11 +3,11 @@
 use Rattle.std.proofs.Common.{◌≡◌, ◌≢◌, ◌⊎◌, ◌∙◌, ap, sym, subst, ℕ, ◌+◌, ◌≤◌, Bool, true, false, List, [], ◌∷◌, refl, arith, inl, inr, ⊎_elim}
 use Rattle.std.specs.Prelude.{Option, Some, None, is_some, option_map, not, ◌==◌}
 use Rattle.std.proofs.lemmas.Bool.Decides.{nat_tests}
-use Rattle.vp_model.specs.Types.{ViewId, TxnId, View, Sent, Commit, Message, Input, Part, Pending, Live}
+use Rattle.vp_model.specs.Types.{ViewId, TxnId, View, Sent, Commit, Message, Input, Part, Pending, Live, Doubt}
 use Rattle.vp_model.specs.Types.message
 use Rattle.vp_model.specs.Words.{is_empty, is_view}
 use Rattle.vp_model.specs.Catalogue.{Catalogue, start_copies}
-use Rattle.vp_model.specs.Durable.{DurableState, Doubt, empty_durable}
+use Rattle.vp_model.specs.Durable.{DurableState, empty_durable}
 use Rattle.vp_model.specs.Site.{SiteState, Stepped}
 use Rattle.vp_model.specs.Transactions.{last_writes, writes_held}
 use Rattle.vp_model.specs.Messages.{holds_view}

@@ -3,12 +3,12 @@ use Rattle.std.proofs.Common.{◌≡◌, ◌≢◌, ◌⊎◌, ◌∙◌, sym, s
 use Rattle.std.specs.Prelude.{Option, Some, None, filter, not, ◌==◌, ◌&&◌, ◌||◌}
 use Rattle.std.specs.List.{list_any}
 use Rattle.std.proofs.lemmas.Bool.Decides.{nat_tests}
-use Rattle.vp_model.specs.Types.{ViewId, TxnId, View, Lock, Part, Pending, Live, Refreshing}
+use Rattle.vp_model.specs.Types.{ViewId, TxnId, View, Lock, Part, Pending, Live, Refreshing, Doubt}
 use Rattle.vp_model.specs.Types.op
 use Rattle.vp_model.specs.Types.owner
 use Rattle.vp_model.specs.Words.{same_txn, same_owner, without_first, keys, opening}
 use Rattle.vp_model.specs.Catalogue.{Catalogue}
-use Rattle.vp_model.specs.Durable.{Doubt, without_doubt}
+use Rattle.vp_model.specs.Durable.{without_doubt}
 use Rattle.vp_model.specs.Locks.{with_lock, with_guard, without_guard, without_owner}
 use Rattle.vp_model.specs.Site.{ParticipantState}
 use Rattle.vp_model.specs.Views.{has_part, has_doubt, outlasts_for, outlasts}

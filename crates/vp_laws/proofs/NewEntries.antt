@@ -2,11 +2,11 @@
 -- nothing here is in doubt on that or under refresh, and no record that is closed for a higher view was written.
 use Rattle.std.proofs.Common.{◌≡◌, ◌≢◌, ◌⊎◌, ◌∙◌, ap, sym, subst, ℕ, Bool, false, List, [], ◌∷◌, ◌++◌, refl, inl, inr, ⊎_elim, append-nil}
 use Rattle.std.specs.Prelude.{Some}
-use Rattle.vp_model.specs.Types.{TxnId, View, Message, Commit, Input, Part, Live, Refreshing}
+use Rattle.vp_model.specs.Types.{TxnId, View, Message, Commit, Input, Part, Live, Refreshing, Doubt}
 use Rattle.vp_model.specs.Types.message
 use Rattle.vp_model.specs.Words.{is_empty, same_txn, keys}
 use Rattle.vp_model.specs.Catalogue.{Catalogue, holders}
-use Rattle.vp_model.specs.Durable.{DurableState, Doubt}
+use Rattle.vp_model.specs.Durable.{DurableState}
 use Rattle.vp_model.specs.Transactions.{last_writes, writes_held}
 use Rattle.vp_model.specs.Site.{SiteState, Stepped}
 use Rattle.vp_model.specs.Step.{durable_of}

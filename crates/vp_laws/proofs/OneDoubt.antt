@@ -2,11 +2,11 @@
 use Rattle.std.proofs.Common.{◌≡◌, ◌∙◌, ap, sym, subst, ℕ, Bool, true, false, cond, List, [], ◌∷◌, refl, arith, ⊎_elim}
 use Rattle.std.specs.Prelude.{Some, find}
 use Rattle.std.proofs.lemmas.Bool.Decides.{nat_tests}
-use Rattle.vp_model.specs.Types.{TxnId, Commit}
+use Rattle.vp_model.specs.Types.{TxnId, Commit, Doubt}
 use Rattle.vp_model.specs.Types.message
 use Rattle.vp_model.specs.Words.{same_txn}
 use Rattle.vp_model.specs.Catalogue.{Catalogue}
-use Rattle.vp_model.specs.Durable.{Doubt, doubt_of}
+use Rattle.vp_model.specs.Durable.{doubt_of}
 use Rattle.vp_laws.proofs.Members.{Has, has_none, has_cons, find_has, find_true}
 use Rattle.vp_laws.proofs.Apart.{same_txn-is}
 use Rattle.vp_laws.proofs.LocalViews.{letter}

@@ -1,14 +1,14 @@
 -- What speaks of a site's own transactions and of what is sent for them alone is kept by all moves but the coordinator's.
 use Rattle.std.proofs.Common.{◌≡◌, ◌∙◌, ap, sym, subst, ℕ, Bool, true, false, cond, List, [], ◌∷◌, ◌++◌, map, refl}
 use Rattle.std.specs.Prelude.{Option, Some, None, ◌==◌, not, filter}
-use Rattle.vp_model.specs.Types.{TxnId, Stored, Message, Sent, Commit, Input, Refreshing}
+use Rattle.vp_model.specs.Types.{TxnId, Stored, Message, Sent, Commit, Input, Refreshing, Doubt, Decision}
 use Rattle.vp_model.specs.Types.entry
 use Rattle.vp_model.specs.Types.input
 use Rattle.vp_model.specs.Types.message
 use Rattle.vp_model.specs.Types.obstacle
 use Rattle.vp_model.specs.Words.{replace_at, view_before}
 use Rattle.vp_model.specs.Catalogue.{Catalogue}
-use Rattle.vp_model.specs.Durable.{Doubt, Decision, doubt_of}
+use Rattle.vp_model.specs.Durable.{doubt_of}
 use Rattle.vp_model.specs.Site.{CoordinatorState, SiteState, Lent, Stepped, begin_step, lent, put_back, letters, force, change_copies}
 use Rattle.vp_model.specs.Refresh.{newest, take_newer, end_refresh, start_refresh, other_holders, unanswered}
 use Rattle.vp_model.specs.Views.{other_sites, drop_view, start_inviting, hold}

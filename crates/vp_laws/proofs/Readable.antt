@@ -7,10 +7,10 @@ use Rattle.std.specs.Str.{bytes_eq}
 use Rattle.std.proofs.lemmas.Bool.{eq-eqb, eqb-true}
 use Rattle.std.proofs.lemmas.Bool.Decides.{nat_tests}
 use Rattle.std.proofs.lemmas.Slice.Eq.{bytes_eq-Decides}
-use Rattle.vp_model.specs.Types.{View, Stored, Lock}
+use Rattle.vp_model.specs.Types.{View, Stored, Lock, Doubt}
 use Rattle.vp_model.specs.Words.{keys, change_first}
 use Rattle.vp_model.specs.Catalogue.{Catalogue, sites_of, start_values}
-use Rattle.vp_model.specs.Durable.{DurableState, Doubt}
+use Rattle.vp_model.specs.Durable.{DurableState}
 use Rattle.vp_model.specs.Refresh.{is_usable}
 use Rattle.vp_model.specs.OneCopy.{Values, serial, order, content}
 use Rattle.vp_model.specs.Site.{SiteState}

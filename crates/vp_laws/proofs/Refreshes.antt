@@ -2,11 +2,11 @@
 -- doubt is on the record, it is closed for the held view.
 use Rattle.std.proofs.Common.{◌≡◌, ◌≢◌, ◌∙◌, ap, sym, subst, ℕ, Bool, true, false, List, [], ◌∷◌, refl, ⊎_elim}
 use Rattle.std.specs.Prelude.{Option, Some, not}
-use Rattle.vp_model.specs.Types.{ViewId, View, Commit, Input, Stored, Refreshing}
+use Rattle.vp_model.specs.Types.{ViewId, View, Commit, Input, Stored, Refreshing, Doubt}
 use Rattle.vp_model.specs.Types.message
 use Rattle.vp_model.specs.Words.{has, is_empty, keys, opening}
 use Rattle.vp_model.specs.Catalogue.{Catalogue, holders, accessible}
-use Rattle.vp_model.specs.Durable.{DurableState, Doubt}
+use Rattle.vp_model.specs.Durable.{DurableState}
 use Rattle.vp_model.specs.Refresh.{is_usable_in, other_holders, other_holders_in, unanswered, is_doubtful}
 use Rattle.vp_model.specs.Site.{SiteState, Stepped}
 use Rattle.vp_laws.proofs.Members.{Has, has_none, has_from_test, filter_keeps, map_has, any_false}

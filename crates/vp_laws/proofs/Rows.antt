@@ -2,7 +2,7 @@
 use Rattle.std.proofs.Common.{◌≡◌, ℕ, Bool, true, false, List, [], ◌∷◌, refl, arith, inl, inr}
 use Rattle.std.specs.Prelude.{Option, Some, None, ◌&&◌}
 use Rattle.std.specs.Option.{option_map_or}
-use Rattle.vp_model.specs.Types.{ViewId, TxnId, View, Stored, Owner, Call, Message, Input, Refreshing}
+use Rattle.vp_model.specs.Types.{ViewId, TxnId, View, Stored, Owner, Call, Message, Input, Refreshing, Decision}
 use Rattle.vp_base.specs.declared.site.Ending.TheVariants.{ViewChanged}
 use Rattle.vp_model.specs.Types.answer
 use Rattle.vp_model.specs.Types.call
@@ -10,7 +10,7 @@ use Rattle.vp_model.specs.Types.input
 use Rattle.vp_model.specs.Types.message
 use Rattle.vp_model.specs.Words.{keys, is_view, has}
 use Rattle.vp_model.specs.Catalogue.{Catalogue}
-use Rattle.vp_model.specs.Durable.{Decision, doubt_of}
+use Rattle.vp_model.specs.Durable.{doubt_of}
 use Rattle.vp_model.specs.Site.{SiteState, Lent, Stepped, begin_step, lent, put_back, change_views}
 use Rattle.vp_model.specs.Refresh.{is_usable, refreshing_of, settle_one, settle, settle_all, start_refresh, start_refresh_all}
 use Rattle.vp_model.specs.Views.{abandon, highest, is_spent, drop_view, leave, invite, usable_here, refresh_here, hold, join}

@@ -1,14 +1,14 @@
 -- Parts are of other sites' transactions and of the held view; doubts and the dates of copies are at most the promise.
 use Rattle.std.proofs.Common.{◌≡◌, ◌≢◌, ◌⊎◌, ◌∙◌, ap, sym, ℕ, Bool, true, false, cond, List, [], ◌∷◌, ◌++◌, map, refl, arith, inr, ⊎_elim, append-nil}
 use Rattle.std.specs.Prelude.{Option, Some, None, is_some, nat_lt, ◌||◌, ◌==◌, not, option_map, filter}
-use Rattle.vp_model.specs.Types.{ViewId, TxnId, View, Stored, Message, Sent, Input, Part, Refreshing, Pending, Live, Ending}
+use Rattle.vp_model.specs.Types.{ViewId, TxnId, View, Stored, Message, Sent, Input, Part, Refreshing, Pending, Live, Ending, Doubt, Decision}
 use Rattle.vp_base.specs.declared.site.Ending.TheVariants.{Committed}
 use Rattle.vp_model.specs.Types.entry
 use Rattle.vp_model.specs.Types.message
 use Rattle.vp_model.specs.Types.obstacle
 use Rattle.vp_model.specs.Words.{same_txn, txn_before, value_at, put_at, view_before, is_view, replace_at}
 use Rattle.vp_model.specs.Catalogue.{Catalogue}
-use Rattle.vp_model.specs.Durable.{Doubt, Decision, doubt_of, with_writes}
+use Rattle.vp_model.specs.Durable.{doubt_of, with_writes}
 use Rattle.vp_model.specs.Site.{Here, ViewState, ParticipantState, send, change_participant, change_refresh, SiteState, Lent, Stepped, begin_step, lent, put_back, letters, force, change_copies}
 use Rattle.vp_model.specs.Transactions.{keep_writes, complete, writes_held, last_writes}
 use Rattle.vp_model.specs.Refresh.{refreshing_of, newest, take_newer, end_refresh, start_refresh, other_holders, unanswered}

@@ -2,14 +2,14 @@
 use Rattle.std.proofs.Common.{◌≡◌, ◌⊎◌, ◌∙◌, ap, sym, subst, ℕ, Bool, true, false, cond, List, [], ◌∷◌, map, refl, inl, inr, ⊎_elim}
 use Rattle.std.specs.Prelude.{Option, Some, None, filter, find, option_map, not, ◌==◌, nat_lt}
 use Rattle.std.proofs.lemmas.Bool.{eqb-true}
-use Rattle.vp_model.specs.Types.{ViewId, TxnId, View, Commit, Input, Stored, Live, Ending, Refreshing}
+use Rattle.vp_model.specs.Types.{ViewId, TxnId, View, Commit, Input, Stored, Live, Ending, Refreshing, Doubt}
 use Rattle.vp_model.specs.Types.entry
 use Rattle.vp_model.specs.Types.input
 use Rattle.vp_model.specs.Types.message
 use Rattle.vp_model.specs.Words.{same_txn, put_at, view_before, replace_at, value_at, has}
 use Rattle.vp_model.specs.Catalogue.{Catalogue}
 use Rattle.vp_model.specs.Locks.{without_guard}
-use Rattle.vp_model.specs.Durable.{Doubt, doubt_of, with_writes}
+use Rattle.vp_model.specs.Durable.{doubt_of, with_writes}
 use Rattle.vp_model.specs.Site.{Here, SiteState, Lent, Stepped, begin_step, put_back, force, change_copies}
 use Rattle.vp_model.specs.Transactions.{last_writes, writes_held, close, keep_writes, decide, complete}
 use Rattle.vp_model.specs.Refresh.{newer, newest, take_newer, end_refresh, start_refresh, refreshing_of, unanswered}

@@ -4,10 +4,9 @@ use Rattle.std.proofs.Common.{◌≡◌, ◌≢◌, ◌⊎◌, ◌∙◌, ap, sy
 use Rattle.std.specs.Prelude.{Option, Some, None, filter, not, ◌==◌, nat_lt}
 use Rattle.std.specs.Option.{option_map_or}
 use Rattle.std.proofs.lemmas.Bool.Decides.{nat_tests}
-use Rattle.vp_model.specs.Types.{ViewId, View, Input, Stored, Refreshing}
+use Rattle.vp_model.specs.Types.{ViewId, View, Input, Stored, Refreshing, Decision}
 use Rattle.vp_model.specs.Words.{is_empty, keys, put, value_at}
 use Rattle.vp_model.specs.Catalogue.{Catalogue}
-use Rattle.vp_model.specs.Durable.{Decision}
 use Rattle.vp_model.specs.Site.{SiteState, Stepped, begin_step, lent, put_back}
 use Rattle.vp_model.specs.Refresh.{is_usable, is_usable_in, newest, take_newer, end_refresh, settle_one, settle, settle_all, start_refresh, start_refresh_all, refreshing_of, unanswered, is_doubtful}
 use Rattle.vp_model.specs.Views.{hold, join, usable_here, refresh_here}

@@ -1,11 +1,11 @@
 -- What a step forces to the log, applied to the durable part before it, is the durable part after it.
 use Rattle.std.proofs.Common.{◌≡◌, ℕ, Bool, true, false, List, [], ◌∷◌, ◌++◌, refl, arith}
 use Rattle.std.specs.Prelude.{Option, Some, None}
-use Rattle.vp_model.specs.Types.{ViewId, TxnId, Stored, Message, LogRecord, Input, Live, Ending, Refreshing}
+use Rattle.vp_model.specs.Types.{ViewId, TxnId, Stored, Message, LogRecord, Input, Live, Ending, Refreshing, Doubt}
 use Rattle.vp_base.specs.declared.site.Ending.TheVariants.{Committed}
 use Rattle.vp_model.specs.Types.message
 use Rattle.vp_model.specs.Catalogue.{Catalogue}
-use Rattle.vp_model.specs.Durable.{DurableState, Doubt, apply, apply_all, doubt_of, without_doubt}
+use Rattle.vp_model.specs.Durable.{DurableState, apply, apply_all, doubt_of, without_doubt}
 use Rattle.vp_model.specs.Site.{SiteState, Lent, Stepped, begin_step}
 use Rattle.vp_model.specs.Transactions.{keep_writes, complete}
 use Rattle.vp_model.specs.Refresh.{take_newer, end_refresh, start_refresh}

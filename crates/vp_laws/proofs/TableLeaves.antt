@@ -2,12 +2,12 @@
 use Rattle.std.proofs.Common.{◌≡◌, ◌≢◌, ◌⊎◌, ◌∙◌, ap, sym, ℕ, Bool, true, false, cond, List, [], ◌∷◌, ◌++◌, refl, arith, inl, inr, ⊎_elim}
 use Rattle.std.specs.Prelude.{Option, Some, None, is_some, option_map, not, ◌&&◌, ◌||◌}
 use Rattle.std.proofs.lemmas.Bool.Decides.{nat_tests}
-use Rattle.vp_model.specs.Types.{ViewId, TxnId, View, Message, Input, Stored, Refreshing}
+use Rattle.vp_model.specs.Types.{ViewId, TxnId, View, Message, Input, Stored, Refreshing, Doubt}
 use Rattle.vp_model.specs.Types.entry
 use Rattle.vp_model.specs.Types.message
 use Rattle.vp_model.specs.Words.{same_view, same_txn, has_txn, view_before, replace_at, is_view, has, put_number}
 use Rattle.vp_model.specs.Catalogue.{Catalogue}
-use Rattle.vp_model.specs.Durable.{Doubt, doubt_of}
+use Rattle.vp_model.specs.Durable.{doubt_of}
 use Rattle.vp_model.specs.Site.{ViewState, ParticipantState, SiteState, Lent, Stepped, begin_step, put_back, force, change_copies, change_views}
 use Rattle.vp_model.specs.Refresh.{newest, take_newer, end_refresh, start_refresh}
 use Rattle.vp_model.specs.Views.{drop_view, start_inviting, hold, has_part, has_doubt}

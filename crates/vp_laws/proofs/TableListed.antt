@@ -1,12 +1,12 @@
 -- Which records are under refresh after a step: each has a copy here and may be used, and was so before or is of a view that was joined now.
 use Rattle.std.proofs.Common.{◌≡◌, ◌⊎◌, ◌∙◌, ap, sym, subst, ℕ, Bool, true, false, cond, List, [], map, refl, ⊎_elim}
 use Rattle.std.specs.Prelude.{Option, Some, None, filter, not, ◌==◌, nat_lt}
-use Rattle.vp_model.specs.Types.{TxnId, View, Input, Stored, Live, Ending, Refreshing}
+use Rattle.vp_model.specs.Types.{TxnId, View, Input, Stored, Live, Ending, Refreshing, Doubt}
 use Rattle.vp_model.specs.Types.entry
 use Rattle.vp_model.specs.Words.{put_at, view_before, replace_at, keys}
 use Rattle.vp_model.specs.Catalogue.{Catalogue}
 use Rattle.vp_model.specs.Locks.{without_guard}
-use Rattle.vp_model.specs.Durable.{Doubt, doubt_of}
+use Rattle.vp_model.specs.Durable.{doubt_of}
 use Rattle.vp_model.specs.Site.{Here, SiteState, Lent, Stepped, begin_step, put_back, force, change_copies}
 use Rattle.vp_model.specs.Transactions.{last_writes, writes_held, close, keep_writes, decide, complete}
 use Rattle.vp_model.specs.Refresh.{is_usable, newest, take_newer, end_refresh, start_refresh}

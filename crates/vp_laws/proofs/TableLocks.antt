@@ -4,7 +4,7 @@ use Rattle.std.specs.Prelude.{Option, Some, None, filter, find, option_map, not,
 use Rattle.std.specs.List.{list_all}
 use Rattle.std.proofs.lemmas.Bool.Decides.{nat_tests}
 use Rattle.std.proofs.lemmas.Bool.{eqb-true}
-use Rattle.vp_model.specs.Types.{ViewId, TxnId, View, Message, Input, Stored, Lock, Part, Op, Answer, Pending, Live, Ending, Refreshing}
+use Rattle.vp_model.specs.Types.{ViewId, TxnId, View, Message, Input, Stored, Lock, Part, Op, Answer, Pending, Live, Ending, Refreshing, Doubt}
 use Rattle.vp_base.specs.declared.site.Ending.TheVariants.{Committed}
 use Rattle.vp_model.specs.Types.entry
 use Rattle.vp_model.specs.Types.input
@@ -13,7 +13,7 @@ use Rattle.vp_model.specs.Types.op
 use Rattle.vp_model.specs.Types.owner
 use Rattle.vp_model.specs.Words.{same_txn, same_owner, txn_before, put_at, put_number, for_each, change_first, without_first, put, view_before, replace_at, value_at, keys, has, opening}
 use Rattle.vp_model.specs.Catalogue.{Catalogue}
-use Rattle.vp_model.specs.Durable.{Doubt, doubt_of, without_doubt, with_writes, with_outcome}
+use Rattle.vp_model.specs.Durable.{doubt_of, without_doubt, with_writes, with_outcome}
 use Rattle.vp_model.specs.Locks.{conflict, holds, with_lock, without_owner, without_guard}
 use Rattle.vp_model.specs.Site.{ViewState, ParticipantState, CoordinatorState, Here, SiteState, Lent, Stepped, begin_step, put_back, force, change_copies}
 use Rattle.vp_model.specs.Transactions.{wait_for, last_writes, writes_held, keep_writes, complete}

@@ -2,14 +2,14 @@
 use Rattle.std.proofs.Common.{◌≡◌, ◌⊎◌, ◌∙◌, ap, sym, subst, ℕ, Bool, true, false, cond, List, [], ◌∷◌, ◌++◌, refl, arith, inl, inr, ⊎_elim}
 use Rattle.std.specs.Prelude.{Option, Some, None, find, not}
 use Rattle.std.proofs.lemmas.Bool.Decides.{nat_tests}
-use Rattle.vp_model.specs.Types.{ViewId, TxnId, Stored, LogRecord, Input, Part, Live, Ending, Refreshing}
+use Rattle.vp_model.specs.Types.{ViewId, TxnId, Stored, LogRecord, Input, Part, Live, Ending, Refreshing, Doubt}
 use Rattle.vp_base.specs.declared.site.Ending.TheVariants.{Committed}
 use Rattle.vp_model.specs.Types.entry
 use Rattle.vp_model.specs.Types.input
 use Rattle.vp_model.specs.Types.message
 use Rattle.vp_model.specs.Words.{same_txn, txn_before, replace_at, view_before}
 use Rattle.vp_model.specs.Catalogue.{Catalogue}
-use Rattle.vp_model.specs.Durable.{Doubt, doubt_of, without_doubt}
+use Rattle.vp_model.specs.Durable.{doubt_of, without_doubt}
 use Rattle.vp_model.specs.Site.{SiteState, Lent, Stepped, begin_step, put_back, force, change_copies}
 use Rattle.vp_model.specs.Transactions.{last_writes, writes_held, writing_parts, keep_writes, complete}
 use Rattle.vp_model.specs.Refresh.{take_newer, newest, end_refresh, start_refresh}

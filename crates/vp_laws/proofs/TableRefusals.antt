@@ -1,14 +1,14 @@
 -- The refusals that a step sends: each is of the request that came, for a lock that conflicts or for another view.
 use Rattle.std.proofs.Common.{◌≡◌, ◌∙◌, ap, sym, ℕ, Bool, true, false, cond, List, [], ◌∷◌, ◌++◌, map, refl, ⊎_elim, append-nil}
 use Rattle.std.specs.Prelude.{Option, Some, None, ◌==◌, not, filter}
-use Rattle.vp_model.specs.Types.{ViewId, TxnId, Stored, Owner, Obstacle, Message, Sent, Input, Refreshing, Pending, Live, Ending}
+use Rattle.vp_model.specs.Types.{ViewId, TxnId, Stored, Owner, Obstacle, Message, Sent, Input, Refreshing, Pending, Live, Ending, Doubt, Decision}
 use Rattle.vp_base.specs.declared.site.Ending.TheVariants.{Committed}
 use Rattle.vp_model.specs.Types.entry
 use Rattle.vp_model.specs.Types.message
 use Rattle.vp_model.specs.Types.obstacle
 use Rattle.vp_model.specs.Words.{replace_at, view_before}
 use Rattle.vp_model.specs.Catalogue.{Catalogue}
-use Rattle.vp_model.specs.Durable.{Doubt, Decision, doubt_of}
+use Rattle.vp_model.specs.Durable.{doubt_of}
 use Rattle.vp_model.specs.Locks.{conflict}
 use Rattle.vp_model.specs.Site.{SiteState, Lent, Stepped, begin_step, lent, put_back, letters, force, change_copies}
 use Rattle.vp_model.specs.Transactions.{keep_writes, complete}

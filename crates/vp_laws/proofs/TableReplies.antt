@@ -1,13 +1,13 @@
 -- What a step replies: an end of a transaction is of one that it decides or closes now, or of one that has ended; and each entry is replied.
 use Rattle.std.proofs.Common.{◌≡◌, ◌∙◌, map, append-nil, ap, sym, subst, ℕ, Bool, true, false, cond, List, [], ◌∷◌, ◌++◌, refl, ⊎_elim}
 use Rattle.std.specs.Prelude.{Option, Some, None}
-use Rattle.vp_model.specs.Types.{TxnId, Commit, Input, Stored, Effects, Op, Answer, Reply, Pending, Live, Ending, Refreshing}
+use Rattle.vp_model.specs.Types.{TxnId, Commit, Input, Stored, Effects, Op, Answer, Reply, Pending, Live, Ending, Refreshing, Doubt}
 use Rattle.vp_base.specs.declared.site.Ending.TheVariants.{Committed}
 use Rattle.vp_model.specs.Types.answer
 use Rattle.vp_model.specs.Types.entry
 use Rattle.vp_model.specs.Words.{without_first, view_before, replace_at}
 use Rattle.vp_model.specs.Catalogue.{Catalogue}
-use Rattle.vp_model.specs.Durable.{Doubt, doubt_of}
+use Rattle.vp_model.specs.Durable.{doubt_of}
 use Rattle.vp_model.specs.Site.{reply, CoordinatorState, SiteState, Lent, Stepped, begin_step, put_back, force, change_copies}
 use Rattle.vp_model.specs.Transactions.{answer_of, with_pending_reply, finish, close, keep_writes, decided, decide, complete}
 use Rattle.vp_model.specs.Refresh.{newest, take_newer, end_refresh, start_refresh}

@@ -3,7 +3,7 @@ use Rattle.std.proofs.Common.{◌≡◌, ◌≢◌, ◌⊎◌, ◌∙◌, ap, sy
 use Rattle.std.specs.Prelude.{Option, Some, None, filter, find, option_map, not, ◌==◌, ◌&&◌, nat_lt}
 use Rattle.std.proofs.lemmas.Bool.{eqb-true}
 use Rattle.std.proofs.lemmas.Bool.Decides.{nat_tests}
-use Rattle.vp_model.specs.Types.{TxnId, View, Input, Stored, Refreshing}
+use Rattle.vp_model.specs.Types.{TxnId, View, Input, Stored, Refreshing, Doubt}
 use Rattle.vp_model.specs.Types.entry
 use Rattle.vp_model.specs.Types.input
 use Rattle.vp_model.specs.Types.message
@@ -13,7 +13,7 @@ use Rattle.vp_model.specs.Locks.{without_guard}
 use Rattle.vp_model.specs.Site.{SiteState, Stepped, begin_step, put_back, force, change_copies}
 use Rattle.vp_model.specs.Refresh.{newest, take_newer, end_refresh, start_refresh, refreshing_of, unanswered, is_doubtful}
 use Rattle.vp_model.specs.Views.{drop_view, start_inviting, hold}
-use Rattle.vp_model.specs.Durable.{Doubt, doubt_of}
+use Rattle.vp_model.specs.Durable.{doubt_of}
 use Rattle.vp_model.specs.Messages.{with_answer, accept, on_accept, on_stale, grant, end_here}
 use Rattle.vp_model.specs.Step.{fix, ask_again, resend_one, inquire, step}
 use Rattle.vp_laws.proofs.Members.{Has, filter_keeps, find_has}

@@ -1,13 +1,13 @@
 -- The small moves keep what a step tells of views.
 use Rattle.std.proofs.Common.{◌≡◌, ◌⊎◌, ◌∙◌, ap, sym, ℕ, Bool, true, false, List, [], ◌∷◌, map, refl, arith, inl, inr, ⊎_elim, cond}
 use Rattle.std.specs.Prelude.{Option, Some, None, ◌&&◌, ◌==◌, not, option_map, filter}
-use Rattle.vp_model.specs.Types.{ViewId, TxnId, View, Stored, Message, Sent, Input, Refreshing, Pending, Live, Ending}
+use Rattle.vp_model.specs.Types.{ViewId, TxnId, View, Stored, Message, Sent, Input, Refreshing, Pending, Live, Ending, Doubt, Decision}
 use Rattle.vp_base.specs.declared.site.Ending.TheVariants.{Committed}
 use Rattle.vp_model.specs.Types.input
 use Rattle.vp_model.specs.Types.message
 use Rattle.vp_model.specs.Words.{replace_at, view_before, is_view, has, put_number, same_view}
 use Rattle.vp_model.specs.Catalogue.{Catalogue}
-use Rattle.vp_model.specs.Durable.{Doubt, Decision, doubt_of}
+use Rattle.vp_model.specs.Durable.{doubt_of}
 use Rattle.vp_model.specs.Site.{ViewState, change_views, force, change_copies, SiteState, Lent, Stepped, begin_step, lent, put_back, letters}
 use Rattle.vp_model.specs.Transactions.{decide, keep_writes, complete}
 use Rattle.vp_model.specs.Refresh.{newest, take_newer, end_refresh, start_refresh, other_holders, unanswered}

@@ -2,12 +2,12 @@
 use Rattle.std.proofs.Common.{◌≡◌, ◌≢◌, ◌⊎◌, ◌∙◌, ap, sym, ℕ, Bool, true, false, cond, List, [], ◌∷◌, ◌++◌, map, refl, arith, inl, inr, ⊎_elim}
 use Rattle.std.specs.Prelude.{filter, not, ◌==◌}
 use Rattle.std.proofs.lemmas.Bool.Decides.{nat_tests}
-use Rattle.vp_model.specs.Types.{TxnId, Sent, Commit, Input, Live, Ending}
+use Rattle.vp_model.specs.Types.{TxnId, Sent, Commit, Input, Live, Ending, Decision}
 use Rattle.vp_base.specs.declared.site.Ending.TheVariants.{Committed}
 use Rattle.vp_model.specs.Types.message
 use Rattle.vp_model.specs.Words.{same_txn, txn_before, is_empty}
 use Rattle.vp_model.specs.Catalogue.{Catalogue}
-use Rattle.vp_model.specs.Durable.{Decision, put_decision, with_decision, acknowledged}
+use Rattle.vp_model.specs.Durable.{put_decision, with_decision, acknowledged}
 use Rattle.vp_model.specs.Site.{CoordinatorState, SiteState, Lent}
 use Rattle.vp_model.specs.Transactions.{close, keep_writes, decided, decide, last_writes, writing_parts, complete}
 use Rattle.vp_model.specs.Calls.{start_txn, take_lock, read_at, write_at, prepare_parts}

@@ -2,10 +2,10 @@
 -- of a transaction without an entry.
 use Rattle.std.proofs.Common.{◌≡◌, ◌≢◌, ◌∙◌, ap, sym, subst, ℕ, Bool, true, false, List, refl, ⊎_elim}
 use Rattle.std.specs.Prelude.{Option, Some, None, option_map, slice_get}
-use Rattle.vp_model.specs.Types.{ViewId, View, Commit, Stored}
+use Rattle.vp_model.specs.Types.{ViewId, View, Commit, Stored, Doubt}
 use Rattle.vp_model.specs.Words.{same_view, keys, value_at}
 use Rattle.vp_model.specs.Catalogue.{Catalogue, holders, start_values}
-use Rattle.vp_model.specs.Durable.{DurableState, Doubt}
+use Rattle.vp_model.specs.Durable.{DurableState}
 use Rattle.vp_model.specs.Site.{SiteState}
 use Rattle.vp_model.specs.Refresh.{is_usable, refreshing_of}
 use Rattle.vp_model.specs.Step.{durable_of}

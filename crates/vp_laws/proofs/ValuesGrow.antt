@@ -3,10 +3,9 @@ use Rattle.std.proofs.Common.{◌≡◌, ◌⊎◌, ◌∙◌, ap, ℕ, Bool, tr
 use Rattle.std.specs.Prelude.{Option, Some, None, option_map, slice_get, ◌&&◌}
 use Rattle.std.specs.List.{list_any}
 use Rattle.std.proofs.lemmas.Option.{slice_get-map}
-use Rattle.vp_model.specs.Types.{ViewId, Commit}
+use Rattle.vp_model.specs.Types.{ViewId, Commit, Doubt}
 use Rattle.vp_model.specs.Words.{has, keys, same_view, view_before}
 use Rattle.vp_model.specs.Catalogue.{Catalogue, RecordEntry, holders, start_values}
-use Rattle.vp_model.specs.Durable.{Doubt}
 use Rattle.vp_laws.proofs.Members.{Has, has_none, any_true, any_false, both_true, has_from_test}
 use Rattle.vp_laws.proofs.Order.{AtMost, from_before, same_is, same_from}
 use Rattle.vp_laws.proofs.InvEntered.{Wrote, has_test}

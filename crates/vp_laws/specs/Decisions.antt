@@ -1,11 +1,10 @@
 -- How a site that is in doubt about a transaction ends the doubt.
 use Rattle.std.specs.Prelude.{◌≡◌, ◌⊎◌, ℕ, Bool, true, false, Some, List}
 use Rattle.std.specs.List.{Contains}
-use Rattle.vp_model.specs.Types.{TxnId, Commit, Input}
+use Rattle.vp_model.specs.Types.{TxnId, Commit, Input, Doubt}
 use Rattle.vp_model.specs.Types.entry
 use Rattle.vp_model.specs.Types.input
 use Rattle.vp_model.specs.Catalogue.{Catalogue}
-use Rattle.vp_model.specs.Durable.{Doubt}
 use Rattle.vp_model.specs.Site.{SiteState}
 use Rattle.vp_model.specs.Step.{step}
 use Rattle.vp_model.specs.World.{WorldState, site_of}

@@ -1,12 +1,11 @@
 -- What the journal tells of transactions, and what the votes on a live one have left.
 use Rattle.std.specs.Prelude.{◌≡◌, ℕ, false, Some, true}
 use Rattle.std.specs.List.{Contains, AllPairs}
-use Rattle.vp_model.specs.Types.{TxnId, View, Commit, Live, Op}
+use Rattle.vp_model.specs.Types.{TxnId, View, Commit, Live, Op, Doubt}
 use Rattle.vp_model.specs.Types.op
 use Rattle.vp_model.specs.Types.message
 use Rattle.vp_model.specs.Words.{same_txn, is_empty}
 use Rattle.vp_model.specs.Catalogue.{Catalogue, accessible}
-use Rattle.vp_model.specs.Durable.{Doubt}
 use Rattle.vp_model.specs.Site.{SiteState}
 use Rattle.vp_model.specs.Transactions.{last_writes, writes_held}
 use Rattle.vp_model.specs.World.{Place, WorldState, place_of, site_of}

@@ -1,7 +1,7 @@
 -- What one more event adds to a run and to its trace.
-use Rattle.std.proofs.Common.{◌≡◌, ℕ, ◌+◌, List, [], ◌∷◌, ◌++◌, length, drop, map, refl, sym, ap, ◌∙◌, arith, append_assoc, append-nil}
+use Rattle.std.proofs.Common.{◌≡◌, ℕ, ◌+◌, List, [], ◌∷◌, ◌++◌, length, map, sym, ap, ◌∙◌, arith, append_assoc, append-nil}
 use Rattle.std.proofs.Math.Seq.{drop-append_seam}
-use Rattle.vp_model.specs.Types.{Event, Line}
+use Rattle.vp_model.specs.Types.{Event}
 use Rattle.vp_model.specs.Types.event
 use Rattle.vp_model.specs.Types.{Call}
 use Rattle.vp_model.specs.Catalogue.{Catalogue}

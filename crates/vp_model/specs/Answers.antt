@@ -1,7 +1,7 @@
 -- What a message does to the transactions that this site began: answers, refusals, votes, acknowledgements and inquiries.
 use Rattle.std.specs.Prelude.{ℕ, Bool, not, ◌==◌, ◌&&◌, if◌then◌else◌, List, filter}
 use Rattle.std.specs.List.{list_any}
-use Rattle.vp_model.specs.Types.{TxnId, Call, Message, Obstacle, Pending, Live}
+use Rattle.vp_model.specs.Types.{TxnId, Call, Message, Obstacle, Pending, Live, Decision}
 use Rattle.vp_base.specs.declared.site.Ending.TheVariants.{LockHeld, ViewChanged}
 use Rattle.vp_model.specs.Types.call
 use Rattle.vp_model.specs.Types.entry
@@ -9,7 +9,7 @@ use Rattle.vp_model.specs.Types.message
 use Rattle.vp_model.specs.Types.obstacle
 use Rattle.vp_model.specs.Words.{◌|>◌, for_some, same_txn, has, is_empty}
 use Rattle.vp_model.specs.Catalogue.{Catalogue, find_record}
-use Rattle.vp_model.specs.Durable.{Decision, acknowledged}
+use Rattle.vp_model.specs.Durable.{acknowledged}
 use Rattle.vp_model.specs.Site.{CoordinatorState, Lent, lent_force, lent_send, lent_coordinator}
 use Rattle.vp_model.specs.Transactions.{live_of, close, decide, wait_for}
 use Rattle.vp_model.specs.Calls.{answer_read, answer_write}
@@ -68,7 +68,7 @@ unfoldable pub on_vote : Catalogue → ℕ → ℕ → TxnId → Lent → Lent
 on_vote catalogue id from txn l = with_missing txn from (λ t p. voted catalogue id from t p p.call) l
 
 abbrev pub waits_for : TxnId → ℕ → List Decision → Bool
-waits_for txn site decisions = list_any (λ (d : Decision). same_txn d.0 txn && has d.1 site) decisions
+waits_for txn site decisions = list_any (λ (d : Decision). same_txn d.txn txn && has d.waiting site) decisions
 
 abbrev pub with_acknowledged : TxnId → ℕ → CoordinatorState → CoordinatorState
 with_acknowledged txn from c = record c { decisions = acknowledged txn from c.decisions }
@@ -85,7 +85,7 @@ abbrev pub is_live : TxnId → List Live → Bool
 is_live txn live = list_any (λ t. same_txn t.txn txn) live
 
 abbrev pub is_decided : TxnId → List Decision → Bool
-is_decided txn decisions = list_any (λ (d : Decision). same_txn d.0 txn) decisions
+is_decided txn decisions = list_any (λ (d : Decision). same_txn d.txn txn) decisions
 
 -- a coordinator without a decision answers abort
 unfoldable pub on_inquire : ℕ → ℕ → TxnId → Lent → Lent

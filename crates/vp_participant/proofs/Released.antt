@@ -2,10 +2,9 @@
 use Rattle.std.proofs.Common.{◌≡◌, ◌∙◌, ap, sym, Bool, true, false, not, ◌&&◌, ◌||◌, if◌then◌else◌, List, [], ◌∷◌, filter, refl, arith}
 use Rattle.std.proofs.lemmas.Bool.Decides.{nat_tests}
 use Rattle.vp_lists.proofs.Named.{same_txn_is}
-use Rattle.vp_model.specs.Types.{TxnId, Owner, Lock, Part}
+use Rattle.vp_model.specs.Types.{TxnId, Owner, Lock, Part, Doubt}
 use Rattle.vp_model.specs.Types.owner
 use Rattle.vp_model.specs.Words.{for_each, same_txn, same_owner}
-use Rattle.vp_model.specs.Durable.{Doubt}
 use Rattle.vp_model.specs.Locks.{without_owner, without_shared}
 use Rattle.vp_model.specs.Site.{ParticipantState}
 use Rattle.vp_model.specs.Views.{has_part, has_doubt}

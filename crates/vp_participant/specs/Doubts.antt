@@ -1,10 +1,10 @@
 -- The transactions in doubt: what they write, and their locks.
 use Rattle.std.specs.Prelude.{ℕ, Bool, true, List, Option, option_map}
 use Rattle.std.specs.List.{list_any}
-use Rattle.vp_model.specs.Types.{ViewId, TxnId, Lock}
+use Rattle.vp_model.specs.Types.{ViewId, TxnId, Lock, Doubt}
 use Rattle.vp_model.specs.Types.owner
 use Rattle.vp_model.specs.Words.{for_each, has, keys}
-use Rattle.vp_model.specs.Durable.{Doubt, doubt_of}
+use Rattle.vp_model.specs.Durable.{doubt_of}
 use Rattle.vp_model.specs.Locks.{with_lock}
 
 -- some transaction in doubt writes the record

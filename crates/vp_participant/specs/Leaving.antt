@@ -1,8 +1,7 @@
 -- The locks that go with the parts when the site leaves its view.
 use Rattle.std.specs.Prelude.{Bool, true, false, not, ◌&&◌, List}
-use Rattle.vp_model.specs.Types.{Owner, Lock, Part}
+use Rattle.vp_model.specs.Types.{Owner, Lock, Part, Doubt}
 use Rattle.vp_model.specs.Types.owner
-use Rattle.vp_model.specs.Durable.{Doubt}
 use Rattle.vp_model.specs.Site.{ParticipantState}
 use Rattle.vp_model.specs.Views.{has_part, has_doubt, outlasts_for}
 

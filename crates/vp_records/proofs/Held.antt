@@ -3,10 +3,10 @@ use Rattle.std.proofs.Common.{◌≡◌, ◌∙◌, ap, sym, ℕ, Bool, true, fa
 use Rattle.std.specs.Prelude.{◌==◌, option_copied, Result, Ok, Err, OnOk, OnErr}
 use Rattle.std.proofs.lemmas.Bool.{eqb-true}
 use Rattle.std.proofs.lemmas.Bool.Decides.{nat_tests}
-use Rattle.vp_model.specs.Types.{ViewId, Stored, LogRecord}
+use Rattle.vp_model.specs.Types.{ViewId, Stored, LogRecord, Doubt}
 use Rattle.vp_model.specs.Types.entry
 use Rattle.vp_model.specs.Words.{has, keys, value_at, replace_at, for_each}
-use Rattle.vp_model.specs.Durable.{Doubt, DurableState, doubt_of, with_writes, with_outcome, apply}
+use Rattle.vp_model.specs.Durable.{DurableState, doubt_of, with_writes, with_outcome, apply}
 
 replaced_keys : {V : Type 0} (n : ℕ) (v : V) (pairs : List (ℕ × V)) → keys (replace_at n v pairs) ≡ keys pairs
 replaced_keys {V} n v [] = refl

@@ -1,6 +1,6 @@
 -- A long schedule of three sites, which crash and change their views, and what they commit.
-use Rattle.std.specs.Prelude.{ℕ, List, [], ◌∷◌, codes}
-use Rattle.vp_model.specs.Types.{TxnId, ViewId, Event, Commit}
+use Rattle.std.specs.Prelude.{List, [], ◌∷◌, codes}
+use Rattle.vp_model.specs.Types.{TxnId, ViewId, Commit}
 use Rattle.vp_model.specs.Types.op
 use Rattle.vp_model.specs.Types.call
 use Rattle.vp_model.specs.Types.event

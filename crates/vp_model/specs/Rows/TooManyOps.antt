@@ -1,6 +1,6 @@
 -- One transaction reads 64 times; its 65th operation is refused, and it commits under that number.
 use Rattle.std.specs.Prelude.{ℕ, zero, suc, ◌+◌, List, [], ◌∷◌, ◌++◌, map, codes}
-use Rattle.vp_model.specs.Types.{Op, Call, Event, Line, Commit}
+use Rattle.vp_model.specs.Types.{Call, Line}
 use Rattle.vp_model.specs.Types.answer
 use Rattle.vp_model.specs.Types.op
 use Rattle.vp_model.specs.Types.call

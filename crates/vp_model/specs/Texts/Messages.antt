@@ -44,6 +44,6 @@ message_text catalogue (message.Outcome txn commit) = codes "outcome " ++ (txn_t
 message_text catalogue (message.Ack txn) = codes "ack " ++ txn_text txn
 message_text catalogue (message.Inquire txn) = codes "inquire " ++ txn_text txn
 message_text catalogue (message.RefreshRequest view rec) = codes "refresh-request " ++ (view_text view ++ 32 ∷ name_of catalogue rec)
-message_text catalogue (message.RefreshAnswer view rec value date) =
-    codes "refresh-answer " ++ (view_text view ++ 32 ∷ (name_of catalogue rec ++ 32 ∷ (value ++ 32 ∷ view_text date)))
+message_text catalogue (message.RefreshAnswer view rec stored) =
+    codes "refresh-answer " ++ (view_text view ++ 32 ∷ (name_of catalogue rec ++ 32 ∷ (stored.value ++ 32 ∷ view_text stored.date)))
 message_text catalogue (message.Probe view) = codes "probe " ++ view_text view

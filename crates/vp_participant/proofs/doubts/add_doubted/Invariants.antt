@@ -1,6 +1,6 @@
 use Rattle.std.proofs.Common.{◌≡◌, take}
 use Rattle.vp_model.specs.Words.{for_each, put_txn}
-use Rattle.vp_model.specs.Durable.{Doubt}
+use Rattle.vp_model.specs.Types.{Doubt}
 use Rattle.vp_participant.proofs.doubts.add_doubted.Given as goal
 
 abbrev pub invariant-loop-doubt : goal.invariant-loop-doubt

@@ -1,7 +1,7 @@
 use Rattle.std.proofs.Common.{rules, ◌∙◌}
 use Rattle.std.proofs.lemmas.Fn.{filter_same}
 use Rattle.vp_model.specs.Words.{same_txn}
-use Rattle.vp_model.specs.Durable.{Doubt}
+use Rattle.vp_model.specs.Types.{Doubt}
 use Rattle.vp_participant.proofs.Ended.{none_left}
 use Rattle.vp_participant.proofs.doubts.take_doubt.Goals as goal
 
