@@ -6,7 +6,7 @@ use Rattle.vp_model.specs.Types.op
 use Rattle.vp_model.specs.Types.owner
 use Rattle.vp_model.specs.Words.{keys, value_at}
 use Rattle.vp_model.specs.Catalogue.{Catalogue, holders, accessible}
-use Rattle.vp_model.specs.Refresh.{is_usable, is_usable_in, other_holders_in}
+use Rattle.vp_model.specs.Refresh.{is_open, is_usable_in, other_holders_in}
 use Rattle.vp_model.specs.Site.{SiteState}
 use Rattle.vp_laws.proofs.Members.{Has}
 use Rattle.vp_laws.proofs.Lists.{mapped_has}
@@ -42,7 +42,7 @@ module _ (catalogue : Catalogue) (w : Scene) (k : Known catalogue w) (copies : I
   pub view_is : (v : View) → AgreedAs w t.view v → x.held ≡ Some v
   view_is v a = of.1 ∙ ap (λ (v : View). Some v) (k.views.unique of.0 v ((k.views.site s x up).held of.0 of.1) a.0 (of.2 ∙ sym a.1))
 
-  pub own_closed : (rec : ℕ) (exclusive : Bool) (v : View) (stored : Stored) → HasLock rec exclusive (owner.Txn t.txn) x.locks → x.held ≡ Some v → value_at rec x.copies ≡ Some stored → is_usable catalogue x rec ≡ true → Open catalogue w rec v
+  pub own_closed : (rec : ℕ) (exclusive : Bool) (v : View) (stored : Stored) → HasLock rec exclusive (owner.Txn t.txn) x.locks → x.held ≡ Some v → value_at rec x.copies ≡ Some stored → is_open catalogue x rec ≡ true → Open catalogue w rec v
   own_closed rec exclusive v stored lock held copy usable = copies.open_copy s rec x v stored up held usable (unlisted_none rec x.refresh (lock_unlisted rec exclusive lock)) copy
 
   module _ (refresh : InvRefresh catalogue w) (v : View) (agreed : AgreedAs w t.view v) where
