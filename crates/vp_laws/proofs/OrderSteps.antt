@@ -30,7 +30,7 @@ use Rattle.vp_laws.proofs.InvOps.{reads_same}
 use Rattle.vp_laws.proofs.InvSettled.{holding}
 use Rattle.vp_laws.proofs.InvHeld.{copy_held}
 use Rattle.vp_laws.proofs.InvReading.{InvReading}
-use Rattle.vp_laws.proofs.Stopping.{shared_holder}
+use Rattle.vp_laws.proofs.Stopping.{in_force_holder}
 use Rattle.vp_laws.proofs.ValuesAfter.{value_after}
 use Rattle.vp_laws.proofs.ValuesGrow.{after_some}
 use Rattle.vp_laws.proofs.Playing.{content_value}
@@ -92,7 +92,7 @@ module _ (catalogue : Catalogue) (w new : Scene) (s : ℕ) (x : SiteState) (give
   -- a record that may be used has a value
   value_there : (rec : ℕ) (before : Values) (view : ViewId) → is_open catalogue x rec ≡ true → content (start_values catalogue) w.journal view ≡ Some before → is_some (slice_get before rec) ≡ true
   value_there rec before view usable h =
-      let q = shared_holder catalogue rec _ _ usable usable in
+      let q = in_force_holder catalogue rec _ usable in
       let v = after_some catalogue w.journal view rec q.0 q.1 in
       rw (content_value catalogue w.journal view before rec h ∙ v.1) refl
 

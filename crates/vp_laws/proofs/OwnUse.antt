@@ -23,7 +23,7 @@ use Rattle.vp_laws.proofs.InvEntered.{AgreedAs, other_holder}
 use Rattle.vp_laws.proofs.InvUsed.{HasAnswered}
 use Rattle.vp_laws.proofs.InvHeld.{holds_copy}
 use Rattle.vp_laws.proofs.Closing.{Open}
-use Rattle.vp_laws.proofs.Stopping.{shared_holder}
+use Rattle.vp_laws.proofs.Stopping.{in_force_holder}
 use Rattle.vp_laws.proofs.CopyInvariants.{InvCopies, InvRefresh}
 use Rattle.vp_laws.proofs.CopiesKept.{unlisted_none}
 use Rattle.vp_laws.proofs.Tower.{Known}
@@ -56,7 +56,7 @@ module _ (catalogue : Catalogue) (w : Scene) (k : Known catalogue w) (copies : I
     elsewhere : (rec : ℕ) → HasWritten t rec → value_at rec x.copies ≡ None → Open catalogue w rec v
     elsewhere rec wrote none =
         let usable = usable_in_view (op.Write rec wrote.0) wrote.1 in
-        let q = shared_holder catalogue rec v.members v.members usable usable in
+        let q = in_force_holder catalogue rec v.members usable in
         let other : q.0 ≢ x.id = (λ z. not_copied rec x.copies none (holds_copy catalogue w s x up (k.views.site s x up).kept k.held rec (subst (Has (holders catalogue rec)) (z ∙ (k.views.site s x up).id) q.1))) in
         let holder = subst (λ (held : Option View). Has (other_holders_in catalogue x.id held rec) q.0) (sym (view_is v agreed)) (other_holder catalogue x.id rec q.0 v q.1 q.2 other) in
         refresh.used s q.0 rec true x t v up live (HasAnswered.wrote ((k.answers.live s x t up live).wrote rec wrote q.0 holder)) agreed

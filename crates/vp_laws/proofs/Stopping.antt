@@ -30,6 +30,10 @@ shared_holder catalogue rec sites others a b =
     let t = both_true (has sites r.0.0) (has others r.0.0) r.2 in
     (r.0.0, mapped_has (λ (w : ℕ × ℕ). w.0) (weights_of catalogue rec) r.0 r.1, has_from_test sites r.0.0 t.0, has_from_test others r.0.0 t.1)
 
+-- and one in which it is accessible has a holder
+pub in_force_holder : (catalogue : Catalogue) (rec : ℕ) (sites : List ℕ) → accessible catalogue rec sites ≡ true → (q : ℕ) × Has (holders catalogue rec) q × Has sites q
+in_force_holder catalogue rec sites a = let q = shared_holder catalogue rec sites sites a a in (q.0, q.1, q.2)
+
 module _ (catalogue : Catalogue) (w new : Scene) (s : ℕ) (x : SiteState) (given : Input) (o : Stepped) (up : plain_at w s ≡ Some x) (id : x.id ≡ s) (led : Led x) (shares : InvShares catalogue w) (shares_now : InvShares catalogue new) (entered_now : InvEntered catalogue new) (steps : Steps catalogue x given o.site.coordinator o.effects.messages o.effects.commits) (p : Shares x given o) (st : Acted w new s x o) where
   -- a holder in its view which has left it for a view for which the record is closed there
   pub met_stops : (e : Commit) (v : View) (rec q : ℕ) (i : ViewId) → Has o.effects.commits e → AgreedAs new e.view v → Wrote e rec → Has (holders catalogue rec) q → Has v.members q → Precedes e.view i → ClosedAt w q rec i → ⊥
