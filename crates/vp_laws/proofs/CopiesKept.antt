@@ -83,16 +83,16 @@ module _ (catalogue : Catalogue) (w new : Scene) (s : ℕ) (x : SiteState) (give
         go (Origin.plain (Own.entered b)) = written_value catalogue w new s x given o k n d copies refresh j rec c holder b
         go (Origin.brought b) = brought_value catalogue w new s x given o k n d copies refresh j rec c holder b
 
-    in_doubt_kept : (u : Doubt) → DoubtOn new j rec c.date u → value_after catalogue (without_entry u.0 new.journal) c.date rec ≡ Some c.value
+    in_doubt_kept : (u : Doubt) → DoubtOn new j rec c.date u → value_after catalogue (without_entry u.txn new.journal) c.date rec ≡ Some c.value
     in_doubt_kept u on = go at
       where
-        go : Origin catalogue w new s x given o k n d j rec c → value_after catalogue (without_entry u.0 new.journal) c.date rec ≡ Some c.value
+        go : Origin catalogue w new s x given o k n d j rec c → value_after catalogue (without_entry u.txn new.journal) c.date rec ≡ Some c.value
         go (Origin.plain (Own.old t)) = old_in_doubt catalogue w new s x given o k n d copies refresh j rec c u t on
         go (Origin.plain (Own.outcome a)) = absurd (applied_sure catalogue w new s x given o k n d copies refresh j rec c holder a u on.0 on.1)
         go (Origin.plain (Own.entered b)) = absurd (written_sure catalogue w new s x given o k n d copies refresh j rec c holder b u on.0 on.1)
         go (Origin.brought b) = absurd (brought_sure catalogue w new s x given o k n d copies refresh j rec c holder b u on.0 on.1)
 
-    last_kept : (u : Doubt) (front back : List Commit) (e f : Commit) → DoubtOn new j rec c.date u → new.journal ≡ front ++ e ∷ back → e.txn ≡ u.0 → Has back f → Wrote f rec → f.view ≢ e.view
+    last_kept : (u : Doubt) (front back : List Commit) (e f : Commit) → DoubtOn new j rec c.date u → new.journal ≡ front ++ e ∷ back → e.txn ≡ u.txn → Has back f → Wrote f rec → f.view ≢ e.view
     last_kept u front back e f on is named behind wrote = go at
       where
         go : Origin catalogue w new s x given o k n d j rec c → f.view ≢ e.view
@@ -169,7 +169,7 @@ module _ (catalogue : Catalogue) (w new : Scene) (s : ℕ) (x : SiteState) (give
               let then = held_then r.0 r.1 in
               let f = answer_in catalogue w new s x given o k n d rec r.0 v (answers r.0 r.1) then in
               ⊎_elim
-              (λ old. refresh.between r.0.0 s rec v.id r.0.1.date r.0.1.value e u f.sent old wrote (still_below r.0.1.date c.date e.view (q.newest c r.0 h r.1) later) below (agreed_was catalogue w new s x given o k n d e u old agreed) (subst (Has u.members) (sym r.2) there_too))
+              (λ old. refresh.between r.0.0 s rec v.id r.0.1 e u f.sent old wrote (still_below r.0.1.date c.date e.view (q.newest c r.0 h r.1) later) below (agreed_was catalogue w new s x given o k n d e u old agreed) (subst (Has u.members) (sym r.2) there_too))
               (λ more.
               let g = entering catalogue w new s x given o k n d e more in
               let same : g.view ≡ v = (let y = g.held in let z = then in cc) in

@@ -39,31 +39,31 @@ value_along rec start value es fs a b e f h = rw (e, f) h
 module _ (catalogue : Catalogue) (w new : Scene) (s : ℕ) (x : SiteState) (given : Input) (o : Stepped) (k : Known catalogue w) (n : Known catalogue new) (d : Does catalogue w new s x given o) (copies : InvCopies catalogue w) (refresh : InvRefresh catalogue w) where
   -- for a doubt that commits
   module _ (j rec : ℕ) (c : Stored) (holder : Has (holders catalogue rec) j) (a : Applied catalogue w new s x given o k n d j rec c) where
-    pub applied_date : a.doubt.1 ≡ c.date
+    pub applied_date : a.doubt.view ≡ c.date
     applied_date = ap (λ (p : ℕ × Stored). p.1.date) a.is
 
-    pub applied_on : Has (keys a.doubt.2) rec
-    applied_on = subst (Has (keys a.doubt.2)) (ap (λ (p : ℕ × Stored). p.0) a.is) (mapped_has (λ (p : ℕ × List ℕ). p.0) a.doubt.2 a.write a.wrote)
+    pub applied_on : Has (keys a.doubt.writes) rec
+    applied_on = subst (Has (keys a.doubt.writes)) (ap (λ (p : ℕ × Stored). p.0) a.is) (mapped_has (λ (p : ℕ × List ℕ). p.0) a.doubt.writes a.write a.wrote)
 
     no_entry : (e : Commit) → Has o.effects.commits e → ⊥
-    no_entry = none_entered catalogue w new s x given o k n d a.from (message.Outcome a.doubt.0 true) a.comes (λ q. let z = q.1 in cc)
+    no_entry = none_entered catalogue w new s x given o k n d a.from (message.Outcome a.doubt.txn true) a.comes (λ q. let z = q.1 in cc)
 
     quiet : new.journal ≡ w.journal
-    quiet = journal_same catalogue w new s x given o k n d a.from (message.Outcome a.doubt.0 true) a.comes (λ q. let z = q.1 in cc)
+    quiet = journal_same catalogue w new s x given o k n d a.from (message.Outcome a.doubt.txn true) a.comes (λ q. let z = q.1 in cc)
 
-    entry : (e : Commit) × Has w.journal e × (e.txn ≡ a.doubt.0)
-    entry = (k.ends.told (letter a.from s (message.Outcome a.doubt.0 true)) (d.came a.from _ a.comes)).1
+    entry : (e : Commit) × Has w.journal e × (e.txn ≡ a.doubt.txn)
+    entry = (k.ends.told (letter a.from s (message.Outcome a.doubt.txn true)) (d.came a.from _ a.comes)).1
 
-    says : (entry.0.view ≡ a.doubt.1) × (writes_held catalogue j (last_writes entry.0.ops) ≡ a.doubt.2)
+    says : (entry.0.view ≡ a.doubt.view) × (writes_held catalogue j (last_writes entry.0.ops) ≡ a.doubt.writes)
     says = doubt_says catalogue w new s x given o k n d entry.0 (d.st.moved.journal entry.0 entry.1) j a.doubt a.was (sym entry.2)
 
-    view : (v : View) × AgreedAs w a.doubt.1 v × Has v.members j
+    view : (v : View) × AgreedAs w a.doubt.view v × Has v.members j
     view = let q = (k.shares.doubts j a.doubt a.was).0 in let b = k.led.asked _ q.3 in (b.0, (b.1, b.2), b.3)
 
-    pub applied_sure : (v : Doubt) → Has (kept_at new j).doubts v → Has (keys v.2) rec → ⊥
+    pub applied_sure : (v : Doubt) → Has (kept_at new j).doubts v → Has (keys v.writes) rec → ⊥
     applied_sure v there also = ⊎_elim
         (λ was. a.gone v there (k.guards.writes j v a.doubt rec was a.was also applied_on))
-        (λ f. fresh_no_outcome catalogue w new s x given o k n d j v f a.from a.doubt.0 true a.comes)
+        (λ f. fresh_no_outcome catalogue w new s x given o k n d j v f a.from a.doubt.txn true a.comes)
         (doubt_from catalogue w new s x given o k n d j v there)
 
     -- the copy before
@@ -73,28 +73,28 @@ module _ (catalogue : Catalogue) (w new : Scene) (s : ℕ) (x : SiteState) (give
         (q.0, subst (λ (k : DurableState). value_at rec k.copies ≡ Some q.0) (d.here.kept ∙ ap (kept_at w) (sym a.here)) q.1)
 
     -- an entry that wrote the record and is in doubt here is the doubt's
-    same_txn_in_doubt : (f : Commit) → Has w.journal f → Wrote f rec → InDoubt w j f.txn → f.txn ≡ a.doubt.0
+    same_txn_in_doubt : (f : Commit) → Has w.journal f → Wrote f rec → InDoubt w j f.txn → f.txn ≡ a.doubt.txn
     same_txn_in_doubt f h wrote (u, there, named) =
         let q = doubt_says catalogue w new s x given o k n d f (d.st.moved.journal f h) j u there named in
         sym named ∙ k.guards.writes j u a.doubt rec there a.was (subst (λ (ws : List (ℕ × List ℕ)). Has (keys ws) rec) q.1 (wrote_here catalogue f j rec holder wrote)) applied_on
 
     -- it is the last one of its view that wrote it
     none_behind : (front back : List Commit) (f : Commit) → w.journal ≡ front ++ entry.0 ∷ back → Has back f → f.view ≡ entry.0.view → Wrote f rec → ⊥
-    none_behind front back f is behind same wrote = ⊎_elim earlier (λ later. ⊎_elim equal above later) (three_ways before.0.date a.doubt.1)
+    none_behind front back f is behind same wrote = ⊎_elim earlier (λ later. ⊎_elim equal above later) (three_ways before.0.date a.doubt.view)
       where
         there : Has w.journal f
         there = rw is (stands_behind front entry.0 back f behind)
 
-        earlier : Precedes before.0.date a.doubt.1 → ⊥
+        earlier : Precedes before.0.date a.doubt.view → ⊥
         earlier p =
-            let at : f.view ≡ a.doubt.1 = same ∙ says.0 in
+            let at : f.view ≡ a.doubt.view = same ∙ says.0 in
             let u = copies.above j rec before.0 f view.0 before.1 there wrote (subst (Precedes before.0.date) (sym at) p) (view.1.0, view.1.1 ∙ sym at) view.2 in
             once_later front back entry.0 f (subst (λ (es : List Commit). Once es) is k.ends.once) behind (same_txn_in_doubt f there wrote u ∙ sym entry.2)
 
-        equal : before.0.date ≡ a.doubt.1 → ⊥
+        equal : before.0.date ≡ a.doubt.view → ⊥
         equal e = copies.last j rec before.0 a.doubt front back entry.0 f before.1 (a.was, applied_on, sym e) is entry.2 behind wrote same
 
-        above : Precedes a.doubt.1 before.0.date → ⊥
+        above : Precedes a.doubt.view before.0.date → ⊥
         above p = no_doubt_below catalogue w k copies refresh j rec before.0 a.doubt before.1 a.was applied_on p
 
     wrote_value : value_at rec (last_writes entry.0.ops) ≡ Some c.value
@@ -116,20 +116,20 @@ module _ (catalogue : Catalogue) (w new : Scene) (s : ℕ) (x : SiteState) (give
         there : Has w.journal e
         there = rw quiet at h
 
-        below : Precedes a.doubt.1 e.view
+        below : Precedes a.doubt.view e.view
         below = subst (λ (i : ViewId). Precedes i e.view) (sym applied_date) later
 
         earlier : Precedes before.0.date e.view → ⊥
         earlier p =
             let u = copies.above j rec before.0 e v before.1 there wrote p (agreed_was catalogue w new s x given o k n d e v there agreed) member in
             let q = doubt_says catalogue w new s x given o k n d e h j a.doubt a.was (sym (same_txn_in_doubt e there wrote u)) in
-            not_below_itself a.doubt.1 e.view below (sym q.0)
+            not_below_itself a.doubt.view e.view below (sym q.0)
 
         equal : before.0.date ≡ e.view → ⊥
-        equal q = no_doubt_below catalogue w k copies refresh j rec before.0 a.doubt before.1 a.was applied_on (subst (Precedes a.doubt.1) (sym q) below)
+        equal q = no_doubt_below catalogue w k copies refresh j rec before.0 a.doubt before.1 a.was applied_on (subst (Precedes a.doubt.view) (sym q) below)
 
         above : Precedes e.view before.0.date → ⊥
-        above p = no_doubt_below catalogue w k copies refresh j rec before.0 a.doubt before.1 a.was applied_on (Precedes-trans a.doubt.1 e.view before.0.date below p)
+        above p = no_doubt_below catalogue w k copies refresh j rec before.0 a.doubt before.1 a.was applied_on (Precedes-trans a.doubt.view e.view before.0.date below p)
 
     pub applied_from : FromView catalogue new j rec c.date
     applied_from = FromView.member view.0 (d.st.moved.agreed view.0 view.1.0, view.1.1 ∙ applied_date) view.2
@@ -148,7 +148,7 @@ module _ (catalogue : Catalogue) (w new : Scene) (s : ℕ) (x : SiteState) (give
     f : Entering catalogue w new s x given o k n d b.entry
     f = entering catalogue w new s x given o k n d b.entry b.entered
 
-    pub written_sure : (v : Doubt) → Has (kept_at new j).doubts v → Has (keys v.2) rec → ⊥
+    pub written_sure : (v : Doubt) → Has (kept_at new j).doubts v → Has (keys v.writes) rec → ⊥
     written_sure v there also =
         certain_now catalogue w new s x given o k n d b.entry rec b.entered wrote (subst (Has (holders catalogue rec)) b.here holder) v
         (subst (λ (k : DurableState). Has k.doubts v) (ap (kept_at new) b.here ∙ d.st.kept_now) there) also

@@ -213,7 +213,7 @@ module _ (catalogue : Catalogue) (x : SiteState) (given : Input) (after : SiteSt
   on_message-front from (message.Prepare txn view number reads writes) c = unseen _ (on_prepare-seen from txn view number reads writes (begin_step x))
   on_message-front from (message.Outcome txn commit) c = unseen _ (on_outcome-seen catalogue from txn commit (begin_step x))
   on_message-front from (message.RefreshRequest view rec) c = unseen _ (on_refresh_request-seen from view rec (begin_step x))
-  on_message-front from (message.RefreshAnswer view rec value date) c = unseen _ (on_refresh_answer-seen catalogue from view rec (record { value = value; date = date }) (begin_step x))
+  on_message-front from (message.RefreshAnswer view rec stored) c = unseen _ (on_refresh_answer-seen catalogue from view rec stored (begin_step x))
   on_message-front from (message.Probe view) c = on_probe_message-front from
   on_message-front from m c = answered-front from m c
 

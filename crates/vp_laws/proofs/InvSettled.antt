@@ -66,8 +66,8 @@ in_doubt : (w : Scene) (s : ℕ) (txn : TxnId) → InDoubt w s txn ⊎ (InDoubt 
 in_doubt w s txn = go (has_doubt txn (kept_at w s).doubts) refl
   where
     go : (b : Bool) → has_doubt txn (kept_at w s).doubts ≡ b → InDoubt w s txn ⊎ (InDoubt w s txn → ⊥)
-    go true e = let q = any_true (λ (d : Doubt). same_txn d.0 txn) (kept_at w s).doubts e in inl (q.0, q.1, same_txn-is q.0.0 txn q.2)
-    go false e = inr (λ d. same_txn-not d.0.0 txn (any_false (λ (d : Doubt). same_txn d.0 txn) (kept_at w s).doubts e d.0 d.1) d.2)
+    go true e = let q = any_true (λ (d : Doubt). same_txn d.txn txn) (kept_at w s).doubts e in inl (q.0, q.1, same_txn-is q.0.txn txn q.2)
+    go false e = inr (λ d. same_txn-not d.0.txn txn (any_false (λ (d : Doubt). same_txn d.txn txn) (kept_at w s).doubts e d.0 d.1) d.2)
 
 pub holding : (x : SiteState) (view : ViewId) → holds_view x view ≡ true → (v : View) × (x.held ≡ Some v) × (v.id ≡ view)
 holding x view e = go x.held refl e
@@ -97,10 +97,10 @@ module _ (catalogue : Catalogue) (w : Scene) (asked : InvLed w) (shares : InvSha
         (λ z. b.5 (z ∙ ap (λ (t : TxnId). t.site) (sym named))),
       )
 
-  pub doubt_affected : (e : Commit) (k : ℕ) (d : Doubt) → Has w.journal e → Has (kept_at w k).doubts d → d.0 ≡ e.txn → Affected catalogue w e k × (e.view ≡ d.1) × (k ≢ e.txn.site)
+  pub doubt_affected : (e : Commit) (k : ℕ) (d : Doubt) → Has w.journal e → Has (kept_at w k).doubts d → d.txn ≡ e.txn → Affected catalogue w e k × (e.view ≡ d.view) × (k ≢ e.txn.site)
   doubt_affected e k d there h named =
       let q = shares.doubts k d h in
-      prepared_affected e q.0.0 k d.0 d.1 q.0.1 q.0.2 d.2 there named q.1 q.0.3
+      prepared_affected e q.0.0 k d.txn d.view q.0.1 q.0.2 d.writes there named q.1 q.0.3
 
 module _ (catalogue : Catalogue) (w new : Scene) (s : ℕ) (x : SiteState) (given : Input) (o : Stepped) (up : plain_at w s ≡ Some x) (arrives : Arrives w s given) (id : x.id ≡ s) (kept : durable_of x ≡ kept_at w s) (views : InvViews catalogue w) (views_now : InvViews catalogue new) (led : Led x) (asked : InvLed w) (ends : InvEndings w) (shares : InvShares catalogue w) (ops : (u : Live) → Has x.live u → LiveOk catalogue x.id x.held u) (entered : InvEntered catalogue w) (entered_now : InvEntered catalogue new) (below_now : InvBelow new) (inv : InvSettled catalogue w) (c : Waits catalogue x given o.site.coordinator o.effects.messages o.effects.commits) (ec : Endings x given o.site.coordinator o.effects.messages o.effects.commits) (steps : Steps catalogue x given o.site.coordinator o.effects.messages o.effects.commits) (p : Shares x given o) (v : Leaves x given o) (st : Acted w new s x o) where
   came : (from : ℕ) (m : Message) → Comes given from m → Has w.sent (letter from s m)
@@ -136,7 +136,7 @@ module _ (catalogue : Catalogue) (w new : Scene) (s : ℕ) (x : SiteState) (give
       let same : l.0 ≡ x = (let z = l.1 in cc) in
       let has : has_txn x.ended part.txn ≡ true = rw (← same, named) l.2 in
       let not = q.going in cc)
-      (inv.ended e s there a.0 a.2 (λ d. same_txn-not d.0.0 part.txn (any_false (λ (d : Doubt). same_txn d.0 part.txn) x.doubts q.certain d.0 (rw doubts_kept d.1)) (d.2 ∙ sym named)))
+      (inv.ended e s there a.0 a.2 (λ d. same_txn-not d.0.txn part.txn (any_false (λ (d : Doubt). same_txn d.txn part.txn) x.doubts q.certain d.0 (rw doubts_kept d.1)) (d.2 ∙ sym named)))
 
   -- so each doubt about one was there
   pub doubt_was : (e : Commit) (k : ℕ) → Has w.journal e → InDoubt new k e.txn → InDoubt w k e.txn
@@ -144,7 +144,7 @@ module _ (catalogue : Catalogue) (w new : Scene) (s : ℕ) (x : SiteState) (give
     where
       here : k ≡ s → DoubtNow x given d → InDoubt w k e.txn
       here z (DoubtNow.still old) = (d, rw (z, ← doubts_kept) old, named)
-      here z (DoubtNow.fresh from part reads writes q some is) = absurd (no_new e there from part reads writes q some (ap (λ (d : Doubt). d.0) is ∙ named))
+      here z (DoubtNow.fresh from part reads writes q some is) = absurd (no_new e there from part reads writes q some (ap (λ (d : Doubt). d.txn) is ∙ named))
 
       go : KeptIs w new s (durable_of o.site) k → InDoubt w k e.txn
       go (KeptIs.other n same) = (d, subst (λ (k : DurableState). Has k.doubts d) same h, named)
@@ -221,11 +221,11 @@ module _ (catalogue : Catalogue) (w new : Scene) (s : ℕ) (x : SiteState) (give
       gone z none = rw z (left_here w new s x o st e.view (subst (λ (k : ℕ). AtMost e.view (promise_at new k)) z (above catalogue w new s st.moved e.view k (promised e k a))) none)
 
   -- the doubt has ended in this step
-  ended_here : (e : Commit) (d : Doubt) → Has w.journal e → Has x.doubts d → d.0 ≡ e.txn → (Has o.site.doubts d → ⊥) → HasLeft new s e.view ⊎ HasEnded new s e.txn
+  ended_here : (e : Commit) (d : Doubt) → Has w.journal e → Has x.doubts d → d.txn ≡ e.txn → (Has o.site.doubts d → ⊥) → HasLeft new s e.view ⊎ HasEnded new s e.txn
   ended_here e d there h named none =
       let a = doubt_affected catalogue w asked shares e s d there (rw (← doubts_kept) h) named in
       ⊎_elim (λ still. absurd (none still))
-      (λ (comes : OutcomeComes given d.0). ⊎_elim (λ still. absurd (none still))
+      (λ (comes : OutcomeComes given d.txn). ⊎_elim (λ still. absurd (none still))
       (λ rest. ⊎_elim
       (λ now. inr (o.site, st.now, rw (← named) now))
       (λ (no_view : x.held ≡ None). inl (left_here w new s x o st e.view (above catalogue w new s st.moved e.view s (promised e s a.0))
@@ -236,7 +236,7 @@ module _ (catalogue : Catalogue) (w new : Scene) (s : ℕ) (x : SiteState) (give
       (v.outcome d h comes))
       (p.stays d h)
     where
-      unused : Affected catalogue w e s → e.view ≡ d.1 → x.held ≡ None → Uses x e.view → ⊥
+      unused : Affected catalogue w e s → e.view ≡ d.view → x.held ≡ None → Uses x e.view → ⊥
       unused a viewed no_view (Uses.held u f same) = cc
       unused a viewed no_view (Uses.awaited f) = entered.no_doubt s x e.view d up f h (sym viewed)
       unused a viewed no_view (Uses.invited b f same) = (views.site s x up).unfixed b a.view f a.agreed.0 (same ∙ sym a.agreed.1)
@@ -266,7 +266,7 @@ module _ (catalogue : Catalogue) (w new : Scene) (s : ℕ) (x : SiteState) (give
       later site (d, g, named) = (d, subst (λ (k : DurableState). Has k.doubts d) (sym (ap kept_in (st.moved.others k (λ z. n (z ∙ sym site))))) g, named)
 
   -- acknowledgements
-  acked_new : (m : Sent) (txn : TxnId) → ReplyTo x given o.site.participant m → message.Ack txn ≡ m.message → (d : Doubt) → Has o.site.doubts d → d.0 ≢ txn
+  acked_new : (m : Sent) (txn : TxnId) → ReplyTo x given o.site.participant m → message.Ack txn ≡ m.message → (d : Doubt) → Has o.site.doubts d → d.txn ≢ txn
   acked_new m txn (ReplyTo.other quiet) e d h = absurd (let z = ap is_reply e in cc)
   acked_new m txn (ReplyTo.doubt_again a b was now f) e d h = absurd (let z = f ∙ sym e in cc)
   acked_new m txn (ReplyTo.vote_again part a was now q f) e d h = absurd (let z = f ∙ sym e in cc)
@@ -305,7 +305,7 @@ module _ (catalogue : Catalogue) (w new : Scene) (s : ℕ) (x : SiteState) (give
           let a = doubt_affected catalogue w asked shares e k was.0 old was.1 was.2 in
           let q = inv.waited e k old a.0 was in
           let there : Has x.decisions q.0 = subst (λ (d : DurableState). Has d.decisions q.0) (ap (kept_at w) (site ∙ id) ∙ sym kept) q.1 in
-          same_txn-not q.0.0 e.txn (any_false (λ (d : Decision). same_txn d.0 e.txn) x.decisions inquired.1 q.0 there) q.2)
+          same_txn-not q.0.txn e.txn (any_false (λ (d : Decision). same_txn d.txn e.txn) x.decisions inquired.1 q.0 there) q.2)
           may
 
   pub settled_keep : InvSettled catalogue new
@@ -366,7 +366,7 @@ settled_above catalogue = record {
       let second_now = now.lower.lower.lower.lower.lower.lower.third.second in
       settled_keep catalogue w (acted w s x o) s x given o up r ok.id ok.kept second.first.views second_now.first.views led second.first.led fifth.upper sixth.upper (λ u h. eighth.lower.upper.live s x u up h) low.lower.upper now.lower.upper second_now.below inv
       (waits-step catalogue x given settled.decisions).kept
-      (endings-step catalogue x given led apart settled (λ d h. fresh w s x up ok.id d.0 ((fourth.third.names.site s x up).decisions d h))).kept
+      (endings-step catalogue x given led apart settled (λ d h. fresh w s x up ok.id d.txn ((fourth.third.names.site s x up).decisions d h))).kept
       (steps-step catalogue x given led apart).kept (shares-step catalogue x given) (leaves-step catalogue x given) (stepping catalogue w s x given up ok.kept (local-step catalogue x given ok.tidy));
   quiet = λ w new s q low now inv. settled_quiet catalogue w new s q low.upper low.lower.lower.lower.lower.lower.lower.third.second.first.views inv;
 }

@@ -79,11 +79,11 @@ module _ (catalogue : Catalogue) (w new : Scene) (s : ℕ) (x : SiteState) (give
       same : (t u : TxnId) → owner.Txn t ≡ owner.Txn u → t ≡ u
       same t u e = cc
 
-      unentered : (u : Doubt) → Has (kept_at w s).doubts u → Has (keys u.2) rec → (e : Commit) → Has w.journal e → e.txn ≢ u.0
+      unentered : (u : Doubt) → Has (kept_at w s).doubts u → Has (keys u.writes) rec → (e : Commit) → Has w.journal e → e.txn ≢ u.txn
       unentered u h on e entry named =
           let lock = (k.guards.site s x d.up).doubted u rec (subst (λ (k : DurableState). Has k.doubts u) (sym d.here.kept) h) on in
           let by = free lock.lock lock.has lock.on (rw (lock.strong refl) (or_true exclusive)) in
-          no_entry e entry (named ∙ same u.0 txn (sym lock.by ∙ by))
+          no_entry e entry (named ∙ same u.txn txn (sym lock.by ∙ by))
 
   -- a live transaction here has no entry
   live_no_entry : (t : Live) → Has x.live t → (e : Commit) → Has w.journal e → e.txn ≢ t.txn

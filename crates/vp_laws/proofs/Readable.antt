@@ -69,7 +69,7 @@ module _ (catalogue : Catalogue) (w : WorldState) (inv : Twentieth catalogue (sc
       unlisted : IsUnlisted x.refresh rec
       unlisted r there on = let lock = (k.guards.site s x up).listed r there in unlocked rec lock.lock none lock.has (lock.on ∙ on) (lock.strong refl)
 
-      certain : (u : Doubt) → Has (kept_at (scene_of w) s).doubts u → Has (keys u.2) rec → ⊥
+      certain : (u : Doubt) → Has (kept_at (scene_of w) s).doubts u → Has (keys u.writes) rec → ⊥
       certain u there on =
           let lock = (k.guards.site s x up).doubted u rec (subst (λ (d : DurableState). Has d.doubts u) (sym (k.views.site s x up).kept) there) on in
           unlocked rec lock.lock none lock.has lock.on (lock.strong refl)

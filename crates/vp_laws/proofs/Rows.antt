@@ -129,7 +129,7 @@ module _ (catalogue : Catalogue) (x : SiteState) (given : Input) (P : Stepped �
   unfolding on_refresh_request
   on_refresh_request-kept from view rec c = grind (arith, k.answer_refresh from view rec, h)
 
-  on_refresh_answer-kept : (from : ℕ) (view : ViewId) (rec : ℕ) (stored : Stored) → Comes given from (message.RefreshAnswer view rec stored.value stored.date) → P (on_refresh_answer catalogue from view rec stored (begin_step x))
+  on_refresh_answer-kept : (from : ℕ) (view : ViewId) (rec : ℕ) (stored : Stored) → Comes given from (message.RefreshAnswer view rec stored) → P (on_refresh_answer catalogue from view rec stored (begin_step x))
   unfolding on_refresh_answer
   on_refresh_answer-kept from view rec stored c = grind (arith, k.keep_answer from view rec stored, settle-kept rec, h)
 
@@ -166,7 +166,7 @@ module _ (catalogue : Catalogue) (x : SiteState) (given : Input) (P : Stepped �
   on_message-kept from (message.Ack txn) c = answered-kept from (message.Ack txn) c
   on_message-kept from (message.Inquire txn) c = answered-kept from (message.Inquire txn) c
   on_message-kept from (message.RefreshRequest view rec) c = on_refresh_request-kept from view rec c
-  on_message-kept from (message.RefreshAnswer view rec value date) c = on_refresh_answer-kept from view rec (record { value = value; date = date }) c
+  on_message-kept from (message.RefreshAnswer view rec stored) c = on_refresh_answer-kept from view rec stored c
   on_message-kept from (message.Probe view) c = on_probe_message-kept from view c
 
   -- tick and probe

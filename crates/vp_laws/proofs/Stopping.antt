@@ -77,7 +77,7 @@ module _ (catalogue : Catalogue) (w new : Scene) (s : ℕ) (x : SiteState) (give
       certain other =
           let d = doubted other in
           let g = (shares.doubts q d.0 d.1).0 in
-          let says = shares_now.entry e (st.enters e h) g.0 q d.0.1 g.1 g.2 d.0.2 (subst (λ (t : TxnId). Has new.sent (letter g.0 q (message.Prepare t d.0.1 g.1 g.2 d.0.2))) d.2 (st.moved.sent _ g.3)) in
+          let says = shares_now.entry e (st.enters e h) g.0 q d.0.view g.1 g.2 d.0.writes (subst (λ (t : TxnId). Has new.sent (letter g.0 q (message.Prepare t d.0.view g.1 g.2 d.0.writes))) d.2 (st.moved.sent _ g.3)) in
           c.certain d.0 d.1 (subst (λ (ws : List (ℕ × List ℕ)). Has (keys ws) rec) says.1 writes) (subst (λ (j : ViewId). Precedes j i) says.0 below)
 
   pub closed_stops : (e : Commit) (v u : View) (rec : ℕ) → Has o.effects.commits e → AgreedAs new e.view v → Wrote e rec → Precedes e.view u.id → Open catalogue w rec u → ⊥

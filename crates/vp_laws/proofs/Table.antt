@@ -240,8 +240,8 @@ pub record Table (catalogue : Catalogue) (x : SiteState) (given : Input) (P : St
   -- refresh
   pub start_refresh : (view : View) (rec : ℕ) (o : Stepped) → Joined x view o → is_usable catalogue o.site rec ≡ true → Has (keys o.site.copies) rec → P o → P (start_refresh catalogue view rec o)
   pub end_refresh : (rec : ℕ) (r : Refreshing) (own : Stored) (o : Stepped) → refreshing_of rec o.site.refresh ≡ Some r → is_empty (unanswered catalogue o.site r) ≡ true → is_doubtful o.site r.rec ≡ false → value_at r.rec o.site.copies ≡ Some own → P o → P (end_refresh r own o)
-  pub keep_answer : (from : ℕ) (view : ViewId) (rec : ℕ) (stored : Stored) (r : Refreshing) → Comes given from (message.RefreshAnswer view rec stored.value stored.date) → holds_view x view ≡ true → refreshing_of rec x.refresh ≡ Some r → has (unanswered catalogue x r) from ≡ true → P (change_refresh (map (with_answer rec from stored)) (begin_step x))
-  pub answer_refresh : (from : ℕ) (view : ViewId) (rec : ℕ) (stored : Stored) → Comes given from (message.RefreshRequest view rec) → holds_view x view ≡ true → is_doubtful x rec ≡ false → value_at rec x.copies ≡ Some stored → P (send (message.RefreshAnswer view rec stored.value stored.date) from (begin_step x))
+  pub keep_answer : (from : ℕ) (view : ViewId) (rec : ℕ) (stored : Stored) (r : Refreshing) → Comes given from (message.RefreshAnswer view rec stored) → holds_view x view ≡ true → refreshing_of rec x.refresh ≡ Some r → has (unanswered catalogue x r) from ≡ true → P (change_refresh (map (with_answer rec from stored)) (begin_step x))
+  pub answer_refresh : (from : ℕ) (view : ViewId) (rec : ℕ) (stored : Stored) → Comes given from (message.RefreshRequest view rec) → holds_view x view ≡ true → is_doubtful x rec ≡ false → value_at rec x.copies ≡ Some stored → P (send (message.RefreshAnswer view rec stored) from (begin_step x))
   pub ask_again : (view : View) (r : Refreshing) (o : Stepped) → x.held ≡ Some view → Has x.refresh r → o.site.views ≡ x.views → P o → P (ask_again catalogue view.id r o)
   -- parts of other sites' transactions
   pub refuse_view : (from : ℕ) (txn : TxnId) (view : ViewId) (number : ℕ) → Asks given from txn view number → holds_view x view ≡ false → P (refuse_view txn number from (begin_step x))

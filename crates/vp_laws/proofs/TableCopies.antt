@@ -33,12 +33,12 @@ dated_at date w = (w.0, record { value = w.1; date = date })
 -- an answer was kept, or comes now in the held view from a site that had not answered
 pub data AnswerNow (catalogue : Catalogue) (x : SiteState) (given : Input) (rec : ℕ) (k : ℕ × Stored) : Type 0 where
   was : (r : Refreshing) → Has x.refresh r → r.rec ≡ rec → Has r.answers k → AnswerNow catalogue x given rec k
-  came : (from : ℕ) (view : ViewId) (r : Refreshing) (stored : Stored) → Comes given from (message.RefreshAnswer view rec stored.value stored.date) → (from, stored) ≡ k → holds_view x view ≡ true → Has x.refresh r → r.rec ≡ rec → has (unanswered catalogue x r) from ≡ true → AnswerNow catalogue x given rec k
+  came : (from : ℕ) (view : ViewId) (r : Refreshing) (stored : Stored) → Comes given from (message.RefreshAnswer view rec stored) → (from, stored) ≡ k → holds_view x view ≡ true → Has x.refresh r → r.rec ≡ rec → has (unanswered catalogue x r) from ≡ true → AnswerNow catalogue x given rec k
 
 -- a copy was there, is of a doubt that commits, of an entry of this step, or of an answer to a refresh
 pub data CopyNow (catalogue : Catalogue) (x : SiteState) (given : Input) (commits : List Commit) (a : ℕ × Stored) : Type 0 where
   still : Has x.copies a → CopyNow catalogue x given commits a
-  outcome : (from : ℕ) (d : Doubt) (w : ℕ × List ℕ) → Comes given from (message.Outcome d.0 true) → Has x.doubts d → Has d.2 w → dated_at d.1 w ≡ a → CopyNow catalogue x given commits a
+  outcome : (from : ℕ) (d : Doubt) (w : ℕ × List ℕ) → Comes given from (message.Outcome d.txn true) → Has x.doubts d → Has d.writes w → dated_at d.view w ≡ a → CopyNow catalogue x given commits a
   entered : (e : Commit) (w : ℕ × List ℕ) → Has commits e → Has (writes_held catalogue x.id (last_writes e.ops)) w → dated_at e.view w ≡ a → CopyNow catalogue x given commits a
   refreshed : (k : ℕ × Stored) → AnswerNow catalogue x given a.0 k → k.1 ≡ a.1 → CopyNow catalogue x given commits a
 
@@ -152,7 +152,7 @@ module _ (catalogue : Catalogue) (x : SiteState) (given : Input) (tidy : Tidy x)
         (put_has (λ (a : Refreshing) (b : Refreshing). a.rec == b.rec) (λ (a : Refreshing) (b : Refreshing). nat_lt a.rec b.rec) (record { rec = rec; answers = [] }) o.site.refresh r h);
   }
 
-  keeps_answer : (from : ℕ) (view : ViewId) (rec : ℕ) (stored : Stored) (r : Refreshing) → Comes given from (message.RefreshAnswer view rec stored.value stored.date) → holds_view x view ≡ true → refreshing_of rec x.refresh ≡ Some r → has (unanswered catalogue x r) from ≡ true → P (record (begin_step x) { site = record x { refresh = map (with_answer rec from stored) x.refresh } })
+  keeps_answer : (from : ℕ) (view : ViewId) (rec : ℕ) (stored : Stored) (r : Refreshing) → Comes given from (message.RefreshAnswer view rec stored) → holds_view x view ≡ true → refreshing_of rec x.refresh ≡ Some r → has (unanswered catalogue x r) from ≡ true → P (record (begin_step x) { site = record x { refresh = map (with_answer rec from stored) x.refresh } })
   keeps_answer from view rec stored r c held f u = record {
     copies = λ a h. CopyNow.still h;
     answers = λ q k h a. let z = map_has (with_answer rec from stored) x.refresh q h in (go z.0 z.1 (z.0.rec == rec) refl q k z.2 a, refl);
@@ -173,9 +173,9 @@ module _ (catalogue : Catalogue) (x : SiteState) (given : Input) (tidy : Tidy x)
   ends_here from txn false (Some d) f c = same (begin_step x) _ refl refl refl refl starts
   ends_here from txn true (Some d) f c = record {
     copies = λ a h. ⊎_elim
-        (λ (q : (w : ℕ × List ℕ) × Has d.2 w × (dated_at d.1 w ≡ a)). CopyNow.outcome from d q.0 (c ∙ ap (λ (t : TxnId). input.Message from (message.Outcome t true)) (sym (same_txn-is d.0 txn (find_true (λ (d : Doubt). same_txn d.0 txn) x.doubts d f)))) (find_has (λ (d : Doubt). same_txn d.0 txn) x.doubts d f) q.1 q.2)
+        (λ (q : (w : ℕ × List ℕ) × Has d.writes w × (dated_at d.view w ≡ a)). CopyNow.outcome from d q.0 (c ∙ ap (λ (t : TxnId). input.Message from (message.Outcome t true)) (sym (same_txn-is d.txn txn (find_true (λ (d : Doubt). same_txn d.txn txn) x.doubts d f)))) (find_has (λ (d : Doubt). same_txn d.txn txn) x.doubts d f) q.1 q.2)
         (λ old. CopyNow.still old)
-        (written_from d.1 d.2 x.copies a h);
+        (written_from d.view d.writes x.copies a h);
     answers = starts.answers;
   }
 

@@ -422,7 +422,7 @@ module _ (catalogue : Catalogue) (x : SiteState) (given : Input) (tidy : Tidy x)
 
   resends : (d : Decision) (o : Stepped) → Leads x o → Leads x (put_back o (resend_one o.site.id d (lent o)))
   unfolding resend_one
-  resends d o l = beside o _ (letters o.site.id (λ q. message.Outcome d.0 true) d.1) (self_same o.site) refl refl (letters_none o.site.id (λ q. message.Outcome d.0 true) d.1 (λ q. refl)) l
+  resends d o l = beside o _ (letters o.site.id (λ q. message.Outcome d.txn true) d.waiting) (self_same o.site) refl refl (letters_none o.site.id (λ q. message.Outcome d.txn true) d.waiting (λ q. refl)) l
 
   inquires : (txns : List TxnId) (o : Stepped) → Leads x o → Leads x (inquire txns o)
   unfolding inquire
@@ -472,7 +472,7 @@ module _ (catalogue : Catalogue) (x : SiteState) (given : Input) (tidy : Tidy x)
     start_refresh = λ view rec o e a h l. starts_refresh view rec o e.held l;
     end_refresh = λ rec r own o e a d v l. ends_refresh r own o l;
     keep_answer = λ from view rec stored r c e f g. silent (begin_step x) _ (record { id = refl; life = refl; seq = refl; live = refl; held = refl; ended = λ n q. q; refresh = λ n q. rw q refl; monitor = λ n q. q }) refl refl begins;
-    answer_refresh = λ from view rec stored c e d v. one _ x.id from (message.RefreshAnswer view rec stored.value stored.date) refl (self_same x) refl refl;
+    answer_refresh = λ from view rec stored c e d v. one _ x.id from (message.RefreshAnswer view rec stored) refl (self_same x) refl refl;
     ask_again = λ view r o e h v l. asks_again view.id r o l;
     refuse_view = λ from txn view number a e. one _ x.id from (message.Refuse txn number (obstacle.OtherView (held_id x))) refl (self_same x) refl refl;
     refuse_lock = λ from txn view number rec exclusive holder r e n c. one _ x.id from (message.Refuse txn number (obstacle.Held holder)) refl (self_same x) refl refl;

@@ -120,7 +120,7 @@ module _ (catalogue : Catalogue) (x : SiteState) (given : Input) (tidy : Tidy x)
   ends_here from txn true None = same (begin_step x) _ refl refl refl starts
   ends_here from txn false None = same (begin_step x) _ refl refl refl starts
   ends_here from txn false (Some d) = same (begin_step x) _ refl refl refl starts
-  ends_here from txn true (Some d) = same (begin_step x) _ refl (written_keys d.1 d.2 x.copies) refl starts
+  ends_here from txn true (Some d) = same (begin_step x) _ refl (written_keys d.view d.writes x.copies) refl starts
 
   abbrev K : Lent → Type 0
   K = Back x P

@@ -259,7 +259,7 @@ module _ (catalogue : Catalogue) (x : SiteState) (given : Input) (led : Led x) (
     aside = λ c ms extra cs quiet r. plus c ms extra cs (λ m h. SentFor.aside (quiet m h)) r;
     starts = starts;
     moves = moves;
-    resends = λ c d ms cs tick h r. plus c ms _ cs (outcomes d.0 true d.1 c.live) r;
+    resends = λ c d ms cs tick h r. plus c ms _ cs (outcomes d.txn true d.waiting c.live) r;
   }
     where
       plus : (c : CoordinatorState) (ms extra : List Sent) (cs : List Commit) → ((m : Sent) → Has extra m → SentFor catalogue x given c.live m) → R c ms cs → R c (ms ++ extra) cs

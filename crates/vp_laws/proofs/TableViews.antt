@@ -301,7 +301,7 @@ module _ (catalogue : Catalogue) (x : SiteState) (given : Input) (tidy : Tidy x)
 
   resends : (d : Decision) (o : Stepped) → Local x given o → Local x given (put_back o (resend_one o.site.id d (lent o)))
   unfolding resend_one
-  resends d o l = beside x given o _ _ refl refl refl (letters_quiet x given o.site.id (λ q. message.Outcome d.0 true) d.1 (λ q. refl)) l
+  resends d o l = beside x given o _ _ refl refl refl (letters_quiet x given o.site.id (λ q. message.Outcome d.txn true) d.waiting (λ q. refl)) l
 
   inquires : (txns : List TxnId) (o : Stepped) → Local x given o → Local x given (inquire txns o)
   unfolding inquire
@@ -328,7 +328,7 @@ module _ (catalogue : Catalogue) (x : SiteState) (given : Input) (tidy : Tidy x)
     start_refresh = λ view rec o e a h l. starts_refresh view rec o l;
     end_refresh = λ rec r own o e a d v l. ends_refresh r own o l;
     keep_answer = λ from view rec stored r c e f g. silent x given (begin_step x) _ refl refl refl begins;
-    answer_refresh = λ from view rec stored c e d v. one_more (message.RefreshAnswer view rec stored.value stored.date) from tt;
+    answer_refresh = λ from view rec stored c e d v. one_more (message.RefreshAnswer view rec stored) from tt;
     ask_again = λ view r o e h v l. asks_again view.id r o l;
     refuse_view = λ from txn view number a e. one_more _ from tt;
     refuse_lock = λ from txn view number rec exclusive holder r e n c. one_more _ from tt;

@@ -324,7 +324,7 @@ module _ (catalogue : Catalogue) (x : SiteState) (given : Input) (led : Led x) (
     start_refresh = λ view rec o e a h l. starts_refresh view rec o l;
     end_refresh = λ rec r own o e a d v l. ends_refresh r own o l;
     keep_answer = λ from view rec stored r c e f g. silent (begin_step x) (change_refresh (map (with_answer rec from stored)) (begin_step x)) refl refl refl begins;
-    answer_refresh = λ from view rec stored c e d v. one _ from (message.RefreshAnswer view rec stored.value stored.date) refl refl refl refl;
+    answer_refresh = λ from view rec stored c e d v. one _ from (message.RefreshAnswer view rec stored) refl refl refl refl;
     ask_again = λ view r o e h v l. alike o (ask_again catalogue view.id r o) (letters o.site.id (λ q. message.RefreshRequest view.id r.rec) (unanswered catalogue o.site r)) refl refl refl (letters_still o.site.id (λ q. message.RefreshRequest view.id r.rec) (unanswered catalogue o.site r) (λ q. refl)) l;
     refuse_view = λ from txn view number a e. one _ from (message.Refuse txn number (obstacle.OtherView (held_id x))) refl refl refl refl;
     refuse_lock = λ from txn view number rec exclusive holder r e n c. one _ from (message.Refuse txn number (obstacle.Held holder)) refl refl refl refl;
@@ -351,7 +351,7 @@ module _ (catalogue : Catalogue) (x : SiteState) (given : Input) (led : Led x) (
       answer_inquiry = λ from txn c s n. plain (lent_at x) _ (letter x.id from (message.Outcome txn (is_decided txn x.decisions)) ∷ []) refl refl (letter_still x.id from (message.Outcome txn (is_decided txn x.decisions)) refl) begins;
     };
     answers_inviting = λ port c s l. silent (invite catalogue (begin_step x)) (reply (answer.Inviting (next_view x)) port (invite catalogue (begin_step x))) refl refl refl l;
-    resend_one = λ d o c h l. alike o (put_back o (resend_one o.site.id d (lent o))) (letters o.site.id (λ q. message.Outcome d.0 true) d.1) refl refl refl (letters_still o.site.id (λ q. message.Outcome d.0 true) d.1 (λ q. refl)) l;
+    resend_one = λ d o c h l. alike o (put_back o (resend_one o.site.id d (lent o))) (letters o.site.id (λ q. message.Outcome d.txn true) d.waiting) refl refl refl (letters_still o.site.id (λ q. message.Outcome d.txn true) d.waiting (λ q. refl)) l;
     inquire = λ o c l. inquires (known o.site.participant) o l;
   }
 

@@ -27,7 +27,7 @@ doubts_of w site = doubts_in (place_of site w.places)
 -- and with its last values there
 abbrev pub VotesLeaveDoubts : Catalogue → WorldState → Type 0
 VotesLeaveDoubts catalogue w =
-    (from to : ℕ) (txn : TxnId) (x : SiteState) (t : Live) → Contains w.sent (record { from = from; to = to; message = message.Vote txn }) → site_of w txn.site ≡ Some x → Contains x.live t → t.txn ≡ txn → is_empty (writes_held catalogue from (last_writes t.ops)) ≡ false → Contains (doubts_of w from) (txn, t.view, writes_held catalogue from (last_writes t.ops))
+    (from to : ℕ) (txn : TxnId) (x : SiteState) (t : Live) → Contains w.sent (record { from = from; to = to; message = message.Vote txn }) → site_of w txn.site ≡ Some x → Contains x.live t → t.txn ≡ txn → is_empty (writes_held catalogue from (last_writes t.ops)) ≡ false → Contains (doubts_of w from) (record { txn = txn; view = t.view; writes = writes_held catalogue from (last_writes t.ops) })
 
 -- the record of an operation
 abbrev pub record_in : Op → ℕ

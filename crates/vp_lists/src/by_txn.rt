@@ -6,7 +6,7 @@ ghost use Rattle.vp_model.specs.Words.{same_txn, change_first, without_first};
 
 use crate::order::is_same_txn;
 use std::mem;
-use vp_base::{Finished, Live, Part, Sites, TxnId, ViewId, Writes};
+use vp_base::{Decision, Doubt, Finished, Live, Part, TxnId};
 
 /// An item that is known by its transaction.
 pub trait OfTxn {
@@ -82,18 +82,18 @@ impl OfTxn for Part {
     }
 }
 
-impl OfTxn for (TxnId, Sites) {
-    ghost txn = { λ t. t.0 };
+impl OfTxn for Decision {
+    ghost txn = { λ t. t.txn };
 
     fn is_of(&self, name: &TxnId) -> bool {
-        is_same_txn(&self.0, name)
+        is_same_txn(&self.txn, name)
     }
 }
 
-impl OfTxn for (TxnId, ViewId, Writes) {
-    ghost txn = { λ t. t.0 };
+impl OfTxn for Doubt {
+    ghost txn = { λ t. t.txn };
 
     fn is_of(&self, name: &TxnId) -> bool {
-        is_same_txn(&self.0, name)
+        is_same_txn(&self.txn, name)
     }
 }

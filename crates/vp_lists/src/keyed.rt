@@ -6,7 +6,7 @@ ghost use Rattle.vp_model.specs.Words.{put};
 
 use crate::order::{is_same_txn, is_same_view, txn_comes_before, view_comes_before};
 use std::mem;
-use vp_base::{NoMemory, Part, RecId, Refreshing, Seq, SiteId, TxnId, ViewId, Writes};
+use vp_base::{Decision, Doubt, NoMemory, Part, RecId, Refreshing, Seq, SiteId, TxnId, ViewId};
 
 /// An item of an ordered list: two items may have the same key, or one comes before the other.
 pub trait Keyed {
@@ -176,18 +176,34 @@ impl<K: Keyed, V> Keyed for (K, V) {
     }
 }
 
-impl Keyed for (TxnId, ViewId, Writes) {
+impl Keyed for Doubt {
     ghost use Rattle.vp_model.specs.Words.{same_txn, txn_before};
 
-    ghost same = { λ a b. same_txn a.0 b.0 };
+    ghost same = { λ a b. same_txn a.txn b.txn };
 
-    ghost before = { λ a b. txn_before a.0 b.0 };
+    ghost before = { λ a b. txn_before a.txn b.txn };
 
-    fn is_same(&self, other: &(TxnId, ViewId, Writes)) -> bool {
-        is_same_txn(&self.0, &other.0)
+    fn is_same(&self, other: &Doubt) -> bool {
+        is_same_txn(&self.txn, &other.txn)
     }
 
-    fn comes_before(&self, other: &(TxnId, ViewId, Writes)) -> bool {
-        txn_comes_before(&self.0, &other.0)
+    fn comes_before(&self, other: &Doubt) -> bool {
+        txn_comes_before(&self.txn, &other.txn)
+    }
+}
+
+impl Keyed for Decision {
+    ghost use Rattle.vp_model.specs.Words.{same_txn, txn_before};
+
+    ghost same = { λ a b. same_txn a.txn b.txn };
+
+    ghost before = { λ a b. txn_before a.txn b.txn };
+
+    fn is_same(&self, other: &Decision) -> bool {
+        is_same_txn(&self.txn, &other.txn)
+    }
+
+    fn comes_before(&self, other: &Decision) -> bool {
+        txn_comes_before(&self.txn, &other.txn)
     }
 }

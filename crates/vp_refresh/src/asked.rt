@@ -6,7 +6,6 @@ ghost use Rattle.vp_model.specs.Words.{has, keys, is_empty};
 ghost use Rattle.vp_refresh.specs.Asking.{missing, keeping, newest_of, with_requests};
 ghost use Rattle.vp_refresh.specs.Newest.{IsNewest};
 
-use crate::effects::send_all;
 use crate::newest::newest;
 use std::alloc::Global;
 use std::marker::Model;
@@ -157,6 +156,6 @@ impl Asked {
             view: self.view,
             rec: self.refreshing.rec,
         };
-        send_all(effects, self.from, missing.as_slice(), &message)
+        effects.send_all(self.from, missing.as_slice(), &message)
     }
 }

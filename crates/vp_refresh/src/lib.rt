@@ -5,7 +5,6 @@
 #![tactic(auto)]
 
 mod asked;
-mod effects;
 mod newest;
 mod refresh;
 #[cfg(test)]

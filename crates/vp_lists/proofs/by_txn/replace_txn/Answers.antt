@@ -1,4 +1,4 @@
-use Rattle.std.proofs.Common.{◌≡◌, sym}
+use Rattle.std.proofs.Common.{sym}
 use Rattle.vp_model.specs.Words.{same_txn}
 use Rattle.vp_lists.proofs.Found.{find_none, find_some, changed_some, changed_none}
 use Rattle.vp_lists.proofs.Named.{named}
