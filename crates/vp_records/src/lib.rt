@@ -4,6 +4,8 @@
 //! For this a list that grows, or whose values are written, is made anew beside the old one, and then takes its place.
 #![tactic(auto)]
 
+#[cfg(test)]
+mod batch_tests;
 mod copies;
 mod decisions;
 mod decoding;

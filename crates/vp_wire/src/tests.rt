@@ -110,6 +110,20 @@ fn frames_are_refused_at_their_places_in_the_head(rt: HostRuntime) -> Result<(),
 }
 
 #[test]
+fn a_vote_is_fourteen_bytes(rt: HostRuntime) -> Result<(), NoMemory> {
+    let whole = place(rt.alloc(), b"\x56\x01\x0b\x02\x01\x01\0\0\0\x01\0\0\0\x01")?;
+    assert_eq!(rt; whole, None);
+    let more = place(
+        rt.alloc(),
+        b"\x56\x01\x0b\x02\x01\x01\0\0\0\x01\0\0\0\x01\xff",
+    )?;
+    assert_eq!(rt; more, Some(14));
+    let less = place(rt.alloc(), b"\x56\x01\x0b\x02\x01\x01\0\0\0\x01\0\0\0")?;
+    assert_eq!(rt; less, Some(13));
+    Ok(())
+}
+
+#[test]
 fn copies_are_refused_at_their_places(rt: HostRuntime) -> Result<(), NoMemory> {
     let cases: [(&[u8], Option<usize>); 8] = [
         (
