@@ -8,7 +8,7 @@ use Rattle.vp_model.specs.Types.op
 use Rattle.vp_model.specs.Words.{value_at}
 use Rattle.vp_model.specs.Catalogue.{Catalogue, holders, accessible}
 use Rattle.vp_model.specs.Durable.{DurableState}
-use Rattle.vp_model.specs.Refresh.{is_usable, is_usable_in, refreshing_of}
+use Rattle.vp_model.specs.Refresh.{is_open, is_usable_in, refreshing_of}
 use Rattle.vp_model.specs.Site.{SiteState, Stepped}
 use Rattle.vp_laws.proofs.Members.{Has, has_none, has_first, has_more, has_cons}
 use Rattle.vp_laws.proofs.Order.{Precedes, same_site}
@@ -118,7 +118,7 @@ module _ (catalogue : Catalogue) (w new : Scene) (s : ℕ) (x : SiteState) (give
         go (Origin.brought b) = brought_from catalogue w new s x given o k n d copies refresh j rec c holder b
 
   -- a record here that may be used and is not under refresh
-  module _ (rec : ℕ) (v : View) (c : Stored) (held : o.site.held ≡ Some v) (usable : is_usable catalogue o.site rec ≡ true) (unlisted : refreshing_of rec o.site.refresh ≡ None) (h : value_at rec o.site.copies ≡ Some c) where
+  module _ (rec : ℕ) (v : View) (c : Stored) (held : o.site.held ≡ Some v) (usable : is_open catalogue o.site rec ≡ true) (unlisted : refreshing_of rec o.site.refresh ≡ None) (h : value_at rec o.site.copies ≡ Some c) where
     kept_copy : value_at rec (kept_at new s).copies ≡ Some c
     kept_copy = subst (λ (k : DurableState). value_at rec k.copies ≡ Some c) (sym d.st.kept_now) h
 
@@ -222,14 +222,14 @@ module _ (catalogue : Catalogue) (w new : Scene) (s : ℕ) (x : SiteState) (give
     open_copy = λ j rec y v c up held usable unlisted h. usable_at j rec y v c held usable unlisted h (now_is w new s x o d.st j y up);
   }
     where
-      usable_at : (j rec : ℕ) (y : SiteState) (v : View) (c : Stored) → y.held ≡ Some v → is_usable catalogue y rec ≡ true → refreshing_of rec y.refresh ≡ None → value_at rec y.copies ≡ Some c → NowIs w s o.site j y → Open catalogue new rec v
+      usable_at : (j rec : ℕ) (y : SiteState) (v : View) (c : Stored) → y.held ≡ Some v → is_open catalogue y rec ≡ true → refreshing_of rec y.refresh ≡ None → value_at rec y.copies ≡ Some c → NowIs w s o.site j y → Open catalogue new rec v
       usable_at j rec y v c held usable unlisted h (NowIs.other m old) = open_now rec v (copies.open_copy j rec y v c old held usable unlisted h)
       usable_at j rec y v c held usable unlisted h (NowIs.here z same) =
-          usable_here rec v c (ap (λ (y : SiteState). y.held) same ∙ held) (subst (λ (y : SiteState). is_usable catalogue y rec ≡ true) (sym same) usable) (subst (λ (y : SiteState). refreshing_of rec y.refresh ≡ None) (sym same) unlisted) (subst (λ (y : SiteState). value_at rec y.copies ≡ Some c) (sym same) h)
+          usable_here rec v c (ap (λ (y : SiteState). y.held) same ∙ held) (subst (λ (y : SiteState). is_open catalogue y rec ≡ true) (sym same) usable) (subst (λ (y : SiteState). refreshing_of rec y.refresh ≡ None) (sym same) unlisted) (subst (λ (y : SiteState). value_at rec y.copies ≡ Some c) (sym same) h)
 
-      between_at : (j rec : ℕ) (y : SiteState) (v : View) (c : Stored) (e : Commit) → y.held ≡ Some v → is_usable catalogue y rec ≡ true → refreshing_of rec y.refresh ≡ None → value_at rec y.copies ≡ Some c → Has new.journal e → Wrote e rec → Precedes c.date e.view → Precedes e.view v.id → NowIs w s o.site j y → ⊥
+      between_at : (j rec : ℕ) (y : SiteState) (v : View) (c : Stored) (e : Commit) → y.held ≡ Some v → is_open catalogue y rec ≡ true → refreshing_of rec y.refresh ≡ None → value_at rec y.copies ≡ Some c → Has new.journal e → Wrote e rec → Precedes c.date e.view → Precedes e.view v.id → NowIs w s o.site j y → ⊥
       between_at j rec y v c e held usable unlisted h there wrote later below (NowIs.here z same) =
-          between_here rec v c (ap (λ (y : SiteState). y.held) same ∙ held) (subst (λ (y : SiteState). is_usable catalogue y rec ≡ true) (sym same) usable) (subst (λ (y : SiteState). refreshing_of rec y.refresh ≡ None) (sym same) unlisted) (subst (λ (y : SiteState). value_at rec y.copies ≡ Some c) (sym same) h) e there wrote later below
+          between_here rec v c (ap (λ (y : SiteState). y.held) same ∙ held) (subst (λ (y : SiteState). is_open catalogue y rec ≡ true) (sym same) usable) (subst (λ (y : SiteState). refreshing_of rec y.refresh ≡ None) (sym same) unlisted) (subst (λ (y : SiteState). value_at rec y.copies ≡ Some c) (sym same) h) e there wrote later below
       between_at j rec y v c e held usable unlisted h there wrote later below (NowIs.other m old) = ⊎_elim
           (λ was. copies.between j rec y v c e old held usable unlisted h was wrote later below)
           (λ more. stops catalogue w new s x given o k n d e v rec more wrote below (copies.open_copy j rec y v c old held usable unlisted h))

@@ -2,7 +2,7 @@
 -- what a refresh brings is the newest copy of the members.
 use Rattle.std.proofs.Common.{◌≡◌, ◌≢◌, ◌∙◌, ap, sym, subst, ℕ, true, List, ⊎_elim}
 use Rattle.std.specs.Prelude.{Some}
-use Rattle.vp_model.specs.Types.{TxnId, View, Commit, Input, Stored, Doubt}
+use Rattle.vp_model.specs.Types.{Change, TxnId, View, Commit, Input, Stored, Doubt}
 use Rattle.vp_model.specs.Types.message
 use Rattle.vp_model.specs.Types.op
 use Rattle.vp_model.specs.Words.{keys}
@@ -34,7 +34,7 @@ pub doubt_on : (catalogue : Catalogue) (w : Scene) → InvShares catalogue w →
 doubt_on catalogue w shares e j rec u h wrote holder there named =
     let q = (shares.doubts j u there).0 in
     let says = shares.entry e h q.0 j u.view q.1 q.2 u.writes (subst (λ (t : TxnId). Has w.sent (letter q.0 j (message.Prepare t u.view q.1 q.2 u.writes))) named q.3) in
-    subst (λ (ws : List (ℕ × List ℕ)). Has (keys ws) rec) says.1 (wrote_here catalogue e j rec holder wrote)
+    subst (λ (ws : List (ℕ × Change)). Has (keys ws) rec) says.1 (wrote_here catalogue e j rec holder wrote)
 
 module _ (catalogue : Catalogue) (w new : Scene) (s : ℕ) (x : SiteState) (given : Input) (o : Stepped) (k : Known catalogue w) (n : Known catalogue new) (d : Does catalogue w new s x given o) (copies : InvCopies catalogue w) (refresh : InvRefresh catalogue w) where
   -- an untouched copy

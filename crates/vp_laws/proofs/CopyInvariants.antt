@@ -6,7 +6,7 @@ use Rattle.vp_model.specs.Types.message
 use Rattle.vp_model.specs.Words.{keys, value_at}
 use Rattle.vp_model.specs.Catalogue.{Catalogue, holders, accessible}
 use Rattle.vp_model.specs.Site.{SiteState}
-use Rattle.vp_model.specs.Refresh.{is_usable, refreshing_of}
+use Rattle.vp_model.specs.Refresh.{is_open, refreshing_of}
 use Rattle.vp_laws.proofs.Members.{Has}
 use Rattle.vp_laws.proofs.Order.{Precedes}
 use Rattle.vp_laws.proofs.LocalViews.{letter}
@@ -38,8 +38,8 @@ pub record InvCopies (catalogue : Catalogue) (w : Scene) : Type 0 where
   -- where a copy is from
   pub from : (s rec : ℕ) (c : Stored) → value_at rec (kept_at w s).copies ≡ Some c → FromView catalogue w s rec c.date
   -- a copy that may be used and is not under refresh has missed no entry below the held view, and its record is closed for it
-  pub between : (s rec : ℕ) (x : SiteState) (v : View) (c : Stored) (e : Commit) → plain_at w s ≡ Some x → x.held ≡ Some v → is_usable catalogue x rec ≡ true → refreshing_of rec x.refresh ≡ None → value_at rec x.copies ≡ Some c → Has w.journal e → Wrote e rec → Precedes c.date e.view → Precedes e.view v.id → ⊥
-  pub open_copy : (s rec : ℕ) (x : SiteState) (v : View) (c : Stored) → plain_at w s ≡ Some x → x.held ≡ Some v → is_usable catalogue x rec ≡ true → refreshing_of rec x.refresh ≡ None → value_at rec x.copies ≡ Some c → Open catalogue w rec v
+  pub between : (s rec : ℕ) (x : SiteState) (v : View) (c : Stored) (e : Commit) → plain_at w s ≡ Some x → x.held ≡ Some v → is_open catalogue x rec ≡ true → refreshing_of rec x.refresh ≡ None → value_at rec x.copies ≡ Some c → Has w.journal e → Wrote e rec → Precedes c.date e.view → Precedes e.view v.id → ⊥
+  pub open_copy : (s rec : ℕ) (x : SiteState) (v : View) (c : Stored) → plain_at w s ≡ Some x → x.held ≡ Some v → is_open catalogue x rec ≡ true → refreshing_of rec x.refresh ≡ None → value_at rec x.copies ≡ Some c → Open catalogue w rec v
 
 pub record InvRefresh (catalogue : Catalogue) (w : Scene) : Type 0 where
   -- an answer to a refresh comes from a holder

@@ -7,7 +7,7 @@ use Rattle.vp_model.specs.Types.message
 use Rattle.vp_model.specs.Words.{keys, value_at, same_view}
 use Rattle.vp_model.specs.Catalogue.{Catalogue, holders}
 use Rattle.vp_model.specs.Durable.{DurableState, doubt_of}
-use Rattle.vp_model.specs.Transactions.{last_writes, writes_held}
+use Rattle.vp_model.specs.Transactions.{last_changes, last_writes, writes_held}
 use Rattle.vp_model.specs.Site.{SiteState, Stepped}
 use Rattle.vp_model.specs.Step.{durable_of}
 use Rattle.vp_laws.proofs.Members.{Has}
@@ -86,7 +86,7 @@ module _ (catalogue : Catalogue) (w new : Scene) (s : ℕ) (x : SiteState) (give
   own_of j rec c z (OwnCopy.still h untaken) = Own.old (record {
     was = was;
     outcome = λ e. untaken.outcome;
-    entered = λ e g h wrote. untaken.entered g h (subst (λ (i : ℕ). Has (keys (writes_held catalogue i (last_writes g.ops))) rec) (sym d.here.id) (wrote_here catalogue g s rec (subst (Has (holders catalogue rec)) z (copy_holder catalogue w k j rec c was)) wrote));
+    entered = λ e g h wrote. untaken.entered g h (subst (λ (i : ℕ). Has (keys (writes_held catalogue i (last_changes g))) rec) (sym d.here.id) (wrote_here catalogue g s rec (subst (Has (holders catalogue rec)) z (copy_holder catalogue w k j rec c was)) wrote));
   })
     where
       was : value_at rec (kept_at w j).copies ≡ Some c

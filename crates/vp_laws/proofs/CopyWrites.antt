@@ -2,12 +2,12 @@
 -- entry wrote, and no entry of a later view of the site has written it.
 use Rattle.std.proofs.Common.{◌≡◌, ◌∙◌, ap, sym, subst, ℕ, true, List, ◌∷◌, ◌++◌, refl, ⊎_elim}
 use Rattle.std.specs.Prelude.{Some}
-use Rattle.vp_model.specs.Types.{ViewId, View, Commit, Input, Stored, Doubt}
+use Rattle.vp_model.specs.Types.{Change, ViewId, View, Commit, Input, Stored, Doubt}
 use Rattle.vp_model.specs.Types.message
 use Rattle.vp_model.specs.Words.{has, keys, value_at}
 use Rattle.vp_model.specs.Catalogue.{Catalogue, holders}
 use Rattle.vp_model.specs.Durable.{DurableState}
-use Rattle.vp_model.specs.Transactions.{last_writes, writes_held}
+use Rattle.vp_model.specs.Transactions.{last_changes, writes_held}
 use Rattle.vp_model.specs.Site.{SiteState, Stepped}
 use Rattle.vp_laws.proofs.Members.{Has, filter_has}
 use Rattle.vp_laws.proofs.Lists.{mapped_has}
@@ -30,7 +30,7 @@ use Rattle.vp_laws.proofs.CopyOrigins.{Applied, Written}
 use Rattle.vp_laws.proofs.CopyValues.{value_now}
 use Rattle.vp_laws.proofs.Tower.{Known, Does}
 
-pair_at : (ws : List (ℕ × List ℕ)) (p : ℕ × List ℕ) (rec : ℕ) (value : List ℕ) → p.0 ≡ rec → p.1 ≡ value → value_at p.0 ws ≡ Some p.1 → value_at rec ws ≡ Some value
+pair_at : (ws : List (ℕ × Change)) (p : ℕ × List ℕ) (rec : ℕ) (value : List ℕ) → p.0 ≡ rec → p.1 ≡ value → value_at p.0 ws ≡ Some p.1 → value_at rec ws ≡ Some value
 pair_at ws p rec value e f h = rw (sym e, sym f) h
 
 value_along : (rec : ℕ) (start value : List ℕ) (es fs : List Commit) (a b : ViewId) → es ≡ fs → a ≡ b → value_up_to rec start fs b ≡ value → value_up_to rec start es a ≡ value
@@ -54,7 +54,7 @@ module _ (catalogue : Catalogue) (w new : Scene) (s : ℕ) (x : SiteState) (give
     entry : (e : Commit) × Has w.journal e × (e.txn ≡ a.doubt.txn)
     entry = (k.ends.told (letter a.from s (message.Outcome a.doubt.txn true)) (d.came a.from _ a.comes)).1
 
-    says : (entry.0.view ≡ a.doubt.view) × (writes_held catalogue j (last_writes entry.0.ops) ≡ a.doubt.writes)
+    says : (entry.0.view ≡ a.doubt.view) × (writes_held catalogue j (last_changes entry.0) ≡ a.doubt.writes)
     says = doubt_says catalogue w new s x given o k n d entry.0 (d.st.moved.journal entry.0 entry.1) j a.doubt a.was (sym entry.2)
 
     view : (v : View) × AgreedAs w a.doubt.view v × Has v.members j
@@ -76,7 +76,7 @@ module _ (catalogue : Catalogue) (w new : Scene) (s : ℕ) (x : SiteState) (give
     same_txn_in_doubt : (f : Commit) → Has w.journal f → Wrote f rec → InDoubt w j f.txn → f.txn ≡ a.doubt.txn
     same_txn_in_doubt f h wrote (u, there, named) =
         let q = doubt_says catalogue w new s x given o k n d f (d.st.moved.journal f h) j u there named in
-        sym named ∙ k.guards.writes j u a.doubt rec there a.was (subst (λ (ws : List (ℕ × List ℕ)). Has (keys ws) rec) q.1 (wrote_here catalogue f j rec holder wrote)) applied_on
+        sym named ∙ k.guards.writes j u a.doubt rec there a.was (subst (λ (ws : List (ℕ × Change)). Has (keys ws) rec) q.1 (wrote_here catalogue f j rec holder wrote)) applied_on
 
     -- it is the last one of its view that wrote it
     none_behind : (front back : List Commit) (f : Commit) → w.journal ≡ front ++ entry.0 ∷ back → Has back f → f.view ≡ entry.0.view → Wrote f rec → ⊥
@@ -97,11 +97,11 @@ module _ (catalogue : Catalogue) (w new : Scene) (s : ℕ) (x : SiteState) (give
         above : Precedes a.doubt.view before.0.date → ⊥
         above p = no_doubt_below catalogue w k copies refresh j rec before.0 a.doubt before.1 a.was applied_on p
 
-    wrote_value : value_at rec (last_writes entry.0.ops) ≡ Some c.value
+    wrote_value : value_at rec (last_changes entry.0) ≡ Some c.value
     wrote_value =
-        let there : Has (writes_held catalogue j (last_writes entry.0.ops)) a.write = rw says.1 a.wrote in
-        let last = last_value entry.0.ops a.write (filter_has (λ (w : ℕ × List ℕ). has (holders catalogue w.0) j) (last_writes entry.0.ops) a.write there).0 in
-        pair_at (last_writes entry.0.ops) a.write rec c.value (ap (λ (p : ℕ × Stored). p.0) a.is) (ap (λ (p : ℕ × Stored). p.1.value) a.is) last
+        let there : Has (writes_held catalogue j (last_changes entry.0)) a.write = rw says.1 a.wrote in
+        let last = last_value entry.0.ops a.write (filter_has (λ (w : ℕ × List ℕ). has (holders catalogue w.0) j) (last_changes entry.0) a.write there).0 in
+        pair_at (last_changes entry.0) a.write rec c.value (ap (λ (p : ℕ × Stored). p.0) a.is) (ap (λ (p : ℕ × Stored). p.1.value) a.is) last
 
     pub applied_value : value_after catalogue new.journal c.date rec ≡ Some c.value
     applied_value =
@@ -139,11 +139,11 @@ module _ (catalogue : Catalogue) (w new : Scene) (s : ℕ) (x : SiteState) (give
     pub written_date : b.entry.view ≡ c.date
     written_date = ap (λ (p : ℕ × Stored). p.1.date) b.is
 
-    there_last : Has (last_writes b.entry.ops) b.write
-    there_last = (filter_has (λ (w : ℕ × List ℕ). has (holders catalogue w.0) x.id) (last_writes b.entry.ops) b.write b.wrote).0
+    there_last : Has (last_changes b.entry) b.write
+    there_last = (filter_has (λ (w : ℕ × List ℕ). has (holders catalogue w.0) x.id) (last_changes b.entry) b.write b.wrote).0
 
     wrote : Wrote b.entry rec
-    wrote = subst (Wrote b.entry) (ap (λ (p : ℕ × Stored). p.0) b.is) (mapped_has (λ (p : ℕ × List ℕ). p.0) (last_writes b.entry.ops) b.write there_last)
+    wrote = subst (Wrote b.entry) (ap (λ (p : ℕ × Stored). p.0) b.is) (mapped_has (λ (p : ℕ × List ℕ). p.0) (last_changes b.entry) b.write there_last)
 
     f : Entering catalogue w new s x given o k n d b.entry
     f = entering catalogue w new s x given o k n d b.entry b.entered
@@ -155,7 +155,7 @@ module _ (catalogue : Catalogue) (w new : Scene) (s : ℕ) (x : SiteState) (give
 
     pub written_value : value_after catalogue new.journal c.date rec ≡ Some c.value
     written_value =
-        let last : value_at rec (last_writes b.entry.ops) ≡ Some c.value = pair_at (last_writes b.entry.ops) b.write rec c.value (ap (λ (p : ℕ × Stored). p.0) b.is) (ap (λ (p : ℕ × Stored). p.1.value) b.is) (last_value b.entry.ops b.write there_last) in
+        let last : value_at rec (last_changes b.entry) ≡ Some c.value = pair_at (last_changes b.entry) b.write rec c.value (ap (λ (p : ℕ × Stored). p.0) b.is) (ap (λ (p : ℕ × Stored). p.1.value) b.is) (last_value b.entry.ops b.write there_last) in
         let grown = journal_with catalogue w new s x given o k n d b.entry b.entered in
         after_is catalogue new.journal c.date rec j c.value holder (λ start. ap (λ (es : List Commit). value_up_to rec start es c.date) grown ∙ value_written rec start w.journal b.entry c.date c.value (AtMost-same b.entry.view c.date written_date) last (λ g h above le q. not_both b.entry.view g.view above (AtMost-along le refl written_date)))
 

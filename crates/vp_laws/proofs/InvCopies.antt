@@ -78,7 +78,7 @@ module _ (catalogue : Catalogue) where
           let d : p.durable ≡ apply (start_record (empty_durable (start_copies catalogue s))) (empty_durable (start_copies catalogue s)) = ap (λ (p : Place). p.durable) (sym all.1) in
           record { site = all.0; copy = value_pair rec (start_copies catalogue s) c (subst (λ (k : DurableState). value_at rec k.copies ≡ Some c) d v) }
 
-  no_doubt : (s : ℕ) (u : Doubt) → Has (kept_at w s).doubts u → ⊥
+  pub no_doubt : (s : ℕ) (u : Doubt) → Has (kept_at w s).doubts u → ⊥
   no_doubt s u h = has_none u (subst (λ (us : List Doubt). Has us u) (start_kept catalogue s).doubts h)
 
   from_first : (i : ℕ) → 0 + i ≡ i
@@ -143,10 +143,10 @@ module _ (catalogue : Catalogue) where
 
 -- a site that goes down or starts again
 module _ (catalogue : Catalogue) (w new : Scene) (s : ℕ) (q : Quiet catalogue w new s) (lived : InvLived w) (copies : InvCopies catalogue w) (refresh : InvRefresh catalogue w) where
-  copy_was : (j rec : ℕ) (c : Stored) → value_at rec (kept_at new j).copies ≡ Some c → value_at rec (kept_at w j).copies ≡ Some c
+  pub copy_was : (j rec : ℕ) (c : Stored) → value_at rec (kept_at new j).copies ≡ Some c → value_at rec (kept_at w j).copies ≡ Some c
   copy_was j rec c h = subst (λ (cs : List (ℕ × Stored)). value_at rec cs ≡ Some c) (quiet_kept catalogue w new s q (λ (d : DurableState). d.copies) q.copies j) h
 
-  doubts_same : (j : ℕ) → (kept_at new j).doubts ≡ (kept_at w j).doubts
+  pub doubts_same : (j : ℕ) → (kept_at new j).doubts ≡ (kept_at w j).doubts
   doubts_same j = quiet_kept catalogue w new s q (λ (d : DurableState). d.doubts) q.doubts j
 
   on_was : (j rec : ℕ) (date : ViewId) (u : Doubt) → DoubtOn new j rec date u → DoubtOn w j rec date u
@@ -178,14 +178,14 @@ module _ (catalogue : Catalogue) (w new : Scene) (s : ℕ) (q : Quiet catalogue 
           let p = up-place (place_of s new.places) y (rw z at up) in
           absurd (start_unused catalogue s (kept_at w s) v.id (lived.lived s (q.moved.there s p.0 p.1)) (Uses.held v (ap (λ (y : SiteState). y.held) same ∙ held) refl))
 
-  still_live : (j : ℕ) (y : SiteState) (t : Live) → plain_at new j ≡ Some y → Has y.live t → plain_at w j ≡ Some y
+  pub still_live : (j : ℕ) (y : SiteState) (t : Live) → plain_at new j ≡ Some y → Has y.live t → plain_at w j ≡ Some y
   still_live j y t up h = go (quiet_is catalogue w new s q j y up)
     where
       go : QuietIs catalogue w s j y → plain_at w j ≡ Some y
       go (QuietIs.other n old) = old
       go (QuietIs.here z same) = absurd (no_live catalogue s (kept_at w s) t (subst (λ (y : SiteState). Has y.live t) (sym same) h))
 
-  entry_was : (e : Commit) → Has new.journal e → Has w.journal e
+  pub entry_was : (e : Commit) → Has new.journal e → Has w.journal e
   entry_was e h = rw q.journal at h
 
   copied_quiet : Copied catalogue new

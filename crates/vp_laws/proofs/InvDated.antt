@@ -11,7 +11,7 @@ use Rattle.vp_model.specs.Durable.{DurableState, empty_durable}
 use Rattle.vp_model.specs.Refresh.{unanswered, members_in, other_holders}
 use Rattle.vp_model.specs.Site.{SiteState, Stepped}
 use Rattle.vp_model.specs.Step.{start, step, durable_of}
-use Rattle.vp_model.specs.Transactions.{last_writes, writes_held}
+use Rattle.vp_model.specs.Transactions.{last_changes, writes_held}
 use Rattle.vp_laws.proofs.Members.{Has, has_none, has_from_test, filter_has, both_true}
 use Rattle.vp_laws.proofs.Lists.{mapped_has}
 use Rattle.vp_laws.proofs.LocalViews.{letter}
@@ -66,8 +66,8 @@ module _ (catalogue : Catalogue) (w new : Scene) (s : ℕ) (x : SiteState) (give
   answer_dated rec k (AnswerNow.came from view r stored comes is held h e u) = subst (λ (k : ℕ × Stored). IsDated w rec k.1.date) is (inv.sent from s rec view stored (came from _ comes))
 
   -- the records that an entry wrote, among those that a site holds
-  wrote_held : (e : Commit) (k : ℕ) (a : ℕ × List ℕ) → Has (writes_held catalogue k (last_writes e.ops)) a → Wrote e a.0
-  wrote_held e k a h = mapped_has (λ (p : ℕ × List ℕ). p.0) (last_writes e.ops) a (filter_has (λ (w : ℕ × List ℕ). has (holders catalogue w.0) k) (last_writes e.ops) a h).0
+  wrote_held : (e : Commit) (k : ℕ) (a : ℕ × List ℕ) → Has (writes_held catalogue k (last_changes e)) a → Wrote e a.0
+  wrote_held e k a h = mapped_has (λ (p : ℕ × List ℕ). p.0) (last_changes e) a (filter_has (λ (w : ℕ × List ℕ). has (holders catalogue w.0) k) (last_changes e) a h).0
 
   copy_now : (a : ℕ × Stored) → CopyNow catalogue x given o.effects.commits a → IsDated new a.0 a.1.date
   copy_now a (CopyNow.still h) = dated_on a.0 a.1.date (copy_was a h)

@@ -10,7 +10,7 @@ use Rattle.vp_model.specs.Words.{is_empty, has, is_view, keys}
 use Rattle.vp_model.specs.Catalogue.{Catalogue, holders, accessible, start_copies}
 use Rattle.vp_model.specs.Durable.{DurableState, empty_durable}
 use Rattle.vp_model.specs.Site.{SiteState, Stepped}
-use Rattle.vp_model.specs.Transactions.{last_writes}
+use Rattle.vp_model.specs.Transactions.{last_changes, last_writes}
 use Rattle.vp_model.specs.Refresh.{is_usable_in, other_holders_in}
 use Rattle.vp_model.specs.Step.{start, step}
 use Rattle.vp_laws.proofs.Members.{Has, has_none, has_cons, filter_keeps, map_has}
@@ -33,7 +33,7 @@ use Rattle.vp_laws.proofs.Worlds.{NowIs, now_is, QuietIs, quiet_is, started, sta
 
 -- the entry wrote the record
 abbrev pub Wrote : Commit → ℕ → Type 0
-Wrote e rec = Has (keys (last_writes e.ops)) rec
+Wrote e rec = Has (keys (last_changes e)) rec
 
 abbrev pub AgreedAs : Scene → ViewId → View → Type 0
 AgreedAs w i v = Has w.agreed v × (v.id ≡ i)

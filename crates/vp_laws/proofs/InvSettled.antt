@@ -2,13 +2,13 @@
 -- coordinator's decision, or has applied it and has it in its ended list, or has left its view.
 use Rattle.std.proofs.Common.{◌≡◌, ◌≢◌, ◌⊎◌, ◌∙◌, ap, sym, subst, ℕ, Bool, true, false, List, [], ◌∷◌, refl, inl, inr, ⊎_elim}
 use Rattle.std.specs.Prelude.{Option, Some, None, option_map}
-use Rattle.vp_model.specs.Types.{ViewId, TxnId, View, Sent, Commit, Message, Input, Part, Live, Doubt, Decision}
+use Rattle.vp_model.specs.Types.{Change, ViewId, TxnId, View, Sent, Commit, Message, Input, Part, Live, Doubt, Decision}
 use Rattle.vp_model.specs.Types.message
 use Rattle.vp_model.specs.Words.{same_txn, has_txn, is_empty, is_view, has}
 use Rattle.vp_model.specs.Catalogue.{Catalogue, holders}
 use Rattle.vp_model.specs.Durable.{DurableState}
 use Rattle.vp_model.specs.Site.{SiteState, Stepped}
-use Rattle.vp_model.specs.Transactions.{last_writes, writes_held}
+use Rattle.vp_model.specs.Transactions.{last_changes, entry_of, writes_held}
 use Rattle.vp_model.specs.Views.{has_doubt}
 use Rattle.vp_model.specs.Refresh.{other_holders_in}
 use Rattle.vp_model.specs.Messages.{holds_view}
@@ -79,17 +79,17 @@ holding x view e = go x.held refl e
 -- who is affected
 module _ (catalogue : Catalogue) (w : Scene) (asked : InvLed w) (shares : InvShares catalogue w) where
   -- the receiver of a prepare with writes
-  pub prepared_affected : (e : Commit) (from k : ℕ) (txn : TxnId) (view : ViewId) (number : ℕ) (reads : List ℕ) (writes : List (ℕ × List ℕ)) → Has w.journal e → txn ≡ e.txn → is_empty writes ≡ false → Has w.sent (letter from k (message.Prepare txn view number reads writes)) → Affected catalogue w e k × (e.view ≡ view) × (k ≢ e.txn.site)
+  pub prepared_affected : (e : Commit) (from k : ℕ) (txn : TxnId) (view : ViewId) (number : ℕ) (reads : List ℕ) (writes : List (ℕ × Change)) → Has w.journal e → txn ≡ e.txn → is_empty writes ≡ false → Has w.sent (letter from k (message.Prepare txn view number reads writes)) → Affected catalogue w e k × (e.view ≡ view) × (k ≢ e.txn.site)
   prepared_affected e from k txn view number reads writes there named some sent =
       let q = shares.entry e there from k view number reads writes (rw (← named) sent) in
       let b = asked.asked _ sent in
-      let p = some_first (writes_held catalogue k (last_writes e.ops)) (rw q.1 some) in
-      let f = filter_has (λ (w : ℕ × List ℕ). has (holders catalogue w.0) k) (last_writes e.ops) p.0 p.1 in (
+      let p = some_first (writes_held catalogue k (last_changes e)) (rw q.1 some) in
+      let f = filter_has (λ (w : ℕ × List ℕ). has (holders catalogue w.0) k) (last_changes e) p.0 p.1 in (
         record {
           view = b.0;
           agreed = (b.1, b.2 ∙ sym q.0);
           rec = p.0.0;
-          wrote = mapped_has (λ (p : ℕ × List ℕ). p.0) (last_writes e.ops) p.0 f.0;
+          wrote = mapped_has (λ (p : ℕ × List ℕ). p.0) (last_changes e) p.0 f.0;
           holder = has_from_test (holders catalogue p.0.0) k f.1;
           member = b.3;
         },
@@ -126,7 +126,7 @@ module _ (catalogue : Catalogue) (w new : Scene) (s : ℕ) (x : SiteState) (give
   promised e k a = subst (λ (i : ViewId). AtMost i (promise_at w k)) a.agreed.1 ((views.view a.view a.agreed.0).members k a.member)
 
   -- no prepare makes a doubt about a transaction with an entry
-  no_new : (e : Commit) → Has w.journal e → (from : ℕ) (part : Part) (reads : List ℕ) (writes : List (ℕ × List ℕ)) → Prepared x given from part reads writes → is_empty writes ≡ false → part.txn ≡ e.txn → ⊥
+  no_new : (e : Commit) → Has w.journal e → (from : ℕ) (part : Part) (reads : List ℕ) (writes : List (ℕ × Change)) → Prepared x given from part reads writes → is_empty writes ≡ false → part.txn ≡ e.txn → ⊥
   no_new e there from part reads writes q some named =
       let a = prepared_affected catalogue w asked shares e from s part.txn q.view q.number reads writes there named some (came from _ q.comes) in
       let h = holding x q.view q.held in
@@ -161,10 +161,10 @@ module _ (catalogue : Catalogue) (w new : Scene) (s : ℕ) (x : SiteState) (give
   entered_ops e f = sym (ap (λ (t : Live). t.ops) f.handled.same) ∙ ap (λ (e : Commit). e.ops) f.is
 
   -- an affected holder has writes of the entry
-  affected_writes : (e : Commit) (k : ℕ) → Affected catalogue new e k → is_empty (writes_held catalogue k (last_writes e.ops)) ≡ false
+  affected_writes : (e : Commit) (k : ℕ) → Affected catalogue new e k → is_empty (writes_held catalogue k (last_changes e)) ≡ false
   affected_writes e k a =
-      let r = map_has (λ (p : ℕ × List ℕ). p.0) (last_writes e.ops) a.rec a.wrote in
-      some_not_empty _ r.0 (filter_keeps (λ (w : ℕ × List ℕ). has (holders catalogue w.0) k) (last_writes e.ops) r.0 r.1 (has_test (holders catalogue r.0.0) k (subst (λ (n : ℕ). Has (holders catalogue n) k) (sym r.2) a.holder)))
+      let r = map_has (λ (p : ℕ × List ℕ). p.0) (last_changes e) a.rec a.wrote in
+      some_not_empty _ r.0 (filter_keeps (λ (w : ℕ × List ℕ). has (holders catalogue w.0) k) (last_changes e) r.0 r.1 (has_test (holders catalogue r.0.0) k (subst (λ (n : ℕ). Has (holders catalogue n) k) (sym r.2) a.holder)))
 
   -- and is a part, if it is another site
   affected_part : (e : Commit) (k : ℕ) (t : Live) → Handled x t → t.txn ≡ e.txn → t.view ≡ e.view → t.ops ≡ e.ops → Affected catalogue new e k → k ≢ e.txn.site → Has t.parts k
@@ -198,9 +198,9 @@ module _ (catalogue : Catalogue) (w new : Scene) (s : ℕ) (x : SiteState) (give
       let named : t.txn ≡ e.txn = ap (λ (e : Commit). e.txn) q.2 in
       let done : t.ops ≡ e.ops = ap (λ (e : Commit). e.ops) q.2 in
       let part = affected_part e k t q.1 named (ap (λ (e : Commit). e.view) q.2) done a (not_own k e.txn d) in
-      let some : is_empty (writes_held catalogue k (last_writes t.ops)) ≡ false = rw done (affected_writes e k a) in
-      let r = map_has (λ (p : ℕ × List ℕ). p.0) (last_writes e.ops) a.rec a.wrote in
-      let writes : is_empty (last_writes t.ops) ≡ false = rw done (some_not_empty (last_writes e.ops) r.0 r.1) in
+      let some : is_empty (writes_held catalogue k (last_changes (entry_of t))) ≡ false = rw done (affected_writes e k a) in
+      let r = map_has (λ (p : ℕ × List ℕ). p.0) (last_changes e) a.rec a.wrote in
+      let writes : is_empty (last_changes (entry_of t)) ≡ false = rw done (some_not_empty (last_changes e) r.0 r.1) in
       let waits : IsWaited o.site.decisions t.txn k = q.3 k writes (filter_keeps _ t.parts k part (rw some refl)) in
       let here : kept_at new e.txn.site ≡ durable_of o.site = ap (kept_at new) (entered_site e (steps.entered e h)) ∙ st.kept_now in
       rw (here, ← named) waits

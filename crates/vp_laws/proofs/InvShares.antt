@@ -3,13 +3,13 @@
 use Rattle.std.proofs.Common.{◌≡◌, ◌≢◌, ◌⊎◌, ◌∙◌, ap, sym, subst, ℕ, ◌+◌, ◌≤◌, Bool, true, false, List, [], ◌∷◌, refl, arith, inl, inr, ⊎_elim}
 use Rattle.std.specs.Prelude.{Option, Some, None, is_some, option_map, not, ◌==◌}
 use Rattle.std.proofs.lemmas.Bool.Decides.{nat_tests}
-use Rattle.vp_model.specs.Types.{ViewId, TxnId, View, Sent, Commit, Message, Input, Part, Pending, Live, Doubt}
+use Rattle.vp_model.specs.Types.{Change, ViewId, TxnId, View, Sent, Commit, Message, Input, Part, Pending, Live, Doubt}
 use Rattle.vp_model.specs.Types.message
 use Rattle.vp_model.specs.Words.{is_empty, is_view}
 use Rattle.vp_model.specs.Catalogue.{Catalogue, start_copies}
 use Rattle.vp_model.specs.Durable.{DurableState, empty_durable}
 use Rattle.vp_model.specs.Site.{SiteState, Stepped}
-use Rattle.vp_model.specs.Transactions.{last_writes, writes_held}
+use Rattle.vp_model.specs.Transactions.{last_changes, entry_of, last_writes, writes_held}
 use Rattle.vp_model.specs.Messages.{holds_view}
 use Rattle.vp_model.specs.Refresh.{other_holders}
 use Rattle.vp_model.specs.Step.{start, step, durable_of, mark, marked_call}
@@ -63,7 +63,7 @@ abbrev pub InDoubt : Scene → ℕ → TxnId → Type 0
 InDoubt w s txn = (d : Doubt) × Has (kept_at w s).doubts d × (d.txn ≡ txn)
 
 abbrev pub VoteSays : Catalogue → Scene → ℕ → TxnId → Type 0
-VoteSays catalogue w from txn = (x : SiteState) (t : Live) → plain_at w txn.site ≡ Some x → Has x.live t → t.txn ≡ txn → is_empty (writes_held catalogue from (last_writes t.ops)) ≡ false → InDoubt w from txn
+VoteSays catalogue w from txn = (x : SiteState) (t : Live) → plain_at w txn.site ≡ Some x → Has x.live t → t.txn ≡ txn → is_empty (writes_held catalogue from (last_changes (entry_of t))) ≡ false → InDoubt w from txn
 
 abbrev pub Says : Catalogue → Scene → ℕ → ℕ → Message → Type 0
 Says catalogue w from to (message.ReadRequest txn view number rec) = OneView w txn view
@@ -77,7 +77,7 @@ Says catalogue w from to m = Unit {0}
 
 -- each prepare of an entry's transaction had its view and its last values there, and was voted on
 abbrev pub EntrySays : Catalogue → Scene → Commit → Type 0
-EntrySays catalogue w e = (from to : ℕ) (view : ViewId) (number : ℕ) (reads : List ℕ) (writes : List (ℕ × List ℕ)) → Has w.sent (letter from to (message.Prepare e.txn view number reads writes)) → (e.view ≡ view) × (writes_held catalogue to (last_writes e.ops) ≡ writes) × HasVote w to e.txn
+EntrySays catalogue w e = (from to : ℕ) (view : ViewId) (number : ℕ) (reads : List ℕ) (writes : List (ℕ × Change)) → Has w.sent (letter from to (message.Prepare e.txn view number reads writes)) → (e.view ≡ view) × (writes_held catalogue to (last_changes e) ≡ writes) × HasVote w to e.txn
 
 -- a pending commit waits for a part, or the part has voted
 abbrev pub Awaits : Scene → Live → Type 0
@@ -228,7 +228,7 @@ module _ (catalogue : Catalogue) (w new : Scene) (s : ℕ) (x : SiteState) (give
   vote_lasts : (from to : ℕ) (txn : TxnId) → Has w.sent (letter from to (message.Vote txn)) → VoteSays catalogue w from txn → VoteSays catalogue new from txn
   vote_lasts from to txn sent h = λ y t g k e writes. go y t (now_is w new s x o st txn.site y g) k e writes
     where
-      go : (y : SiteState) (t : Live) → NowIs w s o.site txn.site y → Has y.live t → t.txn ≡ txn → is_empty (writes_held catalogue from (last_writes t.ops)) ≡ false → InDoubt new from txn
+      go : (y : SiteState) (t : Live) → NowIs w s o.site txn.site y → Has y.live t → t.txn ≡ txn → is_empty (writes_held catalogue from (last_changes (entry_of t))) ≡ false → InDoubt new from txn
       go y t (NowIs.other n g) k e writes = doubt_lasts from txn y t g k e (h y t g k e writes)
       go y t (NowIs.here z same) k e writes =
           let used : UsedTxn w txn = names.sent _ sent in
@@ -241,7 +241,7 @@ module _ (catalogue : Catalogue) (w new : Scene) (s : ℕ) (x : SiteState) (give
   doubt_here txn d h e = (d, subst (λ (k : DurableState). Has k.doubts d) (sym st.kept_now) h, e)
 
   -- where a prepare without writes was sent to the site, the live transaction writes nothing there
-  nothing_there : (k : ℕ) (txn : TxnId) (from : ℕ) (view : ViewId) (number : ℕ) (reads : List ℕ) (writes : List (ℕ × List ℕ)) → is_empty writes ≡ true → Has new.sent (letter from k (message.Prepare txn view number reads writes)) → (y : SiteState) (t : Live) → plain_at new txn.site ≡ Some y → Has y.live t → t.txn ≡ txn → is_empty (writes_held catalogue k (last_writes t.ops)) ≡ false → ⊥
+  nothing_there : (k : ℕ) (txn : TxnId) (from : ℕ) (view : ViewId) (number : ℕ) (reads : List ℕ) (writes : List (ℕ × Change)) → is_empty writes ≡ true → Has new.sent (letter from k (message.Prepare txn view number reads writes)) → (y : SiteState) (t : Live) → plain_at new txn.site ≡ Some y → Has y.live t → t.txn ≡ txn → is_empty (writes_held catalogue k (last_changes (entry_of t))) ≡ false → ⊥
   nothing_there k txn from view number reads writes none sent y t g h e f = let q = votes_now.prepared _ sent y t g h e in not_none _ writes q.has_written f none
 
   vote_new : (txn : TxnId) (m : Sent) → ReplyTo x given o.site.participant m → message.Vote txn ≡ m.message → VoteSays catalogue new s txn
@@ -264,7 +264,7 @@ module _ (catalogue : Catalogue) (w new : Scene) (s : ℕ) (x : SiteState) (give
   vote_stays : (q : ℕ) (txn : TxnId) → HasVote w q txn → HasVote new q txn
   vote_stays q txn h = (h.0, stays _ h.1)
 
-  prepare_stays : (to : ℕ) (txn : TxnId) (view : ViewId) (writes : List (ℕ × List ℕ)) → HasPrepare w to txn view writes → HasPrepare new to txn view writes
+  prepare_stays : (to : ℕ) (txn : TxnId) (view : ViewId) (writes : List (ℕ × Change)) → HasPrepare w to txn view writes → HasPrepare new to txn view writes
   prepare_stays to txn view writes h = (h.0, h.1, h.2, stays _ h.3)
 
   request_stays : (from to : ℕ) (txn : TxnId) (view : ViewId) (number rec : ℕ) (exclusive : Bool) → HasRequest w from to txn view number rec exclusive → HasRequest new from to txn view number rec exclusive
@@ -386,7 +386,7 @@ module _ (catalogue : Catalogue) (w new : Scene) (s : ℕ) (x : SiteState) (give
 
   entry_new : (e : Commit) → EnteredFor catalogue x given e → EntrySays catalogue new e
   entry_new e f from to view number readings writings sent = ⊎_elim
-      (λ old. decided f.was f.decides e.txn e.view (last_writes e.ops) (ap (λ (e : Commit). e.txn) f.is) (ap (λ (e : Commit). e.view) f.is) (ap (λ (e : Commit). last_writes e.ops) f.is) old)
+      (λ old. decided f.was f.decides e.txn e.view (last_changes e) (ap (λ (e : Commit). e.txn) f.is) (ap (λ (e : Commit). e.view) f.is) (ap (λ (e : Commit). last_writes e.ops) f.is) old)
       (λ more. absurd (none f.was f.decides (ap (λ (e : Commit). e.txn) f.is) _ (c.sent _ more) refl))
       (st.sent _ sent)
     where
@@ -467,7 +467,7 @@ module _ (catalogue : Catalogue) (w new : Scene) (s : ℕ) (q : Quiet catalogue 
   vote_on : (k : ℕ) (txn : TxnId) → HasVote w k txn → HasVote new k txn
   vote_on k txn h = (h.0, sent_on _ h.1)
 
-  prepare_on : (to : ℕ) (txn : TxnId) (view : ViewId) (writes : List (ℕ × List ℕ)) → HasPrepare w to txn view writes → HasPrepare new to txn view writes
+  prepare_on : (to : ℕ) (txn : TxnId) (view : ViewId) (writes : List (ℕ × Change)) → HasPrepare w to txn view writes → HasPrepare new to txn view writes
   prepare_on to txn view writes h = (h.0, h.1, h.2, sent_on _ h.3)
 
   request_on : (from to : ℕ) (txn : TxnId) (view : ViewId) (number rec : ℕ) (exclusive : Bool) → HasRequest w from to txn view number rec exclusive → HasRequest new from to txn view number rec exclusive
@@ -490,7 +490,7 @@ module _ (catalogue : Catalogue) (w new : Scene) (s : ℕ) (q : Quiet catalogue 
   vote_says_on : (from : ℕ) (txn : TxnId) → VoteSays catalogue w from txn → VoteSays catalogue new from txn
   vote_says_on from txn h = λ y t g k e some. go y t (quiet_is catalogue w new s q txn.site y g) k e some
     where
-      go : (y : SiteState) (t : Live) → QuietIs catalogue w s txn.site y → Has y.live t → t.txn ≡ txn → is_empty (writes_held catalogue from (last_writes t.ops)) ≡ false → InDoubt new from txn
+      go : (y : SiteState) (t : Live) → QuietIs catalogue w s txn.site y → Has y.live t → t.txn ≡ txn → is_empty (writes_held catalogue from (last_changes (entry_of t))) ≡ false → InDoubt new from txn
       go y t (QuietIs.other n g) k e some = let d = h y t g k e some in (d.0, rw (doubts_on from) d.1, d.2)
       go y t (QuietIs.here z same) k e some = absurd (no_live catalogue s (kept_at w s) t (subst (λ (y : SiteState). Has y.live t) (sym same) k))
 

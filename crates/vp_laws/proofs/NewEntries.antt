@@ -2,12 +2,12 @@
 -- nothing here is in doubt on that or under refresh, and no record that is closed for a higher view was written.
 use Rattle.std.proofs.Common.{◌≡◌, ◌≢◌, ◌⊎◌, ◌∙◌, ap, sym, subst, ℕ, Bool, false, List, [], ◌∷◌, ◌++◌, refl, inl, inr, ⊎_elim, append-nil}
 use Rattle.std.specs.Prelude.{Some}
-use Rattle.vp_model.specs.Types.{TxnId, View, Message, Commit, Input, Part, Live, Refreshing, Doubt}
+use Rattle.vp_model.specs.Types.{Change, TxnId, View, Message, Commit, Input, Part, Live, Refreshing, Doubt}
 use Rattle.vp_model.specs.Types.message
 use Rattle.vp_model.specs.Words.{is_empty, same_txn, keys}
 use Rattle.vp_model.specs.Catalogue.{Catalogue, holders}
 use Rattle.vp_model.specs.Durable.{DurableState}
-use Rattle.vp_model.specs.Transactions.{last_writes, writes_held}
+use Rattle.vp_model.specs.Transactions.{last_changes, writes_held}
 use Rattle.vp_model.specs.Site.{SiteState, Stepped}
 use Rattle.vp_model.specs.Step.{durable_of}
 use Rattle.vp_laws.proofs.Apart.{same_txn-not}
@@ -109,7 +109,7 @@ module _ (catalogue : Catalogue) (w new : Scene) (s : ℕ) (x : SiteState) (give
   entering_agreed e f = (d.here.held f.view f.held, f.is)
 
   -- a doubt of an entry's transaction is of its view, with its writes
-  pub doubt_says : (e : Commit) → Has new.journal e → (j : ℕ) (u : Doubt) → Has (kept_at w j).doubts u → u.txn ≡ e.txn → (e.view ≡ u.view) × (writes_held catalogue j (last_writes e.ops) ≡ u.writes)
+  pub doubt_says : (e : Commit) → Has new.journal e → (j : ℕ) (u : Doubt) → Has (kept_at w j).doubts u → u.txn ≡ e.txn → (e.view ≡ u.view) × (writes_held catalogue j (last_changes e) ≡ u.writes)
   doubt_says e h j u there named =
       let q = (k.shares.doubts j u there).0 in
       let says = n.shares.entry e h q.0 j u.view q.1 q.2 u.writes (subst (λ (t : TxnId). Has new.sent (letter q.0 j (message.Prepare t u.view q.1 q.2 u.writes))) named (d.st.moved.sent _ q.3)) in
@@ -140,10 +140,10 @@ module _ (catalogue : Catalogue) (w new : Scene) (s : ℕ) (x : SiteState) (give
         now = subst (λ (k : DurableState). Has k.doubts doubt.0) (sym (ap kept_in (d.st.moved.others j other))) doubt.1;
         named = doubt.2;
         viewed = says.0;
-        on = subst (λ (ws : List (ℕ × List ℕ)). Has (keys ws) rec) says.1 writes;
+        on = subst (λ (ws : List (ℕ × Change)). Has (keys ws) rec) says.1 writes;
       }
     where
-      some : Has (keys (writes_held catalogue j (last_writes e.ops))) rec → is_empty (writes_held catalogue j (last_writes e.ops)) ≡ false
+      some : Has (keys (writes_held catalogue j (last_changes e))) rec → is_empty (writes_held catalogue j (last_changes e)) ≡ false
       some writes = let r = map_has (λ (p : ℕ × List ℕ). p.0) _ _ writes in some_not_empty _ r.0 r.1
 
   -- here nothing is in doubt on what it wrote

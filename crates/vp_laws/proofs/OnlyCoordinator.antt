@@ -10,7 +10,7 @@ use Rattle.vp_model.specs.Words.{replace_at, view_before}
 use Rattle.vp_model.specs.Catalogue.{Catalogue}
 use Rattle.vp_model.specs.Durable.{doubt_of}
 use Rattle.vp_model.specs.Site.{CoordinatorState, SiteState, Lent, Stepped, begin_step, lent, put_back, letters, force, change_copies}
-use Rattle.vp_model.specs.Refresh.{newest, take_newer, end_refresh, start_refresh, other_holders, unanswered}
+use Rattle.vp_model.specs.Refresh.{newest, take_newer, unlist, end_refresh, start_refresh, other_holders, unanswered}
 use Rattle.vp_model.specs.Views.{other_sites, drop_view, start_inviting, hold}
 use Rattle.vp_model.specs.Messages.{held_id, accept, on_accept, on_stale, grant, end_here}
 use Rattle.vp_model.specs.Step.{fix, ask_again, resend_one, known, inquire}
@@ -83,8 +83,8 @@ module _ (catalogue : Catalogue) (x : SiteState) (given : Input) (R : Coordinato
       go true = silent o (force (entry.Copy rec best) (change_copies (replace_at rec best) o)) refl refl refl refl p
       go false = p
 
-  ends_refresh : (r : Refreshing) (own : Stored) (o : Stepped) → P o → P (end_refresh r own o)
-  unfolding end_refresh
+  ends_refresh : (r : Refreshing) (own : Stored) (o : Stepped) → P o → P (end_refresh catalogue r own o)
+  unfolding end_refresh unlist
   ends_refresh r own o p = silent (take_newer r.rec own (newest own r.answers) o) _ refl refl refl refl (takes_newer r.rec own (newest own r.answers) o p)
 
   ends_here : (from : ℕ) (txn : TxnId) (commit : Bool) (doubt : Option Doubt) → P (end_here from txn commit doubt (begin_step x))

@@ -7,7 +7,7 @@ use Rattle.vp_model.specs.Types.owner
 use Rattle.vp_model.specs.Words.{has, value_at}
 use Rattle.vp_model.specs.Catalogue.{Catalogue, holders, accessible}
 use Rattle.vp_model.specs.Durable.{DurableState}
-use Rattle.vp_model.specs.Refresh.{is_usable, is_usable_in, is_doubtful, members_in, other_holders}
+use Rattle.vp_model.specs.Refresh.{is_open, is_usable_in, is_doubtful, members_in, other_holders}
 use Rattle.vp_model.specs.Messages.{holds_view}
 use Rattle.vp_model.specs.Site.{SiteState, Stepped}
 use Rattle.vp_laws.specs.Votes.{is_commit}
@@ -176,7 +176,7 @@ module _ (catalogue : Catalogue) (w new : Scene) (s : ℕ) (x : SiteState) (give
       (ops_closed catalogue w k copies s x f.was d.up f.live refresh v (subst (Has w.agreed) same (d.here.held f.view f.held), agreed.1 ∙ sym f.viewed) (idle_reads catalogue w k copies s x f.was d.up f.live refresh v (subst (Has w.agreed) same (d.here.held f.view f.held), agreed.1 ∙ sym f.viewed) (deciding e h f)) operation (rw f.done did))
 
   -- each record that is asked for is accessible
-  usable_in : (u : Live) (r rec : ℕ) (view : ViewId) (v : View) → Has x.live u → is_usable catalogue x r ≡ true → r ≡ rec → u.view ≡ view → AgreedAs new view v → accessible catalogue rec v.members ≡ true
+  usable_in : (u : Live) (r rec : ℕ) (view : ViewId) (v : View) → Has x.live u → is_open catalogue x r ≡ true → r ≡ rec → u.view ≡ view → AgreedAs new view v → accessible catalogue rec v.members ≡ true
   usable_in u r rec view v h usable same at agreed =
       let of : IsOf x u = d.led.live u h in
       let is : of.0 ≡ v = n.views.unique of.0 v (d.st.moved.agreed of.0 (d.here.held of.0 of.1)) agreed.0 (of.2 ∙ at ∙ sym agreed.1) in

@@ -1,7 +1,7 @@
 -- Parts are of other sites' transactions and of the held view; doubts and the dates of copies are at most the promise.
 use Rattle.std.proofs.Common.{◌≡◌, ◌≢◌, ◌⊎◌, ◌∙◌, ap, sym, ℕ, Bool, true, false, cond, List, [], ◌∷◌, ◌++◌, map, refl, arith, inr, ⊎_elim, append-nil}
 use Rattle.std.specs.Prelude.{Option, Some, None, is_some, nat_lt, ◌||◌, ◌==◌, not, option_map, filter}
-use Rattle.vp_model.specs.Types.{ViewId, TxnId, View, Stored, Message, Sent, Input, Part, Refreshing, Pending, Live, Ending, Doubt, Decision}
+use Rattle.vp_model.specs.Types.{Change, ViewId, TxnId, View, Stored, Message, Sent, Input, Part, Refreshing, Pending, Live, Ending, Doubt, Decision}
 use Rattle.vp_base.specs.declared.site.Ending.TheVariants.{Committed}
 use Rattle.vp_model.specs.Types.entry
 use Rattle.vp_model.specs.Types.message
@@ -10,8 +10,8 @@ use Rattle.vp_model.specs.Words.{same_txn, txn_before, value_at, put_at, view_be
 use Rattle.vp_model.specs.Catalogue.{Catalogue}
 use Rattle.vp_model.specs.Durable.{doubt_of, with_writes}
 use Rattle.vp_model.specs.Site.{Here, ViewState, ParticipantState, send, change_participant, change_refresh, SiteState, Lent, Stepped, begin_step, lent, put_back, letters, force, change_copies}
-use Rattle.vp_model.specs.Transactions.{keep_writes, complete, writes_held, last_writes}
-use Rattle.vp_model.specs.Refresh.{refreshing_of, newest, take_newer, end_refresh, start_refresh, other_holders, unanswered}
+use Rattle.vp_model.specs.Transactions.{last_changes, entry_of, keep_writes, complete, writes_held}
+use Rattle.vp_model.specs.Refresh.{refreshing_of, newest, take_newer, unlist, end_refresh, start_refresh, other_holders, unanswered}
 use Rattle.vp_model.specs.Views.{part_of, has_part, has_doubt, other_sites, drop_view, start_inviting, hold}
 use Rattle.vp_model.specs.Calls.{start_txn, take_lock, read_at, write_at, prepare_parts, prepare_for}
 use Rattle.vp_model.specs.Answers.{is_decided}
@@ -144,7 +144,7 @@ module _ (catalogue : Catalogue) (x : SiteState) (given : Input) (tidy : Tidy x)
     below = record {
       parts = below.parts;
       doubts = below.doubts;
-      copies = λ c h. ⊎_elim (λ (e : c.1.date ≡ t.view). rw e (live_below t n)) (λ old. below.copies c old) (writes_has t.view (writes_held catalogue x.id (last_writes t.ops)) x.copies c h);
+      copies = λ c h. ⊎_elim (λ (e : c.1.date ≡ t.view). rw e (live_below t n)) (λ old. below.copies c old) (writes_has t.view (writes_held catalogue x.id (last_changes (entry_of t))) x.copies c h);
       answers = below.answers;
     };
     sent = λ m h. absurd (has_none m h);
@@ -238,8 +238,8 @@ module _ (catalogue : Catalogue) (x : SiteState) (given : Input) (tidy : Tidy x)
       go true = record { id = l.id; below = newer; sent = l.sent }
       go false = l
 
-  ends_refresh : (rec : ℕ) (r : Refreshing) (own : Stored) (o : Stepped) → refreshing_of rec o.site.refresh ≡ Some r → value_at r.rec o.site.copies ≡ Some own → Lies x o → Lies x (end_refresh r own o)
-  unfolding end_refresh take_newer
+  ends_refresh : (rec : ℕ) (r : Refreshing) (own : Stored) (o : Stepped) → refreshing_of rec o.site.refresh ≡ Some r → value_at r.rec o.site.copies ≡ Some own → Lies x o → Lies x (end_refresh catalogue r own o)
+  unfolding end_refresh unlist take_newer
   ends_refresh rec r own o e v l =
       let listed = find_has (λ (q : Refreshing). q.rec == rec) o.site.refresh r e in
       let c = value_has r.rec o.site.copies own v in
@@ -306,7 +306,7 @@ module _ (catalogue : Catalogue) (x : SiteState) (given : Input) (tidy : Tidy x)
       (put_has (λ (a : Part) (b : Part). same_txn a.txn b.txn) (λ (a : Part) (b : Part). txn_before a.txn b.txn) (record part { voted = true }) x.parts a q))
       below.doubts refl refl refl below.copies refl refl (letter_undated x.id from (message.Vote part.txn) refl)
 
-  votes_writing : (from : ℕ) (part : Part) (writes : List (ℕ × List ℕ)) → Has x.parts part → Lies x (send (message.Vote part.txn) from (force (entry.Yes part.txn part.view writes) (change_participant (with_new_doubt part writes) (begin_step x))))
+  votes_writing : (from : ℕ) (part : Part) (writes : List (ℕ × Change)) → Has x.parts part → Lies x (send (message.Vote part.txn) from (force (entry.Yes part.txn part.view writes) (change_participant (with_new_doubt part writes) (begin_step x))))
   votes_writing from part writes h =
       let q = below.parts part h in
       let up : AtMost part.view x.promise = AtMost-same part.view x.promise (sym q.2 ∙ (tidy.held q.0 q.1).0) in

@@ -4,7 +4,7 @@ use Rattle.std.proofs.Common.{◌≡◌, ◌≢◌, ◌⊎◌, ◌∙◌, ap, sy
 use Rattle.std.specs.Prelude.{Option, Some, None, filter, not, ◌==◌, nat_lt}
 use Rattle.std.proofs.lemmas.Bool.{eqb-true}
 use Rattle.std.proofs.lemmas.Bool.Decides.{nat_tests}
-use Rattle.vp_model.specs.Types.{ViewId, TxnId, View, Commit, Op, Input, Stored, Live, Ending, Refreshing, Doubt}
+use Rattle.vp_model.specs.Types.{Change, ViewId, TxnId, View, Commit, Op, Input, Stored, Live, Ending, Refreshing, Doubt}
 use Rattle.vp_model.specs.Types.entry
 use Rattle.vp_model.specs.Types.input
 use Rattle.vp_model.specs.Types.message
@@ -13,8 +13,8 @@ use Rattle.vp_model.specs.Catalogue.{Catalogue}
 use Rattle.vp_model.specs.Locks.{without_guard}
 use Rattle.vp_model.specs.Durable.{doubt_of, without_doubt, with_writes}
 use Rattle.vp_model.specs.Site.{Here, SiteState, Lent, Stepped, begin_step, put_back, force, change_copies}
-use Rattle.vp_model.specs.Transactions.{last_writes, writes_held, close, keep_writes, decide, complete}
-use Rattle.vp_model.specs.Refresh.{newer, newest, take_newer, end_refresh, start_refresh, refreshing_of, unanswered, is_doubtful}
+use Rattle.vp_model.specs.Transactions.{last_changes, entry_of, last_writes, writes_held, close, keep_writes, decide, complete}
+use Rattle.vp_model.specs.Refresh.{newer, newest, take_newer, unlist, end_refresh, start_refresh, refreshing_of, unanswered, is_doubtful}
 use Rattle.vp_model.specs.Views.{drop_view, start_inviting, hold}
 use Rattle.vp_model.specs.Calls.{start_txn, take_lock, read_at, write_at, prepare_parts}
 use Rattle.vp_model.specs.Messages.{holds_view, with_answer, accept, on_accept, on_stale, grant, end_here}
@@ -37,13 +37,13 @@ pub record Untaken (catalogue : Catalogue) (x : SiteState) (given : Input) (doub
   -- a doubt on it whose commit came is here still
   pub outcome : (from : ℕ) (d : Doubt) → Comes given from (message.Outcome d.txn true) → doubt_of d.txn x.doubts ≡ Some d → Has (keys d.writes) rec → Has doubts d
   -- an entry of this step has not written it
-  pub entered : (e : Commit) → Has commits e → Has (keys (writes_held catalogue x.id (last_writes e.ops))) rec → ⊥
+  pub entered : (e : Commit) → Has commits e → Has (keys (writes_held catalogue x.id (last_changes e))) rec → ⊥
 
 -- a copy was there and is untaken, or is of a doubt that commits, which is gone, or of an entry of this step
 pub data OwnCopy (catalogue : Catalogue) (x : SiteState) (given : Input) (doubts : List Doubt) (commits : List Commit) (a : ℕ × Stored) : Type 0 where
   still : Has x.copies a → Untaken catalogue x given doubts commits a.0 → OwnCopy catalogue x given doubts commits a
   outcome : (from : ℕ) (d : Doubt) (w : ℕ × List ℕ) → Comes given from (message.Outcome d.txn true) → Has x.doubts d → Has d.writes w → dated_at d.view w ≡ a → ((u : Doubt) → Has doubts u → u.txn ≢ d.txn) → OwnCopy catalogue x given doubts commits a
-  entered : (e : Commit) (w : ℕ × List ℕ) → Has commits e → Has (writes_held catalogue x.id (last_writes e.ops)) w → dated_at e.view w ≡ a → OwnCopy catalogue x given doubts commits a
+  entered : (e : Commit) (w : ℕ × List ℕ) → Has commits e → Has (writes_held catalogue x.id (last_changes e)) w → dated_at e.view w ≡ a → OwnCopy catalogue x given doubts commits a
 
 -- no doubt among these writes the record
 abbrev pub Certain : List Doubt → ℕ → Type 0
@@ -101,7 +101,7 @@ replaced_not n v pairs a h = let r = map_has (λ (p : ℕ × Stored). cond (p.0 
     go true p t k e = inl (sym e)
     go false p t k e = inr (rw (← e) k, (λ z. differs p.0 n t (z ∙ ap (λ (q : ℕ × Stored). q.0) (sym e))))
 
-written_or_not : (date : ViewId) (writes : List (ℕ × List ℕ)) (copies : List (ℕ × Stored)) (a : ℕ × Stored) → Has (with_writes date writes copies) a → ((w : ℕ × List ℕ) × Has writes w × (dated_at date w ≡ a)) ⊎ (Has copies a × (Has (keys writes) a.0 → ⊥))
+written_or_not : (date : ViewId) (writes : List (ℕ × Change)) (copies : List (ℕ × Stored)) (a : ℕ × Stored) → Has (with_writes date writes copies) a → ((w : ℕ × List ℕ) × Has writes w × (dated_at date w ≡ a)) ⊎ (Has copies a × (Has (keys writes) a.0 → ⊥))
 written_or_not date [] copies a h = inr (h, (λ k. has_none a.0 k))
 written_or_not date (w ∷ writes) copies a h = ⊎_elim
     (λ (q : (v : ℕ × List ℕ) × Has writes v × (dated_at date v ≡ a)). inl (q.0, has_more w writes q.0 q.1, q.2))
@@ -162,8 +162,8 @@ module _ (catalogue : Catalogue) (x : SiteState) (given : Input) (tidy : Tidy x)
       }
       go false = p
 
-  finishes : (rec : ℕ) (r : Refreshing) (own : Stored) (o : Stepped) → refreshing_of rec o.site.refresh ≡ Some r → is_empty (unanswered catalogue o.site r) ≡ true → is_doubtful o.site r.rec ≡ false → value_at r.rec o.site.copies ≡ Some own → P o → P (end_refresh r own o)
-  unfolding end_refresh
+  finishes : (rec : ℕ) (r : Refreshing) (own : Stored) (o : Stepped) → refreshing_of rec o.site.refresh ≡ Some r → is_empty (unanswered catalogue o.site r) ≡ true → is_doubtful o.site r.rec ≡ false → value_at r.rec o.site.copies ≡ Some own → P o → P (end_refresh catalogue r own o)
+  unfolding end_refresh unlist
   finishes rec r own o e all sure v p = removes (take_newer r.rec own (newest own r.answers) o) (takes r own (newest own r.answers) o new p)
     where
       there : Has o.site.refresh r
@@ -275,30 +275,30 @@ module _ (catalogue : Catalogue) (x : SiteState) (given : Input) (tidy : Tidy x)
         id = refl;
         copies = λ a h. CopyAt.here (OwnCopy.still (rw (ap (λ (h : Here). h.copies) (decided-ends x.id t (lent_at x)).here) at h) (record {
           outcome = λ from d c f k. find_has (λ (u : Doubt). same_txn u.txn d.txn) x.doubts d f;
-          entered = λ u g k. wrote_none u (has_one_is (record { txn = t.txn; view = t.view; ops = t.ops }) u (rw (decided-commits x.id t (lent_at x)) at g)) (is_none (last_writes t.ops) e) a.0 k;
+          entered = λ u g k. wrote_none u (has_one_is (entry_of t) u (rw (decided-commits x.id t (lent_at x)) at g)) (is_none (last_writes t.ops) e) a.0 k;
         }));
         answers = starts.answers;
       })
       (λ e. let l = keep_writes catalogue x.id t (lent_at x) in record {
         id = refl;
         copies = λ a h. ⊎_elim
-            (λ (q : (w : ℕ × List ℕ) × Has (writes_held catalogue x.id (last_writes t.ops)) w × (dated_at t.view w ≡ a)). CopyAt.here (OwnCopy.entered (record { txn = t.txn; view = t.view; ops = t.ops }) q.0 (rw (decided-commits x.id t l) (has_one _)) q.1 q.2))
-            (λ (old : Has x.copies a × (Has (keys (writes_held catalogue x.id (last_writes t.ops))) a.0 → ⊥)). CopyAt.here (OwnCopy.still old.0 (record {
+            (λ (q : (w : ℕ × List ℕ) × Has (writes_held catalogue x.id (last_changes (entry_of t))) w × (dated_at t.view w ≡ a)). CopyAt.here (OwnCopy.entered (entry_of t) q.0 (rw (decided-commits x.id t l) (has_one _)) q.1 q.2))
+            (λ (old : Has x.copies a × (Has (keys (writes_held catalogue x.id (last_changes (entry_of t)))) a.0 → ⊥)). CopyAt.here (OwnCopy.still old.0 (record {
               outcome = λ from d c f k. find_has (λ (u : Doubt). same_txn u.txn d.txn) x.doubts d f;
-              entered = λ u g k. old.1 (subst (λ (ops : List Op). Has (keys (writes_held catalogue x.id (last_writes ops))) a.0) (sym (ap (λ (u : Commit). u.ops) (has_one_is (record { txn = t.txn; view = t.view; ops = t.ops }) u (rw (decided-commits x.id t l) at g)))) k);
+              entered = λ u g k. old.1 (subst (λ (ops : List Op). Has (keys (writes_held catalogue x.id (last_writes ops))) a.0) (sym (ap (λ (u : Commit). u.ops) (has_one_is (entry_of t) u (rw (decided-commits x.id t l) at g)))) k);
             })))
-            (written_or_not t.view (writes_held catalogue x.id (last_writes t.ops)) x.copies a (rw (ap (λ (h : Here). h.copies) (decided-ends x.id t l).here) at h));
+            (written_or_not t.view (writes_held catalogue x.id (last_changes (entry_of t))) x.copies a (rw (ap (λ (h : Here). h.copies) (decided-ends x.id t l).here) at h));
         answers = starts.answers;
       })
     where
-      is_none : (ws : List (ℕ × List ℕ)) → is_empty ws ≡ true → ws ≡ []
+      is_none : (ws : List (ℕ × Change)) → is_empty ws ≡ true → ws ≡ []
       is_none [] e = refl
       is_none (w ∷ ws) e = cc
 
-      wrote_none : (u : Commit) → record { txn = t.txn; view = t.view; ops = t.ops } ≡ u → last_writes t.ops ≡ [] → (rec : ℕ) → Has (keys (writes_held catalogue x.id (last_writes u.ops))) rec → ⊥
+      wrote_none : (u : Commit) → entry_of t ≡ u → last_writes t.ops ≡ [] → (rec : ℕ) → Has (keys (writes_held catalogue x.id (last_changes u))) rec → ⊥
       wrote_none u is none rec k =
           let same : last_writes u.ops ≡ [] = ap (λ (u : Commit). last_writes u.ops) (sym is) ∙ none in
-          has_none rec (subst (λ (ws : List (ℕ × List ℕ)). Has (keys (writes_held catalogue x.id ws)) rec) same k)
+          has_none rec (subst (λ (ws : List (ℕ × Change)). Has (keys (writes_held catalogue x.id ws)) rec) same k)
 
   pub table : Table catalogue x given P
   unfolding on_stale on_accept hold fix ask_again start_inviting accept grant start_txn take_lock complete read_at write_at prepare_parts mark_calls resend_one inquire

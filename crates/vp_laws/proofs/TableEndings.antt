@@ -9,7 +9,7 @@ use Rattle.vp_model.specs.Words.{same_txn, txn_before, is_empty, at_most, for_ea
 use Rattle.vp_model.specs.Catalogue.{Catalogue}
 use Rattle.vp_model.specs.Durable.{put_decision, with_decision, acknowledged}
 use Rattle.vp_model.specs.Site.{CoordinatorState, SiteState, Lent, letters}
-use Rattle.vp_model.specs.Transactions.{put_live, with_finished, answers_after, keep_writes, writing_parts, decide, decided, complete}
+use Rattle.vp_model.specs.Transactions.{entry_of, put_live, with_finished, answers_after, keep_writes, writing_parts, decide, decided, complete}
 use Rattle.vp_model.specs.Refresh.{other_holders}
 use Rattle.vp_model.specs.Calls.{begun, with_begun, start_txn, take_lock, read_at, write_at, prepare_parts, prepare_for}
 use Rattle.vp_model.specs.Answers.{with_acknowledged, is_live, is_decided}
@@ -256,7 +256,7 @@ module _ (catalogue : Catalogue) (x : SiteState) (given : Input) (led : Led x) (
   decides t n = decide-cases L catalogue x.id t (lent_at x) (λ e. without) (λ e. with_writes)
     where
       entry : Commit
-      entry = record { txn = t.txn; view = t.view; ops = t.ops }
+      entry = entry_of t
 
       without : L (decided x.id t (lent_at x))
       without =

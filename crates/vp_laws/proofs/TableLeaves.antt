@@ -9,7 +9,7 @@ use Rattle.vp_model.specs.Words.{same_view, same_txn, has_txn, view_before, repl
 use Rattle.vp_model.specs.Catalogue.{Catalogue}
 use Rattle.vp_model.specs.Durable.{doubt_of}
 use Rattle.vp_model.specs.Site.{ViewState, ParticipantState, SiteState, Lent, Stepped, begin_step, put_back, force, change_copies, change_views}
-use Rattle.vp_model.specs.Refresh.{newest, take_newer, end_refresh, start_refresh}
+use Rattle.vp_model.specs.Refresh.{newest, take_newer, unlist, end_refresh, start_refresh}
 use Rattle.vp_model.specs.Views.{drop_view, start_inviting, hold, has_part, has_doubt}
 use Rattle.vp_model.specs.Messages.{put_part, with_ended, with_acceptance, accept, on_accept, on_stale, grant, end_here}
 use Rattle.vp_model.specs.Step.{without_wait, fix, ask_again, resend_one, inquire, step}
@@ -200,8 +200,8 @@ module _ (catalogue : Catalogue) (x : SiteState) (given : Input) where
       go true = silent o (force (entry.Copy rec best) (change_copies (replace_at rec best) o)) refl refl p
       go false = p
 
-  ends_refresh : (r : Refreshing) (own : Stored) (o : Stepped) → P o → P (end_refresh r own o)
-  unfolding end_refresh
+  ends_refresh : (r : Refreshing) (own : Stored) (o : Stepped) → P o → P (end_refresh catalogue r own o)
+  unfolding end_refresh unlist
   ends_refresh r own o p = silent (take_newer r.rec own (newest own r.answers) o) _ refl refl (takes_newer r.rec own (newest own r.answers) o p)
 
   grants : (from : ℕ) (txn : TxnId) (view : ViewId) (rec : ℕ) (exclusive : Bool) (words : Message) → ((u : TxnId) → OutcomeComes given u → ⊥) → P (grant txn view rec exclusive words from (begin_step x))

@@ -4,7 +4,7 @@ use Rattle.std.specs.Prelude.{Option, Some, None, filter, find, option_map, not,
 use Rattle.std.specs.List.{list_all}
 use Rattle.std.proofs.lemmas.Bool.Decides.{nat_tests}
 use Rattle.std.proofs.lemmas.Bool.{eqb-true}
-use Rattle.vp_model.specs.Types.{ViewId, TxnId, View, Message, Input, Stored, Lock, Part, Op, Answer, Pending, Live, Ending, Refreshing, Doubt}
+use Rattle.vp_model.specs.Types.{Change, ViewId, TxnId, View, Message, Input, Stored, Lock, Part, Op, Answer, Pending, Live, Ending, Refreshing, Doubt}
 use Rattle.vp_base.specs.declared.site.Ending.TheVariants.{Committed}
 use Rattle.vp_model.specs.Types.entry
 use Rattle.vp_model.specs.Types.input
@@ -16,8 +16,8 @@ use Rattle.vp_model.specs.Catalogue.{Catalogue}
 use Rattle.vp_model.specs.Durable.{doubt_of, without_doubt, with_writes, with_outcome}
 use Rattle.vp_model.specs.Locks.{conflict, holds, with_lock, without_owner, without_guard}
 use Rattle.vp_model.specs.Site.{ViewState, ParticipantState, CoordinatorState, Here, SiteState, Lent, Stepped, begin_step, put_back, force, change_copies}
-use Rattle.vp_model.specs.Transactions.{wait_for, last_writes, writes_held, keep_writes, complete}
-use Rattle.vp_model.specs.Refresh.{newest, take_newer, end_refresh, start_refresh, other_holders}
+use Rattle.vp_model.specs.Transactions.{last_changes, entry_of, wait_for, last_writes, writes_held, keep_writes, complete}
+use Rattle.vp_model.specs.Refresh.{newest, take_newer, unlist, end_refresh, start_refresh, other_holders}
 use Rattle.vp_model.specs.Views.{part_of, drop_view, start_inviting, hold, has_part, has_doubt}
 use Rattle.vp_model.specs.Calls.{begun, start_txn, take_lock, read_at, write_at, prepare_parts}
 use Rattle.vp_model.specs.Messages.{put_part, with_vote, with_new_doubt, with_answer, has_all_locks, accept, on_accept, on_stale, grant, end_here}
@@ -65,7 +65,7 @@ replaced_keys {K} n v (p ∷ pairs) = ap (λ (k : ℕ). k ∷ keys (replace_at n
     go true e = sym (eqb-true p.0 n e)
     go false e = refl
 
-pub written_keys : (date : ViewId) (writes : List (ℕ × List ℕ)) (copies : List (ℕ × Stored)) → keys (with_writes date writes copies) ≡ keys copies
+pub written_keys : (date : ViewId) (writes : List (ℕ × Change)) (copies : List (ℕ × Stored)) → keys (with_writes date writes copies) ≡ keys copies
 written_keys date [] copies = refl
 written_keys date (w ∷ writes) copies = written_keys date writes (replace_at w.0 (record { value = w.1; date = date }) copies) ∙ replaced_keys w.0 (record { value = w.1; date = date }) copies
 
@@ -165,8 +165,8 @@ module _ (catalogue : Catalogue) (x : SiteState) (given : Input) (tidy : Tidy x)
       go true = same o (force (entry.Copy rec best) (change_copies (replace_at rec best) o)) refl refl refl refl (replaced_keys rec best o.site.copies) refl p
       go false = p
 
-  finishes : (r : Refreshing) (own : Stored) (o : Stepped) → P o → P (end_refresh r own o)
-  unfolding end_refresh
+  finishes : (r : Refreshing) (own : Stored) (o : Stepped) → P o → P (end_refresh catalogue r own o)
+  unfolding end_refresh unlist
   finishes r own o p = let g = takes_newer r.rec own (newest own r.answers) o p in unguards (take_newer r.rec own (newest own r.answers) o) g
     where
       unguards : (n : Stepped) → P n → P (record n { site = record n.site { here = record n.site.here { locks = without_guard r.rec n.site.locks }; refresh = filter (λ other. not (other.rec == r.rec)) n.site.refresh } })
@@ -321,7 +321,7 @@ module _ (catalogue : Catalogue) (x : SiteState) (given : Input) (tidy : Tidy x)
       let b = both_true (holds r true (owner.Txn txn) x.locks) (list_all (λ rec. holds rec true (owner.Txn txn) x.locks) recs) e in
       ⊎_elim (λ (one : r ≡ rec). rw (← one) (holds_has r txn x.locks b.0)) (λ more. all_held recs txn b.1 rec more) (has_cons r recs rec h)
 
-  doubting_ok : (part : Part) (reads : List ℕ) (writes : List (ℕ × List ℕ)) → has_doubt part.txn x.doubts ≡ false → has_all_locks x.locks part.txn reads writes ≡ true → LocksOk catalogue x.live (with_new_doubt part writes x.participant).parts (with_new_doubt part writes x.participant).doubts x.refresh x.held (keys x.copies) x.locks
+  doubting_ok : (part : Part) (reads : List ℕ) (writes : List (ℕ × Change)) → has_doubt part.txn x.doubts ≡ false → has_all_locks x.locks part.txn reads writes ≡ true → LocksOk catalogue x.live (with_new_doubt part writes x.participant).parts (with_new_doubt part writes x.participant).doubts x.refresh x.held (keys x.copies) x.locks
   doubting_ok part reads writes certain all = shares_change catalogue x.live x.parts x.doubts x.refresh x.held (keys x.copies) x.locks ok _ _
       (λ u p. split u p (same_txn p.0.txn part.txn) refl)
       (λ d h. put_old same_name before_name new x.doubts d h (unlike_it d h))
@@ -540,7 +540,7 @@ module _ (catalogue : Catalogue) (x : SiteState) (given : Input) (tidy : Tidy x)
 
   keeps_copies : (t : Live) → K (keep_writes catalogue x.id t (lent_at x))
   unfolding keep_writes
-  keeps_copies t = same (begin_step x) (put_back (begin_step x) (keep_writes catalogue x.id t (lent_at x))) refl refl refl refl (written_keys t.view (writes_held catalogue x.id (last_writes t.ops)) x.copies) refl starts
+  keeps_copies t = same (begin_step x) (put_back (begin_step x) (keep_writes catalogue x.id t (lent_at x))) refl refl refl refl (written_keys t.view (writes_held catalogue x.id (last_changes (entry_of t))) x.copies) refl starts
 
   marks : (l : Lent) → K l → K (mark_calls l)
   unfolding mark_calls

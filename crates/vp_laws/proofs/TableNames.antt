@@ -1,7 +1,7 @@
 -- The names of transactions and views that stand in a site, and in what it sends: a step makes no other ones than it has or is given.
 use Rattle.std.proofs.Common.{◌≡◌, ◌⊎◌, ◌∙◌, ap, sym, subst, ℕ, Bool, true, false, cond, List, [], ◌∷◌, ◌++◌, map, refl, arith, inr, ⊎_elim, append-nil}
 use Rattle.std.specs.Prelude.{Option, Some, None, is_some, nat_lt, ◌&&◌, ◌||◌, ◌==◌, not, option_map, filter, fold}
-use Rattle.vp_model.specs.Types.{ViewId, TxnId, View, Stored, Owner, Obstacle, Message, Sent, Input, Lock, Part, Refreshing, Pending, Live, Ending, Doubt, Decision}
+use Rattle.vp_model.specs.Types.{Change, ViewId, TxnId, View, Stored, Owner, Obstacle, Message, Sent, Input, Lock, Part, Refreshing, Pending, Live, Ending, Doubt, Decision}
 use Rattle.vp_base.specs.declared.site.Ending.TheVariants.{Committed}
 use Rattle.vp_model.specs.Types.owner
 use Rattle.vp_model.specs.Types.entry
@@ -12,8 +12,8 @@ use Rattle.vp_model.specs.Catalogue.{Catalogue}
 use Rattle.vp_model.specs.Durable.{doubt_of, put_decision, with_decision, acknowledged, with_writes}
 use Rattle.vp_model.specs.Locks.{raised, holds, with_lock, without_owner, lesser, least_owner, conflicting, conflict}
 use Rattle.vp_model.specs.Site.{Here, ViewState, CoordinatorState, ParticipantState, send, change_participant, change_refresh, SiteState, Lent, Stepped, begin_step, lent, put_back, letters, force, change_copies}
-use Rattle.vp_model.specs.Transactions.{writing_parts, keep_writes, complete, writes_held, last_writes}
-use Rattle.vp_model.specs.Refresh.{newer, refreshing_of, newest, take_newer, end_refresh, start_refresh, other_holders, unanswered}
+use Rattle.vp_model.specs.Transactions.{last_changes, entry_of, writing_parts, keep_writes, complete, writes_held}
+use Rattle.vp_model.specs.Refresh.{newer, refreshing_of, newest, take_newer, unlist, end_refresh, start_refresh, other_holders, unanswered}
 use Rattle.vp_model.specs.Views.{outlasts, with_view, part_of, has_part, has_doubt, other_sites, drop_view, start_inviting, hold}
 use Rattle.vp_model.specs.Calls.{start_txn, take_lock, read_at, write_at, prepare_parts, prepare_for}
 use Rattle.vp_model.specs.Answers.{with_acknowledged, is_decided}
@@ -228,7 +228,7 @@ module _ (N : TxnId → Type 0) (A : ViewId → Type 0) where
         ended = names.ended;
         decisions = decision_named t.txn (writing_parts catalogue t) x.decisions (live_named t n).0 names.decisions;
         locks = names.locks;
-        copies = λ c h. ⊎_elim (λ (e : c.1.date ≡ t.view). subst A (sym e) (live_named t n).1) (λ old. names.copies c old) (writes_has t.view (writes_held catalogue x.id (last_writes t.ops)) x.copies c h);
+        copies = λ c h. ⊎_elim (λ (e : c.1.date ≡ t.view). subst A (sym e) (live_named t n).1) (λ old. names.copies c old) (writes_has t.view (writes_held catalogue x.id (last_changes (entry_of t))) x.copies c h);
         answers = names.answers;
       };
       sent = λ m h. absurd (has_none m h);
@@ -323,8 +323,8 @@ module _ (N : TxnId → Type 0) (A : ViewId → Type 0) where
         go true = record { names = taken; sent = l.sent }
         go false = l
 
-    ends_refresh : (rec : ℕ) (r : Refreshing) (own : Stored) (o : Stepped) → refreshing_of rec o.site.refresh ≡ Some r → value_at r.rec o.site.copies ≡ Some own → Calls o → Calls (end_refresh r own o)
-    unfolding end_refresh
+    ends_refresh : (rec : ℕ) (r : Refreshing) (own : Stored) (o : Stepped) → refreshing_of rec o.site.refresh ≡ Some r → value_at r.rec o.site.copies ≡ Some own → Calls o → Calls (end_refresh catalogue r own o)
+    unfolding end_refresh unlist
     ends_refresh rec r own o e v l =
         let listed = find_has (λ (q : Refreshing). q.rec == rec) o.site.refresh r e in
         let c = value_has r.rec o.site.copies own v in
@@ -392,7 +392,7 @@ module _ (N : TxnId → Type 0) (A : ViewId → Type 0) where
         })
         (names.parts part h).0 refl
 
-    votes_writing : (from : ℕ) (part : Part) (writes : List (ℕ × List ℕ)) → Has x.parts part → Calls (send (message.Vote part.txn) from (force (entry.Yes part.txn part.view writes) (change_participant (with_new_doubt part writes) (begin_step x))))
+    votes_writing : (from : ℕ) (part : Part) (writes : List (ℕ × Change)) → Has x.parts part → Calls (send (message.Vote part.txn) from (force (entry.Yes part.txn part.view writes) (change_participant (with_new_doubt part writes) (begin_step x))))
     votes_writing from part writes h =
         one _ x.id from (message.Vote part.txn)
         (record {

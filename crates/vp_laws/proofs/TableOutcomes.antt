@@ -11,8 +11,8 @@ use Rattle.vp_model.specs.Words.{same_txn, txn_before, replace_at, view_before}
 use Rattle.vp_model.specs.Catalogue.{Catalogue}
 use Rattle.vp_model.specs.Durable.{doubt_of, without_doubt}
 use Rattle.vp_model.specs.Site.{SiteState, Lent, Stepped, begin_step, put_back, force, change_copies}
-use Rattle.vp_model.specs.Transactions.{last_writes, writes_held, writing_parts, keep_writes, complete}
-use Rattle.vp_model.specs.Refresh.{take_newer, newest, end_refresh, start_refresh}
+use Rattle.vp_model.specs.Transactions.{last_changes, entry_of, writes_held, writing_parts, keep_writes, complete}
+use Rattle.vp_model.specs.Refresh.{take_newer, newest, unlist, end_refresh, start_refresh}
 use Rattle.vp_model.specs.Views.{has_doubt, drop_view, start_inviting, hold}
 use Rattle.vp_model.specs.Calls.{start_txn, take_lock, read_at, write_at, prepare_parts}
 use Rattle.vp_model.specs.Messages.{with_part, accept, on_accept, on_stale, grant, end_here}
@@ -102,8 +102,8 @@ module _ (catalogue : Catalogue) (x : SiteState) (given : Input) where
       go true = more o _ (entry.Copy rec best) refl refl refl p
       go false = p
 
-  ends_refresh : (r : Refreshing) (own : Stored) (o : Stepped) → P o → P (end_refresh r own o)
-  unfolding end_refresh
+  ends_refresh : (r : Refreshing) (own : Stored) (o : Stepped) → P o → P (end_refresh catalogue r own o)
+  unfolding end_refresh unlist
   ends_refresh r own o p = alike (take_newer r.rec own (newest own r.answers) o) _ refl refl (takes_newer r.rec own (newest own r.answers) o p)
 
   outcome : (from : ℕ) (txn : TxnId) (commit : Bool) (d : Doubt) → Comes given from (message.Outcome txn commit) → doubt_of txn x.doubts ≡ Some d → OutcomesCome x given (entry.Outcome txn commit ∷ [])
@@ -145,7 +145,7 @@ module _ (catalogue : Catalogue) (x : SiteState) (given : Input) where
 
   keeps_writes : (t : Live) (l : Lent) → K l → K (keep_writes catalogue x.id t l)
   unfolding keep_writes
-  keeps_writes t l p = more (put_back (begin_step x) l) (put_back (begin_step x) (keep_writes catalogue x.id t l)) (entry.Commit t.txn t.view (writes_held catalogue x.id (last_writes t.ops)) (writing_parts catalogue t)) refl refl refl p
+  keeps_writes t l p = more (put_back (begin_step x) l) (put_back (begin_step x) (keep_writes catalogue x.id t l)) (entry.Commit t.txn t.view (writes_held catalogue x.id (last_changes (entry_of t))) (writing_parts catalogue t)) refl refl refl p
 
   starts : P (begin_step x)
   starts = none (begin_step x) refl refl

@@ -2,7 +2,7 @@
 use Rattle.std.proofs.Common.{◌≡◌, ◌≢◌, ◌⊎◌, ◌∙◌, ap, sym, subst, ℕ, Bool, true, false, cond, List, [], ◌∷◌, ◌++◌, map, refl, arith, inl, inr, ⊎_elim, append-nil}
 use Rattle.std.specs.Prelude.{Option, Some, None, is_some, filter, not, ◌==◌, ◌||◌}
 use Rattle.std.proofs.lemmas.Bool.Decides.{nat_tests}
-use Rattle.vp_model.specs.Types.{ViewId, TxnId, Message, Sent, Input, Stored, Part, Refreshing, Live, Doubt}
+use Rattle.vp_model.specs.Types.{Change, ViewId, TxnId, Message, Sent, Input, Stored, Part, Refreshing, Live, Doubt}
 use Rattle.vp_model.specs.Types.entry
 use Rattle.vp_model.specs.Types.input
 use Rattle.vp_model.specs.Types.message
@@ -13,7 +13,7 @@ use Rattle.vp_model.specs.Durable.{doubt_of}
 use Rattle.vp_model.specs.Locks.{conflict}
 use Rattle.vp_model.specs.Site.{ParticipantState, SiteState, Lent, Stepped, begin_step, lent, put_back, letters, force, change_copies}
 use Rattle.vp_model.specs.Transactions.{keep_writes, complete}
-use Rattle.vp_model.specs.Refresh.{newest, take_newer, end_refresh, start_refresh, other_holders, unanswered, is_doubtful}
+use Rattle.vp_model.specs.Refresh.{newest, take_newer, unlist, end_refresh, start_refresh, other_holders, unanswered, is_doubtful}
 use Rattle.vp_model.specs.Views.{part_of, has_part, has_doubt, other_sites, drop_view, start_inviting, hold}
 use Rattle.vp_model.specs.Calls.{start_txn, take_lock, read_at, write_at, prepare_parts, prepare_for}
 use Rattle.vp_model.specs.Answers.{is_decided}
@@ -31,7 +31,7 @@ abbrev pub fresh_part : TxnId → ViewId → Part
 fresh_part txn view = record { txn = txn; view = view; voted = false }
 
 -- a prepare came for a part of its transaction, which has all the locks
-pub record Prepared (x : SiteState) (given : Input) (from : ℕ) (part : Part) (reads : List ℕ) (writes : List (ℕ × List ℕ)) : Type 0 where
+pub record Prepared (x : SiteState) (given : Input) (from : ℕ) (part : Part) (reads : List ℕ) (writes : List (ℕ × Change)) : Type 0 where
   pub view : ViewId
   pub number : ℕ
   pub comes : Comes given from (message.Prepare part.txn view number reads writes)
@@ -54,13 +54,13 @@ pub record Granted (x : SiteState) (given : Input) (from : ℕ) (txn : TxnId) (n
 -- a part was here, has voted without writes, or is new for a request
 pub data PartNow (x : SiteState) (given : Input) (p : Part) : Type 0 where
   still : Has x.parts p → PartNow x given p
-  voted : (from : ℕ) (part : Part) (reads : List ℕ) (writes : List (ℕ × List ℕ)) → Prepared x given from part reads writes → is_empty writes ≡ true → record part { voted = true } ≡ p → PartNow x given p
+  voted : (from : ℕ) (part : Part) (reads : List ℕ) (writes : List (ℕ × Change)) → Prepared x given from part reads writes → is_empty writes ≡ true → record part { voted = true } ≡ p → PartNow x given p
   fresh : (from : ℕ) (txn : TxnId) (number rec : ℕ) (exclusive : Bool) (stored : Stored) (g : Granted x given from txn number rec exclusive stored) → fresh_part txn g.view ≡ p → PartNow x given p
 
 -- a doubt was here, or is new for a prepare
 pub data DoubtNow (x : SiteState) (given : Input) (d : Doubt) : Type 0 where
   still : Has x.doubts d → DoubtNow x given d
-  fresh : (from : ℕ) (part : Part) (reads : List ℕ) (writes : List (ℕ × List ℕ)) → Prepared x given from part reads writes → is_empty writes ≡ false → (record { txn = part.txn; view = part.view; writes = writes }) ≡ d → DoubtNow x given d
+  fresh : (from : ℕ) (part : Part) (reads : List ℕ) (writes : List (ℕ × Change)) → Prepared x given from part reads writes → is_empty writes ≡ false → (record { txn = part.txn; view = part.view; writes = writes }) ≡ d → DoubtNow x given d
 
 -- an outcome of the transaction came
 abbrev pub OutcomeComes : Input → TxnId → Type 0
@@ -89,8 +89,8 @@ pub data ReplyTo (x : SiteState) (given : Input) (p : ParticipantState) (m : Sen
   other : is_reply m.message ≡ false → ReplyTo x given p m
   doubt_again : (d : Doubt) → Answered x given m.to d.txn → Has x.doubts d → Has p.doubts d → message.Vote d.txn ≡ m.message → ReplyTo x given p m
   vote_again : (part : Part) → Answered x given m.to part.txn → Has x.parts part → Has p.parts part → part.voted ≡ true → message.Vote part.txn ≡ m.message → ReplyTo x given p m
-  vote_reading : (part : Part) (reads : List ℕ) (writes : List (ℕ × List ℕ)) → Prepared x given m.to part reads writes → is_empty writes ≡ true → Has p.parts (record part { voted = true }) → message.Vote part.txn ≡ m.message → ReplyTo x given p m
-  vote_writing : (part : Part) (reads : List ℕ) (writes : List (ℕ × List ℕ)) → Prepared x given m.to part reads writes → is_empty writes ≡ false → Has p.doubts (record { txn = part.txn; view = part.view; writes = writes }) → message.Vote part.txn ≡ m.message → ReplyTo x given p m
+  vote_reading : (part : Part) (reads : List ℕ) (writes : List (ℕ × Change)) → Prepared x given m.to part reads writes → is_empty writes ≡ true → Has p.parts (record part { voted = true }) → message.Vote part.txn ≡ m.message → ReplyTo x given p m
+  vote_writing : (part : Part) (reads : List ℕ) (writes : List (ℕ × Change)) → Prepared x given m.to part reads writes → is_empty writes ≡ false → Has p.doubts (record { txn = part.txn; view = part.view; writes = writes }) → message.Vote part.txn ≡ m.message → ReplyTo x given p m
   acks : (txn : TxnId) → Comes given m.to (message.Outcome txn true) → ((d : Doubt) → Has p.doubts d → d.txn ≢ txn) → message.Ack txn ≡ m.message → ReplyTo x given p m
   read_answer : (txn : TxnId) (number rec : ℕ) (stored : Stored) → Granted x given m.to txn number rec false stored → message.ReadAnswer txn number stored.value ≡ m.message → ReplyTo x given p m
   write_answer : (txn : TxnId) (number rec : ℕ) (stored : Stored) → Granted x given m.to txn number rec true stored → message.WriteAnswer txn number ≡ m.message → ReplyTo x given p m
@@ -153,8 +153,8 @@ module _ (catalogue : Catalogue) (x : SiteState) (given : Input) where
       go true = silent o (force (entry.Copy rec best) (change_copies (replace_at rec best) o)) refl refl refl l
       go false = l
 
-  ends_refresh : (r : Refreshing) (own : Stored) (o : Stepped) → P o → P (end_refresh r own o)
-  unfolding end_refresh
+  ends_refresh : (r : Refreshing) (own : Stored) (o : Stepped) → P o → P (end_refresh catalogue r own o)
+  unfolding end_refresh unlist
   ends_refresh r own o l = silent (take_newer r.rec own (newest own r.answers) o) _ refl refl refl (takes_newer r.rec own (newest own r.answers) o l)
 
   part_there : (txn : TxnId) (part : Part) → part_of txn x.parts ≡ Some part → Has x.parts part
@@ -185,13 +185,13 @@ module _ (catalogue : Catalogue) (x : SiteState) (given : Input) where
       replying _ (with_part txn g.view x.participant) from words refl refl refl (granted_parts from txn number rec exclusive stored g)
       (λ d h. DoubtNow.still (rw with_part-doubts at h)) (λ d h. inl (rw with_part-doubts h)) reply
 
-  no_such : (txn : TxnId) (d : Doubt) (writes : List (ℕ × List ℕ)) (view : ViewId) → has_doubt txn x.doubts ≡ false → Has x.doubts d → same_txn txn d.txn ≡ false
+  no_such : (txn : TxnId) (d : Doubt) (writes : List (ℕ × Change)) (view : ViewId) → has_doubt txn x.doubts ≡ false → Has x.doubts d → same_txn txn d.txn ≡ false
   no_such txn d writes view e h = let n = any_false (λ (d : Doubt). same_txn d.txn txn) x.doubts e d h in turned d.txn txn n
     where
       turned : (a b : TxnId) → same_txn a b ≡ false → same_txn b a ≡ false
       turned a b e = grind (arith, nat_tests, e)
 
-  votes_reading : (from : ℕ) (part : Part) (reads : List ℕ) (writes : List (ℕ × List ℕ)) → Prepared x given from part reads writes → is_empty writes ≡ true → (o : Stepped) → o.site.id ≡ x.id → o.site.participant ≡ with_vote part x.participant → o.effects.messages ≡ letter x.id from (message.Vote part.txn) ∷ [] → P o
+  votes_reading : (from : ℕ) (part : Part) (reads : List ℕ) (writes : List (ℕ × Change)) → Prepared x given from part reads writes → is_empty writes ≡ true → (o : Stepped) → o.site.id ≡ x.id → o.site.participant ≡ with_vote part x.participant → o.effects.messages ≡ letter x.id from (message.Vote part.txn) ∷ [] → P o
   votes_reading from part reads writes p e o i same ms =
       replying o (with_vote part x.participant) from (message.Vote part.txn) i same ms
       (λ a h. ⊎_elim (λ (new : a ≡ record part { voted = true }). PartNow.voted from part reads writes p e (sym new)) (λ old. PartNow.still old)
@@ -199,7 +199,7 @@ module _ (catalogue : Catalogue) (x : SiteState) (given : Input) where
       (λ d h. DoubtNow.still h) (λ d h. inl h)
       (ReplyTo.vote_reading part reads writes p e (put_new (λ (a : Part) (b : Part). same_txn a.txn b.txn) (λ (a : Part) (b : Part). txn_before a.txn b.txn) (record part { voted = true }) x.parts) refl)
 
-  votes_writing : (from : ℕ) (part : Part) (reads : List ℕ) (writes : List (ℕ × List ℕ)) → Prepared x given from part reads writes → is_empty writes ≡ false → (o : Stepped) → o.site.id ≡ x.id → o.site.participant ≡ with_new_doubt part writes x.participant → o.effects.messages ≡ letter x.id from (message.Vote part.txn) ∷ [] → P o
+  votes_writing : (from : ℕ) (part : Part) (reads : List ℕ) (writes : List (ℕ × Change)) → Prepared x given from part reads writes → is_empty writes ≡ false → (o : Stepped) → o.site.id ≡ x.id → o.site.participant ≡ with_new_doubt part writes x.participant → o.effects.messages ≡ letter x.id from (message.Vote part.txn) ∷ [] → P o
   votes_writing from part reads writes p e o i same ms =
       replying o (with_new_doubt part writes x.participant) from (message.Vote part.txn) i same ms
       (λ a h. PartNow.still (filter_has (λ (other : Part). not (same_txn other.txn part.txn)) x.parts a h).0)
@@ -208,15 +208,15 @@ module _ (catalogue : Catalogue) (x : SiteState) (given : Input) where
       (λ d h. inl (put_old (λ (a : Doubt) (b : Doubt). same_txn a.txn b.txn) (λ (a : Doubt) (b : Doubt). txn_before a.txn b.txn) (record { txn = part.txn; view = part.view; writes = writes }) x.doubts d h (no_such part.txn d writes part.view p.certain h)))
       (ReplyTo.vote_writing part reads writes p e (put_new (λ (a : Doubt) (b : Doubt). same_txn a.txn b.txn) (λ (a : Doubt) (b : Doubt). txn_before a.txn b.txn) (record { txn = part.txn; view = part.view; writes = writes }) x.doubts) refl)
 
-  answered_by : (from : ℕ) (txn t : TxnId) (view : ViewId) (number : ℕ) (reads : List ℕ) (writes : List (ℕ × List ℕ)) → Comes given from (message.Prepare txn view number reads writes) → holds_view x view ≡ true → has_txn x.ended txn ≡ false → t ≡ txn → Answered x given from t
+  answered_by : (from : ℕ) (txn t : TxnId) (view : ViewId) (number : ℕ) (reads : List ℕ) (writes : List (ℕ × Change)) → Comes given from (message.Prepare txn view number reads writes) → holds_view x view ≡ true → has_txn x.ended txn ≡ false → t ≡ txn → Answered x given from t
   answered_by from txn t view number reads writes c e n same = rw same (record { view = view; number = number; reads = reads; writes = writes; comes = c; held = e; going = n })
 
-  prepared_by : (from : ℕ) (txn : TxnId) (view : ViewId) (number : ℕ) (reads : List ℕ) (writes : List (ℕ × List ℕ)) (part : Part) → Comes given from (message.Prepare txn view number reads writes) → holds_view x view ≡ true → has_txn x.ended txn ≡ false → has_doubt txn x.doubts ≡ false → part_of txn x.parts ≡ Some part → part.voted ≡ false → has_all_locks x.locks part.txn reads writes ≡ true → Prepared x given from part reads writes
+  prepared_by : (from : ℕ) (txn : TxnId) (view : ViewId) (number : ℕ) (reads : List ℕ) (writes : List (ℕ × Change)) (part : Part) → Comes given from (message.Prepare txn view number reads writes) → holds_view x view ≡ true → has_txn x.ended txn ≡ false → has_doubt txn x.doubts ≡ false → part_of txn x.parts ≡ Some part → part.voted ≡ false → has_all_locks x.locks part.txn reads writes ≡ true → Prepared x given from part reads writes
   prepared_by from txn view number reads writes part c e n d f v a =
       let same = part_same txn part f in
       record { view = view; number = number; comes = rw same c; held = e; going = rw same n; certain = rw same d; part_here = part_there txn part f; unvoted = v; locks = a }
 
-  doubts_again : (from : ℕ) (txn : TxnId) (view : ViewId) (number : ℕ) (reads : List ℕ) (writes : List (ℕ × List ℕ)) → Comes given from (message.Prepare txn view number reads writes) → holds_view x view ≡ true → has_txn x.ended txn ≡ false → has_doubt txn x.doubts ≡ true → (o : Stepped) → o.site.id ≡ x.id → o.site.participant ≡ x.participant → o.effects.messages ≡ letter x.id from (message.Vote txn) ∷ [] → P o
+  doubts_again : (from : ℕ) (txn : TxnId) (view : ViewId) (number : ℕ) (reads : List ℕ) (writes : List (ℕ × Change)) → Comes given from (message.Prepare txn view number reads writes) → holds_view x view ≡ true → has_txn x.ended txn ≡ false → has_doubt txn x.doubts ≡ true → (o : Stepped) → o.site.id ≡ x.id → o.site.participant ≡ x.participant → o.effects.messages ≡ letter x.id from (message.Vote txn) ∷ [] → P o
   doubts_again from txn view number reads writes c e n d o i same ms =
       let q = any_true (λ (d : Doubt). same_txn d.txn txn) x.doubts d in
       let is = same_txn-is q.0.txn txn q.2 in

@@ -9,7 +9,7 @@ use Rattle.vp_model.specs.Words.{same_txn, txn_before, is_empty}
 use Rattle.vp_model.specs.Catalogue.{Catalogue}
 use Rattle.vp_model.specs.Durable.{put_decision, with_decision, acknowledged}
 use Rattle.vp_model.specs.Site.{CoordinatorState, SiteState, Lent}
-use Rattle.vp_model.specs.Transactions.{close, keep_writes, decided, decide, last_writes, writing_parts, complete}
+use Rattle.vp_model.specs.Transactions.{last_changes, entry_of, close, keep_writes, decided, decide, writing_parts, complete}
 use Rattle.vp_model.specs.Calls.{start_txn, take_lock, read_at, write_at, prepare_parts}
 use Rattle.vp_model.specs.Answers.{with_acknowledged}
 use Rattle.vp_model.specs.Step.{mark_calls, step}
@@ -28,7 +28,7 @@ IsWaited decisions txn q = (d : Decision) × Has decisions d × (d.txn ≡ txn) 
 
 -- the transaction that an entry is of, as it was handled
 abbrev pub WaitsFor : Catalogue → SiteState → List Decision → Commit → Type 0
-WaitsFor catalogue x decisions e = (t : Live) × Handled x t × (record { txn = t.txn; view = t.view; ops = t.ops } ≡ e) × ((q : ℕ) → is_empty (last_writes t.ops) ≡ false → Has (writing_parts catalogue t) q → IsWaited decisions t.txn q)
+WaitsFor catalogue x decisions e = (t : Live) × Handled x t × (entry_of t ≡ e) × ((q : ℕ) → is_empty (last_changes (entry_of t)) ≡ false → Has (writing_parts catalogue t) q → IsWaited decisions t.txn q)
 
 pub record Waits (catalogue : Catalogue) (x : SiteState) (given : Input) (c : CoordinatorState) (ms : List Sent) (cs : List Commit) : Type 0 where
   pub kept : (txn : TxnId) (q : ℕ) → IsWaited x.decisions txn q → IsWaited c.decisions txn q ⊎ Comes given q (message.Ack txn)
@@ -86,9 +86,9 @@ module _ (catalogue : Catalogue) (x : SiteState) (given : Input) (settled : (d :
       (λ some. entering (keep_writes catalogue x.id t (lent_at x)) (decided x.id t _) (decided-ends x.id t _) (decided-commits x.id t _) (decision_old t n (writing_parts catalogue t)) (λ q z h. decision_new t (writing_parts catalogue t) q h))
     where
       entry : Commit
-      entry = record { txn = t.txn; view = t.view; ops = t.ops }
+      entry = entry_of t
 
-      entering : (l now : Lent) → Ends x.id t Committed true l now → now.effects.commits ≡ entry ∷ [] → ((txn : TxnId) (q : ℕ) → IsWaited x.decisions txn q → IsWaited l.decisions txn q) → ((q : ℕ) → is_empty (last_writes t.ops) ≡ false → Has (writing_parts catalogue t) q → IsWaited l.decisions t.txn q) → L now
+      entering : (l now : Lent) → Ends x.id t Committed true l now → now.effects.commits ≡ entry ∷ [] → ((txn : TxnId) (q : ℕ) → IsWaited x.decisions txn q → IsWaited l.decisions txn q) → ((q : ℕ) → is_empty (last_changes (entry_of t)) ≡ false → Has (writing_parts catalogue t) q → IsWaited l.decisions t.txn q) → L now
       entering l now e cs old new = rw (e.coordinator, cs) (record {
         kept = λ txn q h. inl (old txn q h);
         entered = λ c h. (t, n, has_one_is entry c h, new);
