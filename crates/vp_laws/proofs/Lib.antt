@@ -151,3 +151,4 @@ pub mod Readable
 pub mod Refused
 pub mod CopiesForced
 pub mod Completing
+pub mod InOpening
