@@ -94,10 +94,11 @@ pub mod TableCovered
 pub mod Tower
 pub mod NewEntries
 pub mod JournalPlaces
+pub mod UpTo
+pub mod Acts
 pub mod ValuesAfter
 pub mod ValuesGrow
 pub mod Force
-pub mod Acts
 pub mod ForceAt
 -- copies and their refresh, in one induction
 pub mod CopyInvariants
