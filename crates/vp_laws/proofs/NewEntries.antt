@@ -208,7 +208,7 @@ module _ (catalogue : Catalogue) (w new : Scene) (s : ℕ) (x : SiteState) (give
     pub from : ℕ
     pub part : Part
     pub reads : List ℕ
-    pub writes : List (ℕ × List ℕ)
+    pub writes : List (ℕ × Change)
     pub prepared : Prepared x given from part reads writes
     pub is : (record { txn = part.txn; view = part.view; writes = writes }) ≡ u
 

@@ -5,7 +5,7 @@ use Rattle.std.specs.Option.{option_map_or}
 use Rattle.std.proofs.lemmas.Bool.Decides.{nat_tests}
 use Rattle.std.proofs.lemmas.List.{append-nil}
 use Rattle.std.proofs.lemmas.List.Elements.{filter-append}
-use Rattle.vp_model.specs.Types.{ViewId, TxnId, Commit}
+use Rattle.vp_model.specs.Types.{Change, ViewId, TxnId, Commit}
 use Rattle.vp_model.specs.Words.{same_txn, value_at}
 use Rattle.vp_model.specs.Catalogue.{Catalogue, start_values}
 use Rattle.vp_model.specs.Transactions.{last_changes}
@@ -19,7 +19,7 @@ use Rattle.vp_laws.proofs.UpTo.{filter_all}
 use Rattle.vp_laws.proofs.Acts.{IsQuiet, after, after_upto, after_own, after_between, after_more, after_added}
 
 -- the written value, or the one before
-abbrev pub overwritten : List (ℕ × List ℕ) → ℕ → List ℕ → List ℕ
+abbrev pub overwritten : List (ℕ × Change) → ℕ → List ℕ → List ℕ
 overwritten writes rec before = option_map_or (λ value. value) (value_at rec writes) before
 
 -- what an entry does to the value of a record
