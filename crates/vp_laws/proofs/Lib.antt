@@ -72,6 +72,7 @@ pub mod InvEndings
 pub mod InvRepeated
 pub mod InvShares
 pub mod InvOps
+pub mod LiveUses
 pub mod InvAnswers
 pub mod InvEntered
 pub mod InvLived
