@@ -1,0 +1,169 @@
+-- What a site keeps of views, and what each call does to it and to the effects.
+use Rattle.std.specs.Prelude.{ℕ, ◌+◌, ◌≡◌, Bool, true, false, not, ◌==◌, ◌&&◌, if◌then◌else◌, is_some, List, [], filter, Option, Some, None, option_map, Result, Ok, Err}
+use Rattle.std.specs.Option.{option_map_or}
+use Rattle.vp_model.specs.Types.{ViewId, View, Effects}
+use Rattle.vp_model.specs.Types.entry
+use Rattle.vp_model.specs.Types.message
+use Rattle.vp_model.specs.Words.{has, is_view, opening, put_number, view_before}
+use Rattle.vp_model.specs.Catalogue.{Catalogue, sites_of}
+use Rattle.vp_model.specs.Site.{ViewState, with_entry, with_message, with_messages}
+use Rattle.vp_model.specs.Views.{highest, is_spent, with_invitation, with_view}
+use Rattle.vp_model.specs.Messages.{with_wait, with_heard}
+use Rattle.vp_model.specs.Step.{with_monitor, is_odd}
+use Rattle.vp_views.specs.declared.fault.Spent.{Spent}
+use Rattle.vp_views.specs.declared.fault.InviteFault.{InviteFault}
+use Rattle.vp_views.specs.declared.fault.InviteFault.TheVariants as fault
+use Rattle.vp_views.specs.declared.standing.Standing.{Standing}
+use Rattle.vp_views.specs.declared.standing.Standing.TheVariants as standing
+
+-- the site, the other sites of its catalogue, and what it knows of views
+pub record Viewing : Type 0 where
+  pub id : ℕ
+  pub others : List ℕ
+  pub views : ViewState
+  pub open views use *
+
+-- the same with what a step has given so far
+pub record Viewed : Type 0 where
+  pub at : Viewing
+  pub effects : Effects
+
+abbrev pub viewed : Viewing → Effects → Viewed
+viewed at effects = record { at = at; effects = effects }
+
+abbrev pub change : (ViewState → ViewState) → Viewing → Viewing
+change f v = record v { views = f v.views }
+
+-- where a site stands, as the definitions keep it
+abbrev pub state : ViewId → ℕ → Standing → ViewState
+state promise seen standing.Apart =
+    record { promise = promise; seen = seen; held = None; waiting = None; inviting = None; monitor = None }
+state promise seen (standing.Holding view heard) =
+    record { promise = promise; seen = seen; held = Some view; waiting = None; inviting = None; monitor = heard }
+state promise seen standing.Waiting =
+    record { promise = promise; seen = seen; held = None; waiting = Some promise; inviting = None; monitor = None }
+state promise seen (standing.Inviting accepted) =
+    record { promise = promise; seen = seen; held = None; waiting = None; inviting = Some (promise, accepted); monitor = None }
+
+-- what becomes of a standing alone
+abbrev pub awaits : Standing → Bool
+awaits standing.Apart = false
+awaits (standing.Holding view heard) = false
+awaits standing.Waiting = true
+awaits (standing.Inviting accepted) = false
+
+abbrev pub members_invited : Standing → Option (List ℕ)
+members_invited standing.Apart = None
+members_invited (standing.Holding view heard) = None
+members_invited standing.Waiting = None
+members_invited (standing.Inviting accepted) = Some accepted
+
+abbrev pub held_in : Standing → Option ViewId
+held_in standing.Apart = None
+held_in (standing.Holding view heard) = Some view.id
+held_in standing.Waiting = None
+held_in (standing.Inviting accepted) = None
+
+abbrev pub accepted_by : ℕ → Standing → Standing
+accepted_by site standing.Apart = standing.Apart
+accepted_by site (standing.Holding view heard) = standing.Holding view heard
+accepted_by site standing.Waiting = standing.Waiting
+accepted_by site (standing.Inviting accepted) = standing.Inviting (put_number site accepted)
+
+abbrev pub heard_by : ℕ → Standing → Standing
+heard_by site standing.Apart = standing.Apart
+heard_by site (standing.Holding view heard) = standing.Holding view (option_map (put_number site) heard)
+heard_by site standing.Waiting = standing.Waiting
+heard_by site (standing.Inviting accepted) = standing.Inviting accepted
+
+abbrev pub listening : Standing → Standing
+listening standing.Apart = standing.Apart
+listening (standing.Holding view heard) = standing.Holding view (Some [])
+listening standing.Waiting = standing.Waiting
+listening (standing.Inviting accepted) = standing.Inviting accepted
+
+-- the view that is held is the promised one
+abbrev pub IsPromised : ViewId → Standing → Type 0
+IsPromised promise standing.Apart = Unit {0}
+IsPromised promise (standing.Holding view heard) = view.id ≡ promise
+IsPromised promise standing.Waiting = Unit {0}
+IsPromised promise (standing.Inviting accepted) = Unit {0}
+
+-- the site holds no view, waits for none and invites to none
+pub record IsApart (v : ViewState) : Type 0 where
+  pub held : v.held ≡ None
+  pub waiting : v.waiting ≡ None
+  pub inviting : v.inviting ≡ None
+
+-- a site that starts: in the opening view, or in none
+abbrev pub started : Catalogue → ViewId → Bool → ViewState
+started catalogue promise is_opening =
+    record {
+      promise = promise;
+      seen = 0;
+      held = if is_opening then Some (record { id = opening; members = sites_of catalogue }) else None;
+      waiting = None;
+      inviting = None;
+      monitor = None;
+    }
+
+abbrev pub next_view : Viewing → ViewId
+next_view v = record { number = highest v.views + 1; site = v.id }
+
+-- the identifier of the next invitation, while there is one
+abbrev pub invitable : Viewing → Result ViewId Spent
+invitable v = if is_spent v.views then Err (record { number = highest v.views }) else Ok (next_view v)
+
+abbrev pub inviting_to : ViewId → Viewed → Viewed
+inviting_to id o =
+    viewed (change (with_invitation id o.at.id) o.at) (with_messages o.at.id (message.Invite id) o.at.others (with_entry (entry.Promise id) o.effects))
+
+-- an invitation is made, unless the numbers are spent
+abbrev pub Invites : Result ViewId InviteFault → Viewed → Viewed → Type 0
+Invites (Ok id) old new = (is_spent old.at.views ≡ false) × (id ≡ next_view old.at) × (new ≡ inviting_to id old)
+Invites (Err (fault.Spent number)) old new = (is_spent old.at.views ≡ true) × (number ≡ highest old.at.views) × (new ≡ old)
+Invites (Err fault.NoMemory) old new = Unit {0}
+
+abbrev pub accepting : ℕ → ViewId → Viewed → Viewed
+accepting from id o =
+    viewed (change (with_wait id) o.at) (with_message o.at.id (message.Accept id) from (with_entry (entry.Promise id) o.effects))
+
+-- an invitation that comes: one above the promise is accepted, a lower one is told the promise, and the one that is waited for is
+-- accepted again
+abbrev pub invited : ℕ → ViewId → Viewed → Viewed
+invited from id o =
+    if view_before o.at.promise id
+    then accepting from id o
+    else (if view_before id o.at.promise
+    then viewed o.at (with_message o.at.id (message.Stale id o.at.promise) from o.effects)
+    else (if is_view o.at.waiting id
+    then viewed o.at (with_message o.at.id (message.Accept id) from o.effects)
+    else o))
+
+-- a view that comes is joined where it is waited for and this site is a member
+abbrev pub joins : View → Viewing → Bool
+joins view v = is_view v.waiting view.id && has view.members v.id
+
+abbrev pub fixing : ViewId × List ℕ → Viewed → Viewed
+fixing inviting o =
+    viewed
+    (change (with_view (record { id = inviting.0; members = inviting.1 })) o.at)
+    (with_messages o.at.id (message.ViewCommit inviting.0 inviting.1) (filter (λ q. not (q == o.at.id)) inviting.1) o.effects)
+
+-- the membership is fixed as the sites that have accepted
+abbrev pub fixed : Viewed → Viewed
+fixed o = option_map_or (λ inviting. fixing inviting o) o.at.inviting o
+
+abbrev pub hearing : ℕ → Viewing → Viewing
+hearing from v = if is_some v.held then change (with_heard from) v else v
+
+-- another view is wanted: a member was not heard since the last probes, or a site that is no member was
+abbrev pub wants : Viewing → Bool
+wants v = option_map_or (λ view. option_map_or (is_odd v.id view.members) v.monitor false) v.held false
+
+abbrev pub probing : Viewed → Viewed
+probing o =
+    option_map_or
+    (λ view. viewed (change with_monitor o.at) (with_messages o.at.id (message.Probe view.id) o.at.others o.effects))
+    o.at.held
+    o

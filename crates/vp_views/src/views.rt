@@ -1,0 +1,333 @@
+//! The views of a site.
+
+ghost use Rattle.std.specs.Prelude.{◌≡◌, ◌&&◌, ◌==◌, not, true, false, OnOk, IfOk, IfSome, IsTrue, IsSome, if◌then◌else◌, is_some, option_copied, option_map, filter, None};
+ghost use Rattle.vp_model.specs.Words.{has, view_before, opening};
+ghost use Rattle.vp_model.specs.Catalogue.{sites_of};
+ghost use Rattle.vp_model.specs.Views.{other_sites, without_view, with_view};
+ghost use Rattle.vp_model.specs.Messages.{with_accepted, with_seen};
+ghost use Rattle.vp_model.specs.Step.{without_wait};
+ghost use Rattle.vp_views.specs.Viewing.{Viewing, viewed, change, started, invitable, Invites, IsApart, invited, joins, fixed, fixing, hearing, wants, probing};
+
+use crate::fault::{InviteFault, Spent};
+use crate::sites::{has_site, is_odd, only, others_of};
+use crate::standing::Standing;
+use std::alloc::Global;
+use std::marker::Model;
+use vp_base::{CopyOf, Effects, LogRecord, Message, NoMemory, SiteId, Sites, View, ViewId};
+use vp_catalog::Catalog;
+use vp_lists::view_comes_before;
+
+/// What a site knows of views. After want of memory it may only be dropped, and so may the effects.
+#[derive(Drop)]
+pub struct Views {
+    id: SiteId,
+    others: Sites,
+    promise: ViewId,
+    seen: u64,
+    standing: Standing,
+}
+
+impl Model for Views {
+    ghost use Rattle.vp_views.specs.Viewing.{Viewing, state, IsPromised};
+
+    ghost Value = { Viewing };
+
+    ghost view = { λ v. record { id = v.id; others = v.others; views = state v.promise v.seen v.standing } };
+
+    ghost invariant = { λ v. IsPromised v.promise v.standing };
+}
+
+impl CopyOf for Views {
+    fn copy_of(&self) -> Result<Views, NoMemory> {
+        Ok(Views {
+            id: self.id,
+            others: self.others.copy_of()?,
+            promise: self.promise,
+            seen: self.seen,
+            standing: self.standing.copy_of()?,
+        })
+    }
+}
+
+impl Views {
+    /// A site that starts with this promise: in the opening view, whose members are all sites, or in no view.
+    pub fn start(
+        alloc: Global,
+        catalog: &Catalog,
+        id: SiteId,
+        promise: ViewId,
+        is_opening: bool,
+    ) -> Result<Views, NoMemory>
+        requires { IsTrue is_opening → promise ≡ opening }
+        ensures { IfOk result (λ v. v ≡ record { id = id; others = other_sites catalog.now id; views = started catalog.now promise is_opening }) }
+    {
+        let others = others_of(alloc, catalog.sites().as_slice(), id)?;
+        let standing = if is_opening {
+            Standing::Holding {
+                view: View {
+                    id: promise,
+                    members: catalog.sites().copy_of()?,
+                },
+                heard: None,
+            }
+        } else {
+            Standing::Apart
+        };
+        Ok(Views {
+            id,
+            others,
+            promise,
+            seen: 0,
+            standing,
+        })
+    }
+
+    /// The highest identifier that was accepted.
+    pub fn promise(&self) -> ViewId
+        ensures { result ≡ self.now.promise }
+    {
+        self.promise
+    }
+
+    pub fn held(&self) -> Option<&View>
+        ensures view { option_copied result ≡ self.now.held }
+        ensures promised { IfSome self.now.held (λ view. view.id ≡ self.now.promise) }
+        ensures alone { IsSome self.now.held → (self.now.waiting ≡ None) × (self.now.inviting ≡ None) }
+    {
+        match &self.standing {
+            Standing::Holding { view, .. } => Some(view),
+            _ => None,
+        }
+    }
+
+    /// The identifier that was accepted and has not come as a view yet.
+    pub fn waiting(&self) -> Option<ViewId>
+        ensures view { result ≡ self.now.waiting }
+        ensures promised { IfSome result (λ id. id ≡ self.now.promise) }
+        ensures alone { IsSome result → (self.now.held ≡ None) × (self.now.inviting ≡ None) }
+    {
+        match &self.standing {
+            Standing::Waiting => Some(self.promise),
+            _ => None,
+        }
+    }
+
+    /// The identifier that this site invites to.
+    pub fn inviting(&self) -> Option<ViewId>
+        ensures view { result ≡ option_map (λ inviting. inviting.0) self.now.inviting }
+        ensures promised { IfSome result (λ id. id ≡ self.now.promise) }
+        ensures alone { IsSome result → (self.now.held ≡ None) × (self.now.waiting ≡ None) }
+    {
+        match &self.standing {
+            Standing::Inviting { .. } => Some(self.promise),
+            _ => None,
+        }
+    }
+
+    /// The identifier of the next invitation: its number is above every one that was promised or told.
+    pub fn invitable(&self) -> Result<ViewId, Spent>
+        ensures { result ≡ invitable self.now }
+    {
+        let highest = self.promise.number.max(self.seen);
+        if highest == u64::MAX {
+            return Err(Spent { number: highest });
+        }
+        Ok(ViewId {
+            number: highest + 1,
+            site: self.id.get(),
+        })
+    }
+
+    /// Invites every other site to a new view.
+    pub fn invite(&mut self, effects: &mut Effects) -> Result<ViewId, InviteFault>
+        requires { IsApart self.old.views }
+        ensures { Invites result (viewed self.old effects.old) (viewed self.new effects.new) }
+    {
+        let id = self.invitable()?;
+        let accepted = only(self.others.allocator(), self.id)?;
+        effects.force(LogRecord::Promise { view: id })?;
+        effects.send_all(self.id, self.others.as_slice(), &Message::Invite { id })?;
+        self.promise = id;
+        self.standing = Standing::Inviting { accepted };
+        Ok(id)
+    }
+
+    /// An invitation to `id` comes. It is true exactly where it is above the promise; the site has left its view before.
+    pub fn on_invite(
+        &mut self,
+        from: SiteId,
+        id: ViewId,
+        effects: &mut Effects,
+    ) -> Result<bool, NoMemory>
+        requires { view_before self.old.promise id ≡ true → IsApart self.old.views }
+        ensures accepted { IfOk result (λ accepted. accepted ≡ view_before self.old.promise id) }
+        ensures row { OnOk result (viewed self.new effects.new ≡ invited from id (viewed self.old effects.old)) }
+    {
+        if view_comes_before(&self.promise, &id) {
+            effects.force(LogRecord::Promise { view: id })?;
+            effects.send(self.id, from, Message::Accept { id })?;
+            self.promise = id;
+            self.standing = Standing::Waiting;
+            return Ok(true);
+        }
+        self.answer_old(from, id, effects)?;
+        Ok(false)
+    }
+
+    /// An acceptance of `id` comes.
+    pub fn on_accept(&mut self, from: SiteId, id: ViewId) -> Result<(), NoMemory>
+        ensures { OnOk result (self.new ≡ change (with_accepted from id) self.old) }
+    {
+        if self.promise == id {
+            self.standing.accept(from)?;
+        }
+        Ok(())
+    }
+
+    /// Another site has told its promise.
+    pub fn on_stale(&mut self, promise: ViewId)
+        ensures { self.new ≡ change (with_seen promise) self.old }
+    {
+        self.seen = self.seen.max(promise.number);
+    }
+
+    /// The invitation ends, where there is one: those that have accepted are the members of the view, which is then held.
+    pub fn fix(&mut self, effects: &mut Effects) -> Result<bool, NoMemory>
+        ensures inviting { IfOk result (λ was. was ≡ is_some self.old.inviting) }
+        ensures row { OnOk result (viewed self.new effects.new ≡ fixed (viewed self.old effects.old)) }
+    {
+        match self.accepted()? {
+            None => Ok(false),
+            Some(members) => {
+                self.fix_as(members, effects)?;
+                Ok(true)
+            }
+        }
+    }
+
+    /// The sites that have accepted the invitation, where there is one.
+    #[tactic(auto, using(crate::proofs::Invitations::inviting_is, crate::proofs::Invitations::hears_none))]
+    fn accepted(&self) -> Result<Option<Sites>, NoMemory>
+        ensures sites { IfOk result (λ sites. self.now.inviting ≡ option_map (λ members. (self.now.promise, members)) sites) }
+        ensures silent { IfOk result (λ sites. IsSome sites → self.now.monitor ≡ None) }
+    {
+        self.standing.invited()
+    }
+
+    /// The invitation ends with these members.
+    fn fix_as(&mut self, members: Sites, effects: &mut Effects) -> Result<(), NoMemory>
+        requires { self.old.monitor ≡ None }
+        ensures { OnOk result (viewed self.new effects.new ≡ fixing (self.old.promise, members) (viewed self.old effects.old)) }
+    {
+        let others = others_of(members.allocator(), members.as_slice(), self.id)?;
+        let message = Message::ViewCommit {
+            id: self.promise,
+            members: members.copy_of()?,
+        };
+        effects.send_all(self.id, others.as_slice(), &message)?;
+        self.hold(members);
+        Ok(())
+    }
+
+    /// A view comes. It is joined where the site waits for it and is a member of it.
+    pub fn on_commit(&mut self, view: &View) -> Result<bool, NoMemory>
+        ensures joined { IfOk result (λ joined. joined ≡ joins view.now self.old) }
+        ensures views { OnOk result (self.new ≡ (if joins view.now self.old then change (with_view view.now) self.old else self.old)) }
+    {
+        if self.standing.is_waiting()
+            && self.promise == view.id
+            && has_site(view.members.as_slice(), self.id)
+        {
+            let members = view.members.copy_of()?;
+            self.hold(members);
+            Ok(true)
+        } else {
+            Ok(false)
+        }
+    }
+
+    /// The promised view is held, with these members.
+    fn hold(&mut self, members: Sites)
+        requires { self.old.monitor ≡ None }
+        ensures { self.new ≡ change (with_view (record { id = self.old.promise; members = members })) self.old }
+    {
+        self.standing = Standing::Holding {
+            view: View {
+                id: self.promise,
+                members,
+            },
+            heard: None,
+        };
+    }
+
+    /// Answers an invitation that is not above the promise.
+    fn answer_old(&self, from: SiteId, id: ViewId, effects: &mut Effects) -> Result<(), NoMemory>
+        requires { view_before self.now.promise id ≡ false }
+        ensures { OnOk result (viewed self.now effects.new ≡ invited from id (viewed self.now effects.old)) }
+    {
+        if view_comes_before(&id, &self.promise) {
+            effects.send(
+                self.id,
+                from,
+                Message::Stale {
+                    id,
+                    promise: self.promise,
+                },
+            )
+        } else if self.standing.is_waiting() {
+            effects.send(self.id, from, Message::Accept { id })
+        } else {
+            Ok(())
+        }
+    }
+
+    /// Nothing is held, waited for or invited to any more.
+    pub fn leave(&mut self)
+        ensures { self.new ≡ change without_view self.old }
+    {
+        self.standing = Standing::Apart;
+    }
+
+    /// A view that was waited for is waited for no more.
+    pub fn stop_waiting(&mut self)
+        ensures { self.new ≡ change without_wait self.old }
+    {
+        if self.standing.is_waiting() {
+            self.standing = Standing::Apart;
+        }
+    }
+
+    /// A probe of the site has come.
+    pub fn heard(&mut self, site: SiteId) -> Result<(), NoMemory>
+        ensures { OnOk result (self.new ≡ hearing site self.old) }
+    {
+        self.standing.hear(site)
+    }
+
+    /// Whether another view is wanted: since the last probes of this site a member was not heard, or a site that is no member was.
+    pub fn wants_view(&self) -> bool
+        ensures { result ≡ wants self.now }
+    {
+        match &self.standing {
+            Standing::Holding {
+                view,
+                heard: Some(heard),
+            } => is_odd(self.id, view.members.as_slice(), heard.as_slice()),
+            _ => false,
+        }
+    }
+
+    /// Probes every other site for the held view, where there is one; who answers is heard from here on.
+    pub fn probe(&mut self, effects: &mut Effects) -> Result<(), NoMemory>
+        ensures { OnOk result (viewed self.new effects.new ≡ probing (viewed self.old effects.old)) }
+    {
+        if let Some(id) = self.standing.listen() {
+            effects.send_all(
+                self.id,
+                self.others.as_slice(),
+                &Message::Probe { view: id },
+            )?;
+        }
+        Ok(())
+    }
+}
