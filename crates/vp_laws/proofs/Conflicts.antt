@@ -79,7 +79,7 @@ module _ (catalogue : Catalogue) (w : Scene) (k : Known catalogue w) (copies : I
         (same_site q j)
 
     usable : (operation : Op) → Has t.ops operation → accessible catalogue (record_of operation) v.members ≡ true
-    usable operation h = subst (λ (held : Option View). is_usable_in catalogue held (record_of operation) ≡ true) held ((k.ops.live j y t up live).usable operation h)
+    usable operation h = subst (λ (held : Option View). is_usable_in catalogue held (record_of operation) ≡ true) held ((refresh.live j y t up live).usable operation h)
 
     wrote_some : (rec : ℕ) → HasWritten t rec → UsedSome catalogue w t v rec
     wrote_some rec wrote =

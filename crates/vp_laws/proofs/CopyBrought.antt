@@ -127,7 +127,7 @@ module _ (catalogue : Catalogue) (w new : Scene) (s : ℕ) (x : SiteState) (give
             below : Precedes e.view u.id → InDoubt new j e.txn
             below p =
                 let did = written_op e.ops rec wrote in
-                let q = shared_holder catalogue rec v.members u.members (k.entered.accessible e v (op.Write rec did.0) there v_was did.1) usable in
+                let q = shared_holder catalogue rec v.members u.members (refresh.entry e v (op.Write rec did.0) there v_was did.1).usable usable in
                 ⊎_elim
                 (λ (here : q.0 ≡ s). own_above j rec b.own e v holder b.from h wrote own_later agreed in_view)
                 (λ (other : q.0 ≢ s). absurd (missed q.0 q.1 q.2 q.3 other))

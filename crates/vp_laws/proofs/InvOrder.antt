@@ -57,7 +57,7 @@ module _ (catalogue : Catalogue) (w new : Scene) (s : ℕ) (x : SiteState) (give
     above_none : (g : Commit) → Has w.journal g → Precedes e.view g.view → WritesNone e g.ops
     above_none g there above operation did wrote =
         let v = k.led.entry g there in
-        stops catalogue w new s x given o k n d e v.0 (record_of operation) h (subst (Wrote e) (same_record operation) wrote) (subst (Precedes e.view) (sym v.2) above)
+        stops catalogue w new s x given o k n d refresh e v.0 (record_of operation) h (subst (Wrote e) (same_record operation) wrote) (subst (Precedes e.view) (sym v.2) above)
         (refresh.entry g v.0 operation there (v.1, v.2) did)
 
     has_written : (rec : ℕ) → Wrote e rec → HasWritten f.was rec
@@ -74,14 +74,14 @@ module _ (catalogue : Catalogue) (w new : Scene) (s : ℕ) (x : SiteState) (give
       agreed = ((k.views.site j y up).held of.0 of.1, of.2)
 
       usable : (operation : Op) → Has t.ops operation → accessible catalogue (record_of operation) of.0.members ≡ true
-      usable operation did = subst (λ (held : Option View). is_usable_in catalogue held (record_of operation) ≡ true) of.1 ((k.ops.live j y t up live).usable operation did)
+      usable operation did = subst (λ (held : Option View). is_usable_in catalogue held (record_of operation) ≡ true) of.1 ((refresh.live j y t up live).usable operation did)
 
       same_view_none : e.view ≡ t.view → WritesNone e t.ops
       same_view_none same operation did wrote = other (sym (no_conflict catalogue w k copies refresh reading s j x y f.was t d.up f.live up live f.view its_view (f.viewed ∙ same) operation did (has_written (record_of operation) (subst (Wrote e) (same_record operation) wrote))) ∙ f.named)
 
       higher_none : Precedes e.view t.view → WritesNone e t.ops
       higher_none below operation did wrote =
-          stops catalogue w new s x given o k n d e of.0 (record_of operation) h (subst (Wrote e) (same_record operation) wrote) (subst (Precedes e.view) (sym of.2) below)
+          stops catalogue w new s x given o k n d refresh e of.0 (record_of operation) h (subst (Wrote e) (same_record operation) wrote) (subst (Precedes e.view) (sym of.2) below)
           (ops_closed catalogue w k copies j y t up live refresh of.0 agreed (λ rec value there none. reading.done j y t rec value up live there none) operation did)
 
       plays_grow : Plays (content first (w.journal ++ e ∷ []) t.view) t.ops
@@ -121,7 +121,7 @@ module _ (catalogue : Catalogue) (w new : Scene) (s : ℕ) (x : SiteState) (give
 
           none : Wrote e rec → AtMost e.view t.view → ⊥
           none wrote le = ⊎_elim
-              (λ below. stops catalogue w new s x given o k n d e of.0 rec h wrote (subst (Precedes e.view) (sym of.2) below) (refresh.used j q rec false y t of.0 up live (HasAnswered.read r) agreed))
+              (λ below. stops catalogue w new s x given o k n d refresh e of.0 rec h wrote (subst (Precedes e.view) (sym of.2) below) (refresh.used j q rec false y t of.0 up live (HasAnswered.read r) agreed))
               (λ q. ⊎_elim (λ same. equal wrote same) (λ above. not_both t.view e.view above le) q)
               (three_ways e.view t.view)
 

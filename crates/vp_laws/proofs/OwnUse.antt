@@ -50,7 +50,7 @@ module _ (catalogue : Catalogue) (w : Scene) (k : Known catalogue w) (copies : I
     copied rec stored e = mapped_has (λ (p : ℕ × Stored). p.0) x.copies (rec, stored) (value_pair rec x.copies stored e)
 
     usable_in_view : (operation : Op) → Has t.ops operation → accessible catalogue (record_of operation) v.members ≡ true
-    usable_in_view operation h = subst (λ (held : Option View). is_usable_in catalogue held (record_of operation) ≡ true) (view_is v agreed) ((k.ops.live s x t up live).usable operation h)
+    usable_in_view operation h = subst (λ (held : Option View). is_usable_in catalogue held (record_of operation) ≡ true) (view_is v agreed) ((refresh.live s x t up live).usable operation h)
 
     -- it was written elsewhere, where there is no copy here
     elsewhere : (rec : ℕ) → HasWritten t rec → value_at rec x.copies ≡ None → Open catalogue w rec v
@@ -66,7 +66,7 @@ module _ (catalogue : Catalogue) (w : Scene) (k : Known catalogue w) (copies : I
       where
         go : (c : Option Stored) → value_at rec x.copies ≡ c → Open catalogue w rec v
         go None e = elsewhere rec wrote e
-        go (Some stored) e = own_closed rec true v stored (((k.guards.site s x up).own t live).wrote rec wrote.0 wrote.1 (copied rec stored e)) (view_is v agreed) e ((k.ops.live s x t up live).usable (op.Write rec wrote.0) wrote.1)
+        go (Some stored) e = own_closed rec true v stored (((k.guards.site s x up).own t live).wrote rec wrote.0 wrote.1 (copied rec stored e)) (view_is v agreed) e ((refresh.live s x t up live).usable (op.Write rec wrote.0) wrote.1)
 
     -- where no read is pending, a done one has been answered, or is of an own write
     pub idle_reads : ((p : Pending) (rec : ℕ) → t.pending ≡ Some p → Reads catalogue p rec → ⊥) → (rec : ℕ) (value : List ℕ) → Has t.ops (op.Read rec value) → value_at rec x.copies ≡ None → HasWritten t rec ⊎ ((q : ℕ) × HasRead w q t.txn rec)
@@ -84,7 +84,7 @@ module _ (catalogue : Catalogue) (w : Scene) (k : Known catalogue w) (copies : I
       read_closed rec value h = go (value_at rec x.copies) refl
         where
           go : (c : Option Stored) → value_at rec x.copies ≡ c → Open catalogue w rec v
-          go (Some stored) e = own_closed rec false v stored (((k.guards.site s x up).own t live).read rec value h (copied rec stored e)) (view_is v agreed) e ((k.ops.live s x t up live).usable (op.Read rec value) h)
+          go (Some stored) e = own_closed rec false v stored (((k.guards.site s x up).own t live).read rec value h (copied rec stored e)) (view_is v agreed) e ((refresh.live s x t up live).usable (op.Read rec value) h)
           go None e = ⊎_elim
               (λ wrote. written_closed rec wrote)
               (λ (r : (q : ℕ) × HasRead w q t.txn rec). refresh.used s r.0 rec false x t v up live (HasAnswered.read r.1) agreed)
