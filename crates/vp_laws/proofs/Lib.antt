@@ -150,3 +150,7 @@ pub mod Words
 pub mod EntryWords
 pub mod SiteWords
 pub mod Readable
+pub mod Refused
+pub mod CopiesForced
+pub mod Completing
+pub mod InOpening

@@ -119,10 +119,10 @@ occurred catalogue lines number e w m told_so_far (Occurs.acts s x given v same 
     subst (λ (m : Moved). ToldAt catalogue (scene_of m.world) (lines ++ (moment number w e m).line ∷ [])) (sym is) (stepped catalogue lines number e w v s x given same up arrives gives told_so_far)
 
 -- of a run so far
-abbrev RunTold : Catalogue → Run → Type 0
+abbrev pub RunTold : Catalogue → Run → Type 0
 RunTold catalogue run = ToldAt catalogue (scene_of run.world) (lines_in run.moments)
 
-one_step-told : (catalogue : Catalogue) (number : ℕ) (e : Event) (run : Run) → RunTold catalogue run → RunTold catalogue (one_step catalogue number e run)
+pub one_step-told : (catalogue : Catalogue) (number : ℕ) (e : Event) (run : Run) → RunTold catalogue run → RunTold catalogue (one_step catalogue number e run)
 unfolding one_step
 one_step-told catalogue number e run h =
     let moved = next catalogue e run.world in
@@ -133,7 +133,7 @@ starts_none : (catalogue : Catalogue) (s : ℕ) (a : Answer) → IsKept (start c
 starts_none catalogue s a (IsKept.live t h there) = none_live catalogue s (empty_durable (start_copies catalogue s)) t h
 starts_none catalogue s a (IsKept.finished f h there) = none_finished catalogue s (empty_durable (start_copies catalogue s)) f h
 
-start_told : (catalogue : Catalogue) → ToldAt catalogue (scene_of (start_world catalogue)) []
+pub start_told : (catalogue : Catalogue) → ToldAt catalogue (scene_of (start_world catalogue)) []
 start_told catalogue = record {
   base = (listed_last catalogue).starts;
   live = λ s x t h k. absurd (none_live catalogue s (empty_durable (start_copies catalogue s)) t (subst (λ (x : SiteState). Has x.live t) (sym (started catalogue s x h)) k));
