@@ -15,7 +15,7 @@ use Rattle.vp_laws.proofs.Members.{has_of, contains, all_of}
 use Rattle.vp_laws.proofs.Scenes.{kept_in}
 use Rattle.vp_laws.proofs.InvEndings.{Once}
 use Rattle.vp_laws.proofs.InvShares.{Sixth, shares_last}
-use Rattle.vp_laws.proofs.InvOps.{record_of}
+use Rattle.vp_laws.proofs.InvOps.{op_used, record_of}
 use Rattle.vp_laws.proofs.Events.{in_last}
 use Rattle.vp_laws.proofs.InvCopies.{Eighteenth, copied_last}
 use Rattle.vp_laws.proofs.Tower.{known}
@@ -65,5 +65,5 @@ entered s e h =
       contains w.agreed q.0 q.1,
       q.2,
       contains q.0.members e.txn.site q.3,
-      (λ operation k. ap (λ (n : ℕ). accessible s.catalogue n q.0.members) (sym (same_record operation)) ∙ (inv.upper.refresh.entry e q.0 operation there (q.1, q.2) (has_of e.ops operation k)).usable),
+      (λ operation k. ap (λ (n : ℕ). accessible s.catalogue n q.0.members) (sym (same_record operation)) ∙ (inv.upper.refresh.entry e q.0 (record_of operation) there (q.1, q.2) (op_used e.ops operation (has_of e.ops operation k))).usable),
     )

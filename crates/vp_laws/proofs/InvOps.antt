@@ -33,6 +33,16 @@ abbrev pub record_of : Op → ℕ
 record_of (op.Read rec value) = rec
 record_of (op.Write rec value) = rec
 
+-- an operation among these is on the record
+abbrev pub HasUsed : List Op → ℕ → Type 0
+HasUsed ops rec = (operation : Op) × Has ops operation × (record_of operation ≡ rec)
+
+pub op_used : (ops : List Op) (operation : Op) → Has ops operation → HasUsed ops (record_of operation)
+op_used ops operation h = (operation, h, refl)
+
+pub written_used : (ops : List Op) (rec : ℕ) → (value : List ℕ) × Has ops (op.Write rec value) → HasUsed ops rec
+written_used ops rec h = (op.Write rec h.0, h.1, refl)
+
 abbrev pub HasWritten : Live → ℕ → Type 0
 HasWritten t rec = (value : List ℕ) × Has t.ops (op.Write rec value)
 

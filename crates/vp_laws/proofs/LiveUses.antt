@@ -12,10 +12,10 @@ use Rattle.vp_laws.specs.Votes.{is_commit}
 use Rattle.vp_laws.proofs.Members.{Has, has_none, has_one_is, has_cases}
 use Rattle.vp_laws.proofs.Table.{Reads, Writes, remaining, Completes}
 use Rattle.vp_laws.proofs.TableSteps.{waiting, done, reading, writing, LiveNow}
-use Rattle.vp_laws.proofs.InvOps.{record_of, read_not_write, reads_same, writes_same}
+use Rattle.vp_laws.proofs.InvOps.{HasUsed, record_of, read_not_write, reads_same, writes_same}
 
 pub record LiveUses (catalogue : Catalogue) (held : Option View) (t : Live) : Type 0 where
-  pub usable : (operation : Op) → Has t.ops operation → is_usable_in catalogue held (record_of operation) ≡ true
+  pub usable : (rec : ℕ) → HasUsed t.ops rec → is_usable_in catalogue held rec ≡ true
   pub reading : (p : Pending) (rec : ℕ) → t.pending ≡ Some p → Reads catalogue p rec → is_usable_in catalogue held rec ≡ true
   pub writing : (p : Pending) (rec : ℕ) (value : List ℕ) → t.pending ≡ Some p → Writes catalogue p rec value → is_usable_in catalogue held rec ≡ true
 
@@ -37,14 +37,14 @@ module _ (catalogue : Catalogue) (x : SiteState) (given : Input) (all : (u : Liv
   -- a call is asked of sites, and nothing more is done
   asking_uses : (u t : Live) (p : Pending) (sites : List ℕ) → LiveUses catalogue x.held u → t.ops ≡ u.ops → t.pending ≡ Some (record p { missing = sites }) → ((rec : ℕ) → Reads catalogue p rec → Usable rec) → ((rec : ℕ) (value : List ℕ) → Writes catalogue p rec value → Usable rec) → LiveUses catalogue x.held t
   asking_uses u t p sites h same now reads writes = record {
-    usable = λ o k. h.usable o (rw same at k);
+    usable = λ rec k. h.usable rec (subst (λ (ops : List Op). HasUsed ops rec) same k);
     reading = λ a rec e r. let is : record p { missing = sites } ≡ a = (let z = sym now ∙ e in cc) in reads rec (record { txn = r.txn; number = r.number; name = r.name; words = ap (λ (p : Pending). p.call) is ∙ r.words; found = r.found });
     writing = λ a rec value e r. let is : record p { missing = sites } ≡ a = (let z = sym now ∙ e in cc) in writes rec value (record { txn = r.txn; number = r.number; name = r.name; words = ap (λ (p : Pending). p.call) is ∙ r.words; found = r.found });
   }
 
   done_uses : (u : Live) (operation : Op) (words : Answer) → LiveUses catalogue x.held u → Usable (record_of operation) → LiveUses catalogue x.held (done u operation words)
   done_uses u operation words h usable = record {
-    usable = λ o k. ⊎_elim (λ old. h.usable o old) (λ new. subst (λ (o : Op). Usable (record_of o)) (has_one_is operation o new) usable) (has_cases u.ops (operation ∷ []) o k);
+    usable = λ rec k. ⊎_elim (λ old. h.usable rec (k.0, old, k.2)) (λ new. subst Usable (ap record_of (has_one_is operation k.0 new) ∙ k.2) usable) (has_cases u.ops (operation ∷ []) k.0 k.1);
     reading = λ p rec e r. cc;
     writing = λ p rec value e r. cc;
   }
@@ -71,7 +71,7 @@ module _ (catalogue : Catalogue) (x : SiteState) (given : Input) (all : (u : Liv
 
   begun_uses : (txn : TxnId) (view : ViewId) → LiveUses catalogue x.held (begun txn view)
   begun_uses txn view = record {
-    usable = λ o k. absurd (has_none o k);
+    usable = λ rec k. absurd (has_none k.0 k.1);
     reading = λ p rec e r. cc;
     writing = λ p rec value e r. cc;
   }

@@ -31,7 +31,7 @@ use Rattle.vp_laws.proofs.Tower.{Known, Does}
 use Rattle.vp_laws.proofs.CopyInvariants.{InvRefresh}
 use Rattle.vp_model.specs.Refresh.{is_usable_in}
 use Rattle.vp_model.specs.Catalogue.{accessible}
-use Rattle.vp_model.specs.Types.op
+use Rattle.vp_laws.proofs.InvOps.{written_used}
 
 module _ (catalogue : Catalogue) (w new : Scene) (s : ℕ) (x : SiteState) (given : Input) (o : Stepped) (k : Known catalogue w) (n : Known catalogue new) (d : Does catalogue w new s x given o) where
   -- the journal stays, or has one more entry
@@ -195,12 +195,12 @@ module _ (catalogue : Catalogue) (w new : Scene) (s : ℕ) (x : SiteState) (give
       let there = entering_agreed e f in
       let same : f.view ≡ v = n.views.unique f.view v (d.st.moved.agreed f.view there.0) agreed.0 (f.is ∙ sym agreed.1) in
       subst (λ (v : View). accessible catalogue rec v.members ≡ true) same
-      (subst (λ (held : Option View). is_usable_in catalogue held rec ≡ true) f.held ((refresh.live s x f.was d.up f.live).usable (op.Write rec did.0) (rw f.done did.1)))
+      (subst (λ (held : Option View). is_usable_in catalogue held rec ≡ true) f.held ((refresh.live s x f.was d.up f.live).usable rec (written_used f.was.ops rec (did.0, rw f.done did.1))))
 
   -- and so is what an entry wrote that is there now
   pub wrote_in_force : (refresh : InvRefresh catalogue w) (e : Commit) (v : View) (rec : ℕ) → Has new.journal e → AgreedAs new e.view v → Wrote e rec → accessible catalogue rec v.members ≡ true
   wrote_in_force refresh e v rec there agreed wrote = ⊎_elim
-      (λ old. let did = written_op e.ops rec wrote in (refresh.entry e v (op.Write rec did.0) old (agreed_was e v old agreed) did.1).usable)
+      (λ old. (refresh.entry e v rec old (agreed_was e v old agreed) (written_used e.ops rec (written_op e.ops rec wrote))).usable)
       (λ more. entering_wrote refresh e (entering e more) v rec agreed wrote)
       (d.st.entered e there)
 
