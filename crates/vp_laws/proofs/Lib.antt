@@ -154,3 +154,5 @@ pub mod Refused
 pub mod CopiesForced
 pub mod Completing
 pub mod InOpening
+pub mod TableReports
+pub mod ReportsFit
