@@ -20,3 +20,4 @@ pub mod TxnsBetween
 pub mod AscendingTxns
 pub mod DoubtsExact
 pub mod DecisionsExact
+pub mod Writing

@@ -1,6 +1,7 @@
 //! Copies of records: reading and writing them.
 
-ghost use Rattle.std.specs.Prelude.{◌≡◌, ◌≤◌, ◌+◌, ◌-◌, ◌++◌, IfOk, OnOk, length};
+ghost use Rattle.std.specs.Prelude.{◌≡◌, ◌≤◌, ◌+◌, ◌-◌, ◌++◌, IfOk, OnOk, OnErr, length};
+ghost use Rattle.vp_text.specs.Printing.{Appends};
 ghost use Rattle.vp_text.specs.Reading.{Tries};
 ghost use Rattle.vp_base.specs.Faults.{line_left};
 ghost use Rattle.vp_bytes.specs.Fields.{number_bytes};
@@ -62,9 +63,10 @@ fn take_copy(
 }
 
 /// Copies behind their count.
+#[tactic(auto, using(vp_text::proofs::Printing::printing))]
 pub fn put_copies<B: BufMut>(out: &mut B, copies: &[(RecId, Stored)]) -> Result<(), NoMemory>
     requires { length copies.now ≤ 256 }
-    ensures { OnOk result (B.written out.new ≡ B.written out.old ++ copies_bytes copies.now) }
+    ensures { Appends result (B.written out.old) (copies_bytes copies.now) (B.written out.new) }
 {
     put_u16(out, copies.len() as u16)?;
     for copy in copies {
@@ -76,7 +78,8 @@ pub fn put_copies<B: BufMut>(out: &mut B, copies: &[(RecId, Stored)]) -> Result<
 /// A number of 16 bits.
 #[tactic(auto, unfolding(crate::specs::Fields::number_bytes))]
 fn put_u16<B: BufMut>(out: &mut B, number: u16) -> Result<(), NoMemory>
-    ensures { OnOk result (B.written out.new ≡ B.written out.old ++ number_bytes 2 number) }
+    ensures ok { OnOk result (B.written out.new ≡ B.written out.old ++ number_bytes 2 number) }
+    ensures err { OnErr result (B.written out.new ≡ B.written out.old) }
 {
     let mut bytes = [0; 2];
     BigEndian::write_u16(&mut bytes, number);
@@ -85,8 +88,9 @@ fn put_u16<B: BufMut>(out: &mut B, number: u16) -> Result<(), NoMemory>
 }
 
 /// A record, its value, and the date of that.
+#[tactic(auto, using(vp_text::proofs::Printing::printing))]
 pub fn put_copy<B: BufMut>(out: &mut B, rec: RecId, stored: &Stored) -> Result<(), NoMemory>
-    ensures { OnOk result (B.written out.new ≡ B.written out.old ++ copy_bytes (rec, stored.now)) }
+    ensures { Appends result (B.written out.old) (copy_bytes (rec, stored.now)) (B.written out.new) }
 {
     put_byte(out, rec.get())?;
     put_value(out, &stored.value)?;

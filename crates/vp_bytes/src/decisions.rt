@@ -1,6 +1,7 @@
 //! Decided transactions: reading and writing them.
 
-ghost use Rattle.std.specs.Prelude.{◌≡◌, ◌≤◌, ◌+◌, ◌++◌, All, IfOk, IfSome, OnOk, length};
+ghost use Rattle.std.specs.Prelude.{◌≡◌, ◌≤◌, ◌+◌, ◌++◌, All, IfOk, IfSome, length};
+ghost use Rattle.vp_text.specs.Printing.{Appends};
 ghost use Rattle.vp_text.specs.Reading.{Tries};
 ghost use Rattle.vp_base.specs.Faults.{line_left};
 ghost use Rattle.vp_base.specs.Identifiers.{IsTxn};
@@ -66,9 +67,10 @@ fn take_decision(
 }
 
 /// Decided transactions behind their count.
+#[tactic(auto, using(vp_text::proofs::Printing::printing))]
 pub fn put_decisions<B: BufMut>(out: &mut B, decisions: &[Decision]) -> Result<(), NoMemory>
     requires { All (λ decision. length decision.waiting ≤ 16) decisions.now }
-    ensures { OnOk result (B.written out.new ≡ B.written out.old ++ decisions_bytes decisions.now) }
+    ensures { Appends result (B.written out.old) (decisions_bytes decisions.now) (B.written out.new) }
 {
     put_u64(out, decisions.len() as u64)?;
     for decision in decisions {
@@ -78,9 +80,10 @@ pub fn put_decisions<B: BufMut>(out: &mut B, decisions: &[Decision]) -> Result<(
 }
 
 /// A decided transaction, and the sites that have not acknowledged it.
+#[tactic(auto, using(vp_text::proofs::Printing::printing))]
 fn put_decision<B: BufMut>(out: &mut B, decision: &Decision) -> Result<(), NoMemory>
     requires { length decision.now.waiting ≤ 16 }
-    ensures { OnOk result (B.written out.new ≡ B.written out.old ++ decision_bytes decision.now) }
+    ensures { Appends result (B.written out.old) (decision_bytes decision.now) (B.written out.new) }
 {
     put_txn(out, &decision.txn)?;
     put_sites(out, decision.waiting.as_slice())

@@ -1,6 +1,7 @@
 //! Transactions in doubt: reading and writing them.
 
-ghost use Rattle.std.specs.Prelude.{◌≡◌, ◌≤◌, ◌+◌, ◌++◌, All, IfOk, IfSome, OnOk, length};
+ghost use Rattle.std.specs.Prelude.{◌≡◌, ◌≤◌, ◌+◌, ◌++◌, All, IfOk, IfSome, length};
+ghost use Rattle.vp_text.specs.Printing.{Appends};
 ghost use Rattle.vp_text.specs.Reading.{Tries};
 ghost use Rattle.vp_base.specs.Faults.{line_left};
 ghost use Rattle.vp_base.specs.Identifiers.{IsTxn};
@@ -63,9 +64,10 @@ fn take_doubt(
 }
 
 /// Transactions in doubt behind their count.
+#[tactic(auto, using(vp_text::proofs::Printing::printing))]
 pub fn put_doubts<B: BufMut>(out: &mut B, doubts: &[Doubt]) -> Result<(), NoMemory>
     requires { All (λ doubt. length doubt.writes ≤ 64) doubts.now }
-    ensures { OnOk result (B.written out.new ≡ B.written out.old ++ doubts_bytes doubts.now) }
+    ensures { Appends result (B.written out.old) (doubts_bytes doubts.now) (B.written out.new) }
 {
     put_u64(out, doubts.len() as u64)?;
     for doubt in doubts {
@@ -75,6 +77,7 @@ pub fn put_doubts<B: BufMut>(out: &mut B, doubts: &[Doubt]) -> Result<(), NoMemo
 }
 
 /// A transaction in doubt, its view and its writes.
+#[tactic(auto, using(vp_text::proofs::Printing::printing))]
 pub fn put_doubt<B: BufMut>(
     out: &mut B,
     txn: &TxnId,
@@ -82,7 +85,7 @@ pub fn put_doubt<B: BufMut>(
     writes: &Writes,
 ) -> Result<(), NoMemory>
     requires { length writes.now ≤ 64 }
-    ensures { OnOk result (B.written out.new ≡ B.written out.old ++ doubt_bytes (record { txn = txn.now; view = view.now; writes = writes.now })) }
+    ensures { Appends result (B.written out.old) (doubt_bytes (record { txn = txn.now; view = view.now; writes = writes.now })) (B.written out.new) }
 {
     put_txn(out, txn)?;
     put_view(out, view)?;

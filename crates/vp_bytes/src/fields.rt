@@ -1,7 +1,8 @@
 //! Writing fields.
 
-ghost use Rattle.std.specs.Prelude.{◌≡◌, ◌≤◌, ◌++◌, ◌∷◌, [], OnOk, length, flat_map};
-ghost use Rattle.vp_bytes.specs.Fields.{number_bytes, view_bytes, maybe_view_bytes, txn_bytes, owner_bytes, counted_bytes, write_bytes, writes_bytes, numbered_bytes, request_bytes};
+ghost use Rattle.std.specs.Prelude.{◌≡◌, ◌≤◌, ◌++◌, ◌∷◌, [], OnOk, OnErr, length, flat_map};
+ghost use Rattle.vp_text.specs.Printing.{Appends};
+ghost use Rattle.vp_bytes.specs.Fields.{number_bytes, view_bytes, maybe_view_bytes, txn_bytes, owner_bytes, counted_bytes, write_bytes, writes_bytes, numbered_bytes, request_bytes, outcome_byte};
 
 use byteorder::{BigEndian, ByteOrder};
 use bytes::BufMut;
@@ -9,7 +10,8 @@ use vp_base::{CallNo, Name, NoMemory, Owner, RecId, SiteId, TxnId, Value, ViewId
 
 /// A byte.
 pub fn put_byte<B: BufMut>(out: &mut B, byte: u8) -> Result<(), NoMemory>
-    ensures { OnOk result (B.written out.new ≡ B.written out.old ++ byte ∷ []) }
+    ensures ok { OnOk result (B.written out.new ≡ B.written out.old ++ byte ∷ []) }
+    ensures err { OnErr result (B.written out.new ≡ B.written out.old) }
 {
     out.put_u8(byte)?;
     Ok(())
@@ -18,7 +20,8 @@ pub fn put_byte<B: BufMut>(out: &mut B, byte: u8) -> Result<(), NoMemory>
 /// A number of 32 bits.
 #[tactic(auto, unfolding(crate::specs::Fields::number_bytes))]
 pub fn put_u32<B: BufMut>(out: &mut B, number: u32) -> Result<(), NoMemory>
-    ensures { OnOk result (B.written out.new ≡ B.written out.old ++ number_bytes 4 number) }
+    ensures ok { OnOk result (B.written out.new ≡ B.written out.old ++ number_bytes 4 number) }
+    ensures err { OnErr result (B.written out.new ≡ B.written out.old) }
 {
     let mut bytes = [0; 4];
     BigEndian::write_u32(&mut bytes, number);
@@ -29,7 +32,8 @@ pub fn put_u32<B: BufMut>(out: &mut B, number: u32) -> Result<(), NoMemory>
 /// A number of 64 bits.
 #[tactic(auto, unfolding(crate::specs::Fields::number_bytes))]
 pub fn put_u64<B: BufMut>(out: &mut B, number: u64) -> Result<(), NoMemory>
-    ensures { OnOk result (B.written out.new ≡ B.written out.old ++ number_bytes 8 number) }
+    ensures ok { OnOk result (B.written out.new ≡ B.written out.old ++ number_bytes 8 number) }
+    ensures err { OnErr result (B.written out.new ≡ B.written out.old) }
 {
     let mut bytes = [0; 8];
     BigEndian::write_u64(&mut bytes, number);
@@ -38,9 +42,10 @@ pub fn put_u64<B: BufMut>(out: &mut B, number: u64) -> Result<(), NoMemory>
 }
 
 /// Bytes behind their count, which a byte holds.
+#[tactic(auto, using(vp_text::proofs::Printing::printing))]
 pub fn put_counted<B: BufMut>(out: &mut B, bytes: &[u8]) -> Result<(), NoMemory>
     requires { length bytes.now ≤ 64 }
-    ensures { OnOk result (B.written out.new ≡ B.written out.old ++ counted_bytes bytes.now) }
+    ensures { Appends result (B.written out.old) (counted_bytes bytes.now) (B.written out.new) }
 {
     put_byte(out, bytes.len() as u8)?;
     out.put_slice(bytes)?;
@@ -48,31 +53,34 @@ pub fn put_counted<B: BufMut>(out: &mut B, bytes: &[u8]) -> Result<(), NoMemory>
 }
 
 /// A name behind the count of its bytes.
+#[tactic(auto, using(vp_text::proofs::Printing::printing))]
 pub fn put_name<B: BufMut>(out: &mut B, name: &Name) -> Result<(), NoMemory>
-    ensures { OnOk result (B.written out.new ≡ B.written out.old ++ counted_bytes name.now) }
+    ensures { Appends result (B.written out.old) (counted_bytes name.now) (B.written out.new) }
 {
     put_counted(out, name.as_bytes())
 }
 
 /// A value behind the count of its bytes.
+#[tactic(auto, using(vp_text::proofs::Printing::printing))]
 pub fn put_value<B: BufMut>(out: &mut B, value: &Value) -> Result<(), NoMemory>
-    ensures { OnOk result (B.written out.new ≡ B.written out.old ++ counted_bytes value.now) }
+    ensures { Appends result (B.written out.old) (counted_bytes value.now) (B.written out.new) }
 {
     put_counted(out, value.as_bytes())
 }
 
 /// A view.
-#[tactic(auto, unfolding(crate::specs::Fields::view_bytes))]
+#[tactic(auto, using(vp_text::proofs::Printing::printing), unfolding(crate::specs::Fields::view_bytes))]
 pub fn put_view<B: BufMut>(out: &mut B, view: &ViewId) -> Result<(), NoMemory>
-    ensures { OnOk result (B.written out.new ≡ B.written out.old ++ view_bytes view.now) }
+    ensures { Appends result (B.written out.old) (view_bytes view.now) (B.written out.new) }
 {
     put_u64(out, view.number)?;
     put_byte(out, view.site)
 }
 
 /// 1 and a view, or 0 for none.
+#[tactic(auto, using(vp_text::proofs::Printing::printing))]
 pub fn put_maybe_view<B: BufMut>(out: &mut B, view: &Option<ViewId>) -> Result<(), NoMemory>
-    ensures { OnOk result (B.written out.new ≡ B.written out.old ++ maybe_view_bytes view.now) }
+    ensures { Appends result (B.written out.old) (maybe_view_bytes view.now) (B.written out.new) }
 {
     match view {
         None => put_byte(out, 0),
@@ -84,9 +92,9 @@ pub fn put_maybe_view<B: BufMut>(out: &mut B, view: &Option<ViewId>) -> Result<(
 }
 
 /// A transaction.
-#[tactic(auto, unfolding(crate::specs::Fields::txn_bytes))]
+#[tactic(auto, using(vp_text::proofs::Printing::printing), unfolding(crate::specs::Fields::txn_bytes))]
 pub fn put_txn<B: BufMut>(out: &mut B, txn: &TxnId) -> Result<(), NoMemory>
-    ensures { OnOk result (B.written out.new ≡ B.written out.old ++ txn_bytes txn.now) }
+    ensures { Appends result (B.written out.old) (txn_bytes txn.now) (B.written out.new) }
 {
     put_byte(out, txn.site.get())?;
     put_u32(out, txn.life)?;
@@ -94,8 +102,9 @@ pub fn put_txn<B: BufMut>(out: &mut B, txn: &TxnId) -> Result<(), NoMemory>
 }
 
 /// 1 and a transaction, or 0 for a refresh.
+#[tactic(auto, using(vp_text::proofs::Printing::printing))]
 pub fn put_owner<B: BufMut>(out: &mut B, owner: &Owner) -> Result<(), NoMemory>
-    ensures { OnOk result (B.written out.new ≡ B.written out.old ++ owner_bytes owner.now) }
+    ensures { Appends result (B.written out.old) (owner_bytes owner.now) (B.written out.new) }
 {
     match owner {
         Owner::Refresh => put_byte(out, 0),
@@ -106,10 +115,24 @@ pub fn put_owner<B: BufMut>(out: &mut B, owner: &Owner) -> Result<(), NoMemory>
     }
 }
 
+/// A transaction and its outcome: 1 for commit, 0 for abort.
+#[tactic(auto, using(vp_text::proofs::Printing::printing))]
+pub fn put_outcome<B: BufMut>(out: &mut B, txn: &TxnId, commit: bool) -> Result<(), NoMemory>
+    ensures { Appends result (B.written out.old) (txn_bytes txn.now ++ outcome_byte commit ∷ []) (B.written out.new) }
+{
+    put_txn(out, txn)?;
+    if commit {
+        put_byte(out, 1)
+    } else {
+        put_byte(out, 0)
+    }
+}
+
 /// Sites behind their count.
+#[tactic(auto, using(vp_text::proofs::Printing::printing))]
 pub fn put_sites<B: BufMut>(out: &mut B, sites: &[SiteId]) -> Result<(), NoMemory>
     requires { length sites.now ≤ 16 }
-    ensures { OnOk result (B.written out.new ≡ B.written out.old ++ counted_bytes sites.now) }
+    ensures { Appends result (B.written out.old) (counted_bytes sites.now) (B.written out.new) }
 {
     put_byte(out, sites.len() as u8)?;
     for site in sites {
@@ -119,9 +142,10 @@ pub fn put_sites<B: BufMut>(out: &mut B, sites: &[SiteId]) -> Result<(), NoMemor
 }
 
 /// Records behind their count.
+#[tactic(auto, using(vp_text::proofs::Printing::printing))]
 pub fn put_recs<B: BufMut>(out: &mut B, recs: &[RecId]) -> Result<(), NoMemory>
     requires { length recs.now ≤ 64 }
-    ensures { OnOk result (B.written out.new ≡ B.written out.old ++ counted_bytes recs.now) }
+    ensures { Appends result (B.written out.old) (counted_bytes recs.now) (B.written out.new) }
 {
     put_byte(out, recs.len() as u8)?;
     for rec in recs {
@@ -131,17 +155,19 @@ pub fn put_recs<B: BufMut>(out: &mut B, recs: &[RecId]) -> Result<(), NoMemory>
 }
 
 /// A record and its value.
+#[tactic(auto, using(vp_text::proofs::Printing::printing))]
 fn put_write<B: BufMut>(out: &mut B, rec: RecId, value: &Value) -> Result<(), NoMemory>
-    ensures { OnOk result (B.written out.new ≡ B.written out.old ++ write_bytes (rec, value.now)) }
+    ensures { Appends result (B.written out.old) (write_bytes (rec, value.now)) (B.written out.new) }
 {
     put_byte(out, rec.get())?;
     put_value(out, value)
 }
 
 /// Writes behind their count.
+#[tactic(auto, using(vp_text::proofs::Printing::printing))]
 pub fn put_writes<B: BufMut>(out: &mut B, writes: &[(RecId, Value)]) -> Result<(), NoMemory>
     requires { length writes.now ≤ 64 }
-    ensures { OnOk result (B.written out.new ≡ B.written out.old ++ writes_bytes writes.now) }
+    ensures { Appends result (B.written out.old) (writes_bytes writes.now) (B.written out.new) }
 {
     put_byte(out, writes.len() as u8)?;
     for write in writes {
@@ -151,21 +177,23 @@ pub fn put_writes<B: BufMut>(out: &mut B, writes: &[(RecId, Value)]) -> Result<(
 }
 
 /// The transaction and the number of a call.
+#[tactic(auto, using(vp_text::proofs::Printing::printing))]
 pub fn put_numbered<B: BufMut>(out: &mut B, txn: &TxnId, number: CallNo) -> Result<(), NoMemory>
-    ensures { OnOk result (B.written out.new ≡ B.written out.old ++ numbered_bytes txn.now number) }
+    ensures { Appends result (B.written out.old) (numbered_bytes txn.now number) (B.written out.new) }
 {
     put_txn(out, txn)?;
     put_u32(out, number.get())
 }
 
 /// What asks a part for a lock or a vote.
+#[tactic(auto, using(vp_text::proofs::Printing::printing))]
 pub fn put_request<B: BufMut>(
     out: &mut B,
     txn: &TxnId,
     view: &ViewId,
     number: CallNo,
 ) -> Result<(), NoMemory>
-    ensures { OnOk result (B.written out.new ≡ B.written out.old ++ request_bytes txn.now view.now number) }
+    ensures { Appends result (B.written out.old) (request_bytes txn.now view.now number) (B.written out.new) }
 {
     put_txn(out, txn)?;
     put_view(out, view)?;

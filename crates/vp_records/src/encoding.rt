@@ -1,7 +1,8 @@
 //! Writing batches.
 
-ghost use Rattle.std.specs.Prelude.{◌≡◌, ◌++◌, ◌∷◌, [], OnOk};
-ghost use Rattle.vp_bytes.specs.Fields.{IsSites, IsWrites, counted_bytes, outcome_byte, txn_bytes, view_bytes, writes_bytes};
+ghost use Rattle.std.specs.Prelude.{◌≡◌, ◌++◌, ◌∷◌, []};
+ghost use Rattle.vp_text.specs.Printing.{Appends};
+ghost use Rattle.vp_bytes.specs.Fields.{IsSites, IsWrites, counted_bytes, txn_bytes, view_bytes, writes_bytes};
 ghost use Rattle.vp_bytes.specs.Copies.{IsCopies, copies_bytes};
 ghost use Rattle.vp_bytes.specs.Decisions.{IsDecisions, decisions_bytes};
 ghost use Rattle.vp_bytes.specs.Doubts.{IsDoubts, doubts_bytes};
@@ -12,14 +13,15 @@ use vp_base::{
     Batch, Decision, Doubt, LogRecord, NoMemory, RecId, SiteId, Stored, TxnId, ViewId, Writes,
 };
 use vp_bytes::{
-    put_byte, put_copies, put_copy, put_decisions, put_doubt, put_doubts, put_sites, put_txn,
-    put_u32, put_u64, put_view,
+    put_byte, put_copies, put_copy, put_decisions, put_doubt, put_doubts, put_outcome, put_sites,
+    put_txn, put_u32, put_u64, put_view,
 };
 
-/// Appends the one spelling of the batch. Without memory a beginning of it may have been appended.
+/// Appends the one spelling of the batch. Without memory it has appended a beginning of it, and changed nothing else.
+#[tactic(auto, using(vp_bytes::proofs::Writing::writing))]
 pub fn encode_batch(batch: &Batch, out: &mut Vec<u8>) -> Result<(), NoMemory>
     requires { IsBatch batch.now }
-    ensures { OnOk result (out.new.items ≡ out.old.items ++ batch_bytes batch.now) }
+    ensures { Appends result out.old.items (batch_bytes batch.now) out.new.items }
 {
     for entry in batch.as_slice() {
         put_record(out, entry)?;
@@ -27,9 +29,10 @@ pub fn encode_batch(batch: &Batch, out: &mut Vec<u8>) -> Result<(), NoMemory>
     Ok(())
 }
 
+#[tactic(auto, using(vp_bytes::proofs::Writing::writing))]
 fn put_record(out: &mut Vec<u8>, entry: &LogRecord) -> Result<(), NoMemory>
     requires { IsLogRecord entry.now }
-    ensures { OnOk result (out.new.items ≡ out.old.items ++ record_bytes entry.now) }
+    ensures { Appends result out.old.items (record_bytes entry.now) out.new.items }
 {
     put_byte(out, code_of(entry))?;
     put_fields(out, entry)
@@ -50,9 +53,10 @@ fn code_of(entry: &LogRecord) -> u8
     }
 }
 
+#[tactic(auto, using(vp_bytes::proofs::Writing::writing))]
 fn put_fields(out: &mut Vec<u8>, entry: &LogRecord) -> Result<(), NoMemory>
     requires { IsLogRecord entry.now }
-    ensures { OnOk result (out.new.items ≡ out.old.items ++ record_fields entry.now) }
+    ensures { Appends result out.old.items (record_fields entry.now) out.new.items }
 {
     match entry {
         LogRecord::Start { life } => put_u32(out, *life),
@@ -88,17 +92,7 @@ fn put_fields(out: &mut Vec<u8>, entry: &LogRecord) -> Result<(), NoMemory>
     }
 }
 
-fn put_outcome(out: &mut Vec<u8>, txn: &TxnId, commit: bool) -> Result<(), NoMemory>
-    ensures { OnOk result (out.new.items ≡ out.old.items ++ (txn_bytes txn.now ++ outcome_byte commit ∷ [])) }
-{
-    put_txn(out, txn)?;
-    if commit {
-        put_byte(out, 1)
-    } else {
-        put_byte(out, 0)
-    }
-}
-
+#[tactic(auto, using(vp_bytes::proofs::Writing::writing))]
 fn put_commit(
     out: &mut Vec<u8>,
     txn: &TxnId,
@@ -108,20 +102,22 @@ fn put_commit(
 ) -> Result<(), NoMemory>
     requires writes { IsWrites writes.now }
     requires waiting { IsSites 0 waiting.now }
-    ensures { OnOk result (out.new.items ≡ out.old.items ++ (txn_bytes txn.now ++ (view_bytes view.now ++ (writes_bytes writes.now ++ counted_bytes waiting.now)))) }
+    ensures { Appends result out.old.items (txn_bytes txn.now ++ (view_bytes view.now ++ (writes_bytes writes.now ++ counted_bytes waiting.now))) out.new.items }
 {
     put_doubt(out, txn, view, writes)?;
     put_sites(out, waiting)
 }
 
+#[tactic(auto, using(vp_bytes::proofs::Writing::writing))]
 fn put_acked(out: &mut Vec<u8>, txn: &TxnId, site: SiteId) -> Result<(), NoMemory>
-    ensures { OnOk result (out.new.items ≡ out.old.items ++ (txn_bytes txn.now ++ site ∷ [])) }
+    ensures { Appends result out.old.items (txn_bytes txn.now ++ site ∷ []) out.new.items }
 {
     put_txn(out, txn)?;
     put_byte(out, site.get())
 }
 
 /// What a checkpoint has behind its promise.
+#[tactic(auto, using(vp_bytes::proofs::Writing::writing))]
 fn put_saved(
     out: &mut Vec<u8>,
     copies: &[(RecId, Stored)],
@@ -131,7 +127,7 @@ fn put_saved(
     requires copies { IsCopies copies.now }
     requires doubts { IsDoubts doubts.now }
     requires decisions { IsDecisions decisions.now }
-    ensures { OnOk result (out.new.items ≡ out.old.items ++ (copies_bytes copies.now ++ (doubts_bytes doubts.now ++ decisions_bytes decisions.now))) }
+    ensures { Appends result out.old.items (copies_bytes copies.now ++ (doubts_bytes doubts.now ++ decisions_bytes decisions.now)) out.new.items }
 {
     put_copies(out, copies)?;
     put_doubts(out, doubts)?;

@@ -56,6 +56,8 @@ pub fn write_synced<D: Disk>(disk: &mut D, at: u64, piece: &[u8]) -> Result<(), 
     ensures honest { D.honest disk.old ↔ D.honest disk.new }
     ensures time { Elapses (D.moment disk.old) (D.moment disk.new) (D.left_since disk.old (D.asked disk.old)) (D.left_since disk.new (D.asked disk.old))
         (TornFrom at (length piece.now) (D.may_leave disk.old (D.asked disk.old))) }
+    // Of another log a crash at any moment of the call leaves what it might have left before.
+    ensures any_moment_elsewhere { (log : Option (List ℕ)) → (log ≡ D.asked disk.old → ⊥) → Elapses (D.moment disk.old) (D.moment disk.new) (D.left_since disk.old log) (D.left_since disk.new log) (D.may_leave disk.old log) }
     ensures cause { HasOutCause (D.faults disk.old) (D.faults disk.new) result }
 {
     disk.write_at(0, at, piece)?;

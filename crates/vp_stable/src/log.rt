@@ -2,7 +2,7 @@
 
 ghost use Rattle.std.specs.Prelude.{◌≡◌, ◌⊎◌, ◌↔◌, ◌<◌, ◌^◌, ℕ, List, Option, IfOk, IfSome, IsTrue, OnOk, OnErr};
 ghost use Rattle.vp_records.specs.Batches.{IsBatch};
-ghost use Rattle.vp_outside.specs.Disk.{Becomes, StaysAttached, Untouched};
+ghost use Rattle.vp_outside.specs.Disk.{Becomes, StaysAttached, Untouched, Elapses};
 ghost use Rattle.vp_stable.specs.Log.{IsLog};
 ghost use Rattle.vp_stable.specs.Moments.{IsKept, ReadsAlike, Gains, MayGain, LeavesOnly};
 ghost use Rattle.vp_stable.specs.Faults.{Recovers, HasLogCause, HasAppendCause};
@@ -40,6 +40,8 @@ impl Log {
             (λ image. D.may_leave disk.old (D.asked disk.old) image ⊎ ReadsAlike log image)) }
 
         ensures elsewhere { (log : Option (List ℕ)) → (log ≡ D.asked disk.old → ⊥) → Untouched log (D.logs disk.old) (D.logs disk.new) (D.may_leave disk.old) (D.may_leave disk.new) }
+        // Of another log a crash at any moment of the call leaves what it might have left before.
+        ensures any_moment_elsewhere { (log : Option (List ℕ)) → (log ≡ D.asked disk.old → ⊥) → Elapses (D.moment disk.old) (D.moment disk.new) (D.left_since disk.old log) (D.left_since disk.new log) (D.may_leave disk.old log) }
         ensures stays { StaysAttached (D.asked disk.old) (D.asked disk.new) (D.attached disk.old) (D.attached disk.new) }
         ensures honest { D.honest disk.old ↔ D.honest disk.new }
         ensures cause { HasLogCause (D.faults disk.old) (D.faults disk.new) result }
@@ -73,6 +75,8 @@ impl Log {
             (MayGain batch.now self.old.gate log)) }
 
         ensures elsewhere { (log : Option (List ℕ)) → (log ≡ D.asked disk.old → ⊥) → Untouched log (D.logs disk.old) (D.logs disk.new) (D.may_leave disk.old) (D.may_leave disk.new) }
+        // Of another log a crash at any moment of the call leaves what it might have left before.
+        ensures any_moment_elsewhere { (log : Option (List ℕ)) → (log ≡ D.asked disk.old → ⊥) → Elapses (D.moment disk.old) (D.moment disk.new) (D.left_since disk.old log) (D.left_since disk.new log) (D.may_leave disk.old log) }
         ensures stays { StaysAttached (D.asked disk.old) (D.asked disk.new) (D.attached disk.old) (D.attached disk.new) }
         ensures honest { D.honest disk.old ↔ D.honest disk.new }
         ensures cause { HasAppendCause (D.faults disk.old) (D.faults disk.new) result }

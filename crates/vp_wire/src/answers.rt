@@ -1,6 +1,7 @@
 //! Writing answers.
 
-ghost use Rattle.std.specs.Prelude.{◌≡◌, ◌++◌, ◌∷◌, [], OnOk};
+ghost use Rattle.std.specs.Prelude.{◌≡◌, ◌++◌, ◌∷◌, []};
+ghost use Rattle.vp_text.specs.Printing.{Appends};
 ghost use Rattle.vp_wire.specs.Grammar.{answer_bytes};
 ghost use Rattle.vp_bytes.specs.Fields.{number_bytes, counted_bytes, numbered_bytes, txn_bytes, view_bytes, owner_bytes, maybe_view_bytes};
 
@@ -11,8 +12,9 @@ use vp_bytes::{
     put_byte, put_maybe_view, put_name, put_owner, put_txn, put_u32, put_u64, put_value, put_view,
 };
 
+#[tactic(auto, using(vp_bytes::proofs::Writing::writing))]
 pub fn put_answer(out: &mut BytesMut, answer: &Answer) -> Result<(), NoMemory>
-    ensures { OnOk result (out.new.items ≡ out.old.items ++ answer_bytes answer.now) }
+    ensures { Appends result out.old.items (answer_bytes answer.now) out.new.items }
 {
     match answer {
         Answer::Begun { txn, view } => put_begun(out, txn, view),
@@ -54,20 +56,23 @@ pub fn put_answer(out: &mut BytesMut, answer: &Answer) -> Result<(), NoMemory>
     }
 }
 
+#[tactic(auto, using(vp_bytes::proofs::Writing::writing))]
 fn put_coded_txn(out: &mut BytesMut, code: u8, txn: &TxnId) -> Result<(), NoMemory>
-    ensures { OnOk result (out.new.items ≡ out.old.items ++ code ∷ txn_bytes txn.now) }
+    ensures { Appends result out.old.items (code ∷ txn_bytes txn.now) out.new.items }
 {
     put_byte(out, code)?;
     put_txn(out, txn)
 }
 
+#[tactic(auto, using(vp_bytes::proofs::Writing::writing))]
 fn put_coded_view(out: &mut BytesMut, code: u8, view: &ViewId) -> Result<(), NoMemory>
-    ensures { OnOk result (out.new.items ≡ out.old.items ++ code ∷ view_bytes view.now) }
+    ensures { Appends result out.old.items (code ∷ view_bytes view.now) out.new.items }
 {
     put_byte(out, code)?;
     put_view(out, view)
 }
 
+#[tactic(auto, using(vp_bytes::proofs::Writing::writing))]
 fn put_coded_site(
     out: &mut BytesMut,
     code: u8,
@@ -75,12 +80,13 @@ fn put_coded_site(
     number: CallNo,
     at: SiteId,
 ) -> Result<(), NoMemory>
-    ensures { OnOk result (out.new.items ≡ out.old.items ++ code ∷ (numbered_bytes txn.now number ++ at ∷ [])) }
+    ensures { Appends result out.old.items (code ∷ (numbered_bytes txn.now number ++ at ∷ [])) out.new.items }
 {
     put_coded(out, code, txn, number)?;
     put_byte(out, at.get())
 }
 
+#[tactic(auto, using(vp_bytes::proofs::Writing::writing))]
 fn put_coded_name(
     out: &mut BytesMut,
     code: u8,
@@ -88,31 +94,34 @@ fn put_coded_name(
     number: CallNo,
     name: &Name,
 ) -> Result<(), NoMemory>
-    ensures { OnOk result (out.new.items ≡ out.old.items ++ code ∷ (numbered_bytes txn.now number ++ counted_bytes name.now)) }
+    ensures { Appends result out.old.items (code ∷ (numbered_bytes txn.now number ++ counted_bytes name.now)) out.new.items }
 {
     put_coded(out, code, txn, number)?;
     put_name(out, name)
 }
 
+#[tactic(auto, using(vp_bytes::proofs::Writing::writing))]
 fn put_begun(out: &mut BytesMut, txn: &TxnId, view: &ViewId) -> Result<(), NoMemory>
-    ensures { OnOk result (out.new.items ≡ out.old.items ++ 1 ∷ (txn_bytes txn.now ++ view_bytes view.now)) }
+    ensures { Appends result out.old.items (1 ∷ (txn_bytes txn.now ++ view_bytes view.now)) out.new.items }
 {
     put_coded_txn(out, 1, txn)?;
     put_view(out, view)
 }
 
+#[tactic(auto, using(vp_bytes::proofs::Writing::writing))]
 fn put_value_read(
     out: &mut BytesMut,
     txn: &TxnId,
     number: CallNo,
     value: &Value,
 ) -> Result<(), NoMemory>
-    ensures { OnOk result (out.new.items ≡ out.old.items ++ 2 ∷ (numbered_bytes txn.now number ++ counted_bytes value.now)) }
+    ensures { Appends result out.old.items (2 ∷ (numbered_bytes txn.now number ++ counted_bytes value.now)) out.new.items }
 {
     put_coded(out, 2, txn, number)?;
     put_value(out, value)
 }
 
+#[tactic(auto, using(vp_bytes::proofs::Writing::writing))]
 fn put_inaccessible(
     out: &mut BytesMut,
     txn: &TxnId,
@@ -121,14 +130,14 @@ fn put_inaccessible(
     inside: u32,
     total: u32,
 ) -> Result<(), NoMemory>
-    ensures { OnOk result (out.new.items ≡ out.old.items
-        ++ 13 ∷ (numbered_bytes txn.now number ++ (counted_bytes name.now ++ (number_bytes 4 inside ++ number_bytes 4 total)))) }
+    ensures { Appends result out.old.items (13 ∷ (numbered_bytes txn.now number ++ (counted_bytes name.now ++ (number_bytes 4 inside ++ number_bytes 4 total)))) out.new.items }
 {
     put_coded_name(out, 13, txn, number, name)?;
     put_u32(out, inside)?;
     put_u32(out, total)
 }
 
+#[tactic(auto, using(vp_bytes::proofs::Writing::writing))]
 fn put_lock_held(
     out: &mut BytesMut,
     txn: &TxnId,
@@ -137,14 +146,14 @@ fn put_lock_held(
     at: SiteId,
     owner: &Owner,
 ) -> Result<(), NoMemory>
-    ensures { OnOk result (out.new.items ≡ out.old.items
-        ++ 14 ∷ (numbered_bytes txn.now number ++ (counted_bytes name.now ++ at ∷ owner_bytes owner.now))) }
+    ensures { Appends result out.old.items (14 ∷ (numbered_bytes txn.now number ++ (counted_bytes name.now ++ at ∷ owner_bytes owner.now))) out.new.items }
 {
     put_coded_name(out, 14, txn, number, name)?;
     put_byte(out, at.get())?;
     put_owner(out, owner)
 }
 
+#[tactic(auto, using(vp_bytes::proofs::Writing::writing))]
 fn put_view_changed(
     out: &mut BytesMut,
     txn: &TxnId,
@@ -153,16 +162,16 @@ fn put_view_changed(
     held: &ViewId,
     now: &Option<ViewId>,
 ) -> Result<(), NoMemory>
-    ensures { OnOk result (out.new.items ≡ out.old.items
-        ++ 15 ∷ (numbered_bytes txn.now number ++ at ∷ (view_bytes held.now ++ maybe_view_bytes now.now))) }
+    ensures { Appends result out.old.items (15 ∷ (numbered_bytes txn.now number ++ at ∷ (view_bytes held.now ++ maybe_view_bytes now.now))) out.new.items }
 {
     put_coded_site(out, 15, txn, number, at)?;
     put_view(out, held)?;
     put_maybe_view(out, now)
 }
 
+#[tactic(auto, using(vp_bytes::proofs::Writing::writing))]
 fn put_spent(out: &mut BytesMut, number: u64) -> Result<(), NoMemory>
-    ensures { OnOk result (out.new.items ≡ out.old.items ++ 17 ∷ number_bytes 8 number) }
+    ensures { Appends result out.old.items (17 ∷ number_bytes 8 number) out.new.items }
 {
     put_byte(out, 17)?;
     put_u64(out, number)

@@ -1,7 +1,8 @@
 //! Writing frames.
 
-ghost use Rattle.std.specs.Prelude.{◌≡◌, ◌++◌, ◌∷◌, [], OnOk};
-ghost use Rattle.vp_bytes.specs.Fields.{IsSites, IsRecs, IsWrites, view_bytes, txn_bytes, counted_bytes, writes_bytes, numbered_bytes, request_bytes, outcome_byte};
+ghost use Rattle.std.specs.Prelude.{◌≡◌, ◌++◌, ◌∷◌, []};
+ghost use Rattle.vp_text.specs.Printing.{Appends};
+ghost use Rattle.vp_bytes.specs.Fields.{IsSites, IsRecs, IsWrites, view_bytes, txn_bytes, counted_bytes, writes_bytes, numbered_bytes, request_bytes};
 ghost use Rattle.vp_bytes.specs.Copies.{copy_bytes};
 ghost use Rattle.vp_wire.specs.Grammar.{IsMessage, IsFrame, message_kind, message_bytes, kind, fields, frame_bytes, obstacle_bytes};
 
@@ -11,21 +12,23 @@ use crate::frame::{Body, Frame};
 use bytes::BytesMut;
 use vp_base::{CallNo, Message, NoMemory, Obstacle, RecId, SiteId, Stored, TxnId, Value, ViewId};
 use vp_bytes::{
-    put_byte, put_copy, put_maybe_view, put_numbered, put_owner, put_recs, put_request, put_sites,
-    put_txn, put_value, put_view, put_writes,
+    put_byte, put_copy, put_maybe_view, put_numbered, put_outcome, put_owner, put_recs,
+    put_request, put_sites, put_txn, put_value, put_view, put_writes,
 };
 
-/// Appends the one spelling of the frame. Without memory a beginning of it may have been appended.
+/// Appends the one spelling of the frame. Without memory it has appended a beginning of it, and changed nothing else.
+#[tactic(auto, using(vp_bytes::proofs::Writing::writing))]
 pub fn encode(frame: &Frame, out: &mut BytesMut) -> Result<(), NoMemory>
     requires { IsFrame frame.now }
-    ensures { OnOk result (out.new.items ≡ out.old.items ++ frame_bytes frame.now) }
+    ensures { Appends result out.old.items (frame_bytes frame.now) out.new.items }
 {
     put_head(out, frame)?;
     put_fields(out, frame)
 }
 
+#[tactic(auto, using(vp_bytes::proofs::Writing::writing))]
 fn put_head(out: &mut BytesMut, frame: &Frame) -> Result<(), NoMemory>
-    ensures { OnOk result (out.new.items ≡ out.old.items ++ 86 ∷ 1 ∷ kind frame.now.body ∷ frame.now.from ∷ frame.now.to ∷ []) }
+    ensures { Appends result out.old.items (86 ∷ 1 ∷ kind frame.now.body ∷ frame.now.from ∷ frame.now.to ∷ []) out.new.items }
 {
     put_byte(out, 0x56)?;
     put_byte(out, 1)?;
@@ -71,9 +74,10 @@ fn kind_of(message: &Message) -> u8
     }
 }
 
+#[tactic(auto, using(vp_bytes::proofs::Writing::writing))]
 fn put_fields(out: &mut BytesMut, frame: &Frame) -> Result<(), NoMemory>
     requires { IsFrame frame.now }
-    ensures { OnOk result (out.new.items ≡ out.old.items ++ fields frame.now.body) }
+    ensures { Appends result out.old.items (fields frame.now.body) out.new.items }
 {
     match &frame.body {
         Body::Message(message) => put_message(out, message),
@@ -83,9 +87,10 @@ fn put_fields(out: &mut BytesMut, frame: &Frame) -> Result<(), NoMemory>
     }
 }
 
+#[tactic(auto, using(vp_bytes::proofs::Writing::writing))]
 fn put_message(out: &mut BytesMut, message: &Message) -> Result<(), NoMemory>
     requires { IsMessage message.now }
-    ensures { OnOk result (out.new.items ≡ out.old.items ++ message_bytes message.now) }
+    ensures { Appends result out.old.items (message_bytes message.now) out.new.items }
 {
     match message {
         Message::Invite { id } => put_view(out, id),
@@ -124,21 +129,24 @@ fn put_message(out: &mut BytesMut, message: &Message) -> Result<(), NoMemory>
     }
 }
 
+#[tactic(auto, using(vp_bytes::proofs::Writing::writing))]
 fn put_two_views(out: &mut BytesMut, a: &ViewId, b: &ViewId) -> Result<(), NoMemory>
-    ensures { OnOk result (out.new.items ≡ out.old.items ++ (view_bytes a.now ++ view_bytes b.now)) }
+    ensures { Appends result out.old.items (view_bytes a.now ++ view_bytes b.now) out.new.items }
 {
     put_view(out, a)?;
     put_view(out, b)
 }
 
+#[tactic(auto, using(vp_bytes::proofs::Writing::writing))]
 fn put_members(out: &mut BytesMut, id: &ViewId, members: &[SiteId]) -> Result<(), NoMemory>
     requires { IsSites 1 members.now }
-    ensures { OnOk result (out.new.items ≡ out.old.items ++ (view_bytes id.now ++ counted_bytes members.now)) }
+    ensures { Appends result out.old.items (view_bytes id.now ++ counted_bytes members.now) out.new.items }
 {
     put_view(out, id)?;
     put_sites(out, members)
 }
 
+#[tactic(auto, using(vp_bytes::proofs::Writing::writing))]
 fn put_lock_request(
     out: &mut BytesMut,
     txn: &TxnId,
@@ -146,26 +154,28 @@ fn put_lock_request(
     number: CallNo,
     rec: RecId,
 ) -> Result<(), NoMemory>
-    ensures { OnOk result (out.new.items ≡ out.old.items ++ (request_bytes txn.now view.now number ++ rec ∷ [])) }
+    ensures { Appends result out.old.items (request_bytes txn.now view.now number ++ rec ∷ []) out.new.items }
 {
     put_request(out, txn, view, number)?;
     put_byte(out, rec.get())
 }
 
+#[tactic(auto, using(vp_bytes::proofs::Writing::writing))]
 fn put_read_answer(
     out: &mut BytesMut,
     txn: &TxnId,
     number: CallNo,
     value: &Value,
 ) -> Result<(), NoMemory>
-    ensures { OnOk result (out.new.items ≡ out.old.items ++ (numbered_bytes txn.now number ++ counted_bytes value.now)) }
+    ensures { Appends result out.old.items (numbered_bytes txn.now number ++ counted_bytes value.now) out.new.items }
 {
     put_numbered(out, txn, number)?;
     put_value(out, value)
 }
 
+#[tactic(auto, using(vp_bytes::proofs::Writing::writing))]
 fn put_obstacle(out: &mut BytesMut, why: &Obstacle) -> Result<(), NoMemory>
-    ensures { OnOk result (out.new.items ≡ out.old.items ++ obstacle_bytes why.now) }
+    ensures { Appends result out.old.items (obstacle_bytes why.now) out.new.items }
 {
     match why {
         Obstacle::Held { owner } => {
@@ -179,18 +189,20 @@ fn put_obstacle(out: &mut BytesMut, why: &Obstacle) -> Result<(), NoMemory>
     }
 }
 
+#[tactic(auto, using(vp_bytes::proofs::Writing::writing))]
 fn put_refuse(
     out: &mut BytesMut,
     txn: &TxnId,
     number: CallNo,
     why: &Obstacle,
 ) -> Result<(), NoMemory>
-    ensures { OnOk result (out.new.items ≡ out.old.items ++ (numbered_bytes txn.now number ++ obstacle_bytes why.now)) }
+    ensures { Appends result out.old.items (numbered_bytes txn.now number ++ obstacle_bytes why.now) out.new.items }
 {
     put_numbered(out, txn, number)?;
     put_obstacle(out, why)
 }
 
+#[tactic(auto, using(vp_bytes::proofs::Writing::writing))]
 fn put_prepare(
     out: &mut BytesMut,
     txn: &TxnId,
@@ -201,38 +213,29 @@ fn put_prepare(
 ) -> Result<(), NoMemory>
     requires reads { IsRecs reads.now }
     requires writes { IsWrites writes.now }
-    ensures { OnOk result (out.new.items ≡ out.old.items ++ (request_bytes txn.now view.now number ++ (counted_bytes reads.now ++ writes_bytes writes.now))) }
+    ensures { Appends result out.old.items (request_bytes txn.now view.now number ++ (counted_bytes reads.now ++ writes_bytes writes.now)) out.new.items }
 {
     put_request(out, txn, view, number)?;
     put_recs(out, reads)?;
     put_writes(out, writes)
 }
 
-fn put_outcome(out: &mut BytesMut, txn: &TxnId, commit: bool) -> Result<(), NoMemory>
-    ensures { OnOk result (out.new.items ≡ out.old.items ++ (txn_bytes txn.now ++ outcome_byte commit ∷ [])) }
-{
-    put_txn(out, txn)?;
-    if commit {
-        put_byte(out, 1)
-    } else {
-        put_byte(out, 0)
-    }
-}
-
+#[tactic(auto, using(vp_bytes::proofs::Writing::writing))]
 fn put_refresh_request(out: &mut BytesMut, view: &ViewId, rec: RecId) -> Result<(), NoMemory>
-    ensures { OnOk result (out.new.items ≡ out.old.items ++ (view_bytes view.now ++ rec ∷ [])) }
+    ensures { Appends result out.old.items (view_bytes view.now ++ rec ∷ []) out.new.items }
 {
     put_view(out, view)?;
     put_byte(out, rec.get())
 }
 
+#[tactic(auto, using(vp_bytes::proofs::Writing::writing))]
 fn put_refresh_answer(
     out: &mut BytesMut,
     view: &ViewId,
     rec: RecId,
     stored: &Stored,
 ) -> Result<(), NoMemory>
-    ensures { OnOk result (out.new.items ≡ out.old.items ++ (view_bytes view.now ++ copy_bytes (rec, stored.now))) }
+    ensures { Appends result out.old.items (view_bytes view.now ++ copy_bytes (rec, stored.now)) out.new.items }
 {
     put_view(out, view)?;
     put_copy(out, rec, stored)

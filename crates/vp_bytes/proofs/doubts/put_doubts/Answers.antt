@@ -1,6 +1,19 @@
-use Rattle.std.proofs.Common.{◌≤◌, length, sym, subst}
+use Rattle.std.proofs.Common.{◌≤◌, length, sym, subst, arith}
+use Rattle.std.proofs.lemmas.Grind.{common_steps}
 use Rattle.vp_base.specs.declared.entry.Doubt.{Doubt}
+use Rattle.vp_bytes.specs.Doubts.{doubt_bytes}
+use Rattle.vp_bytes.specs.Fields.{number_bytes}
+use Rattle.vp_bytes.proofs.Writing.{appended, begun_err, begun_item}
 use Rattle.vp_bytes.proofs.doubts.put_doubts.Goals as goal
 
 pub put_doubt-requires : goal.put_doubt-requires
 put_doubt-requires g c = subst (λ (doubt : Doubt). length doubt.writes ≤ 64) (sym c.doubt-item.is) (c.requires c.loop-doubt.doubt-index c.doubt-item.result c.loop-doubt-test.true)
+
+pub returns-in_err-put_doubt : goal.returns-in_err-put_doubt
+returns-in_err-put_doubt g c =
+    let old = g.B.BufMut.written c.args.out.now in
+    let begun = rw c.loop-doubt.invariant at c.put_doubt.ensures.begun in
+    begun_err _ _ _ _ c.from_residual-in_err-put_doubt.ensures.0 (begun_item doubt_bytes old (number_bytes 8 (length c.args.doubts.now)) c.args.doubts.now c.loop-doubt.doubt-index c.doubt-item.result _ c.loop-doubt-test.true c.doubt-item.is begun)
+
+pub returns : goal.returns
+returns g c = appended _ _ _ (grind (arith, common_steps))

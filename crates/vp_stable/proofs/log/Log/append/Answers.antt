@@ -1,6 +1,7 @@
 use Rattle.std.proofs.Common.{◌≡◌, ◌+◌, ◌∷◌, ◌++◌, [], length, sym, ◌∙◌}
 use Rattle.vp_stable.specs.Log.{measured}
 use Rattle.vp_stable.proofs.Appends.{on_err, becomes-as, becomes-then, first_torn, second_torn, both_written, kept_gained, first_leaves, second_leaves}
+use Rattle.vp_stable.proofs.Times.{elapses_none, elapses_then}
 use Rattle.vp_stable.proofs.log.Log.append.Goals as goal
 
 -- a first write that isn't done
@@ -52,3 +53,22 @@ returns-clause-any_moment g c honest =
     let time = rw c.write_synced.ensures.stays.same_name at c.write_synced-2.ensures.time in
     second_leaves c.args.batch.now c.args.self.now.gate _ _ _ (λ image left. g.met.D.Disk.only_now c.args.disk.now name image left)
     c.in_ok-piece.ensures.can c.deref.result.now piece _ _ _ _ _ _ _ c.write_synced.ensures.time time c.in_ok-write_synced.ensures.written (c.in_ok-write_synced.ensures.durable honest) (c.requires.kept honest)
+
+-- the other logs
+pub returns-in_err-piece-clause-any_moment_elsewhere : goal.returns-in_err-piece-clause-any_moment_elsewhere
+returns-in_err-piece-clause-any_moment_elsewhere g c log other =
+    elapses_none _ _ _
+
+pub returns-in_err-write_synced-clause-any_moment_elsewhere : goal.returns-in_err-write_synced-clause-any_moment_elsewhere
+returns-in_err-write_synced-clause-any_moment_elsewhere g c log other =
+    c.write_synced.ensures.any_moment_elsewhere log other
+
+pub returns-in_err-write_synced-2-clause-any_moment_elsewhere : goal.returns-in_err-write_synced-2-clause-any_moment_elsewhere
+returns-in_err-write_synced-2-clause-any_moment_elsewhere g c log other =
+    elapses_then _ _ _ _ _ _ _ _ _ (c.write_synced.ensures.any_moment_elsewhere log other) (c.write_synced-2.ensures.any_moment_elsewhere log (λ same. other (same ∙ c.write_synced.ensures.stays.same_name)))
+    (λ image left. left) (λ image left. (c.write_synced.ensures.elsewhere log other).no_other image left)
+
+pub returns-clause-any_moment_elsewhere : goal.returns-clause-any_moment_elsewhere
+returns-clause-any_moment_elsewhere g c log other =
+    elapses_then _ _ _ _ _ _ _ _ _ (c.write_synced.ensures.any_moment_elsewhere log other) (c.write_synced-2.ensures.any_moment_elsewhere log (λ same. other (same ∙ c.write_synced.ensures.stays.same_name)))
+    (λ image left. left) (λ image left. (c.write_synced.ensures.elsewhere log other).no_other image left)

@@ -1,7 +1,7 @@
-use Rattle.std.proofs.Common.{◌≡◌, ◌<◌, length, arith}
+use Rattle.std.proofs.Common.{◌≡◌, ◌<◌, ◌∙◌, length, arith}
 use Rattle.std.specs.Prelude.{IfSome}
 use Rattle.vp_stable.proofs.Recoveries.{becomes_alike, becomes_same, becomes_torn, short_half, found_new, found_old, quiet_leaves, torn_leaves, only_fewer}
-use Rattle.vp_stable.proofs.Times.{quiet_none, quiet_then, quiet_join, told_before}
+use Rattle.vp_stable.proofs.Times.{elapses_then, quiet_none, quiet_then, quiet_join, told_before}
 use Rattle.vp_stable.proofs.log.Log.recover.Goals as goal
 use Rattle.vp_stable.proofs.log.Log.recover.Goals.{then-len-lt2+in_ok-write_synced, else-len-lt2}
 
@@ -98,4 +98,42 @@ returns-clause-any_moment g c honest =
           let time = rw quiet.stays.same_name at w.write_synced.ensures.time in
           rw w.disk-is (torn_leaves _ _ _ _ _ (λ image left. g.met.D.Disk.only_now c.args.disk.now name image left) _ _ _ _ (quiet.time name) time only (short_half _ _ told short))
       | else-len-lt2 w ↦ rw w.disk-is (quiet_leaves _ _ _ _ _ (λ image left. g.met.D.Disk.only_now c.args.disk.now name image left) _ (quiet.time name))
+    ]
+
+-- the other logs
+pub returns-in_err-sync-clause-any_moment_elsewhere : goal.returns-in_err-sync-clause-any_moment_elsewhere
+returns-in_err-sync-clause-any_moment_elsewhere g c log other =
+    let s = c.sync.ensures in
+    let synced = quiet_then (quiet_none _ _ _ _ _ _ _) s.stays s.honest s.untouched s.time in
+    synced.time log
+
+pub returns-in_err-bytes-clause-any_moment_elsewhere : goal.returns-in_err-bytes-clause-any_moment_elsewhere
+returns-in_err-bytes-clause-any_moment_elsewhere g c log other =
+    let s = c.sync.ensures in
+    let synced = quiet_then (quiet_none _ _ _ _ _ _ _) s.stays s.honest s.untouched s.time in
+    let quiet = quiet_join synced c.read_half.ensures.quiet in
+    quiet.time log
+
+pub returns-in_err-gate-clause-any_moment_elsewhere : goal.returns-in_err-gate-clause-any_moment_elsewhere
+returns-in_err-gate-clause-any_moment_elsewhere g c log other =
+    let s = c.sync.ensures in
+    let synced = quiet_then (quiet_none _ _ _ _ _ _ _) s.stays s.honest s.untouched s.time in
+    let quiet = quiet_join synced c.read_half.ensures.quiet in
+    quiet.time log
+
+pub returns-in_err-write_synced-clause-any_moment_elsewhere : goal.returns-in_err-write_synced-clause-any_moment_elsewhere
+returns-in_err-write_synced-clause-any_moment_elsewhere g c log other =
+    let s = c.sync.ensures in
+    let synced = quiet_then (quiet_none _ _ _ _ _ _ _) s.stays s.honest s.untouched s.time in
+    let quiet = quiet_join synced c.read_half.ensures.quiet in
+    elapses_then _ _ _ _ _ _ _ _ _ (quiet.time log) (c.write_synced.ensures.any_moment_elsewhere log (λ same. other (same ∙ quiet.stays.same_name))) (λ image left. left) (λ image left. (quiet.untouched log).no_other image left)
+
+pub returns-clause-any_moment_elsewhere : goal.returns-clause-any_moment_elsewhere
+returns-clause-any_moment_elsewhere g c log other =
+    let s = c.sync.ensures in
+    let synced = quiet_then (quiet_none _ _ _ _ _ _ _) s.stays s.honest s.untouched s.time in
+    let quiet = quiet_join synced c.read_half.ensures.quiet in
+    elim c.if-len-lt2.branch [
+      | then-len-lt2+in_ok-write_synced w ↦ rw w.disk-is (elapses_then _ _ _ _ _ _ _ _ _ (quiet.time log) (w.write_synced.ensures.any_moment_elsewhere log (λ same. other (same ∙ quiet.stays.same_name))) (λ image left. left) (λ image left. (quiet.untouched log).no_other image left))
+      | else-len-lt2 w ↦ rw w.disk-is (quiet.time log)
     ]

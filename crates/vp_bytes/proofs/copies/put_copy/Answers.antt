@@ -1,0 +1,11 @@
+use Rattle.std.proofs.Common.{[], ◌∷◌, refl}
+use Rattle.vp_bytes.specs.Fields.{counted_bytes, view_bytes}
+use Rattle.vp_bytes.proofs.Writing.{begun_err, begun_part}
+use Rattle.vp_bytes.proofs.copies.put_copy.Goals as goal
+
+pub returns-in_err-put_value : goal.returns-in_err-put_value
+returns-in_err-put_value g c =
+    let old = g.B.BufMut.written c.args.out.now in
+    let stored = c.args.stored.now in
+    let begun = rw (c.in_ok-put_byte.ensures.ok, c.get.ensures.value) at c.put_value.ensures.begun in
+    begun_err _ _ _ _ c.from_residual-in_err-put_value.ensures.0 (begun_part old (c.args.rec ∷ []) (counted_bytes stored.value) (view_bytes stored.date) _ _ refl begun)

@@ -1,0 +1,15 @@
+use Rattle.std.proofs.Common.{length, arith}
+use Rattle.std.proofs.lemmas.Grind.{common_steps}
+use Rattle.vp_bytes.specs.Decisions.{decision_bytes}
+use Rattle.vp_bytes.specs.Fields.{number_bytes}
+use Rattle.vp_bytes.proofs.Writing.{appended, begun_err, begun_item}
+use Rattle.vp_bytes.proofs.decisions.put_decisions.Goals as goal
+
+pub returns-in_err-put_decision : goal.returns-in_err-put_decision
+returns-in_err-put_decision g c =
+    let old = g.B.BufMut.written c.args.out.now in
+    let begun = rw c.loop-decision.invariant at c.put_decision.ensures.begun in
+    begun_err _ _ _ _ c.from_residual-in_err-put_decision.ensures.0 (begun_item decision_bytes old (number_bytes 8 (length c.args.decisions.now)) c.args.decisions.now c.loop-decision.decision-index c.decision-item.result _ c.loop-decision-test.true c.decision-item.is begun)
+
+pub returns : goal.returns
+returns g c = appended _ _ _ (grind (arith, common_steps))

@@ -1,0 +1,14 @@
+use Rattle.std.proofs.Common.{[], ◌∷◌, length, arith}
+use Rattle.std.proofs.lemmas.Grind.{common_steps}
+use Rattle.vp_bytes.specs.Fields.{write_bytes}
+use Rattle.vp_bytes.proofs.Writing.{appended, begun_err, begun_item}
+use Rattle.vp_bytes.proofs.fields.put_writes.Goals as goal
+
+pub returns-in_err-put_write : goal.returns-in_err-put_write
+returns-in_err-put_write g c =
+    let old = g.B.BufMut.written c.args.out.now in
+    let begun = rw c.loop-write.invariant at c.put_write.ensures.begun in
+    begun_err _ _ _ _ c.from_residual-in_err-put_write.ensures.0 (begun_item write_bytes old (length c.args.writes.now ∷ []) c.args.writes.now c.loop-write.write-index c.write-item.result _ c.loop-write-test.true c.write-item.is begun)
+
+pub returns : goal.returns
+returns g c = appended _ _ _ (grind (arith, common_steps))
