@@ -156,3 +156,4 @@ pub mod Completing
 pub mod InOpening
 pub mod TableReports
 pub mod ReportsFit
+pub mod CutTraces
