@@ -4,12 +4,13 @@ ghost use Rattle.std.specs.Prelude.{◌≡◌, OnOk, [], option_copied};
 ghost use Rattle.vp_model.specs.Calls.{own_call};
 ghost use Rattle.vp_coordinator.specs.Lent.{lent_of, around};
 
+use crate::around::Around;
 use crate::here::Here;
-use crate::sites::At;
+use crate::lent::Lent;
 use crate::transactions::Transactions;
 use std::alloc::Global;
-use std::collections::VecDeque;
 use std::marker::Model;
+use std::mem;
 use vp_base::{Call, Effects, NoMemory, SiteId, View, ViewId};
 use vp_catalog::Catalog;
 
@@ -37,12 +38,7 @@ impl Coordinator {
         Coordinator {
             id,
             life,
-            transactions: Transactions {
-                seq: 0,
-                live: Vec::new(alloc),
-                finished: VecDeque::new(alloc),
-                decisions: Vec::new(alloc),
-            },
+            transactions: Transactions::new(alloc),
         }
     }
 
@@ -75,13 +71,36 @@ impl Coordinator {
         ensures id { self.new.id ≡ self.old.id }
         ensures life { self.new.life ≡ self.old.life }
     {
-        let at = At {
+        let at = Around {
             catalog,
             held,
             id: self.id,
             life: self.life,
             promise,
         };
-        self.transactions.own_call(&at, from, call, here, effects)
+        let mut lent = take(&mut self.transactions, here, effects);
+        lent.own_call(&at, from, call)?;
+        give_back(lent, &mut self.transactions, here, effects);
+        Ok(())
     }
+}
+
+/// What a row changes, as one. What stands in its place may only be dropped.
+fn take(transactions: &mut Transactions, here: &mut Here, effects: &mut Effects) -> Lent
+    ensures { result ≡ lent_of transactions.old here.old effects.old }
+{
+    let alloc = transactions.allocator();
+    Lent {
+        coordinator: mem::replace(transactions, Transactions::new(alloc)),
+        here: mem::replace(here, Here::none(alloc)),
+        effects: mem::replace(effects, Effects::none(alloc)),
+    }
+}
+
+fn give_back(lent: Lent, transactions: &mut Transactions, here: &mut Here, effects: &mut Effects)
+    ensures { lent_of transactions.new here.new effects.new ≡ lent }
+{
+    *transactions = lent.coordinator;
+    *here = lent.here;
+    *effects = lent.effects;
 }
