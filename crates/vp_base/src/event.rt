@@ -126,6 +126,13 @@ impl Effects {
     }
 }
 
+/// What a limit of a world counts.
+#[derive(Clone, Copy, Debug, Drop, PartialEq, Eq)]
+pub enum Counted {
+    Steps,
+    Messages,
+}
+
 /// What the trace shows under an event.
 #[derive(Drop)]
 pub enum Shown {

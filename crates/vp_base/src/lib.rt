@@ -25,7 +25,7 @@ mod view_text;
 
 pub use answer::{Answer, Reply};
 pub use entry::{Commit, Decision, Doubt, LogRecord, Op, Owner, Stored, View};
-pub use event::{Call, Effects, Event, Input, Line, Shown};
+pub use event::{Call, Counted, Effects, Event, Input, Line, Shown};
 pub use fault::{BadName, LineFault, NameFault};
 pub use ids::{CallNo, RecId, SiteId, TxnId, ViewId};
 pub use lists::{

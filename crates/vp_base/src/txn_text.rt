@@ -1,7 +1,9 @@
 //! The text of a transaction, SITE.LIFE.SEQ.
 
-ghost use Rattle.std.specs.Prelude.{◌≡◌, ◌++◌, OnOk, OnErr, length, take};
+ghost use Rattle.std.specs.Prelude.{◌≡◌, ◌++◌, OnOk, OnErr};
+ghost use Rattle.std.specs.Fmt.{decimal};
 ghost use Rattle.vp_text.specs.Meaning.{Answers};
+ghost use Rattle.vp_text.specs.Printing.{Appends};
 ghost use Rattle.vp_text.specs.Reading.{Reads, whole, number_at};
 ghost use Rattle.vp_base.specs.Identifiers.{IsTxnText, txn_text};
 ghost use Rattle.vp_base.specs.Reading.{txn_at};
@@ -19,6 +21,15 @@ impl SiteId {
     {
         let number = cursor.number_u8(1, 16)?;
         Ok(SiteId::of(number))
+    }
+
+    /// Appends its number. Without memory the bytes stay as they are.
+    pub fn print(&self, out: &mut Vec<u8>) -> Result<(), NoMemory>
+        ensures ok { OnOk result (out.new.items ≡ out.old.items ++ decimal self.now) }
+        ensures err { OnErr result (out.new.items ≡ out.old.items) }
+    {
+        print_number(out, u64::from(self.get()))?;
+        Ok(())
     }
 }
 
@@ -58,13 +69,12 @@ impl TxnId {
         Ok(TxnId { site, life, seq })
     }
 
-    /// Appends the text of the transaction. Without memory a beginning of it may stand behind the
-    /// bytes that were there.
+    /// Appends the text of the transaction. Without memory only a beginning of it may stand there.
+    #[tactic(auto, using(vp_text::proofs::Printing::printing))]
     pub fn print(&self, out: &mut Vec<u8>) -> Result<(), NoMemory>
-        ensures ok { OnOk result (out.new.items ≡ out.old.items ++ txn_text self.now) }
-        ensures err { OnErr result (take (length out.old.items) out.new.items ≡ out.old.items) }
+        ensures { Appends result out.old.items (txn_text self.now) out.new.items }
     {
-        print_number(out, u64::from(self.site.get()))?;
+        self.site.print(out)?;
         out.push(b'.')?;
         print_number(out, u64::from(self.life))?;
         out.push(b'.')?;

@@ -1,7 +1,7 @@
 //! The text of a view, NUMBER@SITE.
 
-ghost use Rattle.std.specs.Prelude.{◌≡◌, ◌++◌, OnOk, OnErr, length, take};
 ghost use Rattle.vp_text.specs.Meaning.{Answers};
+ghost use Rattle.vp_text.specs.Printing.{Appends};
 ghost use Rattle.vp_text.specs.Reading.{Reads, whole, number_at};
 ghost use Rattle.vp_base.specs.Identifiers.{IsViewText, view_text};
 ghost use Rattle.vp_base.specs.Reading.{view_at, view_from_at, least_site, most_site, least_site_from};
@@ -57,11 +57,10 @@ impl ViewId {
         Ok(ViewId { number, site })
     }
 
-    /// Appends the text of the view. Without memory a beginning of it may stand behind the
-    /// bytes that were there.
+    /// Appends the text of the view. Without memory only a beginning of it may stand there.
+    #[tactic(auto, using(vp_text::proofs::Printing::printing))]
     pub fn print(&self, out: &mut Vec<u8>) -> Result<(), NoMemory>
-        ensures ok { OnOk result (out.new.items ≡ out.old.items ++ view_text self.now) }
-        ensures err { OnErr result (take (length out.old.items) out.new.items ≡ out.old.items) }
+        ensures { Appends result out.old.items (view_text self.now) out.new.items }
     {
         print_number(out, self.number)?;
         out.push(b'@')?;

@@ -4,9 +4,10 @@ use Rattle.vp_text.specs.Reading.{◌>>=◌}
 use Rattle.vp_text.proofs.Exact.{Exact, made_exact, one_value}
 use Rattle.vp_base.specs.Identifiers.{IsView}
 use Rattle.vp_base.specs.Order.{txn_before}
+use Rattle.vp_base.specs.declared.entry.Doubt.{Doubt}
 use Rattle.vp_base.specs.declared.ids.TxnId.{TxnId}
 use Rattle.vp_base.specs.declared.ids.ViewId.{ViewId}
-use Rattle.vp_bytes.specs.Doubts.{Doubt, IsDoubt, IsDoubtsBytes, doubt_at, doubts_at, doubt_bytes}
+use Rattle.vp_bytes.specs.Doubts.{IsDoubt, IsDoubtsBytes, doubt_at, doubts_at, doubt_bytes}
 use Rattle.vp_bytes.specs.Fields.{number_bytes, view_bytes, writes_bytes, IsWrites}
 use Rattle.vp_bytes.specs.Ranges.{rank, last_rank}
 use Rattle.vp_bytes.specs.Reading.{u64_at, view_at, writes_at}
@@ -22,13 +23,13 @@ abbrev Rest : Type 0
 Rest = ViewId × List (ℕ × List ℕ)
 
 abbrev txn_in : Doubt → TxnId
-txn_in doubt = doubt.0
+txn_in doubt = doubt.txn
 
 abbrev rest_in : Doubt → Rest
-rest_in doubt = (doubt.1, doubt.2)
+rest_in doubt = (doubt.view, doubt.writes)
 
 abbrev doubt_of : TxnId → Rest → Doubt
-doubt_of txn rest = (txn, rest.0, rest.1)
+doubt_of txn rest = record { txn = txn; view = rest.0; writes = rest.1 }
 
 abbrev rest_bytes : Rest → List ℕ
 rest_bytes = pair_bytes view_bytes writes_bytes
@@ -37,11 +38,11 @@ abbrev IsRest : Rest → Type 0
 IsRest = PairAllowed IsView IsWrites
 
 abbrev rest_at : TxnId → List ℕ → Result (Doubt × List ℕ) ℕ
-rest_at txn bytes = view_at bytes >>= λ view. writes_at view.1 >>= λ writes. Ok ((txn, view.0, writes.0), writes.1)
+rest_at txn bytes = view_at bytes >>= λ view. writes_at view.1 >>= λ writes. Ok (doubt_of txn (view.0, writes.0), writes.1)
 
 doubt_begun : Begun txn_in rest_in doubt_of rest_bytes IsRest IsDoubt rest_at
 doubt_begun = record {
-  exact = λ txn. then_field (λ view writes. (txn, view, writes)) view_free view_exact (λ view. made_exact (λ writes. (txn, view, writes)) writes_exact);
+  exact = λ txn. then_field (λ view writes. doubt_of txn (view, writes)) view_free view_exact (λ view. made_exact (λ writes. doubt_of txn (view, writes)) writes_exact);
   one = one_value (pair_exact view_free view_exact writes_exact);
   free = pair_free (one_value view_exact) view_free writes_free;
   made = λ doubt. refl;
@@ -56,8 +57,8 @@ doubts_ascend = txns_ascend txn_in rest_in doubt_of rest_bytes IsRest IsDoubt re
 
 pub doubts_exact : Exact IsDoubtsBytes doubts_at
 unfolding doubts_at doubt_at
-doubts_exact = list_exact (λ doubt. rank doubt.0) last_rank doubt_bytes IsDoubt (λ x y. txn_before x.0 y.0 ≡ true) doubt_at (number_bytes 8) (λ n. n < 2 ^ 64) u64_at doubts_ascend (λ n h. omega (arith, h)) number8_free number8_exact
+doubts_exact = list_exact (λ doubt. rank doubt.txn) last_rank doubt_bytes IsDoubt (λ x y. txn_before x.txn y.txn ≡ true) doubt_at (number_bytes 8) (λ n. n < 2 ^ 64) u64_at doubts_ascend (λ n h. omega (arith, h)) number8_free number8_exact
 
 pub doubts_free : IsFree IsDoubtsBytes
 unfolding doubt_at
-doubts_free = list_free (λ doubt. rank doubt.0) last_rank doubt_bytes IsDoubt (λ x y. txn_before x.0 y.0 ≡ true) doubt_at (number_bytes 8) (λ n. n < 2 ^ 64) u64_at doubts_ascend number8_free number8_exact
+doubts_free = list_free (λ doubt. rank doubt.txn) last_rank doubt_bytes IsDoubt (λ x y. txn_before x.txn y.txn ≡ true) doubt_at (number_bytes 8) (λ n. n < 2 ^ 64) u64_at doubts_ascend number8_free number8_exact

@@ -3,30 +3,27 @@ use Rattle.std.specs.Prelude.{◌≡◌, ℕ, ◌<◌, ◌^◌, List, ◌++◌, 
 use Rattle.vp_text.specs.Reading.{◌>>=◌}
 use Rattle.vp_base.specs.Identifiers.{IsTxn}
 use Rattle.vp_base.specs.Order.{txn_before}
-use Rattle.vp_base.specs.declared.ids.TxnId.{TxnId}
+use Rattle.vp_base.specs.declared.entry.Decision.{Decision}
 use Rattle.vp_bytes.specs.Fields.{Spelled, number_bytes, txn_bytes, counted_bytes, IsSites}
 use Rattle.vp_bytes.specs.Ranges.{ascending_txn_at, rank}
 use Rattle.vp_bytes.specs.Reading.{run_at, sites_at, u64_at}
 
--- a decided transaction, and the sites that have not acknowledged it
-abbrev pub Decision : Type 0
-Decision = TxnId × List ℕ
-
 -- ---- what bytes they are
 
+-- a decided transaction, and the sites that have not acknowledged it
 abbrev pub decision_bytes : Decision → List ℕ
-decision_bytes decision = txn_bytes decision.0 ++ counted_bytes decision.1
+decision_bytes decision = txn_bytes decision.txn ++ counted_bytes decision.waiting
 
 abbrev pub decisions_bytes : List Decision → List ℕ
 decisions_bytes decisions = number_bytes 8 (length decisions) ++ flat_map decision_bytes decisions
 
 -- some site has not acknowledged it
 abbrev pub IsDecision : Decision → Type 0
-IsDecision decision = IsTxn decision.0 × IsSites 1 decision.1
+IsDecision decision = IsTxn decision.txn × IsSites 1 decision.waiting
 
 -- as many as 64 bits count, ascending by transaction
 abbrev pub IsDecisions : List Decision → Type 0
-IsDecisions decisions = (length decisions < 2 ^ 64) × All IsDecision decisions × AllPairs (λ before after. txn_before before.0 after.0 ≡ true) decisions
+IsDecisions decisions = (length decisions < 2 ^ 64) × All IsDecision decisions × AllPairs (λ before after. txn_before before.txn after.txn ≡ true) decisions
 
 abbrev pub IsDecisionsBytes : List Decision → List ℕ → Type 0
 IsDecisionsBytes = Spelled decisions_bytes IsDecisions
@@ -38,8 +35,8 @@ unfoldable pub decision_at : ℕ → ℕ → List ℕ → Result (Decision × Li
 decision_at n least bytes = do
   txn ← ascending_txn_at n least bytes
   sites ← sites_at 1 txn.1
-  Ok ((txn.0, sites.0), sites.1)
+  Ok (record { txn = txn.0; waiting = sites.0 }, sites.1)
 
 -- decided transactions, ascending, behind their count
 unfoldable pub decisions_at : List ℕ → Result (List Decision × List ℕ) ℕ
-decisions_at bytes = u64_at bytes >>= λ n. run_at (λ decision. rank decision.0) decision_at n.0 0 n.1
+decisions_at bytes = u64_at bytes >>= λ n. run_at (λ decision. rank decision.txn) decision_at n.0 0 n.1

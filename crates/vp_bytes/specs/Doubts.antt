@@ -3,30 +3,26 @@ use Rattle.std.specs.Prelude.{◌≡◌, ℕ, ◌<◌, ◌^◌, List, ◌++◌, 
 use Rattle.vp_text.specs.Reading.{◌>>=◌}
 use Rattle.vp_base.specs.Identifiers.{IsTxn, IsView}
 use Rattle.vp_base.specs.Order.{txn_before}
-use Rattle.vp_base.specs.declared.ids.TxnId.{TxnId}
-use Rattle.vp_base.specs.declared.ids.ViewId.{ViewId}
+use Rattle.vp_base.specs.declared.entry.Doubt.{Doubt}
 use Rattle.vp_bytes.specs.Fields.{Spelled, number_bytes, txn_bytes, view_bytes, writes_bytes, IsWrites}
 use Rattle.vp_bytes.specs.Ranges.{ascending_txn_at, rank}
 use Rattle.vp_bytes.specs.Reading.{run_at, u64_at, view_at, writes_at}
 
--- a transaction in doubt, its view and its writes
-abbrev pub Doubt : Type 0
-Doubt = TxnId × ViewId × List (ℕ × List ℕ)
-
 -- ---- what bytes they are
 
+-- a transaction in doubt, its view and its writes
 abbrev pub doubt_bytes : Doubt → List ℕ
-doubt_bytes doubt = txn_bytes doubt.0 ++ (view_bytes doubt.1 ++ writes_bytes doubt.2)
+doubt_bytes doubt = txn_bytes doubt.txn ++ (view_bytes doubt.view ++ writes_bytes doubt.writes)
 
 abbrev pub doubts_bytes : List Doubt → List ℕ
 doubts_bytes doubts = number_bytes 8 (length doubts) ++ flat_map doubt_bytes doubts
 
 abbrev pub IsDoubt : Doubt → Type 0
-IsDoubt doubt = IsTxn doubt.0 × IsView doubt.1 × IsWrites doubt.2
+IsDoubt doubt = IsTxn doubt.txn × IsView doubt.view × IsWrites doubt.writes
 
 -- as many as 64 bits count, ascending by transaction
 abbrev pub IsDoubts : List Doubt → Type 0
-IsDoubts doubts = (length doubts < 2 ^ 64) × All IsDoubt doubts × AllPairs (λ before after. txn_before before.0 after.0 ≡ true) doubts
+IsDoubts doubts = (length doubts < 2 ^ 64) × All IsDoubt doubts × AllPairs (λ before after. txn_before before.txn after.txn ≡ true) doubts
 
 abbrev pub IsDoubtsBytes : List Doubt → List ℕ → Type 0
 IsDoubtsBytes = Spelled doubts_bytes IsDoubts
@@ -39,8 +35,8 @@ doubt_at n least bytes = do
   txn ← ascending_txn_at n least bytes
   view ← view_at txn.1
   writes ← writes_at view.1
-  Ok ((txn.0, view.0, writes.0), writes.1)
+  Ok (record { txn = txn.0; view = view.0; writes = writes.0 }, writes.1)
 
 -- transactions in doubt, ascending, behind their count
 unfoldable pub doubts_at : List ℕ → Result (List Doubt × List ℕ) ℕ
-doubts_at bytes = u64_at bytes >>= λ n. run_at (λ doubt. rank doubt.0) doubt_at n.0 0 n.1
+doubts_at bytes = u64_at bytes >>= λ n. run_at (λ doubt. rank doubt.txn) doubt_at n.0 0 n.1

@@ -14,7 +14,7 @@ use crate::reading::take_u64;
 use crate::txn_ranges::take_ascending_txn;
 use bytes::BufMut;
 use std::alloc::Global;
-use vp_base::{Decisions, LineFault, NoMemory, Sites, TxnId};
+use vp_base::{Decision, Decisions, LineFault, NoMemory, TxnId};
 use vp_text::Cursor;
 
 /// Takes decided transactions, ascending, behind their count.
@@ -32,7 +32,7 @@ fn take_some_decisions(
     cursor: &mut Cursor,
     count: u64,
 ) -> Result<Decisions, LineFault>
-    ensures { Tries (λ d. d) line_left result cursor.new (run_at (λ decision. rank decision.0) decision_at count 0 cursor.old) }
+    ensures { Tries (λ d. d) line_left result cursor.new (run_at (λ decision. rank decision.txn) decision_at count 0 cursor.old) }
 {
     let mut decisions = Vec::new(alloc);
     let mut left = count;
@@ -40,7 +40,7 @@ fn take_some_decisions(
     while left > 0 {
         left -= 1;
         let decision = take_decision(alloc, cursor, last, left)?;
-        last = Some(decision.0);
+        last = Some(decision.txn);
         decisions.push(decision)?;
     }
     Ok(Decisions::from_vec(decisions))
@@ -53,35 +53,35 @@ fn take_decision(
     cursor: &mut Cursor,
     last: Option<TxnId>,
     behind: u64,
-) -> Result<(TxnId, Sites), LineFault>
+) -> Result<Decision, LineFault>
     requires last { IfSome last IsTxn }
     requires room { next_rank last + behind ≤ last_rank }
     ensures read { Tries (λ d. d) line_left result cursor.new (decision_at behind (next_rank last) cursor.old) }
-    ensures txn { IfOk result (λ d. IsTxn d.0) }
-    ensures range { IfOk result (λ d. (next_rank last ≤ rank d.0) × (rank d.0 + behind ≤ last_rank)) }
+    ensures txn { IfOk result (λ d. IsTxn d.txn) }
+    ensures range { IfOk result (λ d. (next_rank last ≤ rank d.txn) × (rank d.txn + behind ≤ last_rank)) }
 {
     let txn = take_ascending_txn(cursor, last, behind)?;
-    let sites = take_sites(alloc, cursor, 1)?;
-    Ok((txn, sites))
+    let waiting = take_sites(alloc, cursor, 1)?;
+    Ok(Decision { txn, waiting })
 }
 
 /// Decided transactions behind their count.
-pub fn put_decisions<B: BufMut>(out: &mut B, decisions: &[(TxnId, Sites)]) -> Result<(), NoMemory>
-    requires { All (λ decision. length decision.1 ≤ 16) decisions.now }
+pub fn put_decisions<B: BufMut>(out: &mut B, decisions: &[Decision]) -> Result<(), NoMemory>
+    requires { All (λ decision. length decision.waiting ≤ 16) decisions.now }
     ensures { OnOk result (B.written out.new ≡ B.written out.old ++ decisions_bytes decisions.now) }
 {
     put_u64(out, decisions.len() as u64)?;
     for decision in decisions {
-        put_decision(out, &decision.0, &decision.1)?;
+        put_decision(out, decision)?;
     }
     Ok(())
 }
 
 /// A decided transaction, and the sites that have not acknowledged it.
-fn put_decision<B: BufMut>(out: &mut B, txn: &TxnId, sites: &Sites) -> Result<(), NoMemory>
-    requires { length sites.now ≤ 16 }
-    ensures { OnOk result (B.written out.new ≡ B.written out.old ++ decision_bytes (txn.now, sites.now)) }
+fn put_decision<B: BufMut>(out: &mut B, decision: &Decision) -> Result<(), NoMemory>
+    requires { length decision.now.waiting ≤ 16 }
+    ensures { OnOk result (B.written out.new ≡ B.written out.old ++ decision_bytes decision.now) }
 {
-    put_txn(out, txn)?;
-    put_sites(out, sites.as_slice())
+    put_txn(out, &decision.txn)?;
+    put_sites(out, decision.waiting.as_slice())
 }

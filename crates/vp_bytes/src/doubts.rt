@@ -14,7 +14,7 @@ use crate::reading::{take_u64, take_view};
 use crate::txn_ranges::take_ascending_txn;
 use bytes::BufMut;
 use std::alloc::Global;
-use vp_base::{InDoubt, LineFault, NoMemory, TxnId, ViewId, Writes};
+use vp_base::{Doubt, InDoubt, LineFault, NoMemory, TxnId, ViewId, Writes};
 use vp_text::Cursor;
 
 /// Takes transactions in doubt, ascending, behind their count.
@@ -28,7 +28,7 @@ pub fn take_doubts(alloc: Global, cursor: &mut Cursor) -> Result<InDoubt, LineFa
 
 /// Takes so many transactions in doubt, ascending.
 fn take_some_doubts(alloc: Global, cursor: &mut Cursor, count: u64) -> Result<InDoubt, LineFault>
-    ensures { Tries (λ d. d) line_left result cursor.new (run_at (λ doubt. rank doubt.0) doubt_at count 0 cursor.old) }
+    ensures { Tries (λ d. d) line_left result cursor.new (run_at (λ doubt. rank doubt.txn) doubt_at count 0 cursor.old) }
 {
     let mut doubts = Vec::new(alloc);
     let mut left = count;
@@ -36,7 +36,7 @@ fn take_some_doubts(alloc: Global, cursor: &mut Cursor, count: u64) -> Result<In
     while left > 0 {
         left -= 1;
         let doubt = take_doubt(alloc, cursor, last, left)?;
-        last = Some(doubt.0);
+        last = Some(doubt.txn);
         doubts.push(doubt)?;
     }
     Ok(InDoubt::from_vec(doubts))
@@ -49,30 +49,27 @@ fn take_doubt(
     cursor: &mut Cursor,
     last: Option<TxnId>,
     behind: u64,
-) -> Result<(TxnId, ViewId, Writes), LineFault>
+) -> Result<Doubt, LineFault>
     requires last { IfSome last IsTxn }
     requires room { next_rank last + behind ≤ last_rank }
     ensures read { Tries (λ d. d) line_left result cursor.new (doubt_at behind (next_rank last) cursor.old) }
-    ensures txn { IfOk result (λ d. IsTxn d.0) }
-    ensures range { IfOk result (λ d. (next_rank last ≤ rank d.0) × (rank d.0 + behind ≤ last_rank)) }
+    ensures txn { IfOk result (λ d. IsTxn d.txn) }
+    ensures range { IfOk result (λ d. (next_rank last ≤ rank d.txn) × (rank d.txn + behind ≤ last_rank)) }
 {
     let txn = take_ascending_txn(cursor, last, behind)?;
     let view = take_view(cursor)?;
     let writes = take_writes(alloc, cursor)?;
-    Ok((txn, view, writes))
+    Ok(Doubt { txn, view, writes })
 }
 
 /// Transactions in doubt behind their count.
-pub fn put_doubts<B: BufMut>(
-    out: &mut B,
-    doubts: &[(TxnId, ViewId, Writes)],
-) -> Result<(), NoMemory>
-    requires { All (λ doubt. length doubt.2 ≤ 64) doubts.now }
+pub fn put_doubts<B: BufMut>(out: &mut B, doubts: &[Doubt]) -> Result<(), NoMemory>
+    requires { All (λ doubt. length doubt.writes ≤ 64) doubts.now }
     ensures { OnOk result (B.written out.new ≡ B.written out.old ++ doubts_bytes doubts.now) }
 {
     put_u64(out, doubts.len() as u64)?;
     for doubt in doubts {
-        put_doubt(out, &doubt.0, &doubt.1, &doubt.2)?;
+        put_doubt(out, &doubt.txn, &doubt.view, &doubt.writes)?;
     }
     Ok(())
 }
@@ -85,7 +82,7 @@ pub fn put_doubt<B: BufMut>(
     writes: &Writes,
 ) -> Result<(), NoMemory>
     requires { length writes.now ≤ 64 }
-    ensures { OnOk result (B.written out.new ≡ B.written out.old ++ doubt_bytes (txn.now, view.now, writes.now)) }
+    ensures { OnOk result (B.written out.new ≡ B.written out.old ++ doubt_bytes (record { txn = txn.now; view = view.now; writes = writes.now })) }
 {
     put_txn(out, txn)?;
     put_view(out, view)?;

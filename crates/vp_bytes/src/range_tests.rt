@@ -9,7 +9,10 @@ use crate::{
 };
 use bytes::BytesMut;
 use std::alloc::Global;
-use vp_base::{LineFault, NoMemory, RecId, SiteId, Sites, Stored, TxnId, Value, ViewId, Writes};
+use vp_base::{
+    Decision, Doubt, LineFault, NoMemory, RecId, SiteId, Sites, Stored, TxnId, Value, ViewId,
+    Writes,
+};
 use vp_text::{Cursor, Unexpected};
 
 /// How many bytes are left at the fault, if there is one.
@@ -384,16 +387,16 @@ fn transactions_in_doubt_have_their_bytes(rt: HostRuntime) -> Result<(), NoMemor
     let mut out = BytesMut::new(rt.alloc());
     let mut writes = Vec::new(rt.alloc());
     writes.push((RecId::new(5), a_value(rt.alloc())?))?;
-    let first = (
-        txn(1, 2, 3),
-        ViewId { number: 1, site: 2 },
-        Writes::from_vec(writes),
-    );
-    let last = (
-        txn(16, 1, 1),
-        ViewId { number: 0, site: 0 },
-        Writes::new(rt.alloc()),
-    );
+    let first = Doubt {
+        txn: txn(1, 2, 3),
+        view: ViewId { number: 1, site: 2 },
+        writes: Writes::from_vec(writes),
+    };
+    let last = Doubt {
+        txn: txn(16, 1, 1),
+        view: ViewId { number: 0, site: 0 },
+        writes: Writes::new(rt.alloc()),
+    };
     put_doubts(&mut out, &[first, last])?;
     assert_eq!(rt; out.as_slice(), DOUBTS);
     let mut cursor = Cursor::new(DOUBTS);
@@ -413,8 +416,14 @@ fn decisions_have_their_bytes(rt: HostRuntime) -> Result<(), NoMemory> {
     sites.push(SiteId::of(16))?;
     let mut others = Vec::new(rt.alloc());
     others.push(SiteId::of(7))?;
-    let first = (txn(1, 2, 3), Sites::from_vec(sites));
-    let last = (txn(1, 2, 4), Sites::from_vec(others));
+    let first = Decision {
+        txn: txn(1, 2, 3),
+        waiting: Sites::from_vec(sites),
+    };
+    let last = Decision {
+        txn: txn(1, 2, 4),
+        waiting: Sites::from_vec(others),
+    };
     put_decisions(&mut out, &[first, last])?;
     assert_eq!(rt; out.as_slice(), DECISIONS);
     let mut cursor = Cursor::new(DECISIONS);

@@ -20,7 +20,7 @@ use Rattle.vp_laws.proofs.Worlds.{KeptIs, kept_is, Quiet, quiet_kept}
 -- the site has left all views below, and has no doubt on the record of such a view
 pub record ClosedAt (w : Scene) (q rec : ℕ) (i : ViewId) : Type 0 where
   pub left : (j : ViewId) → Precedes j i → HasLeft w q j
-  pub certain : (d : Doubt) → Has (kept_at w q).doubts d → Has (keys d.2) rec → Precedes d.1 i → ⊥
+  pub certain : (d : Doubt) → Has (kept_at w q).doubts d → Has (keys d.writes) rec → Precedes d.view i → ⊥
 
 -- no transaction of a lower view that writes the record can be decided any more
 abbrev pub Closed : Catalogue → Scene → ℕ → View → Type 0
@@ -42,13 +42,13 @@ module _ (catalogue : Catalogue) (w new : Scene) (s : ℕ) (x : SiteState) (give
     certain = λ d there on b. go d on b there (kept_is w new s x o st q);
   }
     where
-      here : (d : Doubt) → Has (keys d.2) rec → Precedes d.1 i → q ≡ s → DoubtNow x given d → ⊥
+      here : (d : Doubt) → Has (keys d.writes) rec → Precedes d.view i → q ≡ s → DoubtNow x given d → ⊥
       here d on b e (DoubtNow.still old) = h.certain d (rw (e, ← kept) old) on b
       here d on b e (DoubtNow.fresh from part reads writes a some is) =
           let held = parts part a.part_here in
-          (h.left d.1 b).unused x (rw e up) (Uses.held held.0 held.1 (held.2 ∙ ap (λ (d : Doubt). d.1) is))
+          (h.left d.view b).unused x (rw e up) (Uses.held held.0 held.1 (held.2 ∙ ap (λ (d : Doubt). d.view) is))
 
-      go : (d : Doubt) → Has (keys d.2) rec → Precedes d.1 i → Has (kept_at new q).doubts d → KeptIs w new s (durable_of o.site) q → ⊥
+      go : (d : Doubt) → Has (keys d.writes) rec → Precedes d.view i → Has (kept_at new q).doubts d → KeptIs w new s (durable_of o.site) q → ⊥
       go d on b there (KeptIs.other n same) = h.certain d (subst (λ (k : DurableState). Has k.doubts d) same there) on b
       go d on b there (KeptIs.here e same) = here d on b e (p.doubts d (subst (λ (k : DurableState). Has k.doubts d) same there))
 

@@ -24,7 +24,7 @@ use Rattle.vp_laws.proofs.InvGuards.{txn_same}
 use Rattle.vp_laws.proofs.HasLeft.{HasLeft}
 use Rattle.vp_laws.proofs.InvUsed.{HasAnswered, LockedAt}
 use Rattle.vp_laws.proofs.InvHeld.{holds_copy, copy_held}
-use Rattle.vp_laws.proofs.Stopping.{shared_holder}
+use Rattle.vp_laws.proofs.Stopping.{in_force_holder}
 use Rattle.vp_laws.proofs.CopyInvariants.{InvCopies, InvRefresh}
 use Rattle.vp_laws.proofs.InvReading.{InvReading}
 use Rattle.vp_laws.proofs.OwnUse.{view_is}
@@ -84,7 +84,7 @@ module _ (catalogue : Catalogue) (w : Scene) (k : Known catalogue w) (copies : I
     wrote_some : (rec : ℕ) → HasWritten t rec → UsedSome catalogue w t v rec
     wrote_some rec wrote =
         let a = usable (op.Write rec wrote.0) wrote.1 in
-        let q = shared_holder catalogue rec v.members v.members a a in
+        let q = in_force_holder catalogue rec v.members a in
         record { site = q.0; holder = q.1; member = q.2; exclusive = true; used = written_at rec q.0 wrote q.1 q.2 }
 
     -- a site that has answered a read is a holder in the view

@@ -16,8 +16,8 @@ use Rattle.vp_model.specs.Words.{same_txn, has, first, value_at, is_empty, for_s
 use Rattle.vp_model.specs.Catalogue.{Catalogue, find_record}
 use Rattle.vp_model.specs.Locks.{conflict}
 use Rattle.vp_model.specs.Site.{SiteState, Lent, surroundings, lent_reply, CoordinatorState, letters}
-use Rattle.vp_model.specs.Transactions.{live_of, finished_of, last_writes, close, close_all, decide}
-use Rattle.vp_model.specs.Refresh.{is_usable, other_holders}
+use Rattle.vp_model.specs.Transactions.{last_changes, entry_of, live_of, finished_of, close, close_all, decide}
+use Rattle.vp_model.specs.Refresh.{is_open, other_holders}
 use Rattle.vp_model.specs.Views.{abandon}
 use Rattle.vp_model.specs.Calls.{handling, begin_in, on_begin, with_record, take_lock, lock_here, answer_read, answer_write, read, read_at, write_elsewhere, write, commit, new_call, live_call, finished_call, handled, on_txn_call, own_call}
 use Rattle.vp_model.specs.Answers.{with_missing, count_in, read_answered, on_read_answer, write_answered, on_write_answer, refused_by, on_refuse, voted, on_vote, on_ack, on_inquire, on_answer}
@@ -127,12 +127,12 @@ module _ (catalogue : Catalogue) (x : SiteState) (given : Input) (Q : Lent → T
     closing-kept : (why : Ending) → is_abort why ≡ true → Closes x given (handling t p) why → Q (close x.id (handling t p) why (lent_at x))
     closing-kept why a c = k.close (handling t p) why (lent_at x) (handled_by t p here) a refl c h
 
-    lock_here-kept : (name : List ℕ) (rec : ℕ) (exclusive : Bool) (stored : Stored) (rest : Lent → Lent) → Names p.call name → is_usable catalogue x rec ≡ true → value_at rec x.copies ≡ Some stored → (conflict rec exclusive t.txn x.locks ≡ None → Q (take_lock t.txn rec exclusive (lent_at x)) → Q (rest (take_lock t.txn rec exclusive (lent_at x)))) → Q (lock_here x.id t p name rec exclusive rest (lent_at x))
+    lock_here-kept : (name : List ℕ) (rec : ℕ) (exclusive : Bool) (stored : Stored) (rest : Lent → Lent) → Names p.call name → is_open catalogue x rec ≡ true → value_at rec x.copies ≡ Some stored → (conflict rec exclusive t.txn x.locks ≡ None → Q (take_lock t.txn rec exclusive (lent_at x)) → Q (rest (take_lock t.txn rec exclusive (lent_at x)))) → Q (lock_here x.id t p name rec exclusive rest (lent_at x))
     unfolding lock_here
     lock_here-kept name rec exclusive stored rest m a e n =
         by_option Q _ _ _ (λ holder f. closing-kept (LockHeld name x.id holder) refl (Closes.held_here t p name rec exclusive holder here next refl m f)) (λ c. n c (k.take_lock t rec exclusive stored here next.idle a e c))
 
-    read-kept : (name : List ℕ) (rec : ℕ) → nat_le 64 (length t.ops) ≡ false → Names p.call name → Reads catalogue p rec → is_usable catalogue x rec ≡ true → Q (read catalogue x.id x.held t p name rec (lent_at x))
+    read-kept : (name : List ℕ) (rec : ℕ) → nat_le 64 (length t.ops) ≡ false → Names p.call name → Reads catalogue p rec → is_open catalogue x rec ≡ true → Q (read catalogue x.id x.held t p name rec (lent_at x))
     unfolding read take_lock
     read-kept name rec few m r a =
         by_option Q _ _ _ (λ value e. k.complete t p _ _ (lent_at x) here (Completes.own_write rec value next r a e refl refl refl) (λ i. few) refl h)
@@ -140,13 +140,13 @@ module _ (catalogue : Catalogue) (x : SiteState) (given : Input) (Q : Lent → T
         (λ stored e. lock_here-kept name rec false stored (answer_read t p rec stored.value) m a e (λ c q. k.complete t p _ _ (take_lock t.txn rec false (lent_at x)) here (Completes.own_copy rec stored next r a n e c refl refl refl) (λ i. few) refl q))
         (λ none. by_some Q (first (other_holders catalogue x rec)) (read_at x.id t p rec) (lent_at x) (λ q e. k.read_at t p rec q here next r a n none (first_has _ q e) few) h))
 
-    write_elsewhere-kept : (rec : ℕ) (value : List ℕ) (l : Lent) → nat_le 64 (length t.ops) ≡ false → Writes catalogue p rec value → is_usable catalogue x rec ≡ true → value_at rec (last_writes t.ops) ≡ None → Locked x t rec l → l.live ≡ x.live → Q l → Q (write_elsewhere catalogue x.id x.held t p rec value l)
+    write_elsewhere-kept : (rec : ℕ) (value : List ℕ) (l : Lent) → nat_le 64 (length t.ops) ≡ false → Writes catalogue p rec value → is_open catalogue x rec ≡ true → value_at rec (last_changes (entry_of t)) ≡ None → Locked x t rec l → l.live ≡ x.live → Q l → Q (write_elsewhere catalogue x.id x.held t p rec value l)
     unfolding write_elsewhere
     write_elsewhere-kept rec value l few w a n taken live q =
         by_test Q (is_empty (other_holders catalogue x rec)) _ _ (λ e. k.complete t p _ _ l here (Completes.write_alone rec value next w a n e refl refl taken) (λ i. few) live q)
         (λ e. k.write_at t p rec value l here next w a n e taken few live q)
 
-    write-kept : (name value : List ℕ) (rec : ℕ) → nat_le 64 (length t.ops) ≡ false → Names p.call name → Writes catalogue p rec value → is_usable catalogue x rec ≡ true → Q (write catalogue x.id x.held t p name value rec (lent_at x))
+    write-kept : (name value : List ℕ) (rec : ℕ) → nat_le 64 (length t.ops) ≡ false → Names p.call name → Writes catalogue p rec value → is_open catalogue x rec ≡ true → Q (write catalogue x.id x.held t p name value rec (lent_at x))
     unfolding write take_lock
     write-kept name value rec few m w a =
         by_option Q _ _ _ (λ before e. k.complete t p _ _ (lent_at x) here (Completes.write_again rec before value next w a e refl refl refl) (λ i. few) refl h)
@@ -154,10 +154,10 @@ module _ (catalogue : Catalogue) (x : SiteState) (given : Input) (Q : Lent → T
         (λ stored e. lock_here-kept name rec true stored (write_elsewhere catalogue x.id x.held t p rec value) m a e (λ c q. write_elsewhere-kept rec value (take_lock t.txn rec true (lent_at x)) few w a n (Locked.locked stored e c refl) refl q))
         (λ none. write_elsewhere-kept rec value (lent_at x) few w a n (Locked.no_copy none refl) refl h))
 
-    with_record-kept : (name : List ℕ) (use_record : ℕ → Lent → Lent) → Names p.call name → ((rec : ℕ) → find_record catalogue name ≡ Some rec → nat_le 64 (length t.ops) ≡ false → is_usable catalogue x rec ≡ true → Q (use_record rec (lent_at x))) → Q (with_record catalogue x.held t p name use_record (lent_at x))
+    with_record-kept : (name : List ℕ) (use_record : ℕ → Lent → Lent) → Names p.call name → ((rec : ℕ) → find_record catalogue name ≡ Some rec → nat_le 64 (length t.ops) ≡ false → is_open catalogue x rec ≡ true → Q (use_record rec (lent_at x))) → Q (with_record catalogue x.held t p name use_record (lent_at x))
     unfolding with_record
     with_record-kept name use_record m used = by_option Q _ _ _
-        (λ rec e. by_test Q (nat_le 64 (length t.ops)) _ _ (λ many. k.answers _ _ (Replies.other refl) (Says.many t p.call p.number next.comes here next.number)) (λ few. by_test Q (is_usable catalogue x rec) _ _ (λ a. used rec e few a) (λ not_usable. k.answers _ _ (Replies.other refl) (Says.inaccessible t p.call p.number name rec next.comes here next.number m e))))
+        (λ rec e. by_test Q (nat_le 64 (length t.ops)) _ _ (λ many. k.answers _ _ (Replies.other refl) (Says.many t p.call p.number next.comes here next.number)) (λ few. by_test Q (is_open catalogue x rec) _ _ (λ a. used rec e few a) (λ not_usable. k.answers _ _ (Replies.other refl) (Says.inaccessible t p.call p.number name rec next.comes here next.number m e))))
         (λ none. k.answers _ _ (Replies.other refl) (Says.no_record t p.call p.number next.comes here next.number))
 
     commit-kept : is_commit p.call ≡ true → Q (commit catalogue x.id t p (lent_at x))

@@ -8,7 +8,7 @@ use Rattle.vp_model.specs.Types.op
 use Rattle.vp_model.specs.Words.{value_at}
 use Rattle.vp_model.specs.Catalogue.{Catalogue, holders, accessible}
 use Rattle.vp_model.specs.Durable.{DurableState}
-use Rattle.vp_model.specs.Refresh.{is_usable, is_usable_in, refreshing_of}
+use Rattle.vp_model.specs.Refresh.{is_open, is_usable_in, refreshing_of}
 use Rattle.vp_model.specs.Site.{SiteState, Stepped}
 use Rattle.vp_laws.proofs.Members.{Has, has_none, has_first, has_more, has_cons}
 use Rattle.vp_laws.proofs.Order.{Precedes, same_site}
@@ -83,16 +83,16 @@ module _ (catalogue : Catalogue) (w new : Scene) (s : ℕ) (x : SiteState) (give
         go (Origin.plain (Own.entered b)) = written_value catalogue w new s x given o k n d copies refresh j rec c holder b
         go (Origin.brought b) = brought_value catalogue w new s x given o k n d copies refresh j rec c holder b
 
-    in_doubt_kept : (u : Doubt) → DoubtOn new j rec c.date u → value_after catalogue (without_entry u.0 new.journal) c.date rec ≡ Some c.value
+    in_doubt_kept : (u : Doubt) → DoubtOn new j rec c.date u → value_after catalogue (without_entry u.txn new.journal) c.date rec ≡ Some c.value
     in_doubt_kept u on = go at
       where
-        go : Origin catalogue w new s x given o k n d j rec c → value_after catalogue (without_entry u.0 new.journal) c.date rec ≡ Some c.value
+        go : Origin catalogue w new s x given o k n d j rec c → value_after catalogue (without_entry u.txn new.journal) c.date rec ≡ Some c.value
         go (Origin.plain (Own.old t)) = old_in_doubt catalogue w new s x given o k n d copies refresh j rec c u t on
         go (Origin.plain (Own.outcome a)) = absurd (applied_sure catalogue w new s x given o k n d copies refresh j rec c holder a u on.0 on.1)
         go (Origin.plain (Own.entered b)) = absurd (written_sure catalogue w new s x given o k n d copies refresh j rec c holder b u on.0 on.1)
         go (Origin.brought b) = absurd (brought_sure catalogue w new s x given o k n d copies refresh j rec c holder b u on.0 on.1)
 
-    last_kept : (u : Doubt) (front back : List Commit) (e f : Commit) → DoubtOn new j rec c.date u → new.journal ≡ front ++ e ∷ back → e.txn ≡ u.0 → Has back f → Wrote f rec → f.view ≢ e.view
+    last_kept : (u : Doubt) (front back : List Commit) (e f : Commit) → DoubtOn new j rec c.date u → new.journal ≡ front ++ e ∷ back → e.txn ≡ u.txn → Has back f → Wrote f rec → f.view ≢ e.view
     last_kept u front back e f on is named behind wrote = go at
       where
         go : Origin catalogue w new s x given o k n d j rec c → f.view ≢ e.view
@@ -118,7 +118,7 @@ module _ (catalogue : Catalogue) (w new : Scene) (s : ℕ) (x : SiteState) (give
         go (Origin.brought b) = brought_from catalogue w new s x given o k n d copies refresh j rec c holder b
 
   -- a record here that may be used and is not under refresh
-  module _ (rec : ℕ) (v : View) (c : Stored) (held : o.site.held ≡ Some v) (usable : is_usable catalogue o.site rec ≡ true) (unlisted : refreshing_of rec o.site.refresh ≡ None) (h : value_at rec o.site.copies ≡ Some c) where
+  module _ (rec : ℕ) (v : View) (c : Stored) (held : o.site.held ≡ Some v) (usable : is_open catalogue o.site rec ≡ true) (unlisted : refreshing_of rec o.site.refresh ≡ None) (h : value_at rec o.site.copies ≡ Some c) where
     kept_copy : value_at rec (kept_at new s).copies ≡ Some c
     kept_copy = subst (λ (k : DurableState). value_at rec k.copies ≡ Some c) (sym d.st.kept_now) h
 
@@ -169,7 +169,7 @@ module _ (catalogue : Catalogue) (w new : Scene) (s : ℕ) (x : SiteState) (give
               let then = held_then r.0 r.1 in
               let f = answer_in catalogue w new s x given o k n d rec r.0 v (answers r.0 r.1) then in
               ⊎_elim
-              (λ old. refresh.between r.0.0 s rec v.id r.0.1.date r.0.1.value e u f.sent old wrote (still_below r.0.1.date c.date e.view (q.newest c r.0 h r.1) later) below (agreed_was catalogue w new s x given o k n d e u old agreed) (subst (Has u.members) (sym r.2) there_too))
+              (λ old. refresh.between r.0.0 s rec v.id r.0.1 e u f.sent old wrote (still_below r.0.1.date c.date e.view (q.newest c r.0 h r.1) later) below (agreed_was catalogue w new s x given o k n d e u old agreed) (subst (Has u.members) (sym r.2) there_too))
               (λ more.
               let g = entering catalogue w new s x given o k n d e more in
               let same : g.view ≡ v = (let y = g.held in let z = then in cc) in
@@ -222,14 +222,14 @@ module _ (catalogue : Catalogue) (w new : Scene) (s : ℕ) (x : SiteState) (give
     open_copy = λ j rec y v c up held usable unlisted h. usable_at j rec y v c held usable unlisted h (now_is w new s x o d.st j y up);
   }
     where
-      usable_at : (j rec : ℕ) (y : SiteState) (v : View) (c : Stored) → y.held ≡ Some v → is_usable catalogue y rec ≡ true → refreshing_of rec y.refresh ≡ None → value_at rec y.copies ≡ Some c → NowIs w s o.site j y → Open catalogue new rec v
+      usable_at : (j rec : ℕ) (y : SiteState) (v : View) (c : Stored) → y.held ≡ Some v → is_open catalogue y rec ≡ true → refreshing_of rec y.refresh ≡ None → value_at rec y.copies ≡ Some c → NowIs w s o.site j y → Open catalogue new rec v
       usable_at j rec y v c held usable unlisted h (NowIs.other m old) = open_now rec v (copies.open_copy j rec y v c old held usable unlisted h)
       usable_at j rec y v c held usable unlisted h (NowIs.here z same) =
-          usable_here rec v c (ap (λ (y : SiteState). y.held) same ∙ held) (subst (λ (y : SiteState). is_usable catalogue y rec ≡ true) (sym same) usable) (subst (λ (y : SiteState). refreshing_of rec y.refresh ≡ None) (sym same) unlisted) (subst (λ (y : SiteState). value_at rec y.copies ≡ Some c) (sym same) h)
+          usable_here rec v c (ap (λ (y : SiteState). y.held) same ∙ held) (subst (λ (y : SiteState). is_open catalogue y rec ≡ true) (sym same) usable) (subst (λ (y : SiteState). refreshing_of rec y.refresh ≡ None) (sym same) unlisted) (subst (λ (y : SiteState). value_at rec y.copies ≡ Some c) (sym same) h)
 
-      between_at : (j rec : ℕ) (y : SiteState) (v : View) (c : Stored) (e : Commit) → y.held ≡ Some v → is_usable catalogue y rec ≡ true → refreshing_of rec y.refresh ≡ None → value_at rec y.copies ≡ Some c → Has new.journal e → Wrote e rec → Precedes c.date e.view → Precedes e.view v.id → NowIs w s o.site j y → ⊥
+      between_at : (j rec : ℕ) (y : SiteState) (v : View) (c : Stored) (e : Commit) → y.held ≡ Some v → is_open catalogue y rec ≡ true → refreshing_of rec y.refresh ≡ None → value_at rec y.copies ≡ Some c → Has new.journal e → Wrote e rec → Precedes c.date e.view → Precedes e.view v.id → NowIs w s o.site j y → ⊥
       between_at j rec y v c e held usable unlisted h there wrote later below (NowIs.here z same) =
-          between_here rec v c (ap (λ (y : SiteState). y.held) same ∙ held) (subst (λ (y : SiteState). is_usable catalogue y rec ≡ true) (sym same) usable) (subst (λ (y : SiteState). refreshing_of rec y.refresh ≡ None) (sym same) unlisted) (subst (λ (y : SiteState). value_at rec y.copies ≡ Some c) (sym same) h) e there wrote later below
+          between_here rec v c (ap (λ (y : SiteState). y.held) same ∙ held) (subst (λ (y : SiteState). is_open catalogue y rec ≡ true) (sym same) usable) (subst (λ (y : SiteState). refreshing_of rec y.refresh ≡ None) (sym same) unlisted) (subst (λ (y : SiteState). value_at rec y.copies ≡ Some c) (sym same) h) e there wrote later below
       between_at j rec y v c e held usable unlisted h there wrote later below (NowIs.other m old) = ⊎_elim
           (λ was. copies.between j rec y v c e old held usable unlisted h was wrote later below)
           (λ more. stops catalogue w new s x given o k n d e v rec more wrote below (copies.open_copy j rec y v c old held usable unlisted h))

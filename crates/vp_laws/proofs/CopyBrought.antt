@@ -2,7 +2,7 @@
 -- what a refresh brings is the newest copy of the members.
 use Rattle.std.proofs.Common.{◌≡◌, ◌≢◌, ◌∙◌, ap, sym, subst, ℕ, true, List, ⊎_elim}
 use Rattle.std.specs.Prelude.{Some}
-use Rattle.vp_model.specs.Types.{TxnId, View, Commit, Input, Stored, Doubt}
+use Rattle.vp_model.specs.Types.{Change, TxnId, View, Commit, Input, Stored, Doubt}
 use Rattle.vp_model.specs.Types.message
 use Rattle.vp_model.specs.Types.op
 use Rattle.vp_model.specs.Words.{keys}
@@ -30,11 +30,11 @@ use Rattle.vp_laws.proofs.Refreshes.{Answer, answer_listed, answer_view, answer_
 use Rattle.vp_laws.proofs.Tower.{Known, Does}
 
 -- a doubt of an entry's transaction writes what the entry wrote there
-pub doubt_on : (catalogue : Catalogue) (w : Scene) → InvShares catalogue w → (e : Commit) (j rec : ℕ) (u : Doubt) → Has w.journal e → Wrote e rec → Has (holders catalogue rec) j → Has (kept_at w j).doubts u → u.0 ≡ e.txn → Has (keys u.2) rec
+pub doubt_on : (catalogue : Catalogue) (w : Scene) → InvShares catalogue w → (e : Commit) (j rec : ℕ) (u : Doubt) → Has w.journal e → Wrote e rec → Has (holders catalogue rec) j → Has (kept_at w j).doubts u → u.txn ≡ e.txn → Has (keys u.writes) rec
 doubt_on catalogue w shares e j rec u h wrote holder there named =
     let q = (shares.doubts j u there).0 in
-    let says = shares.entry e h q.0 j u.1 q.1 q.2 u.2 (subst (λ (t : TxnId). Has w.sent (letter q.0 j (message.Prepare t u.1 q.1 q.2 u.2))) named q.3) in
-    subst (λ (ws : List (ℕ × List ℕ)). Has (keys ws) rec) says.1 (wrote_here catalogue e j rec holder wrote)
+    let says = shares.entry e h q.0 j u.view q.1 q.2 u.writes (subst (λ (t : TxnId). Has w.sent (letter q.0 j (message.Prepare t u.view q.1 q.2 u.writes))) named q.3) in
+    subst (λ (ws : List (ℕ × Change)). Has (keys ws) rec) says.1 (wrote_here catalogue e j rec holder wrote)
 
 module _ (catalogue : Catalogue) (w new : Scene) (s : ℕ) (x : SiteState) (given : Input) (o : Stepped) (k : Known catalogue w) (n : Known catalogue new) (d : Does catalogue w new s x given o) (copies : InvCopies catalogue w) (refresh : InvRefresh catalogue w) where
   -- an untouched copy
@@ -92,7 +92,7 @@ module _ (catalogue : Catalogue) (w new : Scene) (s : ℕ) (x : SiteState) (give
     pub brought_value : value_after catalogue new.journal c.date rec ≡ Some c.value
     brought_value =
         value_now catalogue w new s x given o k n d copies refresh c.date rec (λ e h wrote le. answer_unwritten catalogue w new s x given o k n d rec b.refreshed.taken.0 taken e h wrote)
-        ∙ subst (λ (c : Stored). value_after catalogue w.journal c.date rec ≡ Some c.value) b.refreshed.taken.2 (refresh.value b.refreshed.taken.0.0 s rec u.id b.refreshed.taken.0.1.date b.refreshed.taken.0.1.value answer.sent answer.low)
+        ∙ subst (λ (c : Stored). value_after catalogue w.journal c.date rec ≡ Some c.value) b.refreshed.taken.2 (refresh.value b.refreshed.taken.0.0 s rec u.id b.refreshed.taken.0.1 answer.sent answer.low)
 
     pub brought_from : FromView catalogue new j rec c.date
     brought_from = FromView.closed u (d.st.moved.agreed u (d.here.held u held)) low (subst (Has u.members) (sym b.here) member)
@@ -137,4 +137,4 @@ module _ (catalogue : Catalogue) (w new : Scene) (s : ℕ) (x : SiteState) (give
                 missed q its there_too here_too other =
                     let r = other_answer catalogue w new s x given o k n d refresh rec u b.refreshed.r x d.here.id held b.refreshed.on b.refreshed.all b.refreshed.answers (λ p h. held) q its here_too other in
                     let a = answer_in catalogue w new s x given o k n d rec r.0 u (b.refreshed.answers r.0 r.1) held in
-                    refresh.between r.0.0 s rec u.id r.0.1.date r.0.1.value e v a.sent there wrote (still_below r.0.1.date c.date e.view (b.refreshed.newest r.0 r.1) later) p v_was (subst (Has v.members) (sym r.2) there_too)
+                    refresh.between r.0.0 s rec u.id r.0.1 e v a.sent there wrote (still_below r.0.1.date c.date e.view (b.refreshed.newest r.0 r.1) later) p v_was (subst (Has v.members) (sym r.2) there_too)

@@ -66,7 +66,7 @@ module _ (catalogue : Catalogue) (w : Scene) (k : Known catalogue w) (copies : I
   copy_closed s rec c j e below = closed_above catalogue w k refresh s rec c.date j (copies.from s rec c e) (copy_dated catalogue w k s rec c e) below
 
   -- no doubt on the record is of a view below the date of the copy
-  pub no_doubt_below : (s rec : ℕ) (c : Stored) (u : Doubt) → value_at rec (kept_at w s).copies ≡ Some c → Has (kept_at w s).doubts u → Has (keys u.2) rec → Precedes u.1 c.date → ⊥
+  pub no_doubt_below : (s rec : ℕ) (c : Stored) (u : Doubt) → value_at rec (kept_at w s).copies ≡ Some c → Has (kept_at w s).doubts u → Has (keys u.writes) rec → Precedes u.view c.date → ⊥
   no_doubt_below s rec c u e there on below =
-      let a = copy_closed s rec c u.1 e below in
+      let a = copy_closed s rec c u.view e below in
       (a.opened.closed s (copy_holder catalogue w k s rec c e) a.member).certain u there on a.above

@@ -6,7 +6,7 @@ use Rattle.vp_model.specs.Types.message
 use Rattle.vp_model.specs.Words.{keys, value_at}
 use Rattle.vp_model.specs.Catalogue.{Catalogue, holders, accessible}
 use Rattle.vp_model.specs.Site.{SiteState}
-use Rattle.vp_model.specs.Refresh.{is_usable, refreshing_of}
+use Rattle.vp_model.specs.Refresh.{is_open, refreshing_of}
 use Rattle.vp_laws.proofs.Members.{Has}
 use Rattle.vp_laws.proofs.Order.{Precedes}
 use Rattle.vp_laws.proofs.LocalViews.{letter}
@@ -25,31 +25,31 @@ pub data FromView (catalogue : Catalogue) (w : Scene) (s rec : ℕ) (date : View
 
 -- the transaction in doubt here of the date's view that writes the record
 abbrev pub DoubtOn : Scene → ℕ → ℕ → ViewId → Doubt → Type 0
-DoubtOn w s rec date d = Has (kept_at w s).doubts d × Has (keys d.2) rec × (d.1 ≡ date)
+DoubtOn w s rec date d = Has (kept_at w s).doubts d × Has (keys d.writes) rec × (d.view ≡ date)
 
 pub record InvCopies (catalogue : Catalogue) (w : Scene) : Type 0 where
   -- a copy has the value after the entries of views up to its date, but for the entry of a doubt of that view
   pub value : (s rec : ℕ) (c : Stored) → value_at rec (kept_at w s).copies ≡ Some c → ((d : Doubt) → DoubtOn w s rec c.date d → ⊥) → value_after catalogue w.journal c.date rec ≡ Some c.value
-  pub value_in_doubt : (s rec : ℕ) (c : Stored) (d : Doubt) → value_at rec (kept_at w s).copies ≡ Some c → DoubtOn w s rec c.date d → value_after catalogue (without_entry d.0 w.journal) c.date rec ≡ Some c.value
+  pub value_in_doubt : (s rec : ℕ) (c : Stored) (d : Doubt) → value_at rec (kept_at w s).copies ≡ Some c → DoubtOn w s rec c.date d → value_after catalogue (without_entry d.txn w.journal) c.date rec ≡ Some c.value
   -- and no later entry of that view than the doubt's own wrote the record
-  pub last : (s rec : ℕ) (c : Stored) (d : Doubt) (front back : List Commit) (e f : Commit) → value_at rec (kept_at w s).copies ≡ Some c → DoubtOn w s rec c.date d → w.journal ≡ front ++ e ∷ back → e.txn ≡ d.0 → Has back f → Wrote f rec → f.view ≢ e.view
+  pub last : (s rec : ℕ) (c : Stored) (d : Doubt) (front back : List Commit) (e f : Commit) → value_at rec (kept_at w s).copies ≡ Some c → DoubtOn w s rec c.date d → w.journal ≡ front ++ e ∷ back → e.txn ≡ d.txn → Has back f → Wrote f rec → f.view ≢ e.view
   -- each entry that wrote the record in a later view of the site is in doubt there
   pub above : (s rec : ℕ) (c : Stored) (e : Commit) (v : View) → value_at rec (kept_at w s).copies ≡ Some c → Has w.journal e → Wrote e rec → Precedes c.date e.view → AgreedAs w e.view v → Has v.members s → InDoubt w s e.txn
   -- where a copy is from
   pub from : (s rec : ℕ) (c : Stored) → value_at rec (kept_at w s).copies ≡ Some c → FromView catalogue w s rec c.date
   -- a copy that may be used and is not under refresh has missed no entry below the held view, and its record is closed for it
-  pub between : (s rec : ℕ) (x : SiteState) (v : View) (c : Stored) (e : Commit) → plain_at w s ≡ Some x → x.held ≡ Some v → is_usable catalogue x rec ≡ true → refreshing_of rec x.refresh ≡ None → value_at rec x.copies ≡ Some c → Has w.journal e → Wrote e rec → Precedes c.date e.view → Precedes e.view v.id → ⊥
-  pub open_copy : (s rec : ℕ) (x : SiteState) (v : View) (c : Stored) → plain_at w s ≡ Some x → x.held ≡ Some v → is_usable catalogue x rec ≡ true → refreshing_of rec x.refresh ≡ None → value_at rec x.copies ≡ Some c → Open catalogue w rec v
+  pub between : (s rec : ℕ) (x : SiteState) (v : View) (c : Stored) (e : Commit) → plain_at w s ≡ Some x → x.held ≡ Some v → is_open catalogue x rec ≡ true → refreshing_of rec x.refresh ≡ None → value_at rec x.copies ≡ Some c → Has w.journal e → Wrote e rec → Precedes c.date e.view → Precedes e.view v.id → ⊥
+  pub open_copy : (s rec : ℕ) (x : SiteState) (v : View) (c : Stored) → plain_at w s ≡ Some x → x.held ≡ Some v → is_open catalogue x rec ≡ true → refreshing_of rec x.refresh ≡ None → value_at rec x.copies ≡ Some c → Open catalogue w rec v
 
 pub record InvRefresh (catalogue : Catalogue) (w : Scene) : Type 0 where
   -- an answer to a refresh comes from a holder
-  pub holder : (p to rec : ℕ) (view date : ViewId) (value : List ℕ) → Has w.sent (letter p to (message.RefreshAnswer view rec value date)) → Has (holders catalogue rec) p
+  pub holder : (p to rec : ℕ) (view : ViewId) (stored : Stored) → Has w.sent (letter p to (message.RefreshAnswer view rec stored)) → Has (holders catalogue rec) p
   -- an answer of a lower date comes from a site that is closed below the view, with the value of its date
-  pub closed : (p to rec : ℕ) (view date : ViewId) (value : List ℕ) → Has w.sent (letter p to (message.RefreshAnswer view rec value date)) → Precedes date view → ClosedAt w p rec view
-  pub value : (p to rec : ℕ) (view date : ViewId) (value : List ℕ) → Has w.sent (letter p to (message.RefreshAnswer view rec value date)) → Precedes date view → value_after catalogue w.journal date rec ≡ Some value
+  pub closed : (p to rec : ℕ) (view : ViewId) (stored : Stored) → Has w.sent (letter p to (message.RefreshAnswer view rec stored)) → Precedes stored.date view → ClosedAt w p rec view
+  pub value : (p to rec : ℕ) (view : ViewId) (stored : Stored) → Has w.sent (letter p to (message.RefreshAnswer view rec stored)) → Precedes stored.date view → value_after catalogue w.journal stored.date rec ≡ Some stored.value
   -- no entry of a view between wrote the record, where the sender was a member
-  pub between : (p to rec : ℕ) (view date : ViewId) (value : List ℕ) (e : Commit) (v : View) → Has w.sent (letter p to (message.RefreshAnswer view rec value date)) → Has w.journal e → Wrote e rec → Precedes date e.view → Precedes e.view view → AgreedAs w e.view v → Has v.members p → ⊥
-  pub from : (p to rec : ℕ) (view date : ViewId) (value : List ℕ) → Has w.sent (letter p to (message.RefreshAnswer view rec value date)) → Precedes date view → FromView catalogue w p rec date
+  pub between : (p to rec : ℕ) (view : ViewId) (stored : Stored) (e : Commit) (v : View) → Has w.sent (letter p to (message.RefreshAnswer view rec stored)) → Has w.journal e → Wrote e rec → Precedes stored.date e.view → Precedes e.view view → AgreedAs w e.view v → Has v.members p → ⊥
+  pub from : (p to rec : ℕ) (view : ViewId) (stored : Stored) → Has w.sent (letter p to (message.RefreshAnswer view rec stored)) → Precedes stored.date view → FromView catalogue w p rec stored.date
   -- a record that an entry uses is closed for its view
   pub entry : (e : Commit) (v : View) (operation : Op) → Has w.journal e → AgreedAs w e.view v → Has e.ops operation → Open catalogue w (record_of operation) v
   -- and so is one that a site has answered for a live transaction

@@ -7,7 +7,7 @@ use Rattle.vp_model.specs.Types.message
 use Rattle.vp_model.specs.Words.{keys, value_at, same_view}
 use Rattle.vp_model.specs.Catalogue.{Catalogue, holders}
 use Rattle.vp_model.specs.Durable.{DurableState, doubt_of}
-use Rattle.vp_model.specs.Transactions.{last_writes, writes_held}
+use Rattle.vp_model.specs.Transactions.{last_changes, last_writes, writes_held}
 use Rattle.vp_model.specs.Site.{SiteState, Stepped}
 use Rattle.vp_model.specs.Step.{durable_of}
 use Rattle.vp_laws.proofs.Members.{Has}
@@ -35,7 +35,7 @@ module _ (catalogue : Catalogue) (w new : Scene) (s : ℕ) (x : SiteState) (give
   pub record Untouched (j rec : ℕ) (c : Stored) : Type 0 where
     pub was : value_at rec (kept_at w j).copies ≡ Some c
     -- a doubt on it whose commit came is here still
-    pub outcome : j ≡ s → (from : ℕ) (u : Doubt) → Comes given from (message.Outcome u.0 true) → doubt_of u.0 x.doubts ≡ Some u → Has (keys u.2) rec → Has o.site.doubts u
+    pub outcome : j ≡ s → (from : ℕ) (u : Doubt) → Comes given from (message.Outcome u.txn true) → doubt_of u.txn x.doubts ≡ Some u → Has (keys u.writes) rec → Has o.site.doubts u
     pub entered : j ≡ s → (e : Commit) → Has o.effects.commits e → Wrote e rec → ⊥
 
   -- it is of a doubt here that commits now and is gone
@@ -44,11 +44,11 @@ module _ (catalogue : Catalogue) (w new : Scene) (s : ℕ) (x : SiteState) (give
     pub from : ℕ
     pub doubt : Doubt
     pub write : ℕ × List ℕ
-    pub comes : Comes given from (message.Outcome doubt.0 true)
+    pub comes : Comes given from (message.Outcome doubt.txn true)
     pub was : Has (kept_at w j).doubts doubt
-    pub wrote : Has doubt.2 write
-    pub is : dated_at doubt.1 write ≡ (rec, c)
-    pub gone : (v : Doubt) → Has (kept_at new j).doubts v → v.0 ≢ doubt.0
+    pub wrote : Has doubt.writes write
+    pub is : dated_at doubt.view write ≡ (rec, c)
+    pub gone : (v : Doubt) → Has (kept_at new j).doubts v → v.txn ≢ doubt.txn
 
   -- it is of an entry of this step
   pub record Written (j rec : ℕ) (c : Stored) : Type 0 where
@@ -86,7 +86,7 @@ module _ (catalogue : Catalogue) (w new : Scene) (s : ℕ) (x : SiteState) (give
   own_of j rec c z (OwnCopy.still h untaken) = Own.old (record {
     was = was;
     outcome = λ e. untaken.outcome;
-    entered = λ e g h wrote. untaken.entered g h (subst (λ (i : ℕ). Has (keys (writes_held catalogue i (last_writes g.ops))) rec) (sym d.here.id) (wrote_here catalogue g s rec (subst (Has (holders catalogue rec)) z (copy_holder catalogue w k j rec c was)) wrote));
+    entered = λ e g h wrote. untaken.entered g h (subst (λ (i : ℕ). Has (keys (writes_held catalogue i (last_changes g))) rec) (sym d.here.id) (wrote_here catalogue g s rec (subst (Has (holders catalogue rec)) z (copy_holder catalogue w k j rec c was)) wrote));
   })
     where
       was : value_at rec (kept_at w j).copies ≡ Some c
@@ -120,14 +120,14 @@ module _ (catalogue : Catalogue) (w new : Scene) (s : ℕ) (x : SiteState) (give
       go (KeptIs.here z is) = from_copy z (d.unlisting.base.copies (rec, c) (value_pair rec o.site.copies c (subst (λ (k : DurableState). value_at rec k.copies ≡ Some c) is h)))
 
   -- a doubt on an untouched copy that is gone was aborted, so its transaction has no entry
-  pub gone_aborted : (j rec : ℕ) (c : Stored) (u : Doubt) → Untouched j rec c → Has (kept_at w j).doubts u → Has (keys u.2) rec → Has (kept_at new j).doubts u ⊎ ((e : Commit) → Has w.journal e → e.txn ≢ u.0)
-  gone_aborted j rec c u t there on = ⊎_elim (λ still. inl still) (λ (over : (j ≡ s) × OutcomeComes given u.0). ended over.0 over.1.0 over.1.1 over.1.2) (doubt_stays catalogue w new s x given o k n d j u there)
+  pub gone_aborted : (j rec : ℕ) (c : Stored) (u : Doubt) → Untouched j rec c → Has (kept_at w j).doubts u → Has (keys u.writes) rec → Has (kept_at new j).doubts u ⊎ ((e : Commit) → Has w.journal e → e.txn ≢ u.txn)
+  gone_aborted j rec c u t there on = ⊎_elim (λ still. inl still) (λ (over : (j ≡ s) × OutcomeComes given u.txn). ended over.0 over.1.0 over.1.1 over.1.2) (doubt_stays catalogue w new s x given o k n d j u there)
     where
-      ended : j ≡ s → (from : ℕ) (commit : Bool) → Comes given from (message.Outcome u.0 commit) → Has (kept_at new j).doubts u ⊎ ((e : Commit) → Has w.journal e → e.txn ≢ u.0)
+      ended : j ≡ s → (from : ℕ) (commit : Bool) → Comes given from (message.Outcome u.txn commit) → Has (kept_at new j).doubts u ⊎ ((e : Commit) → Has w.journal e → e.txn ≢ u.txn)
       ended z from true comes =
-          let e = (k.ends.told (letter from s (message.Outcome u.0 true)) (d.came from _ comes)).1 in
+          let e = (k.ends.told (letter from s (message.Outcome u.txn true)) (d.came from _ comes)).1 in
           let found = doubt_found catalogue w k.shares e.0 e.1 j u there (sym e.2) in
-          inl (subst (λ (k : DurableState). Has k.doubts u) (sym (at_now j z)) (t.outcome z from u comes (subst (λ (k : DurableState). doubt_of u.0 k.doubts ≡ Some u) (sym (at_was j z)) found) on))
+          inl (subst (λ (k : DurableState). Has k.doubts u) (sym (at_now j z)) (t.outcome z from u comes (subst (λ (k : DurableState). doubt_of u.txn k.doubts ≡ Some u) (sym (at_was j z)) found) on))
       ended z from false comes = inr (λ e h named. k.settled.aborted e from s h (subst (λ (t : TxnId). Has w.sent (letter from s (message.Outcome t false))) (sym named) (d.came from _ comes)) (u, subst (λ (j : ℕ). Has (kept_at w j).doubts u) z there, sym named))
 
   -- a new entry that wrote an untouched copy is of its date's view, and is in doubt there

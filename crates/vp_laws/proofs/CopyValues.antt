@@ -50,31 +50,31 @@ module _ (catalogue : Catalogue) (w new : Scene) (s : ℕ) (x : SiteState) (give
   pub old_value : (j rec : ℕ) (c : Stored) → Untouched catalogue w new s x given o k n d j rec c → ((u : Doubt) → DoubtOn new j rec c.date u → ⊥) → value_after catalogue new.journal c.date rec ≡ Some c.value
   old_value j rec c t none = value_now c.date rec (λ e h wrote le. let q = meets catalogue w new s x given o k n d j rec c t (copies.from j rec c t.was) refresh e h wrote le in none q.0.doubt (q.0.now, q.0.on, sym q.0.viewed ∙ q.1)) ∙ before
     where
-      aborted : (u : Doubt) → DoubtOn w j rec c.date u → ((e : Commit) → Has w.journal e → e.txn ≢ u.0) → value_after catalogue w.journal c.date rec ≡ Some c.value
-      aborted u on no_entry = subst (λ (es : List Commit). value_after catalogue es c.date rec ≡ Some c.value) (without_none u.0 w.journal no_entry) (copies.value_in_doubt j rec c u t.was on)
+      aborted : (u : Doubt) → DoubtOn w j rec c.date u → ((e : Commit) → Has w.journal e → e.txn ≢ u.txn) → value_after catalogue w.journal c.date rec ≡ Some c.value
+      aborted u on no_entry = subst (λ (es : List Commit). value_after catalogue es c.date rec ≡ Some c.value) (without_none u.txn w.journal no_entry) (copies.value_in_doubt j rec c u t.was on)
 
       before : value_after catalogue w.journal c.date rec ≡ Some c.value
       before = ⊎_elim
-          (λ (q : (u : Doubt) × Has (kept_at w j).doubts u × Has (keys u.2) rec × (u.1 ≡ c.date)). ⊎_elim (λ still. absurd (none q.0 (still, q.2, q.3))) (λ no_entry. aborted q.0 (q.1, q.2, q.3) no_entry) (gone_aborted catalogue w new s x given o k n d j rec c q.0 t q.1 q.2))
+          (λ (q : (u : Doubt) × Has (kept_at w j).doubts u × Has (keys u.writes) rec × (u.view ≡ c.date)). ⊎_elim (λ still. absurd (none q.0 (still, q.2, q.3))) (λ no_entry. aborted q.0 (q.1, q.2, q.3) no_entry) (gone_aborted catalogue w new s x given o k n d j rec c q.0 t q.1 q.2))
           (λ none_then. copies.value j rec c t.was (λ u on. none_then u on.0 on.1 on.2))
           (doubt_or_none (kept_at w j).doubts rec c.date)
 
-  pub old_in_doubt : (j rec : ℕ) (c : Stored) (u : Doubt) → Untouched catalogue w new s x given o k n d j rec c → DoubtOn new j rec c.date u → value_after catalogue (without_entry u.0 new.journal) c.date rec ≡ Some c.value
+  pub old_in_doubt : (j rec : ℕ) (c : Stored) (u : Doubt) → Untouched catalogue w new s x given o k n d j rec c → DoubtOn new j rec c.date u → value_after catalogue (without_entry u.txn new.journal) c.date rec ≡ Some c.value
   old_in_doubt j rec c u t on = ⊎_elim
-      (λ was. without_now u.0 c.date rec (λ e h other wrote le. let q = meets catalogue w new s x given o k n d j rec c t (copies.from j rec c t.was) refresh e h wrote le in other (sym q.0.named ∙ n.guards.writes j q.0.doubt u rec q.0.now on.0 q.0.on on.1)) ∙ copies.value_in_doubt j rec c u t.was (was, on.1, on.2))
+      (λ was. without_now u.txn c.date rec (λ e h other wrote le. let q = meets catalogue w new s x given o k n d j rec c t (copies.from j rec c t.was) refresh e h wrote le in other (sym q.0.named ∙ n.guards.writes j q.0.doubt u rec q.0.now on.0 q.0.on on.1)) ∙ copies.value_in_doubt j rec c u t.was (was, on.1, on.2))
       (λ f. first f)
       (doubt_from catalogue w new s x given o k n d j u on.0)
     where
-      first : Fresh catalogue w new s x given o k n d j u → value_after catalogue (without_entry u.0 new.journal) c.date rec ≡ Some c.value
+      first : Fresh catalogue w new s x given o k n d j u → value_after catalogue (without_entry u.txn new.journal) c.date rec ≡ Some c.value
       first f =
-          let all = without_none u.0 new.journal (fresh_not_entered catalogue w new s x given o k n d j u f on.0) in
+          let all = without_none u.txn new.journal (fresh_not_entered catalogue w new s x given o k n d j u f on.0) in
           ap (λ (es : List Commit). value_after catalogue es c.date rec) (all ∙ fresh_same catalogue w new s x given o k n d j u f)
           ∙ copies.value j rec c t.was (λ v was. ⊎_elim
           (λ still. fresh_name catalogue w new s x given o k n d j u f v was.0 (n.guards.writes j v u rec still on.0 was.1 on.1))
-          (λ (over : (j ≡ s) × OutcomeComes given v.0). fresh_no_outcome catalogue w new s x given o k n d j u f over.1.0 v.0 over.1.1 over.1.2)
+          (λ (over : (j ≡ s) × OutcomeComes given v.txn). fresh_no_outcome catalogue w new s x given o k n d j u f over.1.0 v.txn over.1.1 over.1.2)
           (doubt_stays catalogue w new s x given o k n d j v was.0))
 
-  pub old_last : (j rec : ℕ) (c : Stored) (u : Doubt) (front back : List Commit) (e f : Commit) → Untouched catalogue w new s x given o k n d j rec c → DoubtOn new j rec c.date u → new.journal ≡ front ++ e ∷ back → e.txn ≡ u.0 → Has back f → Wrote f rec → f.view ≢ e.view
+  pub old_last : (j rec : ℕ) (c : Stored) (u : Doubt) (front back : List Commit) (e f : Commit) → Untouched catalogue w new s x given o k n d j rec c → DoubtOn new j rec c.date u → new.journal ≡ front ++ e ∷ back → e.txn ≡ u.txn → Has back f → Wrote f rec → f.view ≢ e.view
   old_last j rec c u front back e f t on is named behind wrote same = ⊎_elim was first (doubt_from catalogue w new s x given o k n d j u on.0)
     where
       there : Has new.journal e

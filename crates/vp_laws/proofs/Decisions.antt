@@ -43,10 +43,10 @@ module _ (catalogue : Catalogue) (w : WorldState) (k : Known catalogue (scene_of
         none = λ e there same. k.settled.aborted e q.from s there (subst (λ (t : TxnId). Has w.sent (letter q.from s (message.Outcome t false))) (sym same) sent) (q.doubt, doubted, q.named ∙ sym same);
       }
 
-doubts_end : (catalogue : Catalogue) (x : SiteState) (given : Input) (d : Doubt) → Contains x.doubts d → Contains (step catalogue x given).site.doubts d ⊎ ((commit : Bool) × Forces catalogue x given d.0 commit)
+doubts_end : (catalogue : Catalogue) (x : SiteState) (given : Input) (d : Doubt) → Contains x.doubts d → Contains (step catalogue x given).site.doubts d ⊎ ((commit : Bool) × Forces catalogue x given d.txn commit)
 doubts_end catalogue x given d h = ⊎_elim
     (λ here. inl (contains _ d here))
-    (λ (ends : IsForced (step catalogue x given) d.0). inr (ends.0, contains _ _ ends.1))
+    (λ (ends : IsForced (step catalogue x given) d.txn). inr (ends.0, contains _ _ ends.1))
     (doubts-step catalogue x given d (has_of _ d h))
 
 pub decisions_agreed : (s : Schedule) (m : Moment) → Contains (moments_of s) m → DecisionsAgree s.catalogue (journal_of s) m.before

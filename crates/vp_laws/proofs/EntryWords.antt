@@ -4,7 +4,7 @@ use Rattle.std.specs.Prelude.{Option, Some, None}
 use Rattle.std.proofs.lemmas.Bool.Decides.{nat_tests}
 use Rattle.std.proofs.lemmas.List.Kept.{AllPairs-cons}
 use Rattle.std.proofs.lemmas.List.Elements.{All-from_recursion}
-use Rattle.vp_model.specs.Types.{ViewId, TxnId, Commit, Op, Doubt}
+use Rattle.vp_model.specs.Types.{Change, ViewId, TxnId, Commit, Op, Doubt}
 use Rattle.vp_model.specs.Types.op
 use Rattle.vp_model.specs.Catalogue.{accessible}
 use Rattle.vp_model.specs.Types.message
@@ -45,7 +45,7 @@ doubted s from to txn x t sent up live same some =
     let is = doubt_is d.0 txn t.view _ d.2 p.in_view p.has_written in
     contains _ _ (rw (doubts_same (place_of from w.places), ← is) d.1)
   where
-    doubt_is : (d : Doubt) (txn : TxnId) (view : ViewId) (writes : List (ℕ × List ℕ)) → d.0 ≡ txn → view ≡ d.1 → writes ≡ d.2 → d ≡ (txn, view, writes)
+    doubt_is : (d : Doubt) (txn : TxnId) (view : ViewId) (writes : List (ℕ × Change)) → d.txn ≡ txn → view ≡ d.view → writes ≡ d.writes → d ≡ (record { txn = txn; view = view; writes = writes })
     doubt_is d txn view writes a b c = rw (← a, b, c) refl
 
 same_record : (operation : Op) → record_of operation ≡ record_in operation

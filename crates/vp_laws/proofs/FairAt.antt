@@ -1,7 +1,7 @@
 -- What is refused is justified by the moments so far: the messages that refuse, the ends that are kept, and each answer of a step.
 use Rattle.std.proofs.Common.{◌≡◌, ◌≢◌, ℕ, ◌≤◌, Bool, true, false, List, ◌++◌, refl, length}
 use Rattle.std.specs.Prelude.{Option, Some}
-use Rattle.vp_model.specs.Types.{TxnId, ViewId, Owner, Obstacle, Answer, Message, Sent, Live, Finished}
+use Rattle.vp_model.specs.Types.{Change, TxnId, ViewId, Owner, Obstacle, Answer, Message, Sent, Live, Finished}
 use Rattle.vp_model.specs.Types.answer
 use Rattle.vp_model.specs.Types.message
 use Rattle.vp_model.specs.Types.obstacle
@@ -28,7 +28,7 @@ use Rattle.vp_laws.proofs.Fair.{WasBegun, Once, Fair, fair_more}
 pub data IsAsked (w : Scene) (q from : ℕ) (txn : TxnId) (view : ViewId) (number : ℕ) : Type 0 where
   to_read : (rec : ℕ) → Has w.sent (letter q from (message.ReadRequest txn view number rec)) → IsAsked w q from txn view number
   to_write : (rec : ℕ) → Has w.sent (letter q from (message.WriteRequest txn view number rec)) → IsAsked w q from txn view number
-  to_prepare : (reads : List ℕ) (writes : List (ℕ × List ℕ)) → Has w.sent (letter q from (message.Prepare txn view number reads writes)) → IsAsked w q from txn view number
+  to_prepare : (reads : List ℕ) (writes : List (ℕ × Change)) → Has w.sent (letter q from (message.Prepare txn view number reads writes)) → IsAsked w q from txn view number
 
 -- the site was asked, and a moment shows why it refused
 pub data RefuseFair (catalogue : Catalogue) (w : Scene) (past : List Moment) (from : ℕ) (txn : TxnId) (number : ℕ) : Obstacle → Type 0 where

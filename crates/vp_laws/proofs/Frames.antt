@@ -10,7 +10,7 @@ use Rattle.vp_model.specs.Catalogue.{Catalogue}
 use Rattle.vp_model.specs.Words.{same_txn, is_empty}
 use Rattle.vp_model.specs.Locks.{without_owner}
 use Rattle.vp_model.specs.Site.{Lent, letters}
-use Rattle.vp_model.specs.Transactions.{last_writes, with_pending_reply, finish, close, close_all, with_finished, keep_writes, decided, decide}
+use Rattle.vp_model.specs.Transactions.{last_changes, entry_of, with_pending_reply, finish, close, close_all, with_finished, keep_writes, decided, decide}
 
 -- a transaction has ended: its parts are told whether it commits, and its locks go
 pub record Ends (id : ℕ) (t : Live) (why : Ending) (commit : Bool) (l now : Lent) : Type 0 where
@@ -43,7 +43,7 @@ pub decided-ends : (id : ℕ) (t : Live) (l : Lent) → Ends id t Committed true
 unfolding decided finish
 decided-ends id t l = record { here = refl; coordinator = refl; messages = reply-messages t.txn Committed t.pending _; records = reply-records t.txn Committed t.pending _ }
 
-pub decided-commits : (id : ℕ) (t : Live) (l : Lent) → (decided id t l).effects.commits ≡ l.effects.commits ++ (record { txn = t.txn; view = t.view; ops = t.ops }) ∷ []
+pub decided-commits : (id : ℕ) (t : Live) (l : Lent) → (decided id t l).effects.commits ≡ l.effects.commits ++ (entry_of t) ∷ []
 unfolding decided finish
 decided-commits id t l = reply-commits t.txn Committed t.pending _
 
@@ -60,9 +60,9 @@ close_all-none id why [] l e = e
 close_all-none id why (t ∷ live) l e = close_all-none id why live (close id t (why t) l) (closed_first id t live (why t) l e)
 
 -- a decision, with writes and without
-pub decide-cases : (Q : Lent → Type 0) (catalogue : Catalogue) (id : ℕ) (t : Live) (l : Lent) → (is_empty (last_writes t.ops) ≡ true → Q (decided id t l)) → (is_empty (last_writes t.ops) ≡ false → Q (decided id t (keep_writes catalogue id t l))) → Q (decide catalogue id t l)
+pub decide-cases : (Q : Lent → Type 0) (catalogue : Catalogue) (id : ℕ) (t : Live) (l : Lent) → (is_empty (last_changes (entry_of t)) ≡ true → Q (decided id t l)) → (is_empty (last_changes (entry_of t)) ≡ false → Q (decided id t (keep_writes catalogue id t l))) → Q (decide catalogue id t l)
 unfolding decide
-decide-cases Q catalogue id t l none some = go (is_empty (last_writes t.ops)) none some
+decide-cases Q catalogue id t l none some = go (is_empty (last_changes (entry_of t))) none some
   where
     go : (b : Bool) → (b ≡ true → Q (decided id t l)) → (b ≡ false → Q (decided id t (keep_writes catalogue id t l))) → Q (decided id t (cond b l (keep_writes catalogue id t l)))
     go true p q = p refl

@@ -14,8 +14,8 @@ use Rattle.vp_model.specs.Words.{same_txn, has, first, value_at, is_empty}
 use Rattle.vp_model.specs.Catalogue.{Catalogue, find_record}
 use Rattle.vp_model.specs.Locks.{conflict}
 use Rattle.vp_model.specs.Site.{CoordinatorState, SiteState, Lent, surroundings, lent_reply}
-use Rattle.vp_model.specs.Transactions.{with_finished, with_pending_reply, live_of, finished_of, last_writes, finish, close, close_all, keep_writes, decided, decide, complete}
-use Rattle.vp_model.specs.Refresh.{is_usable, other_holders}
+use Rattle.vp_model.specs.Transactions.{last_changes, entry_of, with_finished, with_pending_reply, live_of, finished_of, finish, close, close_all, keep_writes, decided, decide, complete}
+use Rattle.vp_model.specs.Refresh.{is_open, other_holders}
 use Rattle.vp_model.specs.Views.{abandon}
 use Rattle.vp_model.specs.Calls.{handling, start_txn, begin_in, on_begin, with_record, take_lock, lock_here, answer_read, answer_write, read, read_at, write_elsewhere, write, write_at, commit, prepare_parts, new_call, live_call, finished_call, handled, on_txn_call, own_call}
 use Rattle.vp_model.specs.Answers.{with_missing, count_in, read_answered, on_read_answer, write_answered, on_write_answer, refused_by, on_refuse, voted, on_vote, on_ack, on_inquire, on_answer}
@@ -120,7 +120,7 @@ module _ (catalogue : Catalogue) (x : SiteState) (given : Input) (after : SiteSt
     unfolding complete
     completes operation words l c rs cs done = rw (c, rs, cs) (k.complete t p operation words l at.live (IsDone.at_once at) done)
 
-    read-front : (name : List ℕ) (rec : ℕ) → Operates p.call name false → find_record catalogue name ≡ Some rec → Reads catalogue p rec → is_usable catalogue x rec ≡ true → Q (read catalogue x.id x.held t p name rec (lent_at x))
+    read-front : (name : List ℕ) (rec : ℕ) → Operates p.call name false → find_record catalogue name ≡ Some rec → Reads catalogue p rec → is_open catalogue x rec ≡ true → Q (read catalogue x.id x.held t p name rec (lent_at x))
     unfolding read take_lock read_at
     read-front name rec o f r a =
         by_option Q _ _ _ (λ value e. completes _ _ (lent_at x) refl refl refl (Completes.own_write rec value at.next r a e refl refl refl))
@@ -128,13 +128,13 @@ module _ (catalogue : Catalogue) (x : SiteState) (given : Input) (after : SiteSt
         (λ stored e. lock_here-front name rec false (answer_read t p rec stored.value) o f (λ c. completes _ _ (take_lock t.txn rec false (lent_at x)) refl refl refl (Completes.own_copy rec stored at.next r a n e c refl refl refl)))
         (λ none. by_some Q (first (other_holders catalogue x rec)) (read_at x.id t p rec) (lent_at x) (λ q e. k.goes t (reading t p rec q) p at (Goes.reads rec q)) h))
 
-    write_elsewhere-front : (rec : ℕ) (value : List ℕ) (l : Lent) → l.coordinator ≡ x.coordinator → l.effects.replies ≡ [] → l.effects.commits ≡ [] → Writes catalogue p rec value → is_usable catalogue x rec ≡ true → value_at rec (last_writes t.ops) ≡ None → Locked x t rec l → Q (write_elsewhere catalogue x.id x.held t p rec value l)
+    write_elsewhere-front : (rec : ℕ) (value : List ℕ) (l : Lent) → l.coordinator ≡ x.coordinator → l.effects.replies ≡ [] → l.effects.commits ≡ [] → Writes catalogue p rec value → is_open catalogue x rec ≡ true → value_at rec (last_changes (entry_of t)) ≡ None → Locked x t rec l → Q (write_elsewhere catalogue x.id x.held t p rec value l)
     unfolding write_elsewhere write_at
     write_elsewhere-front rec value l c rs cs w a n taken =
         by_test Q (is_empty (other_holders catalogue x rec)) _ _ (λ e. completes _ _ l c rs cs (Completes.write_alone rec value at.next w a n e refl refl taken))
         (λ e. rw (c, rs, cs) (k.goes t (writing t p (other_holders catalogue x rec)) p at (Goes.writes (other_holders catalogue x rec))))
 
-    write-front : (name value : List ℕ) (rec : ℕ) → Operates p.call name true → find_record catalogue name ≡ Some rec → Writes catalogue p rec value → is_usable catalogue x rec ≡ true → Q (write catalogue x.id x.held t p name value rec (lent_at x))
+    write-front : (name value : List ℕ) (rec : ℕ) → Operates p.call name true → find_record catalogue name ≡ Some rec → Writes catalogue p rec value → is_open catalogue x rec ≡ true → Q (write catalogue x.id x.held t p name value rec (lent_at x))
     unfolding write take_lock
     write-front name value rec o f w a =
         by_option Q _ _ _ (λ before e. completes _ _ (lent_at x) refl refl refl (Completes.write_again rec before value at.next w a e refl refl refl))
@@ -142,10 +142,10 @@ module _ (catalogue : Catalogue) (x : SiteState) (given : Input) (after : SiteSt
         (λ stored e. lock_here-front name rec true (write_elsewhere catalogue x.id x.held t p rec value) o f (λ c. write_elsewhere-front rec value (take_lock t.txn rec true (lent_at x)) refl refl refl w a n (Locked.locked stored e c refl)))
         (λ none. write_elsewhere-front rec value (lent_at x) refl refl refl w a n (Locked.no_copy none refl)))
 
-    with_record-front : (name : List ℕ) (use_record : ℕ → Lent → Lent) → ((rec : ℕ) → find_record catalogue name ≡ Some rec → is_usable catalogue x rec ≡ true → Q (use_record rec (lent_at x))) → Q (with_record catalogue x.held t p name use_record (lent_at x))
+    with_record-front : (name : List ℕ) (use_record : ℕ → Lent → Lent) → ((rec : ℕ) → find_record catalogue name ≡ Some rec → is_open catalogue x rec ≡ true → Q (use_record rec (lent_at x))) → Q (with_record catalogue x.held t p name use_record (lent_at x))
     unfolding with_record
     with_record-front name use_record used = by_option Q _ _ _
-        (λ rec e. by_test Q (nat_le 64 (length t.ops)) _ _ (λ many. told _ _ (Tells.plain _ refl)) (λ few. by_test Q (is_usable catalogue x rec) _ _ (λ a. used rec e a) (λ not_usable. told _ _ (Tells.inaccessible t p name rec at e not_usable))))
+        (λ rec e. by_test Q (nat_le 64 (length t.ops)) _ _ (λ many. told _ _ (Tells.plain _ refl)) (λ few. by_test Q (is_open catalogue x rec) _ _ (λ a. used rec e a) (λ not_usable. told _ _ (Tells.inaccessible t p name rec at e not_usable))))
         (λ none. told _ _ (Tells.plain _ refl))
 
     commit-front : is_commit p.call ≡ true → Q (commit catalogue x.id t p (lent_at x))

@@ -1,7 +1,7 @@
 -- A whole step is made of the small moves that clients see, and of moves that they do not see.
 use Rattle.std.proofs.Common.{◌≡◌, ◌∙◌, sym, subst, ℕ, Bool, true, false, List, [], refl, arith}
 use Rattle.std.specs.Prelude.{Option, Some, None, map}
-use Rattle.vp_model.specs.Types.{ViewId, View, TxnId, Stored, Owner, Commit, Reply, Call, Message, Input, Refreshing, Part, Decision, Doubt}
+use Rattle.vp_model.specs.Types.{Change, ViewId, View, TxnId, Stored, Owner, Commit, Reply, Call, Message, Input, Refreshing, Part, Decision, Doubt}
 use Rattle.vp_model.specs.Types.entry
 use Rattle.vp_model.specs.Types.obstacle
 use Rattle.vp_model.specs.Types.call
@@ -11,7 +11,7 @@ use Rattle.vp_model.specs.Words.{view_before, for_each}
 use Rattle.vp_model.specs.Catalogue.{Catalogue}
 use Rattle.vp_model.specs.Durable.{doubt_of}
 use Rattle.vp_model.specs.Site.{CoordinatorState, SiteState, Lent, Stepped, begin_step, lent, put_back, send, force, change_views, change_refresh, change_participant}
-use Rattle.vp_model.specs.Refresh.{newest, take_newer, end_refresh, settle_one, settle, settle_all, start_refresh, start_refresh_all, refreshing_of}
+use Rattle.vp_model.specs.Refresh.{newest, take_newer, unlist, end_refresh, settle_one, settle, settle_all, start_refresh, start_refresh_all, refreshing_of}
 use Rattle.vp_model.specs.Views.{drop_view, leave, start_inviting, invite, refresh_here, hold, join, is_spent, usable_here}
 use Rattle.vp_model.specs.Calls.{on_regroup, on_call}
 use Rattle.vp_model.specs.Messages.{with_heard, refuse_view, with_vote, with_new_doubt, doubted_records, with_answer, accept, on_invite, on_accept, on_stale, on_view_commit, on_probe_message, grant, lock_copy, on_request, on_read_request, on_write_request, first_vote, on_prepare, end_here, end_part, on_outcome, on_refresh_request, on_refresh_answer, answered, on_message}
@@ -51,13 +51,13 @@ take_newer-seen : (rec : ℕ) (own best : Stored) (o : Stepped) → Unseen o (ta
 unfolding take_newer
 take_newer-seen rec own best o = by_test (Unseen o) (view_before own.date best.date) _ o (λ e. shut refl) (λ e. shut refl)
 
-end_refresh-seen : (r : Refreshing) (own : Stored) (o : Stepped) → Unseen o (end_refresh r own o)
-unfolding end_refresh
-end_refresh-seen r own o = shut (take_newer-seen r.rec own (newest own r.answers) o).same
+end_refresh-seen : (catalogue : Catalogue) (r : Refreshing) (own : Stored) (o : Stepped) → Unseen o (end_refresh catalogue r own o)
+unfolding end_refresh unlist
+end_refresh-seen catalogue r own o = shut (take_newer-seen r.rec own (newest own r.answers) o).same
 
 settle_one-seen : (catalogue : Catalogue) (r : Refreshing) (o : Stepped) → Unseen o (settle_one catalogue r o)
 unfolding settle_one
-settle_one-seen catalogue r o = let self = nothing o in grind (arith, end_refresh-seen r, self)
+settle_one-seen catalogue r o = let self = nothing o in grind (arith, end_refresh-seen catalogue r, self)
 
 settle-seen : (catalogue : Catalogue) (rec : ℕ) (o : Stepped) → Unseen o (settle catalogue rec o)
 unfolding settle
@@ -97,7 +97,7 @@ on_request-seen txn view number rec exclusive reply_with from o =
     let granted = grant-seen txn view rec exclusive from o in
     grind (arith, self, other_view, blocked, granted)
 
-on_prepare-seen : (from : ℕ) (txn : TxnId) (view : ViewId) (number : ℕ) (reads : List ℕ) (writes : List (ℕ × List ℕ)) (o : Stepped) → Unseen o (on_prepare from txn view number reads writes o)
+on_prepare-seen : (from : ℕ) (txn : TxnId) (view : ViewId) (number : ℕ) (reads : List ℕ) (writes : List (ℕ × Change)) (o : Stepped) → Unseen o (on_prepare from txn view number reads writes o)
 unfolding on_prepare first_vote
 on_prepare-seen from txn view number reads writes o =
     let self = nothing o in
@@ -213,7 +213,7 @@ module _ (catalogue : Catalogue) (x : SiteState) (given : Input) (after : SiteSt
   on_message-front from (message.Prepare txn view number reads writes) c = unseen _ (on_prepare-seen from txn view number reads writes (begin_step x))
   on_message-front from (message.Outcome txn commit) c = unseen _ (on_outcome-seen catalogue from txn commit (begin_step x))
   on_message-front from (message.RefreshRequest view rec) c = unseen _ (on_refresh_request-seen from view rec (begin_step x))
-  on_message-front from (message.RefreshAnswer view rec value date) c = unseen _ (on_refresh_answer-seen catalogue from view rec (record { value = value; date = date }) (begin_step x))
+  on_message-front from (message.RefreshAnswer view rec stored) c = unseen _ (on_refresh_answer-seen catalogue from view rec stored (begin_step x))
   on_message-front from (message.Probe view) c = on_probe_message-front from
   on_message-front from m c = answered-front from m c
 

@@ -78,7 +78,7 @@ module _ (catalogue : Catalogue) where
           let d : p.durable ≡ apply (start_record (empty_durable (start_copies catalogue s))) (empty_durable (start_copies catalogue s)) = ap (λ (p : Place). p.durable) (sym all.1) in
           record { site = all.0; copy = value_pair rec (start_copies catalogue s) c (subst (λ (k : DurableState). value_at rec k.copies ≡ Some c) d v) }
 
-  no_doubt : (s : ℕ) (u : Doubt) → Has (kept_at w s).doubts u → ⊥
+  pub no_doubt : (s : ℕ) (u : Doubt) → Has (kept_at w s).doubts u → ⊥
   no_doubt s u h = has_none u (subst (λ (us : List Doubt). Has us u) (start_kept catalogue s).doubts h)
 
   from_first : (i : ℕ) → 0 + i ≡ i
@@ -130,11 +130,11 @@ module _ (catalogue : Catalogue) where
       open_copy = λ s rec x v c up held usable unlisted h. record { closed = start_closed s rec x v up held; usable = subst (λ (held : Option View). is_usable_in catalogue held rec ≡ true) held usable };
     };
     refresh = record {
-      holder = λ p to rec view date value h. absurd (start_sent catalogue _ h);
-      closed = λ p to rec view date value h low. absurd (start_sent catalogue _ h);
-      value = λ p to rec view date value h low. absurd (start_sent catalogue _ h);
-      between = λ p to rec view date value e v h there wrote later below agreed member. start_sent catalogue _ h;
-      from = λ p to rec view date value h low. absurd (start_sent catalogue _ h);
+      holder = λ p to rec view stored h. absurd (start_sent catalogue _ h);
+      closed = λ p to rec view stored h low. absurd (start_sent catalogue _ h);
+      value = λ p to rec view stored h low. absurd (start_sent catalogue _ h);
+      between = λ p to rec view stored e v h there wrote later below agreed member. start_sent catalogue _ h;
+      from = λ p to rec view stored h low. absurd (start_sent catalogue _ h);
       entry = λ e v operation h agreed did. absurd (start_entered catalogue e h);
       used = λ s q rec exclusive x t v up h has agreed. absurd (no_live s (empty_durable (start_copies catalogue s)) t (subst (λ (x : SiteState). Has x.live t) (sym (started catalogue s x up)) h));
       asked = λ from to number rec txn view exclusive v h agreed. absurd (no_request from to number rec txn view exclusive h);
@@ -143,10 +143,10 @@ module _ (catalogue : Catalogue) where
 
 -- a site that goes down or starts again
 module _ (catalogue : Catalogue) (w new : Scene) (s : ℕ) (q : Quiet catalogue w new s) (lived : InvLived w) (copies : InvCopies catalogue w) (refresh : InvRefresh catalogue w) where
-  copy_was : (j rec : ℕ) (c : Stored) → value_at rec (kept_at new j).copies ≡ Some c → value_at rec (kept_at w j).copies ≡ Some c
+  pub copy_was : (j rec : ℕ) (c : Stored) → value_at rec (kept_at new j).copies ≡ Some c → value_at rec (kept_at w j).copies ≡ Some c
   copy_was j rec c h = subst (λ (cs : List (ℕ × Stored)). value_at rec cs ≡ Some c) (quiet_kept catalogue w new s q (λ (d : DurableState). d.copies) q.copies j) h
 
-  doubts_same : (j : ℕ) → (kept_at new j).doubts ≡ (kept_at w j).doubts
+  pub doubts_same : (j : ℕ) → (kept_at new j).doubts ≡ (kept_at w j).doubts
   doubts_same j = quiet_kept catalogue w new s q (λ (d : DurableState). d.doubts) q.doubts j
 
   on_was : (j rec : ℕ) (date : ViewId) (u : Doubt) → DoubtOn new j rec date u → DoubtOn w j rec date u
@@ -178,21 +178,21 @@ module _ (catalogue : Catalogue) (w new : Scene) (s : ℕ) (q : Quiet catalogue 
           let p = up-place (place_of s new.places) y (rw z at up) in
           absurd (start_unused catalogue s (kept_at w s) v.id (lived.lived s (q.moved.there s p.0 p.1)) (Uses.held v (ap (λ (y : SiteState). y.held) same ∙ held) refl))
 
-  still_live : (j : ℕ) (y : SiteState) (t : Live) → plain_at new j ≡ Some y → Has y.live t → plain_at w j ≡ Some y
+  pub still_live : (j : ℕ) (y : SiteState) (t : Live) → plain_at new j ≡ Some y → Has y.live t → plain_at w j ≡ Some y
   still_live j y t up h = go (quiet_is catalogue w new s q j y up)
     where
       go : QuietIs catalogue w s j y → plain_at w j ≡ Some y
       go (QuietIs.other n old) = old
       go (QuietIs.here z same) = absurd (no_live catalogue s (kept_at w s) t (subst (λ (y : SiteState). Has y.live t) (sym same) h))
 
-  entry_was : (e : Commit) → Has new.journal e → Has w.journal e
+  pub entry_was : (e : Commit) → Has new.journal e → Has w.journal e
   entry_was e h = rw q.journal at h
 
   copied_quiet : Copied catalogue new
   copied_quiet = record {
     copies = record {
       value = λ j rec c h none. value_same c.date rec c.value (copies.value j rec c (copy_was j rec c h) (λ u on. none u (on_now j rec c.date u on)));
-      value_in_doubt = λ j rec c u h on. subst (λ (es : List Commit). value_after catalogue (without_entry u.0 es) c.date rec ≡ Some c.value) (sym q.journal) (copies.value_in_doubt j rec c u (copy_was j rec c h) (on_was j rec c.date u on));
+      value_in_doubt = λ j rec c u h on. subst (λ (es : List Commit). value_after catalogue (without_entry u.txn es) c.date rec ≡ Some c.value) (sym q.journal) (copies.value_in_doubt j rec c u (copy_was j rec c h) (on_was j rec c.date u on));
       last = λ j rec c u front back e f h on is named behind wrote. copies.last j rec c u front back e f (copy_was j rec c h) (on_was j rec c.date u on) (sym q.journal ∙ is) named behind wrote;
       above = λ j rec c e v h there wrote later agreed member.
           let u = copies.above j rec c e v (copy_was j rec c h) (entry_was e there) wrote later (agreed_was e.view v agreed) member in
@@ -202,11 +202,11 @@ module _ (catalogue : Catalogue) (w new : Scene) (s : ℕ) (q : Quiet catalogue 
       open_copy = λ j rec y v c up held usable unlisted h. open_now rec v (copies.open_copy j rec y v c (still_held j y v up held) held usable unlisted h);
     };
     refresh = record {
-      holder = λ p to rec view date value h. refresh.holder p to rec view date value (rw q.sent at h);
-      closed = λ p to rec view date value h low. closed_quiet catalogue w new s q lived p rec view (refresh.closed p to rec view date value (rw q.sent at h) low);
-      value = λ p to rec view date value h low. value_same date rec value (refresh.value p to rec view date value (rw q.sent at h) low);
-      between = λ p to rec view date value e v h there wrote later below agreed member. refresh.between p to rec view date value e v (rw q.sent at h) (entry_was e there) wrote later below (agreed_was e.view v agreed) member;
-      from = λ p to rec view date value h low. from_now p rec date (refresh.from p to rec view date value (rw q.sent at h) low);
+      holder = λ p to rec view stored h. refresh.holder p to rec view stored (rw q.sent at h);
+      closed = λ p to rec view stored h low. closed_quiet catalogue w new s q lived p rec view (refresh.closed p to rec view stored (rw q.sent at h) low);
+      value = λ p to rec view stored h low. value_same stored.date rec stored.value (refresh.value p to rec view stored (rw q.sent at h) low);
+      between = λ p to rec view stored e v h there wrote later below agreed member. refresh.between p to rec view stored e v (rw q.sent at h) (entry_was e there) wrote later below (agreed_was e.view v agreed) member;
+      from = λ p to rec view stored h low. from_now p rec stored.date (refresh.from p to rec view stored (rw q.sent at h) low);
       entry = λ e v operation h agreed did. open_now _ v (refresh.entry e v operation (entry_was e h) (agreed_was e.view v agreed) did);
       used = λ j a rec exclusive y t v up h has agreed. open_now rec v (refresh.used j a rec exclusive y t v (still_live j y t up h) h (answered_on w new q.sent a t.txn rec exclusive has) (agreed_was t.view v agreed));
       asked = λ from to number rec txn view exclusive v h agreed. refresh.asked from to number rec txn view exclusive v (request_on w new q.sent from to txn view number rec exclusive h) (agreed_was view v agreed);

@@ -11,7 +11,7 @@ use Rattle.vp_model.specs.Durable.{DurableState, empty_durable}
 use Rattle.vp_model.specs.Refresh.{unanswered, members_in, other_holders}
 use Rattle.vp_model.specs.Site.{SiteState, Stepped}
 use Rattle.vp_model.specs.Step.{start, step, durable_of}
-use Rattle.vp_model.specs.Transactions.{last_writes, writes_held}
+use Rattle.vp_model.specs.Transactions.{last_changes, writes_held}
 use Rattle.vp_laws.proofs.Members.{Has, has_none, has_from_test, filter_has, both_true}
 use Rattle.vp_laws.proofs.Lists.{mapped_has}
 use Rattle.vp_laws.proofs.LocalViews.{letter}
@@ -34,13 +34,13 @@ IsDated w rec date = (date ≡ opening) ⊎ ((e : Commit) × Has w.journal e × 
 
 -- the answer was sent in the view, by another holder that is a member
 abbrev pub WasSent : Catalogue → Scene → ℕ → ℕ → View → ℕ × Stored → Type 0
-WasSent catalogue w s rec v a = Has w.sent (letter a.0 s (message.RefreshAnswer v.id rec a.1.value a.1.date)) × Has v.members a.0 × Has (holders catalogue rec) a.0 × (a.0 ≢ s)
+WasSent catalogue w s rec v a = Has w.sent (letter a.0 s (message.RefreshAnswer v.id rec a.1)) × Has v.members a.0 × Has (holders catalogue rec) a.0 × (a.0 ≢ s)
 
 pub record InvDated (catalogue : Catalogue) (w : Scene) : Type 0 where
   -- each date of a copy
   pub copies : (s : ℕ) (a : ℕ × Stored) → Has (kept_at w s).copies a → IsDated w a.0 a.1.date
   -- each date in an answer to a refresh
-  pub sent : (p to rec : ℕ) (view date : ViewId) (value : List ℕ) → Has w.sent (letter p to (message.RefreshAnswer view rec value date)) → IsDated w rec date
+  pub sent : (p to rec : ℕ) (view : ViewId) (stored : Stored) → Has w.sent (letter p to (message.RefreshAnswer view rec stored)) → IsDated w rec stored.date
   -- a kept answer was sent, by another holder in the held view
   pub kept : (s : ℕ) (x : SiteState) (r : Refreshing) (a : ℕ × Stored) → plain_at w s ≡ Some x → Has x.refresh r → Has r.answers a → (v : View) × (x.held ≡ Some v) × WasSent catalogue w s r.rec v a
 
@@ -62,37 +62,37 @@ module _ (catalogue : Catalogue) (w new : Scene) (s : ℕ) (x : SiteState) (give
   copy_was a h = inv.copies s a (subst (λ (k : DurableState). Has k.copies a) was_kept h)
 
   answer_dated : (rec : ℕ) (k : ℕ × Stored) → AnswerNow catalogue x given rec k → IsDated w rec k.1.date
-  answer_dated rec k (AnswerNow.was r h e a) = let q = inv.kept s x r k up h a in subst (λ (n : ℕ). IsDated w n k.1.date) e (inv.sent k.0 s r.rec q.0.id k.1.date k.1.value q.2.0)
-  answer_dated rec k (AnswerNow.came from view r stored comes is held h e u) = subst (λ (k : ℕ × Stored). IsDated w rec k.1.date) is (inv.sent from s rec view stored.date stored.value (came from _ comes))
+  answer_dated rec k (AnswerNow.was r h e a) = let q = inv.kept s x r k up h a in subst (λ (n : ℕ). IsDated w n k.1.date) e (inv.sent k.0 s r.rec q.0.id k.1 q.2.0)
+  answer_dated rec k (AnswerNow.came from view r stored comes is held h e u) = subst (λ (k : ℕ × Stored). IsDated w rec k.1.date) is (inv.sent from s rec view stored (came from _ comes))
 
   -- the records that an entry wrote, among those that a site holds
-  wrote_held : (e : Commit) (k : ℕ) (a : ℕ × List ℕ) → Has (writes_held catalogue k (last_writes e.ops)) a → Wrote e a.0
-  wrote_held e k a h = mapped_has (λ (p : ℕ × List ℕ). p.0) (last_writes e.ops) a (filter_has (λ (w : ℕ × List ℕ). has (holders catalogue w.0) k) (last_writes e.ops) a h).0
+  wrote_held : (e : Commit) (k : ℕ) (a : ℕ × List ℕ) → Has (writes_held catalogue k (last_changes e)) a → Wrote e a.0
+  wrote_held e k a h = mapped_has (λ (p : ℕ × List ℕ). p.0) (last_changes e) a (filter_has (λ (w : ℕ × List ℕ). has (holders catalogue w.0) k) (last_changes e) a h).0
 
   copy_now : (a : ℕ × Stored) → CopyNow catalogue x given o.effects.commits a → IsDated new a.0 a.1.date
   copy_now a (CopyNow.still h) = dated_on a.0 a.1.date (copy_was a h)
   copy_now a (CopyNow.outcome from d b comes h there is) =
-      let e = (ends.told (letter from s (message.Outcome d.0 true)) (came from _ comes)).1 in
+      let e = (ends.told (letter from s (message.Outcome d.txn true)) (came from _ comes)).1 in
       let q = shares.doubts s d (subst (λ (k : DurableState). Has k.doubts d) was_kept h) in
-      let says = shares.entry e.0 e.1 q.0.0 s d.1 q.0.1 q.0.2 d.2 (rw e.2 q.0.3) in
+      let says = shares.entry e.0 e.1 q.0.0 s d.view q.0.1 q.0.2 d.writes (rw e.2 q.0.3) in
       subst (λ (a : ℕ × Stored). IsDated new a.0 a.1.date) is (inr (e.0, st.moved.journal e.0 e.1, wrote_held e.0 s b (rw says.1 there), says.0))
   copy_now a (CopyNow.entered e b h there is) = subst (λ (a : ℕ × Stored). IsDated new a.0 a.1.date) is (inr (e, st.enters e h, wrote_held e x.id b there, refl))
   copy_now a (CopyNow.refreshed k now is) = dated_on a.0 a.1.date (subst (λ (c : Stored). IsDated w a.0 c.date) is (answer_dated a.0 k now))
 
-  reply_dated : (m : Sent) → ReplyTo x given o.site.participant m → (view : ViewId) (rec : ℕ) (value : List ℕ) (date : ViewId) → m.message ≡ message.RefreshAnswer view rec value date → IsDated w rec date
-  reply_dated m (ReplyTo.other quiet) view rec value date e = absurd (let z = ap is_reply e in cc)
-  reply_dated m (ReplyTo.doubt_again d a b i f) view rec value date e = absurd (let z = f ∙ e in cc)
-  reply_dated m (ReplyTo.vote_again part a b i z f) view rec value date e = absurd (let z = f ∙ e in cc)
-  reply_dated m (ReplyTo.vote_reading part reads writes a none i f) view rec value date e = absurd (let z = f ∙ e in cc)
-  reply_dated m (ReplyTo.vote_writing part reads writes a some i f) view rec value date e = absurd (let z = f ∙ e in cc)
-  reply_dated m (ReplyTo.acks t a none f) view rec value date e = absurd (let z = f ∙ e in cc)
-  reply_dated m (ReplyTo.read_answer t n r stored a f) view rec value date e = absurd (let z = f ∙ e in cc)
-  reply_dated m (ReplyTo.write_answer t n r stored a f) view rec value date e = absurd (let z = f ∙ e in cc)
-  reply_dated m (ReplyTo.refresh_answer i r stored a held certain copy f) view rec value date e =
+  reply_dated : (m : Sent) → ReplyTo x given o.site.participant m → (view : ViewId) (rec : ℕ) (stored : Stored) → m.message ≡ message.RefreshAnswer view rec stored → IsDated w rec stored.date
+  reply_dated m (ReplyTo.other quiet) view rec stored e = absurd (let z = ap is_reply e in cc)
+  reply_dated m (ReplyTo.doubt_again d a b i f) view rec stored e = absurd (let z = f ∙ e in cc)
+  reply_dated m (ReplyTo.vote_again part a b i z f) view rec stored e = absurd (let z = f ∙ e in cc)
+  reply_dated m (ReplyTo.vote_reading part reads writes a none i f) view rec stored e = absurd (let z = f ∙ e in cc)
+  reply_dated m (ReplyTo.vote_writing part reads writes a some i f) view rec stored e = absurd (let z = f ∙ e in cc)
+  reply_dated m (ReplyTo.acks t a none f) view rec stored e = absurd (let z = f ∙ e in cc)
+  reply_dated m (ReplyTo.read_answer t n r own a f) view rec stored e = absurd (let z = f ∙ e in cc)
+  reply_dated m (ReplyTo.write_answer t n r own a f) view rec stored e = absurd (let z = f ∙ e in cc)
+  reply_dated m (ReplyTo.refresh_answer i r own a held certain copy f) view rec stored e =
       let z = f ∙ e in
       let same : r ≡ rec = cc in
-      let on : stored.date ≡ date = cc in
-      rw (← same, ← on) (copy_was (r, stored) (value_pair r x.copies stored copy))
+      let on : own ≡ stored = cc in
+      rw (← same, ← on) (copy_was (r, own) (value_pair r x.copies own copy))
 
   -- a kept answer
   pub answer_sent : (r : ℕ) (k : ℕ × Stored) → AnswerNow catalogue x given r k → (v : View) × (x.held ≡ Some v) × WasSent catalogue w s r v k
@@ -115,7 +115,7 @@ module _ (catalogue : Catalogue) (w new : Scene) (s : ℕ) (x : SiteState) (give
   pub dated_keep : InvDated catalogue new
   dated_keep = record {
     copies = λ k a h. copy_at k a h (kept_is w new s x o st k);
-    sent = λ k to rec view date value h. ⊎_elim (λ old. dated_on rec date (inv.sent k to rec view date value old)) (λ more. dated_on rec date (reply_dated (letter k to (message.RefreshAnswer view rec value date)) (p.replies _ more) view rec value date refl)) (st.sent _ h);
+    sent = λ k to rec view stored h. ⊎_elim (λ old. dated_on rec stored.date (inv.sent k to rec view stored old)) (λ more. dated_on rec stored.date (reply_dated (letter k to (message.RefreshAnswer view rec stored)) (p.replies _ more) view rec stored refl)) (st.sent _ h);
     kept = λ k y r a g h z. kept_now k y r a h z (now_is w new s x o st k y g);
   }
     where
@@ -141,7 +141,7 @@ dated_above : (catalogue : Catalogue) → Above catalogue (Thirteenth catalogue)
 dated_above catalogue = record {
   starts = record {
     copies = λ s a h. inl ((start_kept catalogue s).dated a h);
-    sent = λ p to rec view date value h. absurd (start_sent catalogue _ h);
+    sent = λ p to rec view stored h. absurd (start_sent catalogue _ h);
     kept = λ s x r a up h k. absurd (no_refresh catalogue s (empty_durable (start_copies catalogue s)) r (subst (λ (x : SiteState). Has x.refresh r) (sym (started catalogue s x up)) h));
   };
   acts = λ w s x given up r low now inv.
@@ -156,7 +156,7 @@ dated_above catalogue = record {
       (stepping catalogue w s x given up ok.kept (local-step catalogue x given ok.tidy));
   quiet = λ w new s q low now inv. record {
     copies = λ k a h. dated_quiet w new s q a (inv.copies k a (subst (λ (cs : List (ℕ × Stored)). Has cs a) (quiet_kept catalogue w new s q (λ (d : DurableState). d.copies) q.copies k) h));
-    sent = λ p to rec view date value h. rw q.journal (inv.sent p to rec view date value (rw q.sent at h));
+    sent = λ p to rec view stored h. rw q.journal (inv.sent p to rec view stored (rw q.sent at h));
     kept = λ k y r a g h z. kept_quiet w new s q inv k y r a h z (quiet_is catalogue w new s q k y g);
   };
 }

@@ -49,7 +49,7 @@ pub record InvEndings (w : Scene) : Type 0 where
   -- a site's decisions and finished transactions are of no live one
   pub settled : (s : ℕ) (x : SiteState) → plain_at w s ≡ Some x → Settled x.id x.life x.coordinator
   -- each decision that a site keeps is of its own transaction, which has an entry
-  pub decisions : (s : ℕ) (d : Decision) → Has (kept_at w s).decisions d → (d.0.site ≡ s) × HasEntry w d.0
+  pub decisions : (s : ℕ) (d : Decision) → Has (kept_at w s).decisions d → (d.txn.site ≡ s) × HasEntry w d.txn
   -- no outcome of a live transaction was sent, and a commit is told only of an entry
   pub told : (m : Sent) → Has w.sent m → Told w m.message
   -- a transaction with an entry is not live
@@ -73,7 +73,7 @@ module _ (catalogue : Catalogue) (w new : Scene) (s : ℕ) (x : SiteState) (give
   entry_here : (txn : TxnId) → IsEntered o.effects.commits txn → HasEntry new txn
   entry_here txn h = (h.0, st.enters h.0 h.1, h.2)
 
-  was_entry : (d : Decision) → Has x.decisions d → HasEntry w d.0
+  was_entry : (d : Decision) → Has x.decisions d → HasEntry w d.txn
   was_entry d h = (inv.decisions s d (rw (← decisions) h)).1
 
   -- the name is of no transaction that begins now
@@ -176,11 +176,11 @@ module _ (catalogue : Catalogue) (w new : Scene) (s : ℕ) (x : SiteState) (give
       settled_now k y h (NowIs.other n old) = inv.settled k y old
       settled_now k y h (NowIs.here e same) = subst (λ (y : SiteState). Settled y.id y.life y.coordinator) same (rw (sames.0, sames.1) l.settled)
 
-      decisions_now : (k : ℕ) (d : Decision) → Has (kept_at new k).decisions d → KeptIs w new s (durable_of o.site) k → (d.0.site ≡ k) × HasEntry new d.0
-      decisions_now k d h (KeptIs.other n e) = let q = inv.decisions k d (rw (ap (λ (d : DurableState). d.decisions) e) at h) in (q.0, entry_stays d.0 q.1)
+      decisions_now : (k : ℕ) (d : Decision) → Has (kept_at new k).decisions d → KeptIs w new s (durable_of o.site) k → (d.txn.site ≡ k) × HasEntry new d.txn
+      decisions_now k d h (KeptIs.other n e) = let q = inv.decisions k d (rw (ap (λ (d : DurableState). d.decisions) e) at h) in (q.0, entry_stays d.txn q.1)
       decisions_now k d h (KeptIs.here e same) =
           let g : Has o.site.decisions d = rw (ap (λ (d : DurableState). d.decisions) same) at h in
-          (l.settled.own d g ∙ id ∙ sym e, commit_entry d.0 (l.decided d g))
+          (l.settled.own d g ∙ id ∙ sym e, commit_entry d.txn (l.decided d g))
 
       finished_now : (k : ℕ) (y : SiteState) (f : Finished) → plain_at new k ≡ Some y → Has y.finished f → NowIs w s o.site k y → Reported new f
       finished_now k y f h q (NowIs.other n old) = finished_lasts k y f old q (((inv.settled k y old).names f q).0 ∙ ids k y old) (inv.finished k y f old q)
@@ -189,7 +189,7 @@ module _ (catalogue : Catalogue) (w new : Scene) (s : ℕ) (x : SiteState) (give
 abbrev pub Fifth : Catalogue → Scene → Type 0
 Fifth catalogue w = With (Fourth catalogue) InvEndings w
 
-settled_none : (catalogue : Catalogue) (s : ℕ) (d : DurableState) → ((e : Decision) → Has d.decisions e → e.0.site ≡ s) → let x = start catalogue s d in Settled x.id x.life x.coordinator
+settled_none : (catalogue : Catalogue) (s : ℕ) (d : DurableState) → ((e : Decision) → Has d.decisions e → e.txn.site ≡ s) → let x = start catalogue s d in Settled x.id x.life x.coordinator
 unfolding start
 settled_none catalogue s d own = record {
   decisions = λ e t k h. absurd (has_none t h);
@@ -230,13 +230,13 @@ endings_above catalogue = record {
       let led = low.third.second.first.led.site s x up in
       let names = low.third.names in
       let kept : x.decisions ≡ (kept_at w s).decisions = ap (λ (d : DurableState). d.decisions) ok.kept in
-      let c = endings-step catalogue x given led (low.votes.site s x up) (inv.settled s x up) (λ d h. fresh w s x up ok.id d.0 ((names.site s x up).decisions d h)) in
+      let c = endings-step catalogue x given led (low.votes.site s x up) (inv.settled s x up) (λ d h. fresh w s x up ok.id d.txn ((names.site s x up).decisions d h)) in
       let leads = led-step catalogue x given ok.tidy led in
       endings_keep catalogue w _ s x given (step catalogue x given) up ok.id kept led (λ k y h. (views.site k y h).id) names inv c.kept (leads.id, leads.life)
       (stepping catalogue w s x given up ok.kept (local-step catalogue x given ok.tidy));
   quiet = λ w new s q low now inv. record {
     settled = λ k y h. settled_now w new s q inv k y (quiet_is catalogue w new s q k y h);
-    decisions = λ k d h. let e = quiet_kept catalogue w new s q (λ (d : DurableState). d.decisions) q.decisions k in let f = inv.decisions k d (rw e at h) in (f.0, entry_on w new s q d.0 f.1);
+    decisions = λ k d h. let e = quiet_kept catalogue w new s q (λ (d : DurableState). d.decisions) q.decisions k in let f = inv.decisions k d (rw e at h) in (f.0, entry_on w new s q d.txn f.1);
     told = λ m h. told_on w new s q m.message (inv.told m (rw q.sent at h));
     entry = λ e h. over_on w new s q e.txn (inv.entry e (rw q.journal at h));
     once = subst Once (sym q.journal) inv.once;

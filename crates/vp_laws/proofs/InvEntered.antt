@@ -10,7 +10,7 @@ use Rattle.vp_model.specs.Words.{is_empty, has, is_view, keys}
 use Rattle.vp_model.specs.Catalogue.{Catalogue, holders, accessible, start_copies}
 use Rattle.vp_model.specs.Durable.{DurableState, empty_durable}
 use Rattle.vp_model.specs.Site.{SiteState, Stepped}
-use Rattle.vp_model.specs.Transactions.{last_writes}
+use Rattle.vp_model.specs.Transactions.{last_changes, last_writes}
 use Rattle.vp_model.specs.Refresh.{is_usable_in, other_holders_in}
 use Rattle.vp_model.specs.Step.{start, step}
 use Rattle.vp_laws.proofs.Members.{Has, has_none, has_cons, filter_keeps, map_has}
@@ -33,7 +33,7 @@ use Rattle.vp_laws.proofs.Worlds.{NowIs, now_is, QuietIs, quiet_is, started, sta
 
 -- the entry wrote the record
 abbrev pub Wrote : Commit → ℕ → Type 0
-Wrote e rec = Has (keys (last_writes e.ops)) rec
+Wrote e rec = Has (keys (last_changes e)) rec
 
 abbrev pub AgreedAs : Scene → ViewId → View → Type 0
 AgreedAs w i v = Has w.agreed v × (v.id ≡ i)
@@ -53,7 +53,7 @@ pub record InvEntered (catalogue : Catalogue) (w : Scene) : Type 0 where
   -- each holder that an entry affects, but the coordinator, has voted on it
   pub voted : (e : Commit) (s : ℕ) → Has w.journal e → Affected catalogue w e s → s ≢ e.txn.site → HasVote w s e.txn
   -- a site that waits for a view has no doubt and no entry of it
-  pub no_doubt : (s : ℕ) (x : SiteState) (i : ViewId) (d : Doubt) → plain_at w s ≡ Some x → x.waiting ≡ Some i → Has x.doubts d → d.1 ≢ i
+  pub no_doubt : (s : ℕ) (x : SiteState) (i : ViewId) (d : Doubt) → plain_at w s ≡ Some x → x.waiting ≡ Some i → Has x.doubts d → d.view ≢ i
   pub no_entry : (s : ℕ) (x : SiteState) (i : ViewId) (e : Commit) → plain_at w s ≡ Some x → x.waiting ≡ Some i → Has w.journal e → e.txn.site ≡ s → e.view ≢ i
 
 pub has_test : (xs : List ℕ) (a : ℕ) → Has xs a → has xs a ≡ true
@@ -144,10 +144,10 @@ module _ (catalogue : Catalogue) (w new : Scene) (s : ℕ) (x : SiteState) (give
   affected_was e k h a = record { view = a.view; agreed = view_was e a.view h a.agreed; rec = a.rec; wrote = a.wrote; holder = a.holder; member = a.member }
 
   -- a view that is awaited now
-  no_doubt_now : (i : ViewId) (d : Doubt) → o.site.waiting ≡ Some i → DoubtNow x given d → d.1 ≢ i
+  no_doubt_now : (i : ViewId) (d : Doubt) → o.site.waiting ≡ Some i → DoubtNow x given d → d.view ≢ i
   no_doubt_now i d e (DoubtNow.still h) = ⊎_elim
       (λ was. inv.no_doubt s x i d up was h)
-      (λ (q : InviteComes given i × Precedes x.promise i). above_is_other d.1 x.promise i (below.doubts d h).0 q.1)
+      (λ (q : InviteComes given i × Precedes x.promise i). above_is_other d.view x.promise i (below.doubts d h).0 q.1)
       (l.waiting i e)
   no_doubt_now i d e (DoubtNow.fresh from part reads writes q some f) = ⊎_elim
       (λ was. absurd (holding x.held refl was q.held))
@@ -188,7 +188,7 @@ module _ (catalogue : Catalogue) (w new : Scene) (s : ℕ) (x : SiteState) (give
     no_entry = λ k y i e h f q site. entry_at k y i e f q site (now_is w new s x o st k y h);
   }
     where
-      doubt_at : (k : ℕ) (y : SiteState) (i : ViewId) (d : Doubt) → y.waiting ≡ Some i → Has y.doubts d → NowIs w s o.site k y → d.1 ≢ i
+      doubt_at : (k : ℕ) (y : SiteState) (i : ViewId) (d : Doubt) → y.waiting ≡ Some i → Has y.doubts d → NowIs w s o.site k y → d.view ≢ i
       doubt_at k y i d f q (NowIs.other n old) = inv.no_doubt k y i d old f q
       doubt_at k y i d f q (NowIs.here e same) = no_doubt_now i d (ap (λ (y : SiteState). y.waiting) same ∙ f) (p.doubts d (subst (λ (y : SiteState). Has y.doubts d) (sym same) q))
 
@@ -234,7 +234,7 @@ entered_above catalogue = record {
   };
 }
   where
-    quiet_doubt : (w : Scene) (s : ℕ) → InvEntered catalogue w → (k : ℕ) (y : SiteState) (i : ViewId) (d : Doubt) → y.waiting ≡ Some i → Has y.doubts d → QuietIs catalogue w s k y → d.1 ≢ i
+    quiet_doubt : (w : Scene) (s : ℕ) → InvEntered catalogue w → (k : ℕ) (y : SiteState) (i : ViewId) (d : Doubt) → y.waiting ≡ Some i → Has y.doubts d → QuietIs catalogue w s k y → d.view ≢ i
     quiet_doubt w s inv k y i d f z (QuietIs.other n old) = inv.no_doubt k y i d old f z
     quiet_doubt w s inv k y i d f z (QuietIs.here e same) = absurd (no_wait catalogue s (kept_at w s) i (ap (λ (y : SiteState). y.waiting) same ∙ f))
 

@@ -34,7 +34,7 @@ pub record InvGuards (catalogue : Catalogue) (w : Scene) : Type 0 where
   -- the locks of a site are in order
   pub site : (s : ℕ) (x : SiteState) → plain_at w s ≡ Some x → LocksAt catalogue x
   -- two doubts of one site, be it up or down, write different records
-  pub writes : (s : ℕ) (c d : Doubt) (rec : ℕ) → Has (kept_at w s).doubts c → Has (kept_at w s).doubts d → Has (keys c.2) rec → Has (keys d.2) rec → c.0 ≡ d.0
+  pub writes : (s : ℕ) (c d : Doubt) (rec : ℕ) → Has (kept_at w s).doubts c → Has (kept_at w s).doubts d → Has (keys c.writes) rec → Has (keys d.writes) rec → c.txn ≡ d.txn
 
 flat_has : {X Y : Type 0} (f : X → List Y) (xs : List X) (y : Y) → Has (flat_map f xs) y → (x : X) × Has xs x × Has (f x) y
 flat_has f [] y h = absurd (has_none y h)
@@ -54,13 +54,13 @@ strictly a b h n = go (same_view a b) refl
 pub txn_same : (t u : TxnId) → owner.Txn t ≡ owner.Txn u → t ≡ u
 txn_same t u e = cc
 
-doubt_lock : (d : Doubt) (l : Lock) → Has (locks_in_doubt d) l → Has (keys d.2) l.rec × (l.owner ≡ owner.Txn d.0) × (l.exclusive ≡ true)
+doubt_lock : (d : Doubt) (l : Lock) → Has (locks_in_doubt d) l → Has (keys d.writes) l.rec × (l.owner ≡ owner.Txn d.txn) × (l.exclusive ≡ true)
 doubt_lock d l h =
-    let r = map_has (λ (w : ℕ × List ℕ). record { rec = w.0; exclusive = true; owner = owner.Txn d.0 }) d.2 l h in
-    (subst (Has (keys d.2)) (ap (λ (l : Lock). l.rec) r.2) (mapped_has (λ (w : ℕ × List ℕ). w.0) d.2 r.0 r.1), sym (ap (λ (l : Lock). l.owner) r.2), sym (ap (λ (l : Lock). l.exclusive) r.2))
+    let r = map_has (λ (w : ℕ × List ℕ). record { rec = w.0; exclusive = true; owner = owner.Txn d.txn }) d.writes l h in
+    (subst (Has (keys d.writes)) (ap (λ (l : Lock). l.rec) r.2) (mapped_has (λ (w : ℕ × List ℕ). w.0) d.writes r.0 r.1), sym (ap (λ (l : Lock). l.owner) r.2), sym (ap (λ (l : Lock). l.exclusive) r.2))
 
 -- the locks of a site that starts are those of its doubts
-start_locks : (catalogue : Catalogue) (s : ℕ) (k : DurableState) → ((c d : Doubt) (rec : ℕ) → Has k.doubts c → Has k.doubts d → Has (keys c.2) rec → Has (keys d.2) rec → c.0 ≡ d.0) → LocksAt catalogue (start catalogue s k)
+start_locks : (catalogue : Catalogue) (s : ℕ) (k : DurableState) → ((c d : Doubt) (rec : ℕ) → Has k.doubts c → Has k.doubts d → Has (keys c.writes) rec → Has (keys d.writes) rec → c.txn ≡ d.txn) → LocksAt catalogue (start catalogue s k)
 unfolding start
 start_locks catalogue s k writes = record {
   apart = λ a b t u h g r x f e.
@@ -71,12 +71,12 @@ start_locks catalogue s k writes = record {
       c.1 ∙ ap owner.Txn (writes p.0 q.0 a.rec p.1 q.1 c.0 (rw r d.0)) ∙ sym d.1;
   owners = λ l txn h e.
       let p = flat_has locks_in_doubt k.doubts l h in
-      let c = doubt_lock p.0 l p.2 in inr (inr (p.0, p.1, txn_same p.0.0 txn (sym c.1 ∙ e)));
+      let c = doubt_lock p.0 l p.2 in inr (inr (p.0, p.1, txn_same p.0.txn txn (sym c.1 ∙ e)));
   doubted = λ d rec h z.
-      let r = map_has (λ (w : ℕ × List ℕ). w.0) d.2 rec z in
+      let r = map_has (λ (w : ℕ × List ℕ). w.0) d.writes rec z in
       record {
-        lock = record { rec = r.0.0; exclusive = true; owner = owner.Txn d.0 };
-        has = has_flat locks_in_doubt k.doubts d _ h (mapped_has (λ (w : ℕ × List ℕ). record { rec = w.0; exclusive = true; owner = owner.Txn d.0 }) d.2 r.0 r.1);
+        lock = record { rec = r.0.0; exclusive = true; owner = owner.Txn d.txn };
+        has = has_flat locks_in_doubt k.doubts d _ h (mapped_has (λ (w : ℕ × List ℕ). record { rec = w.0; exclusive = true; owner = owner.Txn d.txn }) d.writes r.0 r.1);
         on = r.2;
         by = refl;
         strong = λ e. refl;
@@ -107,16 +107,16 @@ module _ (catalogue : Catalogue) (w : Scene) (s : ℕ) (x : SiteState) (given : 
   doubts_kept : (d : Doubt) → Has x.doubts d → Has (kept_at w s).doubts d
   doubts_kept d h = subst (λ (k : DurableState). Has k.doubts d) site_ok.kept h
 
-  pub awaited : (i : ViewId) → x.waiting ≡ Some i → Precedes opening i × ((d : Doubt) → Has x.doubts d → Precedes d.1 i)
+  pub awaited : (i : ViewId) → x.waiting ≡ Some i → Precedes opening i × ((d : Doubt) → Has x.doubts d → Precedes d.view i)
   awaited i e = (
     (site_ok.awaits i e).1,
-    (λ d h. strictly d.1 i (AtMost-along (below.doubts d h).0 refl (site_ok.tidy.waiting i e).0) (entered.no_doubt s x i d up e h)),
+    (λ d h. strictly d.view i (AtMost-along (below.doubts d h).0 refl (site_ok.tidy.waiting i e).0) (entered.no_doubt s x i d up e h)),
   )
 
-  pub invited : (b : ViewId × List ℕ) → x.inviting ≡ Some b → Precedes opening b.0 × ((d : Doubt) → Has x.doubts d → Precedes d.1 b.0)
+  pub invited : (b : ViewId × List ℕ) → x.inviting ≡ Some b → Precedes opening b.0 × ((d : Doubt) → Has x.doubts d → Precedes d.view b.0)
   invited b e = (
     strictly opening b.0 (opening_least b.0) (λ z. site_ok.unfixed b _ e views.opening (sym z)),
-    (λ d h. strictly d.1 b.0 (AtMost-along (below.doubts d h).0 refl (site_ok.tidy.inviting b e).0) (λ z.
+    (λ d h. strictly d.view b.0 (AtMost-along (below.doubts d h).0 refl (site_ok.tidy.inviting b e).0) (λ z.
         let q = shares.doubts s d (doubts_kept d h) in
         let v = asked.asked _ q.0.3 in
         site_ok.unfixed b v.0 e v.1 (sym z ∙ sym v.2))),
@@ -166,13 +166,13 @@ guards_above catalogue = record {
         site_now k y (NowIs.other n old) = inv.site k y old
         site_now k y (NowIs.here e same) = subst (LocksAt catalogue) same g.ok
 
-        one_owner : (c d : Doubt) (rec : ℕ) → Has o.site.doubts c → Has o.site.doubts d → Has (keys c.2) rec → Has (keys d.2) rec → c.0 ≡ d.0
+        one_owner : (c d : Doubt) (rec : ℕ) → Has o.site.doubts c → Has o.site.doubts d → Has (keys c.writes) rec → Has (keys d.writes) rec → c.txn ≡ d.txn
         one_owner c d rec h z a b =
             let p = g.ok.doubted c rec h a in
             let q = g.ok.doubted d rec z b in
-            txn_same c.0 d.0 (sym p.by ∙ g.ok.apart p.lock q.lock c.0 d.0 p.has q.has (p.on ∙ sym q.on) (p.strong refl) p.by q.by ∙ q.by)
+            txn_same c.txn d.txn (sym p.by ∙ g.ok.apart p.lock q.lock c.txn d.txn p.has q.has (p.on ∙ sym q.on) (p.strong refl) p.by q.by ∙ q.by)
 
-        writes_now : (k : ℕ) (c d : Doubt) (rec : ℕ) → Has (kept_at (acted w s x o) k).doubts c → Has (kept_at (acted w s x o) k).doubts d → Has (keys c.2) rec → Has (keys d.2) rec → KeptIs w (acted w s x o) s (durable_of o.site) k → c.0 ≡ d.0
+        writes_now : (k : ℕ) (c d : Doubt) (rec : ℕ) → Has (kept_at (acted w s x o) k).doubts c → Has (kept_at (acted w s x o) k).doubts d → Has (keys c.writes) rec → Has (keys d.writes) rec → KeptIs w (acted w s x o) s (durable_of o.site) k → c.txn ≡ d.txn
         writes_now k c d rec h z a b (KeptIs.other n same) = inv.writes k c d rec (subst (λ (k : DurableState). Has k.doubts c) same h) (subst (λ (k : DurableState). Has k.doubts d) same z) a b
         writes_now k c d rec h z a b (KeptIs.here e same) = one_owner c d rec (subst (λ (k : DurableState). Has k.doubts c) same h) (subst (λ (k : DurableState). Has k.doubts d) same z) a b
 

@@ -1,12 +1,12 @@
 -- Records under refresh, in every world: each has a copy here and may be used, and no entry of the held view has written it.
 use Rattle.std.proofs.Common.{◌≡◌, ◌≢◌, ◌⊎◌, ◌∙◌, ap, sym, subst, ℕ, true, false, List, refl, arith, ⊎_elim}
 use Rattle.std.specs.Prelude.{Some, None}
-use Rattle.vp_model.specs.Types.{ViewId, TxnId, View, Commit, Input, Live, Refreshing, Doubt}
+use Rattle.vp_model.specs.Types.{Change, ViewId, TxnId, View, Commit, Input, Live, Refreshing, Doubt}
 use Rattle.vp_model.specs.Types.message
 use Rattle.vp_model.specs.Words.{is_empty, has, has_txn, keys}
 use Rattle.vp_model.specs.Catalogue.{Catalogue, holders, start_copies}
 use Rattle.vp_model.specs.Durable.{DurableState, empty_durable}
-use Rattle.vp_model.specs.Transactions.{last_writes, writes_held}
+use Rattle.vp_model.specs.Transactions.{last_changes, writes_held}
 use Rattle.vp_model.specs.Site.{SiteState, Stepped}
 use Rattle.vp_model.specs.Step.{start, step}
 use Rattle.vp_laws.proofs.Members.{Has, has_none, map_has, filter_keeps}
@@ -38,11 +38,11 @@ pub record InvListed (catalogue : Catalogue) (w : Scene) : Type 0 where
   pub unwritten : (s : ℕ) (x : SiteState) (v : View) (r : Refreshing) (e : Commit) → plain_at w s ≡ Some x → x.held ≡ Some v → Has x.refresh r → Has w.journal e → Wrote e r.rec → e.view ≢ v.id
 
 -- what an entry wrote, among what a holder of it holds
-pub wrote_here : (catalogue : Catalogue) (e : Commit) (q rec : ℕ) → Has (holders catalogue rec) q → Wrote e rec → Has (keys (writes_held catalogue q (last_writes e.ops))) rec
+pub wrote_here : (catalogue : Catalogue) (e : Commit) (q rec : ℕ) → Has (holders catalogue rec) q → Wrote e rec → Has (keys (writes_held catalogue q (last_changes e))) rec
 wrote_here catalogue e q rec holder wrote =
-    let r = map_has (λ (p : ℕ × List ℕ). p.0) (last_writes e.ops) rec wrote in
-    let k = filter_keeps (λ (w : ℕ × List ℕ). has (holders catalogue w.0) q) (last_writes e.ops) r.0 r.1 (has_test (holders catalogue r.0.0) q (subst (λ (n : ℕ). Has (holders catalogue n) q) (sym r.2) holder)) in
-    subst (Has (keys (writes_held catalogue q (last_writes e.ops)))) r.2 (mapped_has (λ (p : ℕ × List ℕ). p.0) _ r.0 k)
+    let r = map_has (λ (p : ℕ × List ℕ). p.0) (last_changes e) rec wrote in
+    let k = filter_keeps (λ (w : ℕ × List ℕ). has (holders catalogue w.0) q) (last_changes e) r.0 r.1 (has_test (holders catalogue r.0.0) q (subst (λ (n : ℕ). Has (holders catalogue n) q) (sym r.2) holder)) in
+    subst (Has (keys (writes_held catalogue q (last_changes e)))) r.2 (mapped_has (λ (p : ℕ × List ℕ). p.0) _ r.0 k)
 
 pub not_below_itself : (a b : ViewId) → Precedes a b → a ≡ b → ⊥
 not_below_itself a b p e = grind arith
@@ -74,10 +74,10 @@ module _ (catalogue : Catalogue) (w new : Scene) (s : ℕ) (x : SiteState) (give
       }
 
   -- a doubt of its transaction is of its view, with its writes
-  doubt_says : (e : Commit) → Has o.effects.commits e → (k : ℕ) (d : Doubt) → Has (kept_at w k).doubts d → d.0 ≡ e.txn → (e.view ≡ d.1) × (writes_held catalogue k (last_writes e.ops) ≡ d.2)
+  doubt_says : (e : Commit) → Has o.effects.commits e → (k : ℕ) (d : Doubt) → Has (kept_at w k).doubts d → d.txn ≡ e.txn → (e.view ≡ d.view) × (writes_held catalogue k (last_changes e) ≡ d.writes)
   doubt_says e h k d there named =
       let q = (shares.doubts k d there).0 in
-      let says = shares_now.entry e (st.enters e h) q.0 k d.1 q.1 q.2 d.2 (subst (λ (t : TxnId). Has new.sent (letter q.0 k (message.Prepare t d.1 q.1 q.2 d.2))) named (st.moved.sent _ q.3)) in
+      let says = shares_now.entry e (st.enters e h) q.0 k d.view q.1 q.2 d.writes (subst (λ (t : TxnId). Has new.sent (letter q.0 k (message.Prepare t d.view q.1 q.2 d.writes))) named (st.moved.sent _ q.3)) in
       (says.0, says.1)
 
   -- a new entry, and a record that is under refresh here in the same view
@@ -92,7 +92,7 @@ module _ (catalogue : Catalogue) (w new : Scene) (s : ℕ) (x : SiteState) (give
       let says = doubt_says e h s d.0 (subst (λ (k : DurableState). Has k.doubts d.0) here.kept d.1) (d.2 ∙ f.named) in
       let of : IsOf x f.was = led.live f.was f.live in
       let same : of.0 ≡ low.0 = (let a = of.1 in let b = low.1 in cc) in
-      not_below_itself d.0.1 low.0.id d.3 (sym says.0 ∙ sym f.viewed ∙ sym of.2 ∙ ap (λ (v : View). v.id) same)
+      not_below_itself d.0.view low.0.id d.3 (sym says.0 ∙ sym f.viewed ∙ sym of.2 ∙ ap (λ (v : View). v.id) same)
 
   -- or at another site
   entered_there : (e : Commit) (k : ℕ) (y : SiteState) (v : View) (r : Refreshing) → k ≢ s → plain_at w k ≡ Some y → y.held ≡ Some v → Has o.effects.commits e → Has y.refresh r → Wrote e r.rec → e.view ≡ v.id → ⊥
@@ -109,20 +109,20 @@ module _ (catalogue : Catalogue) (w new : Scene) (s : ℕ) (x : SiteState) (give
       let says = doubt_says e h k doubt.0 doubt.1 doubt.2 in
       let here_too = subst (λ (d : DurableState). Has d.doubts doubt.0) (sym there.kept) doubt.1 in
       let locks = guards.site k y at_k in
-      let lock = locks.doubted doubt.0 r.rec here_too (subst (λ (ws : List (ℕ × List ℕ)). Has (keys ws) r.rec) says.1 writes) in
+      let lock = locks.doubted doubt.0 r.rec here_too (subst (λ (ws : List (ℕ × Change)). Has (keys ws) r.rec) says.1 writes) in
       let low = locks.lower r listed in
-      let d = low.3 lock.lock doubt.0.0 lock.has lock.on lock.by in
+      let d = low.3 lock.lock doubt.0.txn lock.has lock.on lock.by in
       let lower_says = doubt_says e h k d.0 (subst (λ (k : DurableState). Has k.doubts d.0) there.kept d.1) (d.2 ∙ doubt.2) in
       let same : v ≡ low.0 = (let b = low.1 in cc) in
-      not_below_itself d.0.1 low.0.id d.3 (sym lower_says.0 ∙ is ∙ ap (λ (v : View). v.id) same)
+      not_below_itself d.0.view low.0.id d.3 (sym lower_says.0 ∙ is ∙ ap (λ (v : View). v.id) same)
     where
-      in_doubt : (e : Commit) (k : ℕ) (f : Entering e) → k ≢ s → Has (keys (writes_held catalogue k (last_writes e.ops))) r.rec → (to : ℕ) → Has new.sent (letter k to (message.Vote e.txn)) → InDoubt w k e.txn
+      in_doubt : (e : Commit) (k : ℕ) (f : Entering e) → k ≢ s → Has (keys (writes_held catalogue k (last_changes e))) r.rec → (to : ℕ) → Has new.sent (letter k to (message.Vote e.txn)) → InDoubt w k e.txn
       in_doubt e k f other writes to sent = ⊎_elim
           (λ old. shares.says (letter k to (message.Vote e.txn)) old x f.was (rw f.site up) f.live f.named (rw f.done some))
           (λ more. absurd (other (p.from (letter k to (message.Vote e.txn)) more ∙ here.id)))
           (st.sent (letter k to (message.Vote e.txn)) sent)
         where
-          some : is_empty (writes_held catalogue k (last_writes e.ops)) ≡ false
+          some : is_empty (writes_held catalogue k (last_changes e)) ≡ false
           some = let r = map_has (λ (p : ℕ × List ℕ). p.0) _ _ writes in some_not_empty _ r.0 r.1
 
   -- an old entry of a view that is joined now
@@ -138,7 +138,7 @@ module _ (catalogue : Catalogue) (w new : Scene) (s : ℕ) (x : SiteState) (give
       none : InDoubt w s e.txn → ⊥
       none (d, there, named) =
           let q = (shares.doubts s d there).0 in
-          let says = shares.entry e h q.0 s d.1 q.1 q.2 d.2 (subst (λ (t : TxnId). Has w.sent (letter q.0 s (message.Prepare t d.1 q.1 q.2 d.2))) named q.3) in
+          let says = shares.entry e h q.0 s d.view q.1 q.2 d.writes (subst (λ (t : TxnId). Has w.sent (letter q.0 s (message.Prepare t d.view q.1 q.2 d.writes))) named q.3) in
           entered.no_doubt s x v.id d up awaits (subst (λ (k : DurableState). Has k.doubts d) (sym here.kept) there) (sym says.0 ∙ is)
 
       left : HasLeft w s e.view → ⊥

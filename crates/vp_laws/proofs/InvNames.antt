@@ -29,8 +29,8 @@ pub record UsedTxn (w : Scene) (t : TxnId) : Type 0 where
   pub seq : (x : SiteState) → plain_at w t.site ≡ Some x → x.life ≡ t.life → t.seq ≤ x.seq
 
 pub record KeptNamed (N : TxnId → Type 0) (A : ViewId → Type 0) (d : DurableState) : Type 0 where
-  pub doubts : (a : Doubt) → Has d.doubts a → N a.0 × A a.1
-  pub decisions : (a : Decision) → Has d.decisions a → N a.0
+  pub doubts : (a : Doubt) → Has d.doubts a → N a.txn × A a.view
+  pub decisions : (a : Decision) → Has d.decisions a → N a.txn
   pub copies : (c : ℕ × Stored) → Has d.copies c → A c.1.date
 
 pub record InvNames (w : Scene) : Type 0 where
@@ -66,16 +66,16 @@ module _ (N M : TxnId → Type 0) (A B : ViewId → Type 0) (n : (t : TxnId) →
   named_lifts (message.Ack t) h = n t h
   named_lifts (message.Inquire t) h = n t h
   named_lifts (message.RefreshRequest v r) h = a v h
-  named_lifts (message.RefreshAnswer v r value date) h = (a v h.0, a date h.1)
+  named_lifts (message.RefreshAnswer v r stored) h = (a v h.0, a stored.date h.1)
   named_lifts (message.Probe v) h = a v h
 
   pub names_lift : (s : SiteState) → Names N A s → Names M B s
   names_lift s h = record {
     held = λ v e. a v.id (h.held v e);
     parts = λ p q. let k = h.parts p q in (n p.txn k.0, a p.view k.1);
-    doubts = λ d q. let k = h.doubts d q in (n d.0 k.0, a d.1 k.1);
+    doubts = λ d q. let k = h.doubts d q in (n d.txn k.0, a d.view k.1);
     ended = λ t q. n t (h.ended t q);
-    decisions = λ d q. n d.0 (h.decisions d q);
+    decisions = λ d q. n d.txn (h.decisions d q);
     locks = λ l q. owner_lifts l.owner (h.locks l q);
     copies = λ c q. a c.1.date (h.copies c q);
     answers = λ r c q k. a c.1.date (h.answers r c q k);
@@ -83,8 +83,8 @@ module _ (N M : TxnId → Type 0) (A B : ViewId → Type 0) (n : (t : TxnId) →
 
   pub kept_lifts : (d : DurableState) → KeptNamed N A d → KeptNamed M B d
   kept_lifts d h = record {
-    doubts = λ d q. let k = h.doubts d q in (n d.0 k.0, a d.1 k.1);
-    decisions = λ d q. n d.0 (h.decisions d q);
+    doubts = λ d q. let k = h.doubts d q in (n d.txn k.0, a d.view k.1);
+    decisions = λ d q. n d.txn (h.decisions d q);
     copies = λ c q. a c.1.date (h.copies c q);
   }
 
@@ -172,10 +172,10 @@ names_acts catalogue w s x given up a second inv =
     }
 
 -- a site as it starts has the names that it has kept
-locks_of : (doubts : List Doubt) (l : Lock) → Has (flat_map locks_in_doubt doubts) l → (d : Doubt) × Has doubts d × (l.owner ≡ owner.Txn d.0)
+locks_of : (doubts : List Doubt) (l : Lock) → Has (flat_map locks_in_doubt doubts) l → (d : Doubt) × Has doubts d × (l.owner ≡ owner.Txn d.txn)
 locks_of [] l h = absurd (has_none l h)
 locks_of (d ∷ doubts) l h =
-    ⊎_elim (λ here. let r = map_has (λ (w : ℕ × List ℕ). record { rec = w.0; exclusive = true; owner = owner.Txn d.0 }) d.2 l here in (d, has_first d doubts, ap (λ (l : Lock). l.owner) (sym r.2)))
+    ⊎_elim (λ here. let r = map_has (λ (w : ℕ × List ℕ). record { rec = w.0; exclusive = true; owner = owner.Txn d.txn }) d.writes l here in (d, has_first d doubts, ap (λ (l : Lock). l.owner) (sym r.2)))
     (λ later. let q = locks_of doubts l later in (q.0, has_more d doubts q.0 q.1, q.2))
     (has_cases (locks_in_doubt d) (flat_map locks_in_doubt doubts) l h)
 

@@ -2,7 +2,7 @@
 -- what it wrote, its numbers go up by one, and a request is of the pending call or of one that was answered.
 use Rattle.std.proofs.Common.{◌≡◌, ◌⊎◌, ◌∙◌, ap, sym, subst, ℕ, ◌+◌, Bool, true, false, cond, List, [], ◌∷◌, ◌++◌, refl, inl, inr, ⊎_elim, length, length-append}
 use Rattle.std.specs.Prelude.{Option, Some, None, fold, ◌==◌, nat_lt, not, find, option_map, nat_eq}
-use Rattle.vp_model.specs.Types.{ViewId, TxnId, View, Input, Op, Answer, Pending, Live}
+use Rattle.vp_model.specs.Types.{Change, ViewId, TxnId, View, Input, Op, Answer, Pending, Live}
 use Rattle.std.proofs.lemmas.Bool.{eqb-true}
 use Rattle.vp_model.specs.Types.op
 use Rattle.vp_model.specs.Words.{is_empty, for_each, put_number, put_at, value_at}
@@ -54,7 +54,7 @@ pub record LiveOk (catalogue : Catalogue) (id : ℕ) (held : Option View) (t : L
   pub writing : (p : Pending) (rec : ℕ) (value : List ℕ) → t.pending ≡ Some p → Writes catalogue p rec value → (is_usable_in catalogue held rec ≡ true) × ((q : ℕ) → Has (other_holders_in catalogue id held rec) q → Has t.parts q)
 
 -- what stands among the last values was written
-last_from : (ops : List Op) (writes : List (ℕ × List ℕ)) (p : ℕ × List ℕ) → Has (fold with_op writes ops) p → Has writes p ⊎ ((value : List ℕ) × Has ops (op.Write p.0 value))
+last_from : (ops : List Op) (writes : List (ℕ × Change)) (p : ℕ × List ℕ) → Has (fold with_op writes ops) p → Has writes p ⊎ ((value : List ℕ) × Has ops (op.Write p.0 value))
 last_from [] writes p h = inl h
 last_from (op.Read rec value ∷ ops) writes p h = ⊎_elim (λ old. inl old) (λ (q : (value : List ℕ) × Has ops (op.Write p.0 value)). inr (q.0, has_more _ ops _ q.1)) (last_from ops writes p h)
 last_from (op.Write rec value ∷ ops) writes p h = ⊎_elim

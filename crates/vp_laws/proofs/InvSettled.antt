@@ -2,13 +2,13 @@
 -- coordinator's decision, or has applied it and has it in its ended list, or has left its view.
 use Rattle.std.proofs.Common.{◌≡◌, ◌≢◌, ◌⊎◌, ◌∙◌, ap, sym, subst, ℕ, Bool, true, false, List, [], ◌∷◌, refl, inl, inr, ⊎_elim}
 use Rattle.std.specs.Prelude.{Option, Some, None, option_map}
-use Rattle.vp_model.specs.Types.{ViewId, TxnId, View, Sent, Commit, Message, Input, Part, Live, Doubt, Decision}
+use Rattle.vp_model.specs.Types.{Change, ViewId, TxnId, View, Sent, Commit, Message, Input, Part, Live, Doubt, Decision}
 use Rattle.vp_model.specs.Types.message
 use Rattle.vp_model.specs.Words.{same_txn, has_txn, is_empty, is_view, has}
 use Rattle.vp_model.specs.Catalogue.{Catalogue, holders}
 use Rattle.vp_model.specs.Durable.{DurableState}
 use Rattle.vp_model.specs.Site.{SiteState, Stepped}
-use Rattle.vp_model.specs.Transactions.{last_writes, writes_held}
+use Rattle.vp_model.specs.Transactions.{last_changes, entry_of, writes_held}
 use Rattle.vp_model.specs.Views.{has_doubt}
 use Rattle.vp_model.specs.Refresh.{other_holders_in}
 use Rattle.vp_model.specs.Messages.{holds_view}
@@ -66,8 +66,8 @@ in_doubt : (w : Scene) (s : ℕ) (txn : TxnId) → InDoubt w s txn ⊎ (InDoubt 
 in_doubt w s txn = go (has_doubt txn (kept_at w s).doubts) refl
   where
     go : (b : Bool) → has_doubt txn (kept_at w s).doubts ≡ b → InDoubt w s txn ⊎ (InDoubt w s txn → ⊥)
-    go true e = let q = any_true (λ (d : Doubt). same_txn d.0 txn) (kept_at w s).doubts e in inl (q.0, q.1, same_txn-is q.0.0 txn q.2)
-    go false e = inr (λ d. same_txn-not d.0.0 txn (any_false (λ (d : Doubt). same_txn d.0 txn) (kept_at w s).doubts e d.0 d.1) d.2)
+    go true e = let q = any_true (λ (d : Doubt). same_txn d.txn txn) (kept_at w s).doubts e in inl (q.0, q.1, same_txn-is q.0.txn txn q.2)
+    go false e = inr (λ d. same_txn-not d.0.txn txn (any_false (λ (d : Doubt). same_txn d.txn txn) (kept_at w s).doubts e d.0 d.1) d.2)
 
 pub holding : (x : SiteState) (view : ViewId) → holds_view x view ≡ true → (v : View) × (x.held ≡ Some v) × (v.id ≡ view)
 holding x view e = go x.held refl e
@@ -79,17 +79,17 @@ holding x view e = go x.held refl e
 -- who is affected
 module _ (catalogue : Catalogue) (w : Scene) (asked : InvLed w) (shares : InvShares catalogue w) where
   -- the receiver of a prepare with writes
-  pub prepared_affected : (e : Commit) (from k : ℕ) (txn : TxnId) (view : ViewId) (number : ℕ) (reads : List ℕ) (writes : List (ℕ × List ℕ)) → Has w.journal e → txn ≡ e.txn → is_empty writes ≡ false → Has w.sent (letter from k (message.Prepare txn view number reads writes)) → Affected catalogue w e k × (e.view ≡ view) × (k ≢ e.txn.site)
+  pub prepared_affected : (e : Commit) (from k : ℕ) (txn : TxnId) (view : ViewId) (number : ℕ) (reads : List ℕ) (writes : List (ℕ × Change)) → Has w.journal e → txn ≡ e.txn → is_empty writes ≡ false → Has w.sent (letter from k (message.Prepare txn view number reads writes)) → Affected catalogue w e k × (e.view ≡ view) × (k ≢ e.txn.site)
   prepared_affected e from k txn view number reads writes there named some sent =
       let q = shares.entry e there from k view number reads writes (rw (← named) sent) in
       let b = asked.asked _ sent in
-      let p = some_first (writes_held catalogue k (last_writes e.ops)) (rw q.1 some) in
-      let f = filter_has (λ (w : ℕ × List ℕ). has (holders catalogue w.0) k) (last_writes e.ops) p.0 p.1 in (
+      let p = some_first (writes_held catalogue k (last_changes e)) (rw q.1 some) in
+      let f = filter_has (λ (w : ℕ × List ℕ). has (holders catalogue w.0) k) (last_changes e) p.0 p.1 in (
         record {
           view = b.0;
           agreed = (b.1, b.2 ∙ sym q.0);
           rec = p.0.0;
-          wrote = mapped_has (λ (p : ℕ × List ℕ). p.0) (last_writes e.ops) p.0 f.0;
+          wrote = mapped_has (λ (p : ℕ × List ℕ). p.0) (last_changes e) p.0 f.0;
           holder = has_from_test (holders catalogue p.0.0) k f.1;
           member = b.3;
         },
@@ -97,10 +97,10 @@ module _ (catalogue : Catalogue) (w : Scene) (asked : InvLed w) (shares : InvSha
         (λ z. b.5 (z ∙ ap (λ (t : TxnId). t.site) (sym named))),
       )
 
-  pub doubt_affected : (e : Commit) (k : ℕ) (d : Doubt) → Has w.journal e → Has (kept_at w k).doubts d → d.0 ≡ e.txn → Affected catalogue w e k × (e.view ≡ d.1) × (k ≢ e.txn.site)
+  pub doubt_affected : (e : Commit) (k : ℕ) (d : Doubt) → Has w.journal e → Has (kept_at w k).doubts d → d.txn ≡ e.txn → Affected catalogue w e k × (e.view ≡ d.view) × (k ≢ e.txn.site)
   doubt_affected e k d there h named =
       let q = shares.doubts k d h in
-      prepared_affected e q.0.0 k d.0 d.1 q.0.1 q.0.2 d.2 there named q.1 q.0.3
+      prepared_affected e q.0.0 k d.txn d.view q.0.1 q.0.2 d.writes there named q.1 q.0.3
 
 module _ (catalogue : Catalogue) (w new : Scene) (s : ℕ) (x : SiteState) (given : Input) (o : Stepped) (up : plain_at w s ≡ Some x) (arrives : Arrives w s given) (id : x.id ≡ s) (kept : durable_of x ≡ kept_at w s) (views : InvViews catalogue w) (views_now : InvViews catalogue new) (led : Led x) (asked : InvLed w) (ends : InvEndings w) (shares : InvShares catalogue w) (ops : (u : Live) → Has x.live u → LiveOk catalogue x.id x.held u) (entered : InvEntered catalogue w) (entered_now : InvEntered catalogue new) (below_now : InvBelow new) (inv : InvSettled catalogue w) (c : Waits catalogue x given o.site.coordinator o.effects.messages o.effects.commits) (ec : Endings x given o.site.coordinator o.effects.messages o.effects.commits) (steps : Steps catalogue x given o.site.coordinator o.effects.messages o.effects.commits) (p : Shares x given o) (v : Leaves x given o) (st : Acted w new s x o) where
   came : (from : ℕ) (m : Message) → Comes given from m → Has w.sent (letter from s m)
@@ -126,7 +126,7 @@ module _ (catalogue : Catalogue) (w new : Scene) (s : ℕ) (x : SiteState) (give
   promised e k a = subst (λ (i : ViewId). AtMost i (promise_at w k)) a.agreed.1 ((views.view a.view a.agreed.0).members k a.member)
 
   -- no prepare makes a doubt about a transaction with an entry
-  no_new : (e : Commit) → Has w.journal e → (from : ℕ) (part : Part) (reads : List ℕ) (writes : List (ℕ × List ℕ)) → Prepared x given from part reads writes → is_empty writes ≡ false → part.txn ≡ e.txn → ⊥
+  no_new : (e : Commit) → Has w.journal e → (from : ℕ) (part : Part) (reads : List ℕ) (writes : List (ℕ × Change)) → Prepared x given from part reads writes → is_empty writes ≡ false → part.txn ≡ e.txn → ⊥
   no_new e there from part reads writes q some named =
       let a = prepared_affected catalogue w asked shares e from s part.txn q.view q.number reads writes there named some (came from _ q.comes) in
       let h = holding x q.view q.held in
@@ -136,7 +136,7 @@ module _ (catalogue : Catalogue) (w new : Scene) (s : ℕ) (x : SiteState) (give
       let same : l.0 ≡ x = (let z = l.1 in cc) in
       let has : has_txn x.ended part.txn ≡ true = rw (← same, named) l.2 in
       let not = q.going in cc)
-      (inv.ended e s there a.0 a.2 (λ d. same_txn-not d.0.0 part.txn (any_false (λ (d : Doubt). same_txn d.0 part.txn) x.doubts q.certain d.0 (rw doubts_kept d.1)) (d.2 ∙ sym named)))
+      (inv.ended e s there a.0 a.2 (λ d. same_txn-not d.0.txn part.txn (any_false (λ (d : Doubt). same_txn d.txn part.txn) x.doubts q.certain d.0 (rw doubts_kept d.1)) (d.2 ∙ sym named)))
 
   -- so each doubt about one was there
   pub doubt_was : (e : Commit) (k : ℕ) → Has w.journal e → InDoubt new k e.txn → InDoubt w k e.txn
@@ -144,7 +144,7 @@ module _ (catalogue : Catalogue) (w new : Scene) (s : ℕ) (x : SiteState) (give
     where
       here : k ≡ s → DoubtNow x given d → InDoubt w k e.txn
       here z (DoubtNow.still old) = (d, rw (z, ← doubts_kept) old, named)
-      here z (DoubtNow.fresh from part reads writes q some is) = absurd (no_new e there from part reads writes q some (ap (λ (d : Doubt). d.0) is ∙ named))
+      here z (DoubtNow.fresh from part reads writes q some is) = absurd (no_new e there from part reads writes q some (ap (λ (d : Doubt). d.txn) is ∙ named))
 
       go : KeptIs w new s (durable_of o.site) k → InDoubt w k e.txn
       go (KeptIs.other n same) = (d, subst (λ (k : DurableState). Has k.doubts d) same h, named)
@@ -161,10 +161,10 @@ module _ (catalogue : Catalogue) (w new : Scene) (s : ℕ) (x : SiteState) (give
   entered_ops e f = sym (ap (λ (t : Live). t.ops) f.handled.same) ∙ ap (λ (e : Commit). e.ops) f.is
 
   -- an affected holder has writes of the entry
-  affected_writes : (e : Commit) (k : ℕ) → Affected catalogue new e k → is_empty (writes_held catalogue k (last_writes e.ops)) ≡ false
+  affected_writes : (e : Commit) (k : ℕ) → Affected catalogue new e k → is_empty (writes_held catalogue k (last_changes e)) ≡ false
   affected_writes e k a =
-      let r = map_has (λ (p : ℕ × List ℕ). p.0) (last_writes e.ops) a.rec a.wrote in
-      some_not_empty _ r.0 (filter_keeps (λ (w : ℕ × List ℕ). has (holders catalogue w.0) k) (last_writes e.ops) r.0 r.1 (has_test (holders catalogue r.0.0) k (subst (λ (n : ℕ). Has (holders catalogue n) k) (sym r.2) a.holder)))
+      let r = map_has (λ (p : ℕ × List ℕ). p.0) (last_changes e) a.rec a.wrote in
+      some_not_empty _ r.0 (filter_keeps (λ (w : ℕ × List ℕ). has (holders catalogue w.0) k) (last_changes e) r.0 r.1 (has_test (holders catalogue r.0.0) k (subst (λ (n : ℕ). Has (holders catalogue n) k) (sym r.2) a.holder)))
 
   -- and is a part, if it is another site
   affected_part : (e : Commit) (k : ℕ) (t : Live) → Handled x t → t.txn ≡ e.txn → t.view ≡ e.view → t.ops ≡ e.ops → Affected catalogue new e k → k ≢ e.txn.site → Has t.parts k
@@ -198,9 +198,9 @@ module _ (catalogue : Catalogue) (w new : Scene) (s : ℕ) (x : SiteState) (give
       let named : t.txn ≡ e.txn = ap (λ (e : Commit). e.txn) q.2 in
       let done : t.ops ≡ e.ops = ap (λ (e : Commit). e.ops) q.2 in
       let part = affected_part e k t q.1 named (ap (λ (e : Commit). e.view) q.2) done a (not_own k e.txn d) in
-      let some : is_empty (writes_held catalogue k (last_writes t.ops)) ≡ false = rw done (affected_writes e k a) in
-      let r = map_has (λ (p : ℕ × List ℕ). p.0) (last_writes e.ops) a.rec a.wrote in
-      let writes : is_empty (last_writes t.ops) ≡ false = rw done (some_not_empty (last_writes e.ops) r.0 r.1) in
+      let some : is_empty (writes_held catalogue k (last_changes (entry_of t))) ≡ false = rw done (affected_writes e k a) in
+      let r = map_has (λ (p : ℕ × List ℕ). p.0) (last_changes e) a.rec a.wrote in
+      let writes : is_empty (last_changes (entry_of t)) ≡ false = rw done (some_not_empty (last_changes e) r.0 r.1) in
       let waits : IsWaited o.site.decisions t.txn k = q.3 k writes (filter_keeps _ t.parts k part (rw some refl)) in
       let here : kept_at new e.txn.site ≡ durable_of o.site = ap (kept_at new) (entered_site e (steps.entered e h)) ∙ st.kept_now in
       rw (here, ← named) waits
@@ -221,11 +221,11 @@ module _ (catalogue : Catalogue) (w new : Scene) (s : ℕ) (x : SiteState) (give
       gone z none = rw z (left_here w new s x o st e.view (subst (λ (k : ℕ). AtMost e.view (promise_at new k)) z (above catalogue w new s st.moved e.view k (promised e k a))) none)
 
   -- the doubt has ended in this step
-  ended_here : (e : Commit) (d : Doubt) → Has w.journal e → Has x.doubts d → d.0 ≡ e.txn → (Has o.site.doubts d → ⊥) → HasLeft new s e.view ⊎ HasEnded new s e.txn
+  ended_here : (e : Commit) (d : Doubt) → Has w.journal e → Has x.doubts d → d.txn ≡ e.txn → (Has o.site.doubts d → ⊥) → HasLeft new s e.view ⊎ HasEnded new s e.txn
   ended_here e d there h named none =
       let a = doubt_affected catalogue w asked shares e s d there (rw (← doubts_kept) h) named in
       ⊎_elim (λ still. absurd (none still))
-      (λ (comes : OutcomeComes given d.0). ⊎_elim (λ still. absurd (none still))
+      (λ (comes : OutcomeComes given d.txn). ⊎_elim (λ still. absurd (none still))
       (λ rest. ⊎_elim
       (λ now. inr (o.site, st.now, rw (← named) now))
       (λ (no_view : x.held ≡ None). inl (left_here w new s x o st e.view (above catalogue w new s st.moved e.view s (promised e s a.0))
@@ -236,7 +236,7 @@ module _ (catalogue : Catalogue) (w new : Scene) (s : ℕ) (x : SiteState) (give
       (v.outcome d h comes))
       (p.stays d h)
     where
-      unused : Affected catalogue w e s → e.view ≡ d.1 → x.held ≡ None → Uses x e.view → ⊥
+      unused : Affected catalogue w e s → e.view ≡ d.view → x.held ≡ None → Uses x e.view → ⊥
       unused a viewed no_view (Uses.held u f same) = cc
       unused a viewed no_view (Uses.awaited f) = entered.no_doubt s x e.view d up f h (sym viewed)
       unused a viewed no_view (Uses.invited b f same) = (views.site s x up).unfixed b a.view f a.agreed.0 (same ∙ sym a.agreed.1)
@@ -266,7 +266,7 @@ module _ (catalogue : Catalogue) (w new : Scene) (s : ℕ) (x : SiteState) (give
       later site (d, g, named) = (d, subst (λ (k : DurableState). Has k.doubts d) (sym (ap kept_in (st.moved.others k (λ z. n (z ∙ sym site))))) g, named)
 
   -- acknowledgements
-  acked_new : (m : Sent) (txn : TxnId) → ReplyTo x given o.site.participant m → message.Ack txn ≡ m.message → (d : Doubt) → Has o.site.doubts d → d.0 ≢ txn
+  acked_new : (m : Sent) (txn : TxnId) → ReplyTo x given o.site.participant m → message.Ack txn ≡ m.message → (d : Doubt) → Has o.site.doubts d → d.txn ≢ txn
   acked_new m txn (ReplyTo.other quiet) e d h = absurd (let z = ap is_reply e in cc)
   acked_new m txn (ReplyTo.doubt_again a b was now f) e d h = absurd (let z = f ∙ sym e in cc)
   acked_new m txn (ReplyTo.vote_again part a was now q f) e d h = absurd (let z = f ∙ sym e in cc)
@@ -305,7 +305,7 @@ module _ (catalogue : Catalogue) (w new : Scene) (s : ℕ) (x : SiteState) (give
           let a = doubt_affected catalogue w asked shares e k was.0 old was.1 was.2 in
           let q = inv.waited e k old a.0 was in
           let there : Has x.decisions q.0 = subst (λ (d : DurableState). Has d.decisions q.0) (ap (kept_at w) (site ∙ id) ∙ sym kept) q.1 in
-          same_txn-not q.0.0 e.txn (any_false (λ (d : Decision). same_txn d.0 e.txn) x.decisions inquired.1 q.0 there) q.2)
+          same_txn-not q.0.txn e.txn (any_false (λ (d : Decision). same_txn d.txn e.txn) x.decisions inquired.1 q.0 there) q.2)
           may
 
   pub settled_keep : InvSettled catalogue new
@@ -366,7 +366,7 @@ settled_above catalogue = record {
       let second_now = now.lower.lower.lower.lower.lower.lower.third.second in
       settled_keep catalogue w (acted w s x o) s x given o up r ok.id ok.kept second.first.views second_now.first.views led second.first.led fifth.upper sixth.upper (λ u h. eighth.lower.upper.live s x u up h) low.lower.upper now.lower.upper second_now.below inv
       (waits-step catalogue x given settled.decisions).kept
-      (endings-step catalogue x given led apart settled (λ d h. fresh w s x up ok.id d.0 ((fourth.third.names.site s x up).decisions d h))).kept
+      (endings-step catalogue x given led apart settled (λ d h. fresh w s x up ok.id d.txn ((fourth.third.names.site s x up).decisions d h))).kept
       (steps-step catalogue x given led apart).kept (shares-step catalogue x given) (leaves-step catalogue x given) (stepping catalogue w s x given up ok.kept (local-step catalogue x given ok.tidy));
   quiet = λ w new s q low now inv. settled_quiet catalogue w new s q low.upper low.lower.lower.lower.lower.lower.lower.third.second.first.views inv;
 }

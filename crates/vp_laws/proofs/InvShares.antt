@@ -3,13 +3,13 @@
 use Rattle.std.proofs.Common.{◌≡◌, ◌≢◌, ◌⊎◌, ◌∙◌, ap, sym, subst, ℕ, ◌+◌, ◌≤◌, Bool, true, false, List, [], ◌∷◌, refl, arith, inl, inr, ⊎_elim}
 use Rattle.std.specs.Prelude.{Option, Some, None, is_some, option_map, not, ◌==◌}
 use Rattle.std.proofs.lemmas.Bool.Decides.{nat_tests}
-use Rattle.vp_model.specs.Types.{ViewId, TxnId, View, Sent, Commit, Message, Input, Part, Pending, Live, Doubt}
+use Rattle.vp_model.specs.Types.{Change, ViewId, TxnId, View, Sent, Commit, Message, Input, Part, Pending, Live, Doubt}
 use Rattle.vp_model.specs.Types.message
 use Rattle.vp_model.specs.Words.{is_empty, is_view}
 use Rattle.vp_model.specs.Catalogue.{Catalogue, start_copies}
 use Rattle.vp_model.specs.Durable.{DurableState, empty_durable}
 use Rattle.vp_model.specs.Site.{SiteState, Stepped}
-use Rattle.vp_model.specs.Transactions.{last_writes, writes_held}
+use Rattle.vp_model.specs.Transactions.{last_changes, entry_of, last_writes, writes_held}
 use Rattle.vp_model.specs.Messages.{holds_view}
 use Rattle.vp_model.specs.Refresh.{other_holders}
 use Rattle.vp_model.specs.Step.{start, step, durable_of, mark, marked_call}
@@ -56,14 +56,14 @@ pub record PartSays (w : Scene) (s : ℕ) (p : Part) : Type 0 where
 
 -- a doubt is of a prepare with its writes, and it has some
 abbrev pub DoubtSays : Scene → ℕ → Doubt → Type 0
-DoubtSays w s d = HasPrepare w s d.0 d.1 d.2 × (is_empty d.2 ≡ false)
+DoubtSays w s d = HasPrepare w s d.txn d.view d.writes × (is_empty d.writes ≡ false)
 
 -- the site that has voted on a live transaction is in doubt about it, where the transaction writes there
 abbrev pub InDoubt : Scene → ℕ → TxnId → Type 0
-InDoubt w s txn = (d : Doubt) × Has (kept_at w s).doubts d × (d.0 ≡ txn)
+InDoubt w s txn = (d : Doubt) × Has (kept_at w s).doubts d × (d.txn ≡ txn)
 
 abbrev pub VoteSays : Catalogue → Scene → ℕ → TxnId → Type 0
-VoteSays catalogue w from txn = (x : SiteState) (t : Live) → plain_at w txn.site ≡ Some x → Has x.live t → t.txn ≡ txn → is_empty (writes_held catalogue from (last_writes t.ops)) ≡ false → InDoubt w from txn
+VoteSays catalogue w from txn = (x : SiteState) (t : Live) → plain_at w txn.site ≡ Some x → Has x.live t → t.txn ≡ txn → is_empty (writes_held catalogue from (last_changes (entry_of t))) ≡ false → InDoubt w from txn
 
 abbrev pub Says : Catalogue → Scene → ℕ → ℕ → Message → Type 0
 Says catalogue w from to (message.ReadRequest txn view number rec) = OneView w txn view
@@ -77,7 +77,7 @@ Says catalogue w from to m = Unit {0}
 
 -- each prepare of an entry's transaction had its view and its last values there, and was voted on
 abbrev pub EntrySays : Catalogue → Scene → Commit → Type 0
-EntrySays catalogue w e = (from to : ℕ) (view : ViewId) (number : ℕ) (reads : List ℕ) (writes : List (ℕ × List ℕ)) → Has w.sent (letter from to (message.Prepare e.txn view number reads writes)) → (e.view ≡ view) × (writes_held catalogue to (last_writes e.ops) ≡ writes) × HasVote w to e.txn
+EntrySays catalogue w e = (from to : ℕ) (view : ViewId) (number : ℕ) (reads : List ℕ) (writes : List (ℕ × Change)) → Has w.sent (letter from to (message.Prepare e.txn view number reads writes)) → (e.view ≡ view) × (writes_held catalogue to (last_changes e) ≡ writes) × HasVote w to e.txn
 
 -- a pending commit waits for a part, or the part has voted
 abbrev pub Awaits : Scene → Live → Type 0
@@ -218,17 +218,17 @@ module _ (catalogue : Catalogue) (w new : Scene) (s : ℕ) (x : SiteState) (give
       go (KeptIs.other n same) = (d, subst (λ (k : DurableState). Has k.doubts d) (sym same) there, of)
       go (KeptIs.here z same) = ⊎_elim
           (λ still. (d, subst (λ (k : DurableState). Has k.doubts d) (sym same) still, of))
-          (λ (q : OutcomeComes given d.0). absurd (over q.0 q.1 q.2))
+          (λ (q : OutcomeComes given d.txn). absurd (over q.0 q.1 q.2))
           (p.stays d (rw kept (rw z at there)))
         where
-          over : (from : ℕ) (commit : Bool) → Comes given from (message.Outcome d.0 commit) → ⊥
-          over from true q = (ends.told _ (came from (message.Outcome d.0 true) q)).0 y (rw of live) u h (e ∙ sym of)
-          over from false q = ends.told _ (came from (message.Outcome d.0 false) q) y (rw of live) u h (e ∙ sym of)
+          over : (from : ℕ) (commit : Bool) → Comes given from (message.Outcome d.txn commit) → ⊥
+          over from true q = (ends.told _ (came from (message.Outcome d.txn true) q)).0 y (rw of live) u h (e ∙ sym of)
+          over from false q = ends.told _ (came from (message.Outcome d.txn false) q) y (rw of live) u h (e ∙ sym of)
 
   vote_lasts : (from to : ℕ) (txn : TxnId) → Has w.sent (letter from to (message.Vote txn)) → VoteSays catalogue w from txn → VoteSays catalogue new from txn
   vote_lasts from to txn sent h = λ y t g k e writes. go y t (now_is w new s x o st txn.site y g) k e writes
     where
-      go : (y : SiteState) (t : Live) → NowIs w s o.site txn.site y → Has y.live t → t.txn ≡ txn → is_empty (writes_held catalogue from (last_writes t.ops)) ≡ false → InDoubt new from txn
+      go : (y : SiteState) (t : Live) → NowIs w s o.site txn.site y → Has y.live t → t.txn ≡ txn → is_empty (writes_held catalogue from (last_changes (entry_of t))) ≡ false → InDoubt new from txn
       go y t (NowIs.other n g) k e writes = doubt_lasts from txn y t g k e (h y t g k e writes)
       go y t (NowIs.here z same) k e writes =
           let used : UsedTxn w txn = names.sent _ sent in
@@ -237,16 +237,16 @@ module _ (catalogue : Catalogue) (w new : Scene) (s : ℕ) (x : SiteState) (give
           (λ n. not_new txn used (sym e ∙ n)) in
           doubt_lasts from txn x was.0 (rw z up) was.1 (was.2 ∙ e) (h x was.0 (rw z up) was.1 (was.2 ∙ e) (rw was.3 writes))
 
-  doubt_here : (txn : TxnId) (d : Doubt) → Has o.site.doubts d → d.0 ≡ txn → InDoubt new s txn
+  doubt_here : (txn : TxnId) (d : Doubt) → Has o.site.doubts d → d.txn ≡ txn → InDoubt new s txn
   doubt_here txn d h e = (d, subst (λ (k : DurableState). Has k.doubts d) (sym st.kept_now) h, e)
 
   -- where a prepare without writes was sent to the site, the live transaction writes nothing there
-  nothing_there : (k : ℕ) (txn : TxnId) (from : ℕ) (view : ViewId) (number : ℕ) (reads : List ℕ) (writes : List (ℕ × List ℕ)) → is_empty writes ≡ true → Has new.sent (letter from k (message.Prepare txn view number reads writes)) → (y : SiteState) (t : Live) → plain_at new txn.site ≡ Some y → Has y.live t → t.txn ≡ txn → is_empty (writes_held catalogue k (last_writes t.ops)) ≡ false → ⊥
+  nothing_there : (k : ℕ) (txn : TxnId) (from : ℕ) (view : ViewId) (number : ℕ) (reads : List ℕ) (writes : List (ℕ × Change)) → is_empty writes ≡ true → Has new.sent (letter from k (message.Prepare txn view number reads writes)) → (y : SiteState) (t : Live) → plain_at new txn.site ≡ Some y → Has y.live t → t.txn ≡ txn → is_empty (writes_held catalogue k (last_changes (entry_of t))) ≡ false → ⊥
   nothing_there k txn from view number reads writes none sent y t g h e f = let q = votes_now.prepared _ sent y t g h e in not_none _ writes q.has_written f none
 
   vote_new : (txn : TxnId) (m : Sent) → ReplyTo x given o.site.participant m → message.Vote txn ≡ m.message → VoteSays catalogue new s txn
   vote_new txn m (ReplyTo.other quiet) e = absurd (let z = ap is_reply e in cc)
-  vote_new txn m (ReplyTo.doubt_again d a was h f) e = λ y t g k q writes. doubt_here txn d h (vote_is d.0 txn (f ∙ sym e))
+  vote_new txn m (ReplyTo.doubt_again d a was h f) e = λ y t g k q writes. doubt_here txn d h (vote_is d.txn txn (f ∙ sym e))
   vote_new txn m (ReplyTo.vote_again part a was h v f) e = λ y t g k q writes.
       let is : part.txn ≡ txn = vote_is part.txn txn (f ∙ sym e) in
       let says : (view : ViewId) × HasPrepare w s txn view [] = subst (λ (u : TxnId). (view : ViewId) × HasPrepare w s u view []) is ((inv.parts s x part up was).voted v) in
@@ -255,7 +255,7 @@ module _ (catalogue : Catalogue) (w new : Scene) (s : ℕ) (x : SiteState) (give
       let is : part.txn ≡ txn = vote_is part.txn txn (f ∙ sym e) in
       let sent : Has new.sent (letter m.to s (message.Prepare txn a.view a.number reads writes)) = subst (λ (u : TxnId). Has new.sent (letter m.to s (message.Prepare u a.view a.number reads writes))) is (stays _ (came m.to (message.Prepare part.txn a.view a.number reads writes) a.comes)) in
       absurd (nothing_there s txn m.to a.view a.number reads writes none sent y t g k q some)
-  vote_new txn m (ReplyTo.vote_writing part reads writes a some h f) e = λ y t g k q more. doubt_here txn (part.txn, part.view, writes) h (vote_is part.txn txn (f ∙ sym e))
+  vote_new txn m (ReplyTo.vote_writing part reads writes a some h f) e = λ y t g k q more. doubt_here txn (record { txn = part.txn; view = part.view; writes = writes }) h (vote_is part.txn txn (f ∙ sym e))
   vote_new txn m (ReplyTo.acks t a n f) e = absurd (let z = f ∙ sym e in cc)
   vote_new txn m (ReplyTo.read_answer t number rec stored a f) e = absurd (let z = f ∙ sym e in cc)
   vote_new txn m (ReplyTo.write_answer t number rec stored a f) e = absurd (let z = f ∙ sym e in cc)
@@ -264,7 +264,7 @@ module _ (catalogue : Catalogue) (w new : Scene) (s : ℕ) (x : SiteState) (give
   vote_stays : (q : ℕ) (txn : TxnId) → HasVote w q txn → HasVote new q txn
   vote_stays q txn h = (h.0, stays _ h.1)
 
-  prepare_stays : (to : ℕ) (txn : TxnId) (view : ViewId) (writes : List (ℕ × List ℕ)) → HasPrepare w to txn view writes → HasPrepare new to txn view writes
+  prepare_stays : (to : ℕ) (txn : TxnId) (view : ViewId) (writes : List (ℕ × Change)) → HasPrepare w to txn view writes → HasPrepare new to txn view writes
   prepare_stays to txn view writes h = (h.0, h.1, h.2, stays _ h.3)
 
   request_stays : (from to : ℕ) (txn : TxnId) (view : ViewId) (number rec : ℕ) (exclusive : Bool) → HasRequest w from to txn view number rec exclusive → HasRequest new from to txn view number rec exclusive
@@ -303,7 +303,7 @@ module _ (catalogue : Catalogue) (w new : Scene) (s : ℕ) (x : SiteState) (give
   })
 
   doubt_now : (d : Doubt) → DoubtNow x given d → DoubtSays new s d
-  doubt_now d (DoubtNow.still h) = let q = inv.doubts s d (rw (← kept) h) in (prepare_stays s d.0 d.1 d.2 q.0, q.1)
+  doubt_now d (DoubtNow.still h) = let q = inv.doubts s d (rw (← kept) h) in (prepare_stays s d.txn d.view d.writes q.0, q.1)
   doubt_now d (DoubtNow.fresh from part reads writes q some e) =
       subst (DoubtSays new s) e ((from, q.number, reads, rw (held_view part q.view q.part_here q.held) (stays _ (came from (message.Prepare part.txn q.view q.number reads writes) q.comes))), some)
 
@@ -321,7 +321,7 @@ module _ (catalogue : Catalogue) (w new : Scene) (s : ℕ) (x : SiteState) (give
   -- what a reply says
   reply_says : (m : Sent) → ReplyTo x given o.site.participant m → is_aside m.message ≡ true → m.from ≡ s → Says catalogue new m.from m.to m.message
   reply_says m (ReplyTo.other quiet) e f = quiet_says catalogue new m.from m.to m.message quiet e
-  reply_says m (ReplyTo.doubt_again d a was h g) e f = subst (Says catalogue new m.from m.to) g (rw f (vote_new d.0 m (ReplyTo.doubt_again d a was h g) g))
+  reply_says m (ReplyTo.doubt_again d a was h g) e f = subst (Says catalogue new m.from m.to) g (rw f (vote_new d.txn m (ReplyTo.doubt_again d a was h g) g))
   reply_says m (ReplyTo.vote_again part a was h v g) e f = subst (Says catalogue new m.from m.to) g (rw f (vote_new part.txn m (ReplyTo.vote_again part a was h v g) g))
   reply_says m (ReplyTo.vote_reading part reads writes a none h g) e f = subst (Says catalogue new m.from m.to) g (rw f (vote_new part.txn m (ReplyTo.vote_reading part reads writes a none h g) g))
   reply_says m (ReplyTo.vote_writing part reads writes a some h g) e f = subst (Says catalogue new m.from m.to) g (rw f (vote_new part.txn m (ReplyTo.vote_writing part reads writes a some h g) g))
@@ -386,7 +386,7 @@ module _ (catalogue : Catalogue) (w new : Scene) (s : ℕ) (x : SiteState) (give
 
   entry_new : (e : Commit) → EnteredFor catalogue x given e → EntrySays catalogue new e
   entry_new e f from to view number readings writings sent = ⊎_elim
-      (λ old. decided f.was f.decides e.txn e.view (last_writes e.ops) (ap (λ (e : Commit). e.txn) f.is) (ap (λ (e : Commit). e.view) f.is) (ap (λ (e : Commit). last_writes e.ops) f.is) old)
+      (λ old. decided f.was f.decides e.txn e.view (last_changes e) (ap (λ (e : Commit). e.txn) f.is) (ap (λ (e : Commit). e.view) f.is) (ap (λ (e : Commit). last_writes e.ops) f.is) old)
       (λ more. absurd (none f.was f.decides (ap (λ (e : Commit). e.txn) f.is) _ (c.sent _ more) refl))
       (st.sent _ sent)
     where
@@ -442,7 +442,7 @@ module _ (catalogue : Catalogue) (w new : Scene) (s : ℕ) (x : SiteState) (give
       part_at k y a q (NowIs.here e same) = subst (λ (k : ℕ). PartSays new k a) (sym e) (part_now a (p.parts a (subst (λ (y : SiteState). Has y.parts a) (sym same) q)))
 
       doubt_at : (k : ℕ) (d : Doubt) → Has (kept_at new k).doubts d → KeptIs w new s (durable_of o.site) k → DoubtSays new k d
-      doubt_at k d h (KeptIs.other n same) = let q = inv.doubts k d (subst (λ (k : DurableState). Has k.doubts d) same h) in (prepare_stays k d.0 d.1 d.2 q.0, q.1)
+      doubt_at k d h (KeptIs.other n same) = let q = inv.doubts k d (subst (λ (k : DurableState). Has k.doubts d) same h) in (prepare_stays k d.txn d.view d.writes q.0, q.1)
       doubt_at k d h (KeptIs.here e same) = subst (λ (k : ℕ). DoubtSays new k d) (sym e) (doubt_now d (p.doubts d (subst (λ (k : DurableState). Has k.doubts d) same h)))
 
       awaits_at : (k : ℕ) (y : SiteState) (t : Live) → Has y.live t → NowIs w s o.site k y → Awaits new t
@@ -467,7 +467,7 @@ module _ (catalogue : Catalogue) (w new : Scene) (s : ℕ) (q : Quiet catalogue 
   vote_on : (k : ℕ) (txn : TxnId) → HasVote w k txn → HasVote new k txn
   vote_on k txn h = (h.0, sent_on _ h.1)
 
-  prepare_on : (to : ℕ) (txn : TxnId) (view : ViewId) (writes : List (ℕ × List ℕ)) → HasPrepare w to txn view writes → HasPrepare new to txn view writes
+  prepare_on : (to : ℕ) (txn : TxnId) (view : ViewId) (writes : List (ℕ × Change)) → HasPrepare w to txn view writes → HasPrepare new to txn view writes
   prepare_on to txn view writes h = (h.0, h.1, h.2, sent_on _ h.3)
 
   request_on : (from to : ℕ) (txn : TxnId) (view : ViewId) (number rec : ℕ) (exclusive : Bool) → HasRequest w from to txn view number rec exclusive → HasRequest new from to txn view number rec exclusive
@@ -490,7 +490,7 @@ module _ (catalogue : Catalogue) (w new : Scene) (s : ℕ) (q : Quiet catalogue 
   vote_says_on : (from : ℕ) (txn : TxnId) → VoteSays catalogue w from txn → VoteSays catalogue new from txn
   vote_says_on from txn h = λ y t g k e some. go y t (quiet_is catalogue w new s q txn.site y g) k e some
     where
-      go : (y : SiteState) (t : Live) → QuietIs catalogue w s txn.site y → Has y.live t → t.txn ≡ txn → is_empty (writes_held catalogue from (last_writes t.ops)) ≡ false → InDoubt new from txn
+      go : (y : SiteState) (t : Live) → QuietIs catalogue w s txn.site y → Has y.live t → t.txn ≡ txn → is_empty (writes_held catalogue from (last_changes (entry_of t))) ≡ false → InDoubt new from txn
       go y t (QuietIs.other n g) k e some = let d = h y t g k e some in (d.0, rw (doubts_on from) d.1, d.2)
       go y t (QuietIs.here z same) k e some = absurd (no_live catalogue s (kept_at w s) t (subst (λ (y : SiteState). Has y.live t) (sym same) k))
 
@@ -507,7 +507,7 @@ module _ (catalogue : Catalogue) (w new : Scene) (s : ℕ) (q : Quiet catalogue 
   shares_quiet : InvShares catalogue new
   shares_quiet = record {
     parts = λ k y a h g. part_at k y a g (quiet_is catalogue w new s q k y h);
-    doubts = λ k d h. let g = inv.doubts k d (rw (doubts_on k) at h) in (prepare_on k d.0 d.1 d.2 g.0, g.1);
+    doubts = λ k d h. let g = inv.doubts k d (rw (doubts_on k) at h) in (prepare_on k d.txn d.view d.writes g.0, g.1);
     says = λ m h. says_on m.from m.to m.message (inv.says m (rw q.sent at h));
     awaits = λ k y t h g. awaits_at k y t g (quiet_is catalogue w new s q k y h);
     entry = λ e h from to view number readings writings sent. let g = inv.entry e (rw q.journal at h) from to view number readings writings (rw q.sent at sent) in (g.0, g.1, vote_on to e.txn g.2);

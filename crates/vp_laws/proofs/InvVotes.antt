@@ -1,7 +1,7 @@
 -- In every world: a prepare of a live transaction speaks of its pending commit, and each vote has its prepare.
 use Rattle.std.proofs.Common.{◌≡◌, ◌≢◌, ◌∙◌, ap, sym, subst, ℕ, ◌+◌, ◌≤◌, true, List, [], map, refl, arith, ⊎_elim}
 use Rattle.std.specs.Prelude.{Option, Some, None, option_map}
-use Rattle.vp_model.specs.Types.{ViewId, TxnId, Sent, Message, Input, Pending, Live}
+use Rattle.vp_model.specs.Types.{Change, ViewId, TxnId, Sent, Message, Input, Pending, Live}
 use Rattle.vp_model.specs.Types.message
 use Rattle.vp_model.specs.Catalogue.{Catalogue, sites_of, start_copies}
 use Rattle.vp_model.specs.Durable.{DurableState, empty_durable}
@@ -27,7 +27,7 @@ Prepared catalogue w to m = Unit {0}
 
 -- a prepare was sent to the site that votes
 abbrev pub HasPrepare : Scene → ℕ → TxnId → Type 0
-HasPrepare w site txn = (from : ℕ) × (view : ViewId) × (number : ℕ) × (reads : List ℕ) × (writes : List (ℕ × List ℕ)) × Has w.sent (record { from = from; to = site; message = message.Prepare txn view number reads writes })
+HasPrepare w site txn = (from : ℕ) × (view : ViewId) × (number : ℕ) × (reads : List ℕ) × (writes : List (ℕ × Change)) × Has w.sent (record { from = from; to = site; message = message.Prepare txn view number reads writes })
 
 abbrev pub Voted : Scene → ℕ → Message → Type 0
 Voted w from (message.Vote txn) = HasPrepare w from txn
@@ -49,7 +49,7 @@ voted_pending catalogue w inv from to txn sent x t up h e =
     let r = inv.prepared _ q.5 x t up h e in
     (r.pending, r.waits, r.commit)
 
-prepared_same : (catalogue : Catalogue) (t u : Live) (to : ℕ) (view : ViewId) (number : ℕ) (reads : List ℕ) (writes : List (ℕ × List ℕ)) → t.view ≡ u.view → t.ops ≡ u.ops → t.remote ≡ u.remote → t.parts ≡ u.parts → SameCall u.pending t.pending → IsPrepared catalogue u to view number reads writes → IsPrepared catalogue t to view number reads writes
+prepared_same : (catalogue : Catalogue) (t u : Live) (to : ℕ) (view : ViewId) (number : ℕ) (reads : List ℕ) (writes : List (ℕ × Change)) → t.view ≡ u.view → t.ops ≡ u.ops → t.remote ≡ u.remote → t.parts ≡ u.parts → SameCall u.pending t.pending → IsPrepared catalogue u to view number reads writes → IsPrepared catalogue t to view number reads writes
 prepared_same catalogue t u to view number reads writes v o r p c q =
     let n = c q.pending q.waits in
     record {
@@ -68,7 +68,7 @@ one_above a b h e = omega arith
 
 module _ (catalogue : Catalogue) (w new : Scene) (s : ℕ) (x : SiteState) (given : Input) (o : Stepped) (was : plain_at w s ≡ Some x) (id : x.id ≡ s) (arrives : Arrives w s given) (names : InvNames w) (inv : InvVotes catalogue w) (leads : Leads x o) (l : Votes catalogue x given o) (st : Acted w new s x o) where
   -- a live transaction now, at the moving site
-  prepared_here : (txn : TxnId) (to : ℕ) (view : ViewId) (number : ℕ) (reads : List ℕ) (writes : List (ℕ × List ℕ)) → UsedTxn w txn → txn.site ≡ s → ((u : Live) → Has x.live u → u.txn ≡ txn → IsPrepared catalogue u to view number reads writes) → (t : Live) → LiveFrom x t → t.txn ≡ txn → IsPrepared catalogue t to view number reads writes
+  prepared_here : (txn : TxnId) (to : ℕ) (view : ViewId) (number : ℕ) (reads : List ℕ) (writes : List (ℕ × Change)) → UsedTxn w txn → txn.site ≡ s → ((u : Live) → Has x.live u → u.txn ≡ txn → IsPrepared catalogue u to view number reads writes) → (t : Live) → LiveFrom x t → t.txn ≡ txn → IsPrepared catalogue t to view number reads writes
   prepared_here txn to view number reads writes used here all t (LiveFrom.same u h n v p r k c) e = prepared_same catalogue t u to view number reads writes v p r k c (all u h (sym n ∙ e))
   prepared_here txn to view number reads writes used here all t (LiveFrom.operating u h n idle) e =
       let q = all u h (sym n ∙ e) in
@@ -101,7 +101,7 @@ module _ (catalogue : Catalogue) (w new : Scene) (s : ℕ) (x : SiteState) (give
   voted_lasts from (message.Vote txn) h = (h.0, h.1, h.2, h.3, h.4, st.moved.sent _ h.5)
   voted_lasts from m h = tt
 
-  came : (to : ℕ) (txn : TxnId) (view : ViewId) (number : ℕ) (reads : List ℕ) (writes : List (ℕ × List ℕ)) → Comes given to (message.Prepare txn view number reads writes) → Has w.sent (record { from = to; to = s; message = message.Prepare txn view number reads writes })
+  came : (to : ℕ) (txn : TxnId) (view : ViewId) (number : ℕ) (reads : List ℕ) (writes : List (ℕ × Change)) → Comes given to (message.Prepare txn view number reads writes) → Has w.sent (record { from = to; to = s; message = message.Prepare txn view number reads writes })
   came to txn view number reads writes c = rw c at arrives
 
   voted_new : (from to : ℕ) (m : Message) → from ≡ s → MayVote given to m → Voted new from m

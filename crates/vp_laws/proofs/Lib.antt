@@ -112,6 +112,7 @@ pub mod OwnUse
 pub mod RefreshKept
 pub mod DoubtBase
 pub mod InvCopies
+pub mod InvBase
 pub mod UsableCopies
 -- the order of the entries
 pub mod InvReading

@@ -21,11 +21,11 @@ use Rattle.vp_laws.proofs.Table.{Reads, Writes}
 
 -- the transaction is live here, or has a part or a doubt here
 abbrev pub IsKnown : List Live → List Part → List Doubt → TxnId → Type 0
-IsKnown live parts doubts txn = ((t : Live) × Has live t × (t.txn ≡ txn)) ⊎ (((p : Part) × Has parts p × (p.txn ≡ txn)) ⊎ ((d : Doubt) × Has doubts d × (d.0 ≡ txn)))
+IsKnown live parts doubts txn = ((t : Live) × Has live t × (t.txn ≡ txn)) ⊎ (((p : Part) × Has parts p × (p.txn ≡ txn)) ⊎ ((d : Doubt) × Has doubts d × (d.txn ≡ txn)))
 
 -- it is in doubt here in a lower view
 abbrev pub LowerDoubt : List Doubt → ViewId → TxnId → Type 0
-LowerDoubt doubts view txn = (d : Doubt) × Has doubts d × (d.0 ≡ txn) × Precedes d.1 view
+LowerDoubt doubts view txn = (d : Doubt) × Has doubts d × (d.txn ≡ txn) × Precedes d.view view
 
 -- what a live transaction has used of the copies here it has locked
 pub record OwnLocks (catalogue : Catalogue) (copied : List ℕ) (locks : List Lock) (t : Live) : Type 0 where
@@ -44,7 +44,7 @@ pub record LocksOk (catalogue : Catalogue) (live : List Live) (parts : List Part
   -- a transaction with a lock is live here, or has a part or a doubt here
   pub owners : (l : Lock) (txn : TxnId) → Has locks l → l.owner ≡ owner.Txn txn → IsKnown live parts doubts txn
   -- a doubt has the exclusive locks of its writes
-  pub doubted : (d : Doubt) (rec : ℕ) → Has doubts d → Has (keys d.2) rec → HasLock rec true (owner.Txn d.0) locks
+  pub doubted : (d : Doubt) (rec : ℕ) → Has doubts d → Has (keys d.writes) rec → HasLock rec true (owner.Txn d.txn) locks
   -- a record under refresh has its guard, and each guard is of one
   pub listed : (r : Refreshing) → Has refresh r → HasLock r.rec true owner.Refresh locks
   pub guard : (l : Lock) → Has locks l → l.owner ≡ owner.Refresh → (r : Refreshing) × Has refresh r × (r.rec ≡ l.rec)
@@ -92,7 +92,7 @@ module _ (catalogue : Catalogue) (live : List Live) (parts : List Part) (doubts 
   takes rec exclusive txn free known = record {
     apart = locked rec exclusive txn locks free ok.apart;
     owners = λ l u h e. ⊎_elim (λ old. ok.owners l u old e) (λ (new : (l.rec ≡ rec) × (l.owner ≡ owner.Txn txn)). let z = sym new.1 ∙ e in let same : txn ≡ u = cc in rw (← same) known) (lock_origin rec exclusive (owner.Txn txn) locks l h);
-    doubted = λ d r h k. lock_kept r true (owner.Txn d.0) rec exclusive (owner.Txn txn) locks (ok.doubted d r h k);
+    doubted = λ d r h k. lock_kept r true (owner.Txn d.txn) rec exclusive (owner.Txn txn) locks (ok.doubted d r h k);
     listed = λ r h. lock_kept r.rec true owner.Refresh rec exclusive (owner.Txn txn) locks (ok.listed r h);
     guard = λ l h e. ⊎_elim (λ old. ok.guard l old e) (λ (new : (l.rec ≡ rec) × (l.owner ≡ owner.Txn txn)). absurd (let z = sym new.1 ∙ e in cc)) (lock_origin rec exclusive (owner.Txn txn) locks l h);
     lower = λ r h. let q = ok.lower r h in (q.0, q.1, q.2, (λ l u k on by. ⊎_elim (λ old. q.3 l u old on by) (λ (new : (l.rec ≡ rec) × (l.owner ≡ owner.Txn txn)). absurd (not_listed rec exclusive txn free r h (sym new.0 ∙ on))) (lock_origin rec exclusive (owner.Txn txn) locks l k)));
@@ -112,10 +112,10 @@ module _ (catalogue : Catalogue) (live : List Live) (parts : List Part) (doubts 
   }
 
   -- other parts and doubts
-  pub shares_change : (now : List Part) (more : List Doubt) → ((txn : TxnId) → ((p : Part) × Has parts p × (p.txn ≡ txn)) → ((p : Part) × Has now p × (p.txn ≡ txn)) ⊎ ((d : Doubt) × Has more d × (d.0 ≡ txn))) → ((d : Doubt) → Has doubts d → Has more d) → ((d : Doubt) (rec : ℕ) → Has more d → Has (keys d.2) rec → HasLock rec true (owner.Txn d.0) locks) → LocksOk catalogue live now more refresh held copied locks
+  pub shares_change : (now : List Part) (more : List Doubt) → ((txn : TxnId) → ((p : Part) × Has parts p × (p.txn ≡ txn)) → ((p : Part) × Has now p × (p.txn ≡ txn)) ⊎ ((d : Doubt) × Has more d × (d.txn ≡ txn))) → ((d : Doubt) → Has doubts d → Has more d) → ((d : Doubt) (rec : ℕ) → Has more d → Has (keys d.writes) rec → HasLock rec true (owner.Txn d.txn) locks) → LocksOk catalogue live now more refresh held copied locks
   shares_change now more known stays has = record {
     apart = ok.apart;
-    owners = λ l txn h e. ⊎_elim (λ t. inl t) (λ rest. ⊎_elim (λ p. inr (known txn p)) (λ (d : (d : Doubt) × Has doubts d × (d.0 ≡ txn)). inr (inr (d.0, stays d.0 d.1, d.2))) rest) (ok.owners l txn h e);
+    owners = λ l txn h e. ⊎_elim (λ t. inl t) (λ rest. ⊎_elim (λ p. inr (known txn p)) (λ (d : (d : Doubt) × Has doubts d × (d.txn ≡ txn)). inr (inr (d.0, stays d.0 d.1, d.2))) rest) (ok.owners l txn h e);
     doubted = has;
     listed = ok.listed;
     guard = ok.guard;
@@ -136,12 +136,12 @@ module _ (catalogue : Catalogue) (live : List Live) (parts : List Part) (doubts 
   }
 
   -- a transaction of this site ends
-  pub ends : (txn : TxnId) → Apart live → ((d : Doubt) → Has doubts d → d.0 ≢ txn) → LocksOk catalogue (without_first (named txn) live) parts doubts refresh held copied (without_owner (owner.Txn txn) locks)
+  pub ends : (txn : TxnId) → Apart live → ((d : Doubt) → Has doubts d → d.txn ≢ txn) → LocksOk catalogue (without_first (named txn) live) parts doubts refresh held copied (without_owner (owner.Txn txn) locks)
   ends txn away no_doubt = record {
     apart = fewer_locks (λ (lock : Lock). not (same_owner lock.owner (owner.Txn txn))) locks ok.apart;
     owners = λ l u h e. let f = filter_has (λ (lock : Lock). not (same_owner lock.owner (owner.Txn txn))) locks l h in
         ⊎_elim (λ (q : (t : Live) × Has live t × (t.txn ≡ u)). inl (q.0, without_first_keeps (named txn) live q.0 q.1 (unlike q.0.txn txn (other l u e f.1 q.2)), q.2)) (λ rest. inr rest) (ok.owners l u f.0 e);
-    doubted = λ d rec h k. lock_stays rec true (owner.Txn d.0) (owner.Txn txn) locks (unlike d.0 txn (no_doubt d h)) (ok.doubted d rec h k);
+    doubted = λ d rec h k. lock_stays rec true (owner.Txn d.txn) (owner.Txn txn) locks (unlike d.txn txn (no_doubt d h)) (ok.doubted d rec h k);
     listed = λ r h. lock_stays r.rec true owner.Refresh (owner.Txn txn) locks refl (ok.listed r h);
     guard = λ l h e. ok.guard l (filter_has _ locks l h).0 e;
     lower = λ r h. let q = ok.lower r h in (q.0, q.1, q.2, (λ l u k on by. q.3 l u (filter_has _ locks l k).0 on by));
@@ -159,7 +159,7 @@ module _ (catalogue : Catalogue) (live : List Live) (parts : List Part) (doubts 
   ends_part txn over = record {
     apart = fewer_locks (λ (lock : Lock). not (same_owner lock.owner (owner.Txn txn))) locks ok.apart;
     owners = λ l u h e. let f = filter_has (λ (lock : Lock). not (same_owner lock.owner (owner.Txn txn))) locks l h in known u (differs l u e f.1) (ok.owners l u f.0 e);
-    doubted = λ d rec h k. let f = filter_has (λ (d : Doubt). not (same_txn d.0 txn)) doubts d h in lock_stays rec true (owner.Txn d.0) (owner.Txn txn) locks (unlike d.0 txn (clash d.0 txn f.1)) (ok.doubted d rec f.0 k);
+    doubted = λ d rec h k. let f = filter_has (λ (d : Doubt). not (same_txn d.txn txn)) doubts d h in lock_stays rec true (owner.Txn d.txn) (owner.Txn txn) locks (unlike d.txn txn (clash d.txn txn f.1)) (ok.doubted d rec f.0 k);
     listed = λ r h. lock_stays r.rec true owner.Refresh (owner.Txn txn) locks refl (ok.listed r h);
     guard = λ l h e. ok.guard l (filter_has _ locks l h).0 e;
     lower = λ r h. let q = ok.lower r h in (q.0, q.1, q.2, (λ l u k on by. let f = filter_has (λ (lock : Lock). not (same_owner lock.owner (owner.Txn txn))) locks l k in let d = q.3 l u f.0 on by in (d.0, doubt_stays d.0 d.1 (λ z. differs l u by f.1 (sym d.2 ∙ z)), d.2, d.3)));
@@ -172,8 +172,8 @@ module _ (catalogue : Catalogue) (live : List Live) (parts : List Part) (doubts 
       differs : (l : Lock) (u : TxnId) → l.owner ≡ owner.Txn u → not (same_owner l.owner (owner.Txn txn)) ≡ true → u ≢ txn
       differs l u e n = clash u txn (rw e at n)
 
-      doubt_stays : (d : Doubt) → Has doubts d → d.0 ≢ txn → Has (without_doubt txn doubts) d
-      doubt_stays d h n = filter_keeps (λ (d : Doubt). not (same_txn d.0 txn)) doubts d h (not_that d.0 txn n)
+      doubt_stays : (d : Doubt) → Has doubts d → d.txn ≢ txn → Has (without_doubt txn doubts) d
+      doubt_stays d h n = filter_keeps (λ (d : Doubt). not (same_txn d.txn txn)) doubts d h (not_that d.txn txn n)
 
       known : (u : TxnId) → u ≢ txn → IsKnown live parts doubts u → IsKnown live (filter (λ (p : Part). not (same_txn p.txn txn)) parts) (without_doubt txn doubts) u
       known u n (inl t) = inl t
@@ -195,8 +195,8 @@ module _ (catalogue : Catalogue) (live : List Live) (parts : List Part) (doubts 
       no_guard : (l : Lock) → l.owner ≡ owner.Refresh → outlasts p l ≡ true → ⊥
       no_guard l e t = let z : outlasts_for p l.exclusive owner.Refresh ≡ true = rw e at t in cc
 
-      of_doubt : (d : Doubt) → Has doubts d → has_doubt d.0 p.doubts ≡ true
-      of_doubt d h = any_is (λ (e : Doubt). same_txn e.0 d.0) p.doubts d (rw same_doubts h) (self d.0)
+      of_doubt : (d : Doubt) → Has doubts d → has_doubt d.txn p.doubts ≡ true
+      of_doubt d h = any_is (λ (e : Doubt). same_txn e.txn d.txn) p.doubts d (rw same_doubts h) (self d.txn)
         where
           self : (t : TxnId) → same_txn t t ≡ true
           self t = grind (arith, nat_tests)
@@ -208,16 +208,16 @@ module _ (catalogue : Catalogue) (live : List Live) (parts : List Part) (doubts 
               go true e = refl
               go false e = absurd (let z = any_false test ds e d h in cc)
 
-      stays : (d : Doubt) → Has doubts d → (b : Bool) → b ≡ true → (l : Lock) → l.owner ≡ owner.Txn d.0 → l.exclusive ≡ b → outlasts p l ≡ true
+      stays : (d : Doubt) → Has doubts d → (b : Bool) → b ≡ true → (l : Lock) → l.owner ≡ owner.Txn d.txn → l.exclusive ≡ b → outlasts p l ≡ true
       stays d h b t l e x = rw (e, x, t, of_doubt d h) refl
 
-      kept : (l : Lock) (u : TxnId) → l.owner ≡ owner.Txn u → outlasts p l ≡ true → IsKnown live parts doubts u → (d : Doubt) × Has doubts d × (d.0 ≡ u)
+      kept : (l : Lock) (u : TxnId) → l.owner ≡ owner.Txn u → outlasts p l ≡ true → IsKnown live parts doubts u → (d : Doubt) × Has doubts d × (d.txn ≡ u)
       kept l u e t (inl (a, h, f)) = absurd (has_none a (rw none at h))
       kept l u e t (inr (inr d)) = d
       kept l u e t (inr (inl (a, h, f))) = go (has_doubt u p.doubts) refl (has_part u p.parts) refl (rw e at t)
         where
-          go : (b : Bool) → has_doubt u p.doubts ≡ b → (c : Bool) → has_part u p.parts ≡ c → cond b l.exclusive (not c) ≡ true → (d : Doubt) × Has doubts d × (d.0 ≡ u)
-          go true z c y q = let r = any_true (λ (e : Doubt). same_txn e.0 u) p.doubts z in (r.0, subst (λ (ds : List Doubt). Has ds r.0) same_doubts r.1, same_txn-is r.0.0 u r.2)
+          go : (b : Bool) → has_doubt u p.doubts ≡ b → (c : Bool) → has_part u p.parts ≡ c → cond b l.exclusive (not c) ≡ true → (d : Doubt) × Has doubts d × (d.txn ≡ u)
+          go true z c y q = let r = any_true (λ (e : Doubt). same_txn e.txn u) p.doubts z in (r.0, subst (λ (ds : List Doubt). Has ds r.0) same_doubts r.1, same_txn-is r.0.txn u r.2)
           go false z true y q = cc
           go false z false y q = absurd (same_txn-not a.txn u (any_false (λ (p : Part). same_txn p.txn u) p.parts y a (rw same_parts h)) f)
 
@@ -226,7 +226,7 @@ module _ (catalogue : Catalogue) (live : List Live) (parts : List Part) (doubts 
   begins_refresh rec v in_view up lower now from stays there = record {
     apart = guarded rec locks ok.apart;
     owners = λ l u h e. ⊎_elim (λ old. ok.owners l u old e) (λ (new : (l.rec ≡ rec) × (l.owner ≡ owner.Refresh)). absurd (let z = sym new.1 ∙ e in cc)) (lock_origin rec true owner.Refresh locks l h);
-    doubted = λ d r h k. lock_kept r true (owner.Txn d.0) rec true owner.Refresh locks (ok.doubted d r h k);
+    doubted = λ d r h k. lock_kept r true (owner.Txn d.txn) rec true owner.Refresh locks (ok.doubted d r h k);
     listed = λ r h. ⊎_elim (λ (e : r.rec ≡ rec). rw e (lock_taken rec true owner.Refresh locks)) (λ old. lock_kept r.rec true owner.Refresh rec true owner.Refresh locks (ok.listed r old)) (from r h);
     guard = λ l h e. ⊎_elim (λ old. let q = ok.guard l old e in let r = stays q.0 q.1 in (r.0, r.1, r.2 ∙ q.2)) (λ (new : (l.rec ≡ rec) × (l.owner ≡ owner.Refresh)). (there.0, there.1, there.2 ∙ sym new.0)) (lock_origin rec true owner.Refresh locks l h);
     lower = λ r h. (v, in_view, up, (λ l u k on by. ⊎_elim (λ old. lower l u old by) (λ (new : (l.rec ≡ rec) × (l.owner ≡ owner.Refresh)). absurd (let z = sym new.1 ∙ by in cc)) (lock_origin rec true owner.Refresh locks l k)));
@@ -238,7 +238,7 @@ module _ (catalogue : Catalogue) (live : List Live) (parts : List Part) (doubts 
   ends_refresh rec = record {
     apart = fewer_locks unguarded locks ok.apart;
     owners = λ l u h e. ok.owners l u (filter_has unguarded locks l h).0 e;
-    doubted = λ d r h k. txn_stays r true d.0 (ok.doubted d r h k);
+    doubted = λ d r h k. txn_stays r true d.txn (ok.doubted d r h k);
     listed = λ r h. let f = filter_has (λ (other : Refreshing). not (other.rec == rec)) refresh r h in let g = ok.listed r f.0 in record { lock = g.lock; has = filter_keeps unguarded locks g.lock g.has (elsewhere g.lock (same_number g.on f.1)); on = g.on; by = g.by; strong = g.strong };
     guard = λ l h e. let f = filter_has unguarded locks l h in let q = ok.guard l f.0 e in (q.0, filter_keeps (λ (other : Refreshing). not (other.rec == rec)) refresh q.0 q.1 (not_it l q.0 q.2 e f.1), q.2);
     lower = λ r h. let q = ok.lower r (filter_has _ refresh r h).0 in (q.0, q.1, q.2, (λ l u k on by. q.3 l u (filter_has unguarded locks l k).0 on by));

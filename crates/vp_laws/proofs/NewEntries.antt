@@ -2,12 +2,12 @@
 -- nothing here is in doubt on that or under refresh, and no record that is closed for a higher view was written.
 use Rattle.std.proofs.Common.{◌≡◌, ◌≢◌, ◌⊎◌, ◌∙◌, ap, sym, subst, ℕ, Bool, false, List, [], ◌∷◌, ◌++◌, refl, inl, inr, ⊎_elim, append-nil}
 use Rattle.std.specs.Prelude.{Some}
-use Rattle.vp_model.specs.Types.{TxnId, View, Message, Commit, Input, Part, Live, Refreshing, Doubt}
+use Rattle.vp_model.specs.Types.{Change, TxnId, View, Message, Commit, Input, Part, Live, Refreshing, Doubt}
 use Rattle.vp_model.specs.Types.message
 use Rattle.vp_model.specs.Words.{is_empty, same_txn, keys}
 use Rattle.vp_model.specs.Catalogue.{Catalogue, holders}
 use Rattle.vp_model.specs.Durable.{DurableState}
-use Rattle.vp_model.specs.Transactions.{last_writes, writes_held}
+use Rattle.vp_model.specs.Transactions.{last_changes, writes_held}
 use Rattle.vp_model.specs.Site.{SiteState, Stepped}
 use Rattle.vp_model.specs.Step.{durable_of}
 use Rattle.vp_laws.proofs.Apart.{same_txn-not}
@@ -109,10 +109,10 @@ module _ (catalogue : Catalogue) (w new : Scene) (s : ℕ) (x : SiteState) (give
   entering_agreed e f = (d.here.held f.view f.held, f.is)
 
   -- a doubt of an entry's transaction is of its view, with its writes
-  pub doubt_says : (e : Commit) → Has new.journal e → (j : ℕ) (u : Doubt) → Has (kept_at w j).doubts u → u.0 ≡ e.txn → (e.view ≡ u.1) × (writes_held catalogue j (last_writes e.ops) ≡ u.2)
+  pub doubt_says : (e : Commit) → Has new.journal e → (j : ℕ) (u : Doubt) → Has (kept_at w j).doubts u → u.txn ≡ e.txn → (e.view ≡ u.view) × (writes_held catalogue j (last_changes e) ≡ u.writes)
   doubt_says e h j u there named =
       let q = (k.shares.doubts j u there).0 in
-      let says = n.shares.entry e h q.0 j u.1 q.1 q.2 u.2 (subst (λ (t : TxnId). Has new.sent (letter q.0 j (message.Prepare t u.1 q.1 q.2 u.2))) named (d.st.moved.sent _ q.3)) in
+      let says = n.shares.entry e h q.0 j u.view q.1 q.2 u.writes (subst (λ (t : TxnId). Has new.sent (letter q.0 j (message.Prepare t u.view q.1 q.2 u.writes))) named (d.st.moved.sent _ q.3)) in
       (says.0, says.1)
 
   -- each other holder in the view of what it wrote is in doubt about it, before the step and after it
@@ -120,9 +120,9 @@ module _ (catalogue : Catalogue) (w new : Scene) (s : ℕ) (x : SiteState) (give
     pub doubt : Doubt
     pub was : Has (kept_at w j).doubts doubt
     pub now : Has (kept_at new j).doubts doubt
-    pub named : doubt.0 ≡ e.txn
-    pub viewed : e.view ≡ doubt.1
-    pub on : Has (keys doubt.2) rec
+    pub named : doubt.txn ≡ e.txn
+    pub viewed : e.view ≡ doubt.view
+    pub on : Has (keys doubt.writes) rec
 
   pub doubted : (e : Commit) (j rec : ℕ) (v : View) → Has o.effects.commits e → AgreedAs new e.view v → Has v.members j → Has (holders catalogue rec) j → Wrote e rec → j ≢ s → Doubted e j rec
   doubted e j rec v h agreed member holder wrote other =
@@ -140,24 +140,24 @@ module _ (catalogue : Catalogue) (w new : Scene) (s : ℕ) (x : SiteState) (give
         now = subst (λ (k : DurableState). Has k.doubts doubt.0) (sym (ap kept_in (d.st.moved.others j other))) doubt.1;
         named = doubt.2;
         viewed = says.0;
-        on = subst (λ (ws : List (ℕ × List ℕ)). Has (keys ws) rec) says.1 writes;
+        on = subst (λ (ws : List (ℕ × Change)). Has (keys ws) rec) says.1 writes;
       }
     where
-      some : Has (keys (writes_held catalogue j (last_writes e.ops))) rec → is_empty (writes_held catalogue j (last_writes e.ops)) ≡ false
+      some : Has (keys (writes_held catalogue j (last_changes e))) rec → is_empty (writes_held catalogue j (last_changes e)) ≡ false
       some writes = let r = map_has (λ (p : ℕ × List ℕ). p.0) _ _ writes in some_not_empty _ r.0 r.1
 
   -- here nothing is in doubt on what it wrote
-  pub certain_was : (e : Commit) (rec : ℕ) → Has o.effects.commits e → Wrote e rec → Has (holders catalogue rec) s → (u : Doubt) → Has x.doubts u → Has (keys u.2) rec → ⊥
+  pub certain_was : (e : Commit) (rec : ℕ) → Has o.effects.commits e → Wrote e rec → Has (holders catalogue rec) s → (u : Doubt) → Has x.doubts u → Has (keys u.writes) rec → ⊥
   certain_was e rec h wrote holder u there on =
       let f = entering e h in
       let locks = k.guards.site s x d.up in
       let op = written_op e.ops rec wrote in
       let own = (locks.own f.was f.live).wrote rec op.0 (rw f.done op.1) (holds_copy catalogue w s x d.up d.here.kept k.held rec holder) in
       let its = locks.doubted u rec there on in
-      let same : u.0 ≡ f.was.txn = txn_same u.0 f.was.txn (sym its.by ∙ locks.apart its.lock own.lock u.0 f.was.txn its.has own.has (its.on ∙ sym own.on) (its.strong refl) its.by own.by ∙ own.by) in
+      let same : u.txn ≡ f.was.txn = txn_same u.txn f.was.txn (sym its.by ∙ locks.apart its.lock own.lock u.txn f.was.txn its.has own.has (its.on ∙ sym own.on) (its.strong refl) its.by own.by ∙ own.by) in
       (d.below.doubts u there).1 (ap (λ (t : TxnId). t.site) same ∙ (d.led.names f.was f.live).0)
 
-  pub certain_now : (e : Commit) (rec : ℕ) → Has o.effects.commits e → Wrote e rec → Has (holders catalogue rec) s → (u : Doubt) → Has o.site.doubts u → Has (keys u.2) rec → ⊥
+  pub certain_now : (e : Commit) (rec : ℕ) → Has o.effects.commits e → Wrote e rec → Has (holders catalogue rec) s → (u : Doubt) → Has o.site.doubts u → Has (keys u.writes) rec → ⊥
   certain_now e rec h wrote holder u there on = go (d.shares.doubts u there)
     where
       go : DoubtNow x given u → ⊥
@@ -175,7 +175,7 @@ module _ (catalogue : Catalogue) (w new : Scene) (s : ℕ) (x : SiteState) (give
       let u = low.3 lock.lock f.was.txn lock.has lock.on lock.by in
       let says = doubt_says e (d.st.enters e h) s u.0 (subst (λ (k : DurableState). Has k.doubts u.0) d.here.kept u.1) (u.2 ∙ f.named) in
       let same : f.view ≡ low.0 = (let a = f.held in let b = low.1 in cc) in
-      not_below_itself u.0.1 low.0.id u.3 (sym says.0 ∙ sym f.is ∙ ap (λ (v : View). v.id) same)
+      not_below_itself u.0.view low.0.id u.3 (sym says.0 ∙ sym f.is ∙ ap (λ (v : View). v.id) same)
 
   -- it wrote no record that is closed for a higher view
   pub stops : (e : Commit) (u : View) (rec : ℕ) → Has o.effects.commits e → Wrote e rec → Precedes e.view u.id → Open catalogue w rec u → ⊥
@@ -192,10 +192,10 @@ module _ (catalogue : Catalogue) (w new : Scene) (s : ℕ) (x : SiteState) (give
       (subst (Has w.agreed) same q.1, a.1)
 
   -- what has become of a doubt: it stays, or its outcome came
-  pub doubt_stays : (j : ℕ) (u : Doubt) → Has (kept_at w j).doubts u → Has (kept_at new j).doubts u ⊎ ((j ≡ s) × OutcomeComes given u.0)
+  pub doubt_stays : (j : ℕ) (u : Doubt) → Has (kept_at w j).doubts u → Has (kept_at new j).doubts u ⊎ ((j ≡ s) × OutcomeComes given u.txn)
   doubt_stays j u h = go (kept_is w new s x o d.st j)
     where
-      go : KeptIs w new s (durable_of o.site) j → Has (kept_at new j).doubts u ⊎ ((j ≡ s) × OutcomeComes given u.0)
+      go : KeptIs w new s (durable_of o.site) j → Has (kept_at new j).doubts u ⊎ ((j ≡ s) × OutcomeComes given u.txn)
       go (KeptIs.other m same) = inl (subst (λ (k : DurableState). Has k.doubts u) (sym same) h)
       go (KeptIs.here z same) = ⊎_elim
           (λ still. inl (subst (λ (k : DurableState). Has k.doubts u) (sym same) still))
@@ -210,7 +210,7 @@ module _ (catalogue : Catalogue) (w new : Scene) (s : ℕ) (x : SiteState) (give
     pub reads : List ℕ
     pub writes : List (ℕ × List ℕ)
     pub prepared : Prepared x given from part reads writes
-    pub is : (part.txn, part.view, writes) ≡ u
+    pub is : (record { txn = part.txn; view = part.view; writes = writes }) ≡ u
 
   pub doubt_from : (j : ℕ) (u : Doubt) → Has (kept_at new j).doubts u → Has (kept_at w j).doubts u ⊎ Fresh j u
   doubt_from j u h = go (kept_is w new s x o d.st j)
@@ -224,8 +224,8 @@ module _ (catalogue : Catalogue) (w new : Scene) (s : ℕ) (x : SiteState) (give
       go (KeptIs.here z same) = made z (d.shares.doubts u (subst (λ (k : DurableState). Has k.doubts u) same h))
 
   -- no other doubt here was of its transaction
-  pub fresh_name : (j : ℕ) (u : Doubt) → Fresh j u → (v : Doubt) → Has (kept_at w j).doubts v → v.0 ≢ u.0
-  fresh_name j u f v there named = same_txn-not v.0 f.part.txn (any_false (λ (u : Doubt). same_txn u.0 f.part.txn) x.doubts f.prepared.certain v (subst (λ (k : DurableState). Has k.doubts v) (ap (kept_at w) f.here ∙ sym d.here.kept) there)) (named ∙ ap (λ (u : Doubt). u.0) (sym f.is))
+  pub fresh_name : (j : ℕ) (u : Doubt) → Fresh j u → (v : Doubt) → Has (kept_at w j).doubts v → v.txn ≢ u.txn
+  fresh_name j u f v there named = same_txn-not v.txn f.part.txn (any_false (λ (u : Doubt). same_txn u.txn f.part.txn) x.doubts f.prepared.certain v (subst (λ (k : DurableState). Has k.doubts v) (ap (kept_at w) f.here ∙ sym d.here.kept) there)) (named ∙ ap (λ (u : Doubt). u.txn) (sym f.is))
 
   -- the journal stays, and no outcome came
   pub fresh_same : (j : ℕ) (u : Doubt) → Fresh j u → new.journal ≡ w.journal
@@ -235,7 +235,7 @@ module _ (catalogue : Catalogue) (w new : Scene) (s : ℕ) (x : SiteState) (give
   fresh_no_outcome j u f from txn commit c = let z = sym f.prepared.comes ∙ c in cc
 
   -- a new doubt is of no transaction with an entry
-  pub fresh_not_entered : (j : ℕ) (u : Doubt) → Fresh j u → Has (kept_at new j).doubts u → (e : Commit) → Has new.journal e → e.txn ≢ u.0
+  pub fresh_not_entered : (j : ℕ) (u : Doubt) → Fresh j u → Has (kept_at new j).doubts u → (e : Commit) → Has new.journal e → e.txn ≢ u.txn
   fresh_not_entered j u f there e h named =
       let was = doubt_was catalogue w new s x given o d.up d.arrives d.here.id d.here.kept k.views n.views d.led k.led k.ends k.shares (λ t q. k.ops.live s x t d.up q) k.entered n.entered n.below k.settled d.waits d.endings d.steps d.shares d.leaves d.st e j (rw (← (fresh_same j u f)) h) (u, there, sym named) in
       fresh_name j u f was.0 was.1 (was.2 ∙ named)

@@ -13,33 +13,33 @@ use Rattle.vp_laws.proofs.LocalViews.{letter}
 use Rattle.vp_laws.proofs.Scenes.{Scene, kept_at}
 use Rattle.vp_laws.proofs.InvShares.{InvShares}
 
-doubt_is : (c d : Doubt) → c.0 ≡ d.0 → c.1 ≡ d.1 → c.2 ≡ d.2 → c ≡ d
+doubt_is : (c d : Doubt) → c.txn ≡ d.txn → c.view ≡ d.view → c.writes ≡ d.writes → c ≡ d
 doubt_is c d p q r = rw (p, q, r) refl
 
-found : (d : Doubt) (doubts : List Doubt) → Has doubts d → (c : Doubt) × (doubt_of d.0 doubts ≡ Some c)
+found : (d : Doubt) (doubts : List Doubt) → Has doubts d → (c : Doubt) × (doubt_of d.txn doubts ≡ Some c)
 found d [] h = absurd (has_none d h)
-found d (u ∷ doubts) h = go (same_txn u.0 d.0) refl (λ k. found d doubts k)
+found d (u ∷ doubts) h = go (same_txn u.txn d.txn) refl (λ k. found d doubts k)
   where
     itself : (t : TxnId) → same_txn t t ≡ true
     itself t = grind (arith, nat_tests)
 
-    go : (b : Bool) → same_txn u.0 d.0 ≡ b → (Has doubts d → (c : Doubt) × (doubt_of d.0 doubts ≡ Some c)) → (c : Doubt) × (cond b (Some u) (find (λ (u : Doubt). same_txn u.0 d.0) doubts) ≡ Some c)
+    go : (b : Bool) → same_txn u.txn d.txn ≡ b → (Has doubts d → (c : Doubt) × (doubt_of d.txn doubts ≡ Some c)) → (c : Doubt) × (cond b (Some u) (find (λ (u : Doubt). same_txn u.txn d.txn) doubts) ≡ Some c)
     go true e rest = (u, refl)
-    go false e rest = ⊎_elim (λ (one : u ≡ d). absurd (let z : same_txn u.0 d.0 ≡ true = subst (λ (v : Doubt). same_txn v.0 d.0 ≡ true) (sym one) (itself d.0) in cc)) (λ more. rest more) (has_cons u doubts d h)
+    go false e rest = ⊎_elim (λ (one : u ≡ d). absurd (let z : same_txn u.txn d.txn ≡ true = subst (λ (v : Doubt). same_txn v.txn d.txn ≡ true) (sym one) (itself d.txn) in cc)) (λ more. rest more) (has_cons u doubts d h)
 
 module _ (catalogue : Catalogue) (w : Scene) (shares : InvShares catalogue w) (e : Commit) (h : Has w.journal e) (k : ℕ) where
-  pub one_doubt : (c d : Doubt) → Has (kept_at w k).doubts c → Has (kept_at w k).doubts d → c.0 ≡ e.txn → d.0 ≡ e.txn → c ≡ d
+  pub one_doubt : (c d : Doubt) → Has (kept_at w k).doubts c → Has (kept_at w k).doubts d → c.txn ≡ e.txn → d.txn ≡ e.txn → c ≡ d
   one_doubt c d there also p q =
       let a = (shares.doubts k c there).0 in
       let b = (shares.doubts k d also).0 in
-      let first = shares.entry e h a.0 k c.1 a.1 a.2 c.2 (subst (λ (t : TxnId). Has w.sent (letter a.0 k (message.Prepare t c.1 a.1 a.2 c.2))) p a.3) in
-      let second = shares.entry e h b.0 k d.1 b.1 b.2 d.2 (subst (λ (t : TxnId). Has w.sent (letter b.0 k (message.Prepare t d.1 b.1 b.2 d.2))) q b.3) in
+      let first = shares.entry e h a.0 k c.view a.1 a.2 c.writes (subst (λ (t : TxnId). Has w.sent (letter a.0 k (message.Prepare t c.view a.1 a.2 c.writes))) p a.3) in
+      let second = shares.entry e h b.0 k d.view b.1 b.2 d.writes (subst (λ (t : TxnId). Has w.sent (letter b.0 k (message.Prepare t d.view b.1 b.2 d.writes))) q b.3) in
       doubt_is c d (p ∙ sym q) (sym first.0 ∙ second.0) (sym first.1 ∙ second.1)
 
-  pub doubt_found : (d : Doubt) → Has (kept_at w k).doubts d → d.0 ≡ e.txn → doubt_of d.0 (kept_at w k).doubts ≡ Some d
+  pub doubt_found : (d : Doubt) → Has (kept_at w k).doubts d → d.txn ≡ e.txn → doubt_of d.txn (kept_at w k).doubts ≡ Some d
   doubt_found d there q =
       let f = found d (kept_at w k).doubts there in
       let c = f.0 in
-      let named : c.0 ≡ d.0 = same_txn-is c.0 d.0 (find_true (λ (u : Doubt). same_txn u.0 d.0) (kept_at w k).doubts c f.1) in
-      let same = one_doubt c d (find_has (λ (u : Doubt). same_txn u.0 d.0) (kept_at w k).doubts c f.1) there (named ∙ q) q in
+      let named : c.txn ≡ d.txn = same_txn-is c.txn d.txn (find_true (λ (u : Doubt). same_txn u.txn d.txn) (kept_at w k).doubts c f.1) in
+      let same = one_doubt c d (find_has (λ (u : Doubt). same_txn u.txn d.txn) (kept_at w k).doubts c f.1) there (named ∙ q) q in
       f.1 ∙ ap (λ (u : Doubt). Some u) same

@@ -10,7 +10,7 @@ use Rattle.vp_model.specs.Words.{replace_at, view_before}
 use Rattle.vp_model.specs.Catalogue.{Catalogue}
 use Rattle.vp_model.specs.Durable.{doubt_of}
 use Rattle.vp_model.specs.Site.{CoordinatorState, SiteState, Lent, Stepped, begin_step, lent, put_back, letters, force, change_copies}
-use Rattle.vp_model.specs.Refresh.{newest, take_newer, end_refresh, start_refresh, other_holders, unanswered}
+use Rattle.vp_model.specs.Refresh.{newest, take_newer, unlist, end_refresh, start_refresh, other_holders, unanswered}
 use Rattle.vp_model.specs.Views.{other_sites, drop_view, start_inviting, hold}
 use Rattle.vp_model.specs.Messages.{held_id, accept, on_accept, on_stale, grant, end_here}
 use Rattle.vp_model.specs.Step.{fix, ask_again, resend_one, known, inquire}
@@ -51,7 +51,7 @@ module _ (catalogue : Catalogue) (x : SiteState) (given : Input) (R : Coordinato
     pub aside : (c : CoordinatorState) (ms more : List Sent) (cs : List Commit) → ((m : Sent) → Has more m → Aside x m) → R c ms cs → R c (ms ++ more) cs
     pub starts : R x.coordinator [] []
     pub moves : OfCoordinator catalogue x given OnLent
-    pub resends : (c : CoordinatorState) (d : Decision) (ms : List Sent) (cs : List Commit) → given ≡ input.Tick → Has c.decisions d → R c ms cs → R c (ms ++ letters x.id (λ q. message.Outcome d.0 true) d.1) cs
+    pub resends : (c : CoordinatorState) (d : Decision) (ms : List Sent) (cs : List Commit) → given ≡ input.Tick → Has c.decisions d → R c ms cs → R c (ms ++ letters x.id (λ q. message.Outcome d.txn true) d.waiting) cs
 
 module _ (catalogue : Catalogue) (x : SiteState) (given : Input) (R : CoordinatorState → List Sent → List Commit → Type 0) (k : Keeps catalogue x given R) where
   abbrev P : Stepped → Type 0
@@ -83,8 +83,8 @@ module _ (catalogue : Catalogue) (x : SiteState) (given : Input) (R : Coordinato
       go true = silent o (force (entry.Copy rec best) (change_copies (replace_at rec best) o)) refl refl refl refl p
       go false = p
 
-  ends_refresh : (r : Refreshing) (own : Stored) (o : Stepped) → P o → P (end_refresh r own o)
-  unfolding end_refresh
+  ends_refresh : (r : Refreshing) (own : Stored) (o : Stepped) → P o → P (end_refresh catalogue r own o)
+  unfolding end_refresh unlist
   ends_refresh r own o p = silent (take_newer r.rec own (newest own r.answers) o) _ refl refl refl refl (takes_newer r.rec own (newest own r.answers) o p)
 
   ends_here : (from : ℕ) (txn : TxnId) (commit : Bool) (doubt : Option Doubt) → P (end_here from txn commit doubt (begin_step x))
@@ -103,7 +103,7 @@ module _ (catalogue : Catalogue) (x : SiteState) (given : Input) (R : Coordinato
 
   resent : (d : Decision) (o : Stepped) → given ≡ input.Tick → Has o.site.decisions d → P o → P (put_back o (resend_one o.site.id d (lent o)))
   unfolding resend_one
-  resent d o c h p = record { id = p.id; kept = subst (λ (a : ℕ). R o.site.coordinator (o.effects.messages ++ letters a (λ q. message.Outcome d.0 true) d.1) o.effects.commits) (sym p.id) (k.resends o.site.coordinator d o.effects.messages o.effects.commits c h p.kept) }
+  resent d o c h p = record { id = p.id; kept = subst (λ (a : ℕ). R o.site.coordinator (o.effects.messages ++ letters a (λ q. message.Outcome d.txn true) d.waiting) o.effects.commits) (sym p.id) (k.resends o.site.coordinator d o.effects.messages o.effects.commits c h p.kept) }
 
   own : OfCoordinator catalogue x given (Back x P)
   own = let m = k.moves in record {
@@ -141,7 +141,7 @@ module _ (catalogue : Catalogue) (x : SiteState) (given : Input) (R : Coordinato
     start_refresh = λ view rec o e a h p. many o (start_refresh catalogue view rec o) (λ q. message.RefreshRequest view.id rec) (other_holders catalogue o.site rec) refl refl refl refl (λ q. refl) p;
     end_refresh = λ rec r own o e a d v p. ends_refresh r own o p;
     keep_answer = λ from view rec stored r c e f g. silent (begin_step x) _ refl refl refl refl only_begins;
-    answer_refresh = λ from view rec stored c e d v. one _ from (message.RefreshAnswer view rec stored.value stored.date) refl refl refl refl refl;
+    answer_refresh = λ from view rec stored c e d v. one _ from (message.RefreshAnswer view rec stored) refl refl refl refl refl;
     ask_again = λ view r o e h v p. many o (ask_again catalogue view.id r o) (λ q. message.RefreshRequest view.id r.rec) (unanswered catalogue o.site r) refl refl refl refl (λ q. refl) p;
     refuse_view = λ from txn view number a e. one _ from (message.Refuse txn number (obstacle.OtherView (held_id x))) refl refl refl refl refl;
     refuse_lock = λ from txn view number rec exclusive holder r e n c. one _ from (message.Refuse txn number (obstacle.Held holder)) refl refl refl refl refl;

@@ -10,7 +10,7 @@ use Rattle.vp_model.specs.Words.{keys, value_at}
 use Rattle.vp_model.specs.Catalogue.{Catalogue, holders, start_values}
 use Rattle.vp_model.specs.Durable.{DurableState}
 use Rattle.vp_model.specs.Transactions.{last_writes}
-use Rattle.vp_model.specs.Refresh.{is_usable, is_usable_in}
+use Rattle.vp_model.specs.Refresh.{is_open, is_usable_in}
 use Rattle.vp_model.specs.OneCopy.{Values, play, content}
 use Rattle.vp_model.specs.Site.{SiteState, Stepped, Lent}
 use Rattle.vp_one_site.proofs.Play.{get_all, get_all-other, play_sets, last_ascending, play-append, read_plays}
@@ -30,7 +30,7 @@ use Rattle.vp_laws.proofs.InvOps.{reads_same}
 use Rattle.vp_laws.proofs.InvSettled.{holding}
 use Rattle.vp_laws.proofs.InvHeld.{copy_held}
 use Rattle.vp_laws.proofs.InvReading.{InvReading}
-use Rattle.vp_laws.proofs.Stopping.{shared_holder}
+use Rattle.vp_laws.proofs.Stopping.{in_force_holder}
 use Rattle.vp_laws.proofs.ValuesAfter.{value_after}
 use Rattle.vp_laws.proofs.ValuesGrow.{after_some}
 use Rattle.vp_laws.proofs.Playing.{content_value}
@@ -57,7 +57,7 @@ plays_with start ops operation p q = (p.0, q.0, p.2, play-append p.0 ops (operat
 
 module _ (catalogue : Catalogue) (w new : Scene) (s : ℕ) (x : SiteState) (given : Input) (o : Stepped) (k : Known catalogue w) (n : Known catalogue new) (d : Does catalogue w new s x given o) (copies : InvCopies catalogue w) (refresh : InvRefresh catalogue w) (reading : InvReading catalogue w) (inv : InvOrder catalogue w) where
   -- a copy here on which no other transaction has a lock has the value after the entries of views up to the held one
-  free_value : (rec : ℕ) (exclusive : Bool) (txn : TxnId) (v : View) (stored : Stored) → x.held ≡ Some v → is_usable catalogue x rec ≡ true → value_at rec x.copies ≡ Some stored → IsFree rec exclusive (owner.Txn txn) x.locks → ((e : Commit) → Has w.journal e → e.txn ≢ txn) → value_after catalogue w.journal v.id rec ≡ Some stored.value
+  free_value : (rec : ℕ) (exclusive : Bool) (txn : TxnId) (v : View) (stored : Stored) → x.held ≡ Some v → is_open catalogue x rec ≡ true → value_at rec x.copies ≡ Some stored → IsFree rec exclusive (owner.Txn txn) x.locks → ((e : Commit) → Has w.journal e → e.txn ≢ txn) → value_after catalogue w.journal v.id rec ≡ Some stored.value
   free_value rec exclusive txn v stored held usable copy free no_entry =
       usable_value catalogue w k.shares copies s rec x v stored d.up d.here.kept held usable
       (unlisted_none rec x.refresh (free_unlisted catalogue w new s x given o k n d copies refresh rec exclusive txn free))
@@ -79,20 +79,20 @@ module _ (catalogue : Catalogue) (w new : Scene) (s : ℕ) (x : SiteState) (give
       same : (t u : TxnId) → owner.Txn t ≡ owner.Txn u → t ≡ u
       same t u e = cc
 
-      unentered : (u : Doubt) → Has (kept_at w s).doubts u → Has (keys u.2) rec → (e : Commit) → Has w.journal e → e.txn ≢ u.0
+      unentered : (u : Doubt) → Has (kept_at w s).doubts u → Has (keys u.writes) rec → (e : Commit) → Has w.journal e → e.txn ≢ u.txn
       unentered u h on e entry named =
           let lock = (k.guards.site s x d.up).doubted u rec (subst (λ (k : DurableState). Has k.doubts u) (sym d.here.kept) h) on in
           let by = free lock.lock lock.has lock.on (rw (lock.strong refl) (or_true exclusive)) in
-          no_entry e entry (named ∙ same u.0 txn (sym lock.by ∙ by))
+          no_entry e entry (named ∙ same u.txn txn (sym lock.by ∙ by))
 
   -- a live transaction here has no entry
   live_no_entry : (t : Live) → Has x.live t → (e : Commit) → Has w.journal e → e.txn ≢ t.txn
   live_no_entry t h e entry named = k.ends.entry e entry x (rw (ap (λ (t : TxnId). t.site) named ∙ (d.led.names t h).0 ∙ d.here.id) d.up) t h (sym named)
 
   -- a record that may be used has a value
-  value_there : (rec : ℕ) (before : Values) (view : ViewId) → is_usable catalogue x rec ≡ true → content (start_values catalogue) w.journal view ≡ Some before → is_some (slice_get before rec) ≡ true
+  value_there : (rec : ℕ) (before : Values) (view : ViewId) → is_open catalogue x rec ≡ true → content (start_values catalogue) w.journal view ≡ Some before → is_some (slice_get before rec) ≡ true
   value_there rec before view usable h =
-      let q = shared_holder catalogue rec _ _ usable usable in
+      let q = in_force_holder catalogue rec _ usable in
       let v = after_some catalogue w.journal view rec q.0 q.1 in
       rw (content_value catalogue w.journal view before rec h ∙ v.1) refl
 
@@ -102,7 +102,7 @@ module _ (catalogue : Catalogue) (w new : Scene) (s : ℕ) (x : SiteState) (give
       let z = sym e ∙ is in
       let same : r ≡ rec = cc in
       let valued : v ≡ value = cc in
-      written_then before after u.ops rec value plays (rw (← same, ← valued) wrote) (value_there rec before u.view (subst (λ (n : ℕ). is_usable catalogue x n ≡ true) same usable) start)
+      written_then before after u.ops rec value plays (rw (← same, ← valued) wrote) (value_there rec before u.view (subst (λ (n : ℕ). is_open catalogue x n ≡ true) same usable) start)
   read_value u a operation words l h (Completes.own_copy r stored next reads usable none copy free e f g) rec value is before after start plays =
       let z = sym e ∙ is in
       let same : r ≡ rec = cc in

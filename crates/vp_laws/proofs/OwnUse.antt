@@ -6,7 +6,7 @@ use Rattle.vp_model.specs.Types.op
 use Rattle.vp_model.specs.Types.owner
 use Rattle.vp_model.specs.Words.{keys, value_at}
 use Rattle.vp_model.specs.Catalogue.{Catalogue, holders, accessible}
-use Rattle.vp_model.specs.Refresh.{is_usable, is_usable_in, other_holders_in}
+use Rattle.vp_model.specs.Refresh.{is_open, is_usable_in, other_holders_in}
 use Rattle.vp_model.specs.Site.{SiteState}
 use Rattle.vp_laws.proofs.Members.{Has}
 use Rattle.vp_laws.proofs.Lists.{mapped_has}
@@ -23,7 +23,7 @@ use Rattle.vp_laws.proofs.InvEntered.{AgreedAs, other_holder}
 use Rattle.vp_laws.proofs.InvUsed.{HasAnswered}
 use Rattle.vp_laws.proofs.InvHeld.{holds_copy}
 use Rattle.vp_laws.proofs.Closing.{Open}
-use Rattle.vp_laws.proofs.Stopping.{shared_holder}
+use Rattle.vp_laws.proofs.Stopping.{in_force_holder}
 use Rattle.vp_laws.proofs.CopyInvariants.{InvCopies, InvRefresh}
 use Rattle.vp_laws.proofs.CopiesKept.{unlisted_none}
 use Rattle.vp_laws.proofs.Tower.{Known}
@@ -42,7 +42,7 @@ module _ (catalogue : Catalogue) (w : Scene) (k : Known catalogue w) (copies : I
   pub view_is : (v : View) → AgreedAs w t.view v → x.held ≡ Some v
   view_is v a = of.1 ∙ ap (λ (v : View). Some v) (k.views.unique of.0 v ((k.views.site s x up).held of.0 of.1) a.0 (of.2 ∙ sym a.1))
 
-  pub own_closed : (rec : ℕ) (exclusive : Bool) (v : View) (stored : Stored) → HasLock rec exclusive (owner.Txn t.txn) x.locks → x.held ≡ Some v → value_at rec x.copies ≡ Some stored → is_usable catalogue x rec ≡ true → Open catalogue w rec v
+  pub own_closed : (rec : ℕ) (exclusive : Bool) (v : View) (stored : Stored) → HasLock rec exclusive (owner.Txn t.txn) x.locks → x.held ≡ Some v → value_at rec x.copies ≡ Some stored → is_open catalogue x rec ≡ true → Open catalogue w rec v
   own_closed rec exclusive v stored lock held copy usable = copies.open_copy s rec x v stored up held usable (unlisted_none rec x.refresh (lock_unlisted rec exclusive lock)) copy
 
   module _ (refresh : InvRefresh catalogue w) (v : View) (agreed : AgreedAs w t.view v) where
@@ -56,7 +56,7 @@ module _ (catalogue : Catalogue) (w : Scene) (k : Known catalogue w) (copies : I
     elsewhere : (rec : ℕ) → HasWritten t rec → value_at rec x.copies ≡ None → Open catalogue w rec v
     elsewhere rec wrote none =
         let usable = usable_in_view (op.Write rec wrote.0) wrote.1 in
-        let q = shared_holder catalogue rec v.members v.members usable usable in
+        let q = in_force_holder catalogue rec v.members usable in
         let other : q.0 ≢ x.id = (λ z. not_copied rec x.copies none (holds_copy catalogue w s x up (k.views.site s x up).kept k.held rec (subst (Has (holders catalogue rec)) (z ∙ (k.views.site s x up).id) q.1))) in
         let holder = subst (λ (held : Option View). Has (other_holders_in catalogue x.id held rec) q.0) (sym (view_is v agreed)) (other_holder catalogue x.id rec q.0 v q.1 q.2 other) in
         refresh.used s q.0 rec true x t v up live (HasAnswered.wrote ((k.answers.live s x t up live).wrote rec wrote q.0 holder)) agreed

@@ -6,7 +6,7 @@ use Rattle.std.specs.List.{AllByRecursion}
 use Rattle.vp_model.specs.Types.{ViewId, Op, Commit}
 use Rattle.vp_model.specs.Words.{value_at}
 use Rattle.vp_model.specs.Catalogue.{Catalogue, start_values}
-use Rattle.vp_model.specs.Transactions.{last_writes}
+use Rattle.vp_model.specs.Transactions.{last_changes}
 use Rattle.vp_model.specs.OneCopy.{Values, play, serial, order, content}
 use Rattle.vp_one_site.proofs.Play.{Write, op_record, set_all, get_set, get_other, get_all, get_all-other, play_sets, last_ascending, serial-append, AgreeOn, play_agrees}
 use Rattle.vp_laws.proofs.Members.{Has, has_first, has_more, has_right, all_of}
@@ -41,14 +41,14 @@ serial_value rec [] m n h = let same : m ≡ n = cc in rw (← same) (as_it_is (
 serial_value rec (e ∷ es) m n h =
     let t = then_some (play m e.ops) (λ (k : Values). serial k es) n h in
     let rest = serial_value rec es t.0 n t.2 in
-    let now : slice_get t.0 rec ≡ option_map (overwritten (last_writes e.ops) rec) (slice_get m rec) = ap (λ (k : Values). slice_get k rec) (play_sets e.ops m t.0 t.1) ∙ set_value (last_writes e.ops) m rec (λ v w s. get_all rec v (last_writes e.ops) m (last_ascending e.ops) w s) in
+    let now : slice_get t.0 rec ≡ option_map (overwritten (last_changes e) rec) (slice_get m rec) = ap (λ (k : Values). slice_get k rec) (play_sets e.ops m t.0 t.1) ∙ set_value (last_changes e) m rec (λ v w s. get_all rec v (last_changes e) m (last_ascending e.ops) w s) in
     rest ∙ ap (option_map (λ start. value_in rec start es)) now ∙ twice (slice_get m rec)
   where
     then_some : (o : Option Values) (f : Values → Option Values) (y : Values) → option_and_then f o ≡ Some y → (x : Values) × (o ≡ Some x) × (f x ≡ Some y)
     then_some None f y e = cc
     then_some (Some x) f y e = (x, refl, e)
 
-    twice : (o : Option (List ℕ)) → option_map (λ start. value_in rec start es) (option_map (overwritten (last_writes e.ops) rec) o) ≡ option_map (λ start. value_in rec start (e ∷ es)) o
+    twice : (o : Option (List ℕ)) → option_map (λ start. value_in rec start es) (option_map (overwritten (last_changes e) rec) o) ≡ option_map (λ start. value_in rec start (e ∷ es)) o
     twice None = refl
     twice (Some v) = refl
 
@@ -61,10 +61,10 @@ abbrev pub WritesNone : Commit → List Op → Type 0
 WritesNone e ops = (operation : Op) → Has ops operation → Wrote e (op_record operation) → ⊥
 
 abbrev unwritten : Commit → ℕ → Type 0
-unwritten e rec = value_at rec (last_writes e.ops) ≡ None
+unwritten e rec = value_at rec (last_changes e) ≡ None
 
 pub agrees_behind : (e : Commit) (m n : Values) → play m e.ops ≡ Some n → AgreeOn (unwritten e) m n
-agrees_behind e m n h rec none = sym (ap (λ (k : Values). slice_get k rec) (play_sets e.ops m n h) ∙ get_all-other rec (last_writes e.ops) m none)
+agrees_behind e m n h rec none = sym (ap (λ (k : Values). slice_get k rec) (play_sets e.ops m n h) ∙ get_all-other rec (last_changes e) m none)
 
 all_unwritten : (e : Commit) (ops : List Op) → WritesNone e ops → AllByRecursion (λ (operation : Op). unwritten e (op_record operation)) ops
 all_unwritten e ops h = all_of (λ (operation : Op). unwritten e (op_record operation)) ops (λ operation q. unwritten_value e (op_record operation) (h operation q))

@@ -11,7 +11,7 @@ use Rattle.vp_model.specs.Types.{View, Stored, Lock, Doubt}
 use Rattle.vp_model.specs.Words.{keys, change_first}
 use Rattle.vp_model.specs.Catalogue.{Catalogue, sites_of, start_values}
 use Rattle.vp_model.specs.Durable.{DurableState}
-use Rattle.vp_model.specs.Refresh.{is_usable}
+use Rattle.vp_model.specs.Refresh.{is_open}
 use Rattle.vp_model.specs.OneCopy.{Values, serial, order, content}
 use Rattle.vp_model.specs.Site.{SiteState}
 use Rattle.vp_model.specs.Step.{durable_of}
@@ -54,7 +54,7 @@ module _ (catalogue : Catalogue) (w : WorldState) (inv : Twentieth catalogue (sc
       let e : (a.rec == rec) ≡ true = eq-eqb a.rec rec on in
       let z : is_locked rec a ≡ true = rw (e, strong) refl in cc
 
-  readable_value : (rec : ℕ) (stored : Stored) → Has x.copies (rec, stored) → is_usable catalogue x rec ≡ true → list_any (is_locked rec) x.locks ≡ false → slice_get one_copy.0 rec ≡ Some stored.value
+  readable_value : (rec : ℕ) (stored : Stored) → Has x.copies (rec, stored) → is_open catalogue x rec ≡ true → list_any (is_locked rec) x.locks ≡ false → slice_get one_copy.0 rec ≡ Some stored.value
   readable_value rec stored h usable none =
       content_value catalogue w.journal v.id one_copy.0 rec one_copy.1
       ∙ usable_value catalogue (scene_of w) k.shares inv.lower.lower.upper.copies s rec x v stored up kept held usable (unlisted_none rec x.refresh unlisted)
@@ -69,7 +69,7 @@ module _ (catalogue : Catalogue) (w : WorldState) (inv : Twentieth catalogue (sc
       unlisted : IsUnlisted x.refresh rec
       unlisted r there on = let lock = (k.guards.site s x up).listed r there in unlocked rec lock.lock none lock.has (lock.on ∙ on) (lock.strong refl)
 
-      certain : (u : Doubt) → Has (kept_at (scene_of w) s).doubts u → Has (keys u.2) rec → ⊥
+      certain : (u : Doubt) → Has (kept_at (scene_of w) s).doubts u → Has (keys u.writes) rec → ⊥
       certain u there on =
           let lock = (k.guards.site s x up).doubted u rec (subst (λ (d : DurableState). Has d.doubts u) (sym (k.views.site s x up).kept) there) on in
           unlocked rec lock.lock none lock.has lock.on (lock.strong refl)
@@ -80,7 +80,7 @@ module _ (catalogue : Catalogue) (w : WorldState) (inv : Twentieth catalogue (sc
   copy_true : (copy : ℕ × Stored) → Has x.copies copy → (if_readable : Bool) → is_readable catalogue x copy.0 ≡ if_readable → cond if_readable (has_value (content (start_values catalogue) w.journal v.id) copy.0 copy.1.value) true ≡ true
   copy_true copy h false e = refl
   copy_true copy h true e =
-      let t = both_true (is_usable catalogue x copy.0) (not (list_any (is_locked copy.0) x.locks)) e in
+      let t = both_true (is_open catalogue x copy.0) (not (list_any (is_locked copy.0) x.locks)) e in
       let value = readable_value copy.0 copy.1 h t.0 (not_true (list_any (is_locked copy.0) x.locks) t.1) in
       has_it (content (start_values catalogue) w.journal v.id) one_copy.0 copy.0 copy.1.value one_copy.1 value
     where

@@ -12,7 +12,7 @@ use Rattle.vp_model.specs.Types.obstacle
 use Rattle.vp_model.specs.Catalogue.{Catalogue, find_record, inside, total}
 use Rattle.vp_model.specs.Locks.{conflict}
 use Rattle.vp_model.specs.Site.{CoordinatorState, SiteState, Lent}
-use Rattle.vp_model.specs.Transactions.{answer_of, put_live, with_finished}
+use Rattle.vp_model.specs.Transactions.{entry_of, answer_of, put_live, with_finished}
 use Rattle.vp_model.specs.Refresh.{members_in, is_usable_in}
 use Rattle.vp_model.specs.Calls.{begun, with_begun, handling, kept_answer}
 use Rattle.vp_model.specs.Answers.{with_acknowledged}
@@ -98,7 +98,7 @@ pub record Front (catalogue : Catalogue) (x : SiteState) (given : Input) (after 
   pub complete : (t : Live) (p : Pending) (operation : Op) (words : Answer) (l : Lent) → Has x.live t → IsDone x given t p → Completes catalogue x given t p operation words l → G (put_live (done t operation words) x.coordinator) (told_to p.port words ∷ []) []
   pub goes : (t u : Live) (p : Pending) → Takes x given t p → Goes t p u → G (put_live u x.coordinator) [] []
   pub still : (t : Live) (p : Pending) (sites : List ℕ) → Awaits x t p → G (put_live (waiting t p sites) x.coordinator) [] []
-  pub decide : (t : Live) (c : CoordinatorState) → Handled x t → Decides catalogue x given t → c.live ≡ x.live → c.finished ≡ x.finished → c.seq ≡ x.seq → G (with_finished t Committed c) (last_reply t Committed) ((record { txn = t.txn; view = t.view; ops = t.ops }) ∷ [])
+  pub decide : (t : Live) (c : CoordinatorState) → Handled x t → Decides catalogue x given t → c.live ≡ x.live → c.finished ≡ x.finished → c.seq ≡ x.seq → G (with_finished t Committed c) (last_reply t Committed) ((entry_of t) ∷ [])
   pub close : (t : Live) (why : Ending) (c : CoordinatorState) (rs : List Reply) → Handled x t → Why catalogue x given after t why → G c rs [] → G (with_finished t why c) (rs ++ last_reply t why) []
   pub marks : (c : CoordinatorState) (rs : List Reply) → G c rs [] → G (record c { live = map mark c.live }) rs []
   pub acknowledge : (txn : TxnId) (from : ℕ) → G (with_acknowledged txn from x.coordinator) [] []

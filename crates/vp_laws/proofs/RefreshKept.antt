@@ -1,5 +1,5 @@
 -- A step keeps the invariant of answers to a refresh and of closed records.
-use Rattle.std.proofs.Common.{◌≡◌, ◌≢◌, ◌⊎◌, ◌∙◌, ap, sym, subst, ℕ, Bool, true, false, List, refl, inl, inr, ⊎_elim}
+use Rattle.std.proofs.Common.{◌≡◌, ◌≢◌, ◌⊎◌, ◌∙◌, ap, sym, subst, ℕ, Bool, true, false, refl, inl, inr, ⊎_elim}
 use Rattle.std.specs.Prelude.{Option, Some, is_some, not, ◌||◌, ◌&&◌, ◌==◌}
 use Rattle.vp_model.specs.Types.{ViewId, TxnId, View, Sent, Commit, Input, Op, Stored, Pending, Live}
 use Rattle.vp_model.specs.Types.message
@@ -7,7 +7,7 @@ use Rattle.vp_model.specs.Types.owner
 use Rattle.vp_model.specs.Words.{has, value_at}
 use Rattle.vp_model.specs.Catalogue.{Catalogue, holders, accessible}
 use Rattle.vp_model.specs.Durable.{DurableState}
-use Rattle.vp_model.specs.Refresh.{is_usable, is_usable_in, is_doubtful, members_in, other_holders}
+use Rattle.vp_model.specs.Refresh.{is_open, is_usable_in, is_doubtful, members_in, other_holders}
 use Rattle.vp_model.specs.Messages.{holds_view}
 use Rattle.vp_model.specs.Site.{SiteState, Stepped}
 use Rattle.vp_laws.specs.Votes.{is_commit}
@@ -47,54 +47,49 @@ use Rattle.vp_laws.proofs.Tower.{Known, Does}
 
 module _ (catalogue : Catalogue) (w new : Scene) (s : ℕ) (x : SiteState) (given : Input) (o : Stepped) (k : Known catalogue w) (n : Known catalogue new) (d : Does catalogue w new s x given o) (copies : InvCopies catalogue w) (refresh : InvRefresh catalogue w) where
   -- an answer that is given now: in the held view, from the copy here, where nothing is in doubt on it
-  record Replied (p rec : ℕ) (view date : ViewId) (value : List ℕ) : Type 0 where
+  record Replied (p rec : ℕ) (view : ViewId) (stored : Stored) : Type 0 where
     here : p ≡ s
-    stored : Stored
     to : ℕ
     comes : Comes given to (message.RefreshRequest view rec)
     holds : holds_view x view ≡ true
     certain : is_doubtful x rec ≡ false
     copy : value_at rec x.copies ≡ Some stored
-    dated : stored.date ≡ date
-    valued : stored.value ≡ value
 
-  replied : (m : Sent) → ReplyTo x given o.site.participant m → (p rec : ℕ) (view date : ViewId) (value : List ℕ) → p ≡ s → m.message ≡ message.RefreshAnswer view rec value date → Replied p rec view date value
-  replied m (ReplyTo.other quiet) p rec view date value z e = absurd (let z = ap is_reply e in cc)
-  replied m (ReplyTo.doubt_again u a b i f) p rec view date value z e = absurd (let z = f ∙ e in cc)
-  replied m (ReplyTo.vote_again part a b i g f) p rec view date value z e = absurd (let z = f ∙ e in cc)
-  replied m (ReplyTo.vote_reading part reads writes a none i f) p rec view date value z e = absurd (let z = f ∙ e in cc)
-  replied m (ReplyTo.vote_writing part reads writes a some i f) p rec view date value z e = absurd (let z = f ∙ e in cc)
-  replied m (ReplyTo.acks t a none f) p rec view date value z e = absurd (let z = f ∙ e in cc)
-  replied m (ReplyTo.read_answer t i r stored a f) p rec view date value z e = absurd (let z = f ∙ e in cc)
-  replied m (ReplyTo.write_answer t i r stored a f) p rec view date value z e = absurd (let z = f ∙ e in cc)
-  replied m (ReplyTo.refresh_answer i r stored a held certain copy f) p rec view date value z e =
+  replied : (m : Sent) → ReplyTo x given o.site.participant m → (p rec : ℕ) (view : ViewId) (stored : Stored) → p ≡ s → m.message ≡ message.RefreshAnswer view rec stored → Replied p rec view stored
+  replied m (ReplyTo.other quiet) p rec view stored z e = absurd (let z = ap is_reply e in cc)
+  replied m (ReplyTo.doubt_again u a b i f) p rec view stored z e = absurd (let z = f ∙ e in cc)
+  replied m (ReplyTo.vote_again part a b i g f) p rec view stored z e = absurd (let z = f ∙ e in cc)
+  replied m (ReplyTo.vote_reading part reads writes a none i f) p rec view stored z e = absurd (let z = f ∙ e in cc)
+  replied m (ReplyTo.vote_writing part reads writes a some i f) p rec view stored z e = absurd (let z = f ∙ e in cc)
+  replied m (ReplyTo.acks t a none f) p rec view stored z e = absurd (let z = f ∙ e in cc)
+  replied m (ReplyTo.read_answer t i r own a f) p rec view stored z e = absurd (let z = f ∙ e in cc)
+  replied m (ReplyTo.write_answer t i r own a f) p rec view stored z e = absurd (let z = f ∙ e in cc)
+  replied m (ReplyTo.refresh_answer i r own a held certain copy f) p rec view stored z e =
       let q = f ∙ e in
       let at : i ≡ view = cc in
       let same : r ≡ rec = cc in
+      let one : own ≡ stored = cc in
       record {
         here = z;
-        stored = stored;
         to = m.to;
         comes = rw (← at, ← same) a;
         holds = rw (← at) held;
         certain = rw (← same) certain;
-        copy = rw (← same) copy;
-        dated = cc;
-        valued = cc;
+        copy = rw (← same, ← one) copy;
       }
 
-  sent_now : (p to rec : ℕ) (view date : ViewId) (value : List ℕ) → Has o.effects.messages (letter p to (message.RefreshAnswer view rec value date)) → Replied p rec view date value
-  sent_now p to rec view date value h = replied (letter p to (message.RefreshAnswer view rec value date)) (d.shares.replies _ h) p rec view date value (d.shares.from _ h ∙ d.here.id) refl
+  sent_now : (p to rec : ℕ) (view : ViewId) (stored : Stored) → Has o.effects.messages (letter p to (message.RefreshAnswer view rec stored)) → Replied p rec view stored
+  sent_now p to rec view stored h = replied (letter p to (message.RefreshAnswer view rec stored)) (d.shares.replies _ h) p rec view stored (d.shares.from _ h ∙ d.here.id) refl
 
-  module _ (p rec : ℕ) (view date : ViewId) (value : List ℕ) (r : Replied p rec view date value) where
+  module _ (p rec : ℕ) (view : ViewId) (stored : Stored) (r : Replied p rec view stored) where
     no_entry : (e : Commit) → Has o.effects.commits e → ⊥
     no_entry = none_entered catalogue w new s x given o k n d r.to (message.RefreshRequest view rec) r.comes (λ q. let z = q.1 in cc)
 
     quiet : new.journal ≡ w.journal
     quiet = journal_same catalogue w new s x given o k n d r.to (message.RefreshRequest view rec) r.comes (λ q. let z = q.1 in cc)
 
-    kept_copy : value_at rec (kept_at w s).copies ≡ Some r.stored
-    kept_copy = subst (λ (k : DurableState). value_at rec k.copies ≡ Some r.stored) d.here.kept r.copy
+    kept_copy : value_at rec (kept_at w s).copies ≡ Some stored
+    kept_copy = subst (λ (k : DurableState). value_at rec k.copies ≡ Some stored) d.here.kept r.copy
 
     held : (v : View) × (x.held ≡ Some v) × (v.id ≡ view)
     held = holding x view r.holds
@@ -109,52 +104,52 @@ module _ (catalogue : Catalogue) (w new : Scene) (s : ℕ) (x : SiteState) (give
         (doubt_from catalogue w new s x given o k n d s u h)
 
     replied_holder : Has (holders catalogue rec) p
-    replied_holder = subst (Has (holders catalogue rec)) (sym r.here) (copy_holder catalogue w k s rec r.stored kept_copy)
+    replied_holder = subst (Has (holders catalogue rec)) (sym r.here) (copy_holder catalogue w k s rec stored kept_copy)
 
     replied_closed : ClosedAt new p rec view
     replied_closed = rw r.here (record { left = λ j below. left_below catalogue w new s x given o k n d held.0 j held.1 (subst (Precedes j) (sym held.2) below); certain = λ u h on below. sure_now u h on })
 
-    replied_value : value_after catalogue new.journal date rec ≡ Some value
+    replied_value : value_after catalogue new.journal stored.date rec ≡ Some stored.value
     replied_value =
-        value_now catalogue w new s x given o k n d copies refresh date rec (λ e h. absurd (no_entry e h))
-        ∙ subst (λ (i : ViewId). value_after catalogue w.journal i rec ≡ Some value) r.dated (copies.value s rec r.stored kept_copy (λ u on. sure_then u on.0 on.1) ∙ ap (λ (v : List ℕ). Some v) r.valued)
+        value_now catalogue w new s x given o k n d copies refresh stored.date rec (λ e h. absurd (no_entry e h))
+        ∙ copies.value s rec stored kept_copy (λ u on. sure_then u on.0 on.1)
 
-    replied_between : (e : Commit) (v : View) → Has new.journal e → Wrote e rec → Precedes date e.view → AgreedAs new e.view v → Has v.members p → ⊥
+    replied_between : (e : Commit) (v : View) → Has new.journal e → Wrote e rec → Precedes stored.date e.view → AgreedAs new e.view v → Has v.members p → ⊥
     replied_between e v h wrote later agreed member =
         let there : Has w.journal e = rw (← quiet) h in
-        let u = copies.above s rec r.stored e v kept_copy there wrote (subst (λ (i : ViewId). Precedes i e.view) (sym r.dated) later) (agreed_was catalogue w new s x given o k n d e v there agreed) (subst (Has v.members) r.here member) in
-        sure_then u.0 u.1 (doubt_on catalogue w k.shares e s rec u.0 there wrote (copy_holder catalogue w k s rec r.stored kept_copy) u.1 u.2)
+        let u = copies.above s rec stored e v kept_copy there wrote later (agreed_was catalogue w new s x given o k n d e v there agreed) (subst (Has v.members) r.here member) in
+        sure_then u.0 u.1 (doubt_on catalogue w k.shares e s rec u.0 there wrote (copy_holder catalogue w k s rec stored kept_copy) u.1 u.2)
 
-    replied_from : FromView catalogue new p rec date
-    replied_from = subst (λ (j : ℕ). FromView catalogue new j rec date) (sym r.here) (subst (FromView catalogue new s rec) r.dated (from_lasts catalogue w new s x given o k n d copies refresh s rec r.stored.date (copies.from s rec r.stored kept_copy)))
+    replied_from : FromView catalogue new p rec stored.date
+    replied_from = subst (λ (j : ℕ). FromView catalogue new j rec stored.date) (sym r.here) (from_lasts catalogue w new s x given o k n d copies refresh s rec stored.date (copies.from s rec stored kept_copy))
 
   -- an old answer stops the entries of lower views of which its sender was a member
-  answer_stops : (p to rec : ℕ) (view date : ViewId) (value : List ℕ) (e : Commit) (v : View) → Has w.sent (letter p to (message.RefreshAnswer view rec value date)) → Precedes date view → Has o.effects.commits e → Wrote e rec → Precedes e.view view → AgreedAs new e.view v → Has v.members p → ⊥
-  answer_stops p to rec view date value e v sent low h wrote below agreed member = ⊎_elim
+  answer_stops : (p to rec : ℕ) (view : ViewId) (stored : Stored) (e : Commit) (v : View) → Has w.sent (letter p to (message.RefreshAnswer view rec stored)) → Precedes stored.date view → Has o.effects.commits e → Wrote e rec → Precedes e.view view → AgreedAs new e.view v → Has v.members p → ⊥
+  answer_stops p to rec view stored e v sent low h wrote below agreed member = ⊎_elim
       (λ (here : p ≡ s). (closed.left e.view below).unused x (rw here d.up) (Uses.held f.view f.held f.is))
       (λ (other : p ≢ s).
-      let q = doubted catalogue w new s x given o k n d e p rec v h agreed member (refresh.holder p to rec view date value sent) wrote other in
+      let q = doubted catalogue w new s x given o k n d e p rec v h agreed member (refresh.holder p to rec view stored sent) wrote other in
       closed.certain q.doubt q.was q.on (subst (λ (i : ViewId). Precedes i view) q.viewed below))
       (same_site p s)
     where
       closed : ClosedAt w p rec view
-      closed = refresh.closed p to rec view date value sent low
+      closed = refresh.closed p to rec view stored sent low
 
       f : Entering catalogue w new s x given o k n d e
       f = entering catalogue w new s x given o k n d e h
 
   -- and those up to its date
-  answer_keeps : (p to rec : ℕ) (view date : ViewId) (value : List ℕ) (e : Commit) → Has w.sent (letter p to (message.RefreshAnswer view rec value date)) → Precedes date view → Has o.effects.commits e → Wrote e rec → AtMost e.view date → ⊥
-  answer_keeps p to rec view date value e sent low h wrote le = ⊎_elim below (λ q. ⊎_elim (λ same. equal from same) (λ above. not_both date e.view above le) q) (three_ways e.view date)
+  answer_keeps : (p to rec : ℕ) (view : ViewId) (stored : Stored) (e : Commit) → Has w.sent (letter p to (message.RefreshAnswer view rec stored)) → Precedes stored.date view → Has o.effects.commits e → Wrote e rec → AtMost e.view stored.date → ⊥
+  answer_keeps p to rec view stored e sent low h wrote le = ⊎_elim below (λ q. ⊎_elim (λ same. equal from same) (λ above. not_both stored.date e.view above le) q) (three_ways e.view stored.date)
     where
-      from : FromView catalogue w p rec date
-      from = refresh.from p to rec view date value sent low
+      from : FromView catalogue w p rec stored.date
+      from = refresh.from p to rec view stored sent low
 
-      below : Precedes e.view date → ⊥
-      below b = let a = closed_above catalogue w k refresh p rec date e.view from (k.dated.sent p to rec view date value sent) b in stops catalogue w new s x given o k n d e a.view rec h wrote a.above a.opened
+      below : Precedes e.view stored.date → ⊥
+      below b = let a = closed_above catalogue w k refresh p rec stored.date e.view from (k.dated.sent p to rec view stored sent) b in stops catalogue w new s x given o k n d e a.view rec h wrote a.above a.opened
 
-      equal : FromView catalogue w p rec date → e.view ≡ date → ⊥
-      equal (FromView.member v agreed member) same = answer_stops p to rec view date value e v sent low h wrote (subst (λ (i : ViewId). Precedes i view) (sym same) low) (d.st.moved.agreed v agreed.0, agreed.1 ∙ sym same) member
+      equal : FromView catalogue w p rec stored.date → e.view ≡ stored.date → ⊥
+      equal (FromView.member v agreed member) same = answer_stops p to rec view stored e v sent low h wrote (subst (λ (i : ViewId). Precedes i view) (sym same) low) (d.st.moved.agreed v agreed.0, agreed.1 ∙ sym same) member
       equal (FromView.closed v agreed later member opened) same = stops catalogue w new s x given o k n d e v rec h wrote (subst (λ (i : ViewId). Precedes i v.id) (sym same) later) opened
 
   -- what a new entry used is closed for its view
@@ -181,7 +176,7 @@ module _ (catalogue : Catalogue) (w new : Scene) (s : ℕ) (x : SiteState) (give
       (ops_closed catalogue w k copies s x f.was d.up f.live refresh v (subst (Has w.agreed) same (d.here.held f.view f.held), agreed.1 ∙ sym f.viewed) (idle_reads catalogue w k copies s x f.was d.up f.live refresh v (subst (Has w.agreed) same (d.here.held f.view f.held), agreed.1 ∙ sym f.viewed) (deciding e h f)) operation (rw f.done did))
 
   -- each record that is asked for is accessible
-  usable_in : (u : Live) (r rec : ℕ) (view : ViewId) (v : View) → Has x.live u → is_usable catalogue x r ≡ true → r ≡ rec → u.view ≡ view → AgreedAs new view v → accessible catalogue rec v.members ≡ true
+  usable_in : (u : Live) (r rec : ℕ) (view : ViewId) (v : View) → Has x.live u → is_open catalogue x r ≡ true → r ≡ rec → u.view ≡ view → AgreedAs new view v → accessible catalogue rec v.members ≡ true
   usable_in u r rec view v h usable same at agreed =
       let of : IsOf x u = d.led.live u h in
       let is : of.0 ≡ v = n.views.unique of.0 v (d.st.moved.agreed of.0 (d.here.held of.0 of.1)) agreed.0 (of.2 ∙ at ∙ sym agreed.1) in
@@ -289,22 +284,22 @@ module _ (catalogue : Catalogue) (w new : Scene) (s : ℕ) (x : SiteState) (give
 
   pub refresh_keep : InvRefresh catalogue new
   refresh_keep = record {
-    holder = λ p to rec view date value h. ⊎_elim (λ old. refresh.holder p to rec view date value old) (λ more. replied_holder p rec view date value (sent_now p to rec view date value more)) (d.st.sent _ h);
-    closed = λ p to rec view date value h low. ⊎_elim
-        (λ old. closed_at_lasts catalogue w new s x given o d.up d.here.kept d.below.parts d.shares d.leaves d.st p rec view (refresh.closed p to rec view date value old low))
-        (λ more. replied_closed p rec view date value (sent_now p to rec view date value more)) (d.st.sent _ h);
-    value = λ p to rec view date value h low. ⊎_elim
-        (λ old. value_now catalogue w new s x given o k n d copies refresh date rec (λ e entered wrote le. answer_keeps p to rec view date value e old low entered wrote le) ∙ refresh.value p to rec view date value old low)
-        (λ more. replied_value p rec view date value (sent_now p to rec view date value more)) (d.st.sent _ h);
-    between = λ p to rec view date value e v h there wrote later below agreed member. ⊎_elim
+    holder = λ p to rec view stored h. ⊎_elim (λ old. refresh.holder p to rec view stored old) (λ more. replied_holder p rec view stored (sent_now p to rec view stored more)) (d.st.sent _ h);
+    closed = λ p to rec view stored h low. ⊎_elim
+        (λ old. closed_at_lasts catalogue w new s x given o d.up d.here.kept d.below.parts d.shares d.leaves d.st p rec view (refresh.closed p to rec view stored old low))
+        (λ more. replied_closed p rec view stored (sent_now p to rec view stored more)) (d.st.sent _ h);
+    value = λ p to rec view stored h low. ⊎_elim
+        (λ old. value_now catalogue w new s x given o k n d copies refresh stored.date rec (λ e entered wrote le. answer_keeps p to rec view stored e old low entered wrote le) ∙ refresh.value p to rec view stored old low)
+        (λ more. replied_value p rec view stored (sent_now p to rec view stored more)) (d.st.sent _ h);
+    between = λ p to rec view stored e v h there wrote later below agreed member. ⊎_elim
         (λ old. ⊎_elim
-        (λ was. refresh.between p to rec view date value e v old was wrote later below (agreed_was catalogue w new s x given o k n d e v was agreed) member)
-        (λ entered. answer_stops p to rec view date value e v old (Precedes-trans date e.view view later below) entered wrote below agreed member)
+        (λ was. refresh.between p to rec view stored e v old was wrote later below (agreed_was catalogue w new s x given o k n d e v was agreed) member)
+        (λ entered. answer_stops p to rec view stored e v old (Precedes-trans stored.date e.view view later below) entered wrote below agreed member)
         (d.st.entered e there))
-        (λ more. replied_between p rec view date value (sent_now p to rec view date value more) e v there wrote later agreed member) (d.st.sent _ h);
-    from = λ p to rec view date value h low. ⊎_elim
-        (λ old. from_lasts catalogue w new s x given o k n d copies refresh p rec date (refresh.from p to rec view date value old low))
-        (λ more. replied_from p rec view date value (sent_now p to rec view date value more)) (d.st.sent _ h);
+        (λ more. replied_between p rec view stored (sent_now p to rec view stored more) e v there wrote later agreed member) (d.st.sent _ h);
+    from = λ p to rec view stored h low. ⊎_elim
+        (λ old. from_lasts catalogue w new s x given o k n d copies refresh p rec stored.date (refresh.from p to rec view stored old low))
+        (λ more. replied_from p rec view stored (sent_now p to rec view stored more)) (d.st.sent _ h);
     entry = λ e v operation h agreed did. ⊎_elim
         (λ old. open_now catalogue w new s x given o k n d copies refresh (record_of operation) v (refresh.entry e v operation old (agreed_was catalogue w new s x given o k n d e v old agreed) did))
         (λ more. entry_new e v operation more agreed did)

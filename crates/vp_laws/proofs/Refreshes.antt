@@ -29,8 +29,8 @@ use Rattle.vp_laws.proofs.Tower.{Known, Does}
 -- a test that finds no doubtful record
 pub certain_from : (doubts : List Doubt) (site : SiteState) (rec : ℕ) → site.doubts ≡ doubts → is_doubtful site rec ≡ false → Certain doubts rec
 certain_from doubts site rec same e u h on =
-    let t = any_false (λ (u : Doubt). has (keys u.2) rec) site.doubts e u (rw same h) in
-    let z = has_test (keys u.2) rec on in cc
+    let t = any_false (λ (u : Doubt). has (keys u.writes) rec) site.doubts e u (rw same h) in
+    let z = has_test (keys u.writes) rec on in cc
 
 -- where none is unanswered, each other holder has answered
 pub answered_by : (catalogue : Catalogue) (site : SiteState) (r : Refreshing) (q : ℕ) → is_empty (unanswered catalogue site r) ≡ true → Has (other_holders catalogue site r.rec) q → (p : ℕ × Stored) × Has r.answers p × (p.0 ≡ q)
@@ -55,17 +55,17 @@ module _ (catalogue : Catalogue) (w new : Scene) (s : ℕ) (x : SiteState) (give
 
   -- it was sent in the held view, and is of a lower date
   pub record Answer (rec : ℕ) (u : View) (q : ℕ × Stored) : Type 0 where
-    pub sent : Has w.sent (letter q.0 s (message.RefreshAnswer u.id rec q.1.value q.1.date))
+    pub sent : Has w.sent (letter q.0 s (message.RefreshAnswer u.id rec q.1))
     pub low : Precedes q.1.date u.id
 
   pub answer_in : (rec : ℕ) (q : ℕ × Stored) (u : View) → AnswerNow catalogue x given rec q → x.held ≡ Some u → Answer rec u q
-  answer_in rec q u a held = record { sent = sent; low = strictly q.1.date u.id (k.below.dated (letter q.0 s (message.RefreshAnswer u.id rec q.1.value q.1.date)) sent) differs }
+  answer_in rec q u a held = record { sent = sent; low = strictly q.1.date u.id (k.below.dated (letter q.0 s (message.RefreshAnswer u.id rec q.1)) sent) differs }
     where
       at : (v : View) × (x.held ≡ Some v) × WasSent catalogue w s rec v q
       at = answer_view rec q a
 
-      sent : Has w.sent (letter q.0 s (message.RefreshAnswer u.id rec q.1.value q.1.date))
-      sent = let same : at.0 ≡ u = (let z = at.1 in cc) in subst (λ (v : View). Has w.sent (letter q.0 s (message.RefreshAnswer v.id rec q.1.value q.1.date))) same at.2.0
+      sent : Has w.sent (letter q.0 s (message.RefreshAnswer u.id rec q.1))
+      sent = let same : at.0 ≡ u = (let z = at.1 in cc) in subst (λ (v : View). Has w.sent (letter q.0 s (message.RefreshAnswer v.id rec q.1))) same at.2.0
 
       differs : q.1.date ≢ u.id
       differs same =
@@ -76,7 +76,7 @@ module _ (catalogue : Catalogue) (w new : Scene) (s : ℕ) (x : SiteState) (give
           let is : low.0 ≡ u = (let z = low.1 in cc) in
           not_below_itself opening low.0.id low.2 (sym first ∙ same ∙ ap (λ (v : View). v.id) (sym is)))
           (λ (e : (e : Commit) × Has w.journal e × Wrote e rec × (e.view ≡ q.1.date)). k.listed.unwritten s x u r.0 e.0 d.up held r.1 e.1 (subst (Wrote e.0) (sym r.2) e.2) (e.3 ∙ same))
-          (k.dated.sent q.0 s rec u.id q.1.date q.1.value sent)
+          (k.dated.sent q.0 s rec u.id q.1 sent)
 
   -- no entry of this step wrote the record
   pub answer_unwritten : (rec : ℕ) (q : ℕ × Stored) → AnswerNow catalogue x given rec q → (e : Commit) → Has o.effects.commits e → Wrote e rec → ⊥
@@ -129,5 +129,5 @@ module _ (catalogue : Catalogue) (w new : Scene) (s : ℕ) (x : SiteState) (give
         (λ (other : q ≢ s).
         let p = other_answer q holder member other in
         let a = answer_in rec p.0 u (answers p.0 p.1) (held_then p.0 p.1) in
-        subst (λ (q : ℕ). ClosedAt new q rec u.id) p.2 (closed_at_lasts catalogue w new s x given o d.up d.here.kept d.below.parts d.shares d.leaves d.st p.0.0 rec u.id (refresh.closed p.0.0 s rec u.id p.0.1.date p.0.1.value a.sent a.low)))
+        subst (λ (q : ℕ). ClosedAt new q rec u.id) p.2 (closed_at_lasts catalogue w new s x given o d.up d.here.kept d.below.parts d.shares d.leaves d.st p.0.0 rec u.id (refresh.closed p.0.0 s rec u.id p.0.1 a.sent a.low)))
         (same_site q s)

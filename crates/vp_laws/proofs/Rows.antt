@@ -2,7 +2,7 @@
 use Rattle.std.proofs.Common.{◌≡◌, ℕ, Bool, true, false, List, [], ◌∷◌, refl, arith, inl, inr}
 use Rattle.std.specs.Prelude.{Option, Some, None, ◌&&◌}
 use Rattle.std.specs.Option.{option_map_or}
-use Rattle.vp_model.specs.Types.{ViewId, TxnId, View, Stored, Owner, Call, Message, Input, Refreshing, Decision}
+use Rattle.vp_model.specs.Types.{Change, ViewId, TxnId, View, Stored, Owner, Call, Message, Input, Refreshing, Decision}
 use Rattle.vp_base.specs.declared.site.Ending.TheVariants.{ViewChanged}
 use Rattle.vp_model.specs.Types.answer
 use Rattle.vp_model.specs.Types.call
@@ -12,7 +12,7 @@ use Rattle.vp_model.specs.Words.{keys, is_view, has}
 use Rattle.vp_model.specs.Catalogue.{Catalogue}
 use Rattle.vp_model.specs.Durable.{doubt_of}
 use Rattle.vp_model.specs.Site.{SiteState, Lent, Stepped, begin_step, lent, put_back, change_views}
-use Rattle.vp_model.specs.Refresh.{is_usable, refreshing_of, settle_one, settle, settle_all, start_refresh, start_refresh_all}
+use Rattle.vp_model.specs.Refresh.{is_open, refreshing_of, settle_one, settle, settle_all, start_refresh, start_refresh_all}
 use Rattle.vp_model.specs.Views.{abandon, highest, is_spent, drop_view, leave, invite, usable_here, refresh_here, hold, join}
 use Rattle.vp_model.specs.Calls.{on_regroup, on_call}
 use Rattle.vp_model.specs.Messages.{doubted_records, on_invite, on_view_commit, on_probe_message, lock_copy, on_request, on_read_request, on_write_request, first_vote, on_prepare, end_part, on_outcome, on_refresh_request, on_refresh_answer, answered, on_message}
@@ -24,7 +24,7 @@ use Rattle.vp_laws.proofs.Table.{Comes, Replies, Says, Left, Joined, Requests, A
 use Rattle.vp_laws.proofs.Coordinator.{by_test, abandon-closed, abandon-kept, time_out_calls-kept, own_call-kept, on_answer-kept}
 
 -- a record that is accessible and has a copy here
-usable_here-has : (catalogue : Catalogue) (site : SiteState) (rec : ℕ) → Has (usable_here catalogue site) rec → (is_usable catalogue site rec ≡ true) × Has (keys site.copies) rec
+usable_here-has : (catalogue : Catalogue) (site : SiteState) (rec : ℕ) → Has (usable_here catalogue site) rec → (is_open catalogue site rec ≡ true) × Has (keys site.copies) rec
 usable_here-has catalogue site rec h = let q = filter_has _ _ rec h in (q.1, q.0)
 
 module _ (catalogue : Catalogue) (x : SiteState) (given : Input) (P : Stepped → Type 0) (k : Table catalogue x given P) (h : P (begin_step x)) where
@@ -71,7 +71,7 @@ module _ (catalogue : Catalogue) (x : SiteState) (given : Input) (P : Stepped �
   settle_all-kept [] o p = p
   settle_all-kept (rec ∷ recs) o p = settle_all-kept recs (settle catalogue rec o) (settle-kept rec o p)
 
-  start_refresh_all-kept : (view : View) (recs : List ℕ) (o : Stepped) → ((rec : ℕ) → Has recs rec → (is_usable catalogue o.site rec ≡ true) × Has (keys o.site.copies) rec) → Joined x view o → P o → P (start_refresh_all catalogue view recs o)
+  start_refresh_all-kept : (view : View) (recs : List ℕ) (o : Stepped) → ((rec : ℕ) → Has recs rec → (is_open catalogue o.site rec ≡ true) × Has (keys o.site.copies) rec) → Joined x view o → P o → P (start_refresh_all catalogue view recs o)
   unfolding start_refresh
   start_refresh_all-kept view [] o all e p = p
   start_refresh_all-kept view (rec ∷ recs) o all e p =
@@ -115,7 +115,7 @@ module _ (catalogue : Catalogue) (x : SiteState) (given : Input) (P : Stepped �
       let locked = λ (holder : Owner). k.refuse_lock from txn view number rec true holder (Requests.writes c) in
       grind (arith, refusing, locked, k.grant_write from txn view number rec, h)
 
-  on_prepare-kept : (from : ℕ) (txn : TxnId) (view : ViewId) (number : ℕ) (reads : List ℕ) (writes : List (ℕ × List ℕ)) → Comes given from (message.Prepare txn view number reads writes) → P (on_prepare from txn view number reads writes (begin_step x))
+  on_prepare-kept : (from : ℕ) (txn : TxnId) (view : ViewId) (number : ℕ) (reads : List ℕ) (writes : List (ℕ × Change)) → Comes given from (message.Prepare txn view number reads writes) → P (on_prepare from txn view number reads writes (begin_step x))
   unfolding on_prepare first_vote
   on_prepare-kept from txn view number reads writes c =
       let refusing = k.refuse_view from txn view number (Asks.prepares reads writes c) in
@@ -129,7 +129,7 @@ module _ (catalogue : Catalogue) (x : SiteState) (given : Input) (P : Stepped �
   unfolding on_refresh_request
   on_refresh_request-kept from view rec c = grind (arith, k.answer_refresh from view rec, h)
 
-  on_refresh_answer-kept : (from : ℕ) (view : ViewId) (rec : ℕ) (stored : Stored) → Comes given from (message.RefreshAnswer view rec stored.value stored.date) → P (on_refresh_answer catalogue from view rec stored (begin_step x))
+  on_refresh_answer-kept : (from : ℕ) (view : ViewId) (rec : ℕ) (stored : Stored) → Comes given from (message.RefreshAnswer view rec stored) → P (on_refresh_answer catalogue from view rec stored (begin_step x))
   unfolding on_refresh_answer
   on_refresh_answer-kept from view rec stored c = grind (arith, k.keep_answer from view rec stored, settle-kept rec, h)
 
@@ -166,7 +166,7 @@ module _ (catalogue : Catalogue) (x : SiteState) (given : Input) (P : Stepped �
   on_message-kept from (message.Ack txn) c = answered-kept from (message.Ack txn) c
   on_message-kept from (message.Inquire txn) c = answered-kept from (message.Inquire txn) c
   on_message-kept from (message.RefreshRequest view rec) c = on_refresh_request-kept from view rec c
-  on_message-kept from (message.RefreshAnswer view rec value date) c = on_refresh_answer-kept from view rec (record { value = value; date = date }) c
+  on_message-kept from (message.RefreshAnswer view rec stored) c = on_refresh_answer-kept from view rec stored c
   on_message-kept from (message.Probe view) c = on_probe_message-kept from view c
 
   -- tick and probe

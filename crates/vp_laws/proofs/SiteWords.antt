@@ -3,7 +3,7 @@ use Rattle.std.proofs.Common.{◌≡◌, ◌∙◌, sym, subst, ℕ, List, refl,
 use Rattle.std.specs.Prelude.{Option, Some, None}
 use Rattle.vp_model.specs.Types.{Stored}
 use Rattle.vp_model.specs.World.{Place, Schedule, run_of, place_of}
-use Rattle.vp_model.specs.Transactions.{last_writes}
+use Rattle.vp_model.specs.Transactions.{last_changes}
 use Rattle.vp_model.specs.Words.{keys}
 use Rattle.vp_laws.specs.Sites.{LocksAreApart, copies_in, CopiesAreDated}
 use Rattle.vp_laws.proofs.Members.{Has, has_of, contains}
@@ -26,4 +26,4 @@ copies_dated s site c h later =
     let w = (run_of s).world in
     let inv = in_last s.catalogue (Fourteenth s.catalogue) (dated_last s.catalogue) s.events in
     let there = subst (λ (cs : List (ℕ × Stored)). Has cs c) (copies_same (place_of site w.places)) (has_of _ c h) in
-    ⊎_elim (λ e. absurd (later e)) (λ q. (q.0, contains w.journal q.0 q.1, contains (keys (last_writes q.0.ops)) c.0 q.2, q.3)) (inv.upper.copies site c there)
+    ⊎_elim (λ e. absurd (later e)) (λ q. (q.0, contains w.journal q.0 q.1, contains (keys (last_changes q.0)) c.0 q.2, q.3)) (inv.upper.copies site c there)

@@ -1,12 +1,12 @@
 -- No transaction of a lower view is decided that wrote a record which is closed for a view.
 use Rattle.std.proofs.Common.{◌≡◌, ◌≢◌, ◌∙◌, ap, sym, subst, ℕ, true, false, List, ⊎_elim}
 use Rattle.std.specs.Prelude.{Some, ◌&&◌}
-use Rattle.vp_model.specs.Types.{ViewId, TxnId, View, Commit, Input, Live}
+use Rattle.vp_model.specs.Types.{Change, ViewId, TxnId, View, Commit, Input, Live}
 use Rattle.vp_model.specs.Types.message
 use Rattle.vp_model.specs.Types.op
 use Rattle.vp_model.specs.Words.{is_empty, has, keys}
 use Rattle.vp_model.specs.Catalogue.{Catalogue, holders, weights_of, accessible}
-use Rattle.vp_model.specs.Transactions.{last_writes, writes_held}
+use Rattle.vp_model.specs.Transactions.{last_changes, writes_held}
 use Rattle.vp_model.specs.Site.{SiteState, Stepped}
 use Rattle.vp_laws.proofs.Members.{Has, has_from_test, any_true, both_true, map_has, filter_keeps}
 use Rattle.vp_laws.proofs.Lists.{mapped_has}
@@ -29,6 +29,10 @@ shared_holder catalogue rec sites others a b =
     let r = any_true (λ (w : ℕ × ℕ). has sites w.0 && has others w.0) (weights_of catalogue rec) (accessible-share catalogue rec sites others a b) in
     let t = both_true (has sites r.0.0) (has others r.0.0) r.2 in
     (r.0.0, mapped_has (λ (w : ℕ × ℕ). w.0) (weights_of catalogue rec) r.0 r.1, has_from_test sites r.0.0 t.0, has_from_test others r.0.0 t.1)
+
+-- and one in which it is accessible has a holder
+pub in_force_holder : (catalogue : Catalogue) (rec : ℕ) (sites : List ℕ) → accessible catalogue rec sites ≡ true → (q : ℕ) × Has (holders catalogue rec) q × Has sites q
+in_force_holder catalogue rec sites a = let q = shared_holder catalogue rec sites sites a a in (q.0, q.1, q.2)
 
 module _ (catalogue : Catalogue) (w new : Scene) (s : ℕ) (x : SiteState) (given : Input) (o : Stepped) (up : plain_at w s ≡ Some x) (id : x.id ≡ s) (led : Led x) (shares : InvShares catalogue w) (shares_now : InvShares catalogue new) (entered_now : InvEntered catalogue new) (steps : Steps catalogue x given o.site.coordinator o.effects.messages o.effects.commits) (p : Shares x given o) (st : Acted w new s x o) where
   -- a holder in its view which has left it for a view for which the record is closed there
@@ -56,13 +60,13 @@ module _ (catalogue : Catalogue) (w new : Scene) (s : ℕ) (x : SiteState) (give
       of : IsOf x f.handled.was
       of = led.live f.handled.was f.handled.live
 
-      writes : Has (keys (writes_held catalogue q (last_writes e.ops))) rec
+      writes : Has (keys (writes_held catalogue q (last_changes e))) rec
       writes =
-          let r = map_has (λ (p : ℕ × List ℕ). p.0) (last_writes e.ops) rec wrote in
-          let k = filter_keeps (λ (w : ℕ × List ℕ). has (holders catalogue w.0) q) (last_writes e.ops) r.0 r.1 (has_test (holders catalogue r.0.0) q (subst (λ (n : ℕ). Has (holders catalogue n) q) (sym r.2) holder)) in
-          subst (Has (keys (writes_held catalogue q (last_writes e.ops)))) r.2 (mapped_has (λ (p : ℕ × List ℕ). p.0) _ r.0 k)
+          let r = map_has (λ (p : ℕ × List ℕ). p.0) (last_changes e) rec wrote in
+          let k = filter_keeps (λ (w : ℕ × List ℕ). has (holders catalogue w.0) q) (last_changes e) r.0 r.1 (has_test (holders catalogue r.0.0) q (subst (λ (n : ℕ). Has (holders catalogue n) q) (sym r.2) holder)) in
+          subst (Has (keys (writes_held catalogue q (last_changes e)))) r.2 (mapped_has (λ (p : ℕ × List ℕ). p.0) _ r.0 k)
 
-      some : is_empty (writes_held catalogue q (last_writes e.ops)) ≡ false
+      some : is_empty (writes_held catalogue q (last_changes e)) ≡ false
       some = let r = map_has (λ (p : ℕ × List ℕ). p.0) _ rec writes in some_not_empty _ r.0 r.1
 
       doubted : q ≢ e.txn.site → InDoubt w q e.txn
@@ -77,8 +81,8 @@ module _ (catalogue : Catalogue) (w new : Scene) (s : ℕ) (x : SiteState) (give
       certain other =
           let d = doubted other in
           let g = (shares.doubts q d.0 d.1).0 in
-          let says = shares_now.entry e (st.enters e h) g.0 q d.0.1 g.1 g.2 d.0.2 (subst (λ (t : TxnId). Has new.sent (letter g.0 q (message.Prepare t d.0.1 g.1 g.2 d.0.2))) d.2 (st.moved.sent _ g.3)) in
-          c.certain d.0 d.1 (subst (λ (ws : List (ℕ × List ℕ)). Has (keys ws) rec) says.1 writes) (subst (λ (j : ViewId). Precedes j i) says.0 below)
+          let says = shares_now.entry e (st.enters e h) g.0 q d.0.view g.1 g.2 d.0.writes (subst (λ (t : TxnId). Has new.sent (letter g.0 q (message.Prepare t d.0.view g.1 g.2 d.0.writes))) d.2 (st.moved.sent _ g.3)) in
+          c.certain d.0 d.1 (subst (λ (ws : List (ℕ × Change)). Has (keys ws) rec) says.1 writes) (subst (λ (j : ViewId). Precedes j i) says.0 below)
 
   pub closed_stops : (e : Commit) (v u : View) (rec : ℕ) → Has o.effects.commits e → AgreedAs new e.view v → Wrote e rec → Precedes e.view u.id → Open catalogue w rec u → ⊥
   closed_stops e v u rec h agreed wrote below opened =

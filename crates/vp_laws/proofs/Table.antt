@@ -1,7 +1,7 @@
 -- The table in small moves: what a property of a step's state has to survive, so that the whole step keeps it.
 use Rattle.std.proofs.Common.{◌≡◌, ◌⊎◌, ℕ, ◌+◌, ◌-◌, ◌^◌, Bool, true, false, List, [], map, length}
 use Rattle.std.specs.Prelude.{Option, Some, None, is_some, filter, nat_le, ◌==◌, ◌&&◌, not}
-use Rattle.vp_model.specs.Types.{ViewId, TxnId, View, Stored, Op, Owner, Answer, Call, Message, Sent, Input, Part, Refreshing, Pending, Live, Ending, Finished, Decision}
+use Rattle.vp_model.specs.Types.{Change, ViewId, TxnId, View, Stored, Op, Owner, Answer, Call, Message, Sent, Input, Part, Refreshing, Pending, Live, Ending, Finished, Decision}
 use Rattle.vp_base.specs.declared.site.Ending.TheVariants.{Committed, Aborted, LockHeld, ViewChanged, TimedOut}
 use Rattle.vp_model.specs.Types.answer
 use Rattle.vp_model.specs.Types.call
@@ -15,8 +15,8 @@ use Rattle.vp_model.specs.Catalogue.{Catalogue, find_record, inside, total}
 use Rattle.vp_model.specs.Durable.{doubt_of}
 use Rattle.vp_model.specs.Locks.{conflict}
 use Rattle.vp_model.specs.Site.{SiteState, Lent, Stepped, begin_step, force, send, reply, change_views, change_participant, change_refresh, surroundings, lent, put_back, lent_force, lent_send, lent_reply, lent_coordinator}
-use Rattle.vp_model.specs.Transactions.{last_writes, answer_of, close, decide, complete, wait_for}
-use Rattle.vp_model.specs.Refresh.{members, is_usable, other_holders, is_doubtful, refreshing_of, unanswered, end_refresh, start_refresh}
+use Rattle.vp_model.specs.Transactions.{last_changes, entry_of, last_writes, answer_of, close, decide, complete, wait_for}
+use Rattle.vp_model.specs.Refresh.{members, is_open, other_holders, is_doubtful, refreshing_of, unanswered, end_refresh, start_refresh}
 use Rattle.vp_model.specs.Views.{part_of, has_doubt, without_view, without_parts, highest, is_spent, drop_view, start_inviting, invite, hold}
 use Rattle.vp_model.specs.Calls.{next_txn, start_txn, handling, take_lock, read_at, write_at, prepare_parts}
 use Rattle.vp_model.specs.Step.{is_marked_call, least_missing}
@@ -68,7 +68,7 @@ pub data Requests (given : Input) (from : ℕ) (txn : TxnId) (view : ViewId) (nu
 pub data Asks (given : Input) (from : ℕ) (txn : TxnId) (view : ViewId) (number : ℕ) : Type 0 where
   reads : (rec : ℕ) → Comes given from (message.ReadRequest txn view number rec) → Asks given from txn view number
   writes : (rec : ℕ) → Comes given from (message.WriteRequest txn view number rec) → Asks given from txn view number
-  prepares : (reads : List ℕ) (writes : List (ℕ × List ℕ)) → Comes given from (message.Prepare txn view number reads writes) → Asks given from txn view number
+  prepares : (reads : List ℕ) (writes : List (ℕ × Change)) → Comes given from (message.Prepare txn view number reads writes) → Asks given from txn view number
 
 -- a live transaction as the step began, whatever call of it is handled
 pub record Handled (x : SiteState) (t : Live) : Type 0 where
@@ -123,10 +123,10 @@ pub data Locked (x : SiteState) (t : Live) (rec : ℕ) (l : Lent) : Type 0 where
 
 -- how an operation is done, with its answer, and the coordinator's part so far
 pub data Completes (catalogue : Catalogue) (x : SiteState) (given : Input) (t : Live) (p : Pending) (operation : Op) (words : Answer) (l : Lent) : Type 0 where
-  own_write : (rec : ℕ) (value : List ℕ) → IsNext given t p → Reads catalogue p rec → is_usable catalogue x rec ≡ true → value_at rec (last_writes t.ops) ≡ Some value → operation ≡ op.Read rec value → words ≡ answer.Value t.txn p.number value → l ≡ lent_at x → Completes catalogue x given t p operation words l
-  own_copy : (rec : ℕ) (stored : Stored) → IsNext given t p → Reads catalogue p rec → is_usable catalogue x rec ≡ true → value_at rec (last_writes t.ops) ≡ None → value_at rec x.copies ≡ Some stored → conflict rec false t.txn x.locks ≡ None → operation ≡ op.Read rec stored.value → words ≡ answer.Value t.txn p.number stored.value → l ≡ take_lock t.txn rec false (lent_at x) → Completes catalogue x given t p operation words l
-  write_again : (rec : ℕ) (before value : List ℕ) → IsNext given t p → Writes catalogue p rec value → is_usable catalogue x rec ≡ true → value_at rec (last_writes t.ops) ≡ Some before → operation ≡ op.Write rec value → words ≡ answer.Written t.txn p.number → l ≡ lent_at x → Completes catalogue x given t p operation words l
-  write_alone : (rec : ℕ) (value : List ℕ) → IsNext given t p → Writes catalogue p rec value → is_usable catalogue x rec ≡ true → value_at rec (last_writes t.ops) ≡ None → is_empty (other_holders catalogue x rec) ≡ true → operation ≡ op.Write rec value → words ≡ answer.Written t.txn p.number → Locked x t rec l → Completes catalogue x given t p operation words l
+  own_write : (rec : ℕ) (value : List ℕ) → IsNext given t p → Reads catalogue p rec → is_open catalogue x rec ≡ true → value_at rec (last_writes t.ops) ≡ Some value → operation ≡ op.Read rec value → words ≡ answer.Value t.txn p.number value → l ≡ lent_at x → Completes catalogue x given t p operation words l
+  own_copy : (rec : ℕ) (stored : Stored) → IsNext given t p → Reads catalogue p rec → is_open catalogue x rec ≡ true → value_at rec (last_writes t.ops) ≡ None → value_at rec x.copies ≡ Some stored → conflict rec false t.txn x.locks ≡ None → operation ≡ op.Read rec stored.value → words ≡ answer.Value t.txn p.number stored.value → l ≡ take_lock t.txn rec false (lent_at x) → Completes catalogue x given t p operation words l
+  write_again : (rec : ℕ) (before value : List ℕ) → IsNext given t p → Writes catalogue p rec value → is_open catalogue x rec ≡ true → value_at rec (last_changes (entry_of t)) ≡ Some before → operation ≡ op.Write rec value → words ≡ answer.Written t.txn p.number → l ≡ lent_at x → Completes catalogue x given t p operation words l
+  write_alone : (rec : ℕ) (value : List ℕ) → IsNext given t p → Writes catalogue p rec value → is_open catalogue x rec ≡ true → value_at rec (last_changes (entry_of t)) ≡ None → is_empty (other_holders catalogue x rec) ≡ true → operation ≡ op.Write rec value → words ≡ answer.Written t.txn p.number → Locked x t rec l → Completes catalogue x given t p operation words l
   read_answered : (from rec : ℕ) (value : List ℕ) → Comes given from (message.ReadAnswer t.txn p.number value) → IsLast t p from → Reads catalogue p rec → operation ≡ op.Read rec value → words ≡ answer.Value t.txn p.number value → l ≡ lent_at x → Completes catalogue x given t p operation words l
   write_answered : (from rec : ℕ) (value : List ℕ) → Comes given from (message.WriteAnswer t.txn p.number) → IsLast t p from → Writes catalogue p rec value → operation ≡ op.Write rec value → words ≡ answer.Written t.txn p.number → l ≡ lent_at x → Completes catalogue x given t p operation words l
 
@@ -205,10 +205,10 @@ pub data Closes (x : SiteState) (given : Input) (t : Live) : Ending → Type 0 w
 pub record OfCoordinator (catalogue : Catalogue) (x : SiteState) (given : Input) (Q : Lent → Type 0) : Type 0 where
   pub begin : (port : ℕ) (view : View) → x.held ≡ Some view → given ≡ input.Call port call.Begin → (x.seq == 2 ^ 32 - 1) ≡ false → Q (start_txn (next_name x) port view.id (lent_at x))
   pub answers : (words : Answer) (port : ℕ) → Replies x words → Says catalogue x given port words → Q (lent_reply words port (lent_at x))
-  pub take_lock : (t : Live) (rec : ℕ) (exclusive : Bool) (stored : Stored) → Has x.live t → is_some t.pending ≡ false → is_usable catalogue x rec ≡ true → value_at rec x.copies ≡ Some stored → conflict rec exclusive t.txn x.locks ≡ None → Q (take_lock t.txn rec exclusive (lent_at x))
+  pub take_lock : (t : Live) (rec : ℕ) (exclusive : Bool) (stored : Stored) → Has x.live t → is_some t.pending ≡ false → is_open catalogue x rec ≡ true → value_at rec x.copies ≡ Some stored → conflict rec exclusive t.txn x.locks ≡ None → Q (take_lock t.txn rec exclusive (lent_at x))
   pub complete : (t : Live) (p : Pending) (operation : Op) (words : Answer) (l : Lent) → Has x.live t → Completes catalogue x given t p operation words l → (is_some t.pending ≡ false → nat_le 64 (length t.ops) ≡ false) → l.live ≡ x.live → Q l → Q (complete t p operation words l)
-  pub read_at : (t : Live) (p : Pending) (rec q : ℕ) → Has x.live t → IsNext given t p → Reads catalogue p rec → is_usable catalogue x rec ≡ true → value_at rec (last_writes t.ops) ≡ None → value_at rec x.copies ≡ None → Has (other_holders catalogue x rec) q → nat_le 64 (length t.ops) ≡ false → Q (read_at x.id t p rec q (lent_at x))
-  pub write_at : (t : Live) (p : Pending) (rec : ℕ) (value : List ℕ) (l : Lent) → Has x.live t → IsNext given t p → Writes catalogue p rec value → is_usable catalogue x rec ≡ true → value_at rec (last_writes t.ops) ≡ None → is_empty (other_holders catalogue x rec) ≡ false → Locked x t rec l → nat_le 64 (length t.ops) ≡ false → l.live ≡ x.live → Q l → Q (write_at x.id t p rec (other_holders catalogue x rec) l)
+  pub read_at : (t : Live) (p : Pending) (rec q : ℕ) → Has x.live t → IsNext given t p → Reads catalogue p rec → is_open catalogue x rec ≡ true → value_at rec (last_writes t.ops) ≡ None → value_at rec x.copies ≡ None → Has (other_holders catalogue x rec) q → nat_le 64 (length t.ops) ≡ false → Q (read_at x.id t p rec q (lent_at x))
+  pub write_at : (t : Live) (p : Pending) (rec : ℕ) (value : List ℕ) (l : Lent) → Has x.live t → IsNext given t p → Writes catalogue p rec value → is_open catalogue x rec ≡ true → value_at rec (last_changes (entry_of t)) ≡ None → is_empty (other_holders catalogue x rec) ≡ false → Locked x t rec l → nat_le 64 (length t.ops) ≡ false → l.live ≡ x.live → Q l → Q (write_at x.id t p rec (other_holders catalogue x rec) l)
   pub prepare_parts : (t : Live) (p : Pending) → Has x.live t → IsNext given t p → is_commit p.call ≡ true → is_empty t.parts ≡ false → Q (prepare_parts catalogue x.id t p (lent_at x))
   pub still_waits : (t : Live) (p : Pending) (from : ℕ) → Has x.live t → t.pending ≡ Some p → has p.missing from ≡ true → is_empty (remaining from p) ≡ false → Counts catalogue given t p from → Q (wait_for t p (remaining from p) (lent_at x))
   pub decide : (t : Live) → Handled x t → Decides catalogue x given t → Q (decide catalogue x.id t (lent_at x))
@@ -238,20 +238,20 @@ pub record Table (catalogue : Catalogue) (x : SiteState) (given : Input) (P : St
   pub probe : (view : View) → given ≡ input.Probe → x.held ≡ Some view → P (probe_all catalogue view (begin_step x))
   pub answers_inviting : (port : ℕ) → given ≡ input.Call port call.Regroup → is_spent x.views ≡ false → P (invite catalogue (begin_step x)) → P (reply (answer.Inviting (next_view x)) port (invite catalogue (begin_step x)))
   -- refresh
-  pub start_refresh : (view : View) (rec : ℕ) (o : Stepped) → Joined x view o → is_usable catalogue o.site rec ≡ true → Has (keys o.site.copies) rec → P o → P (start_refresh catalogue view rec o)
-  pub end_refresh : (rec : ℕ) (r : Refreshing) (own : Stored) (o : Stepped) → refreshing_of rec o.site.refresh ≡ Some r → is_empty (unanswered catalogue o.site r) ≡ true → is_doubtful o.site r.rec ≡ false → value_at r.rec o.site.copies ≡ Some own → P o → P (end_refresh r own o)
-  pub keep_answer : (from : ℕ) (view : ViewId) (rec : ℕ) (stored : Stored) (r : Refreshing) → Comes given from (message.RefreshAnswer view rec stored.value stored.date) → holds_view x view ≡ true → refreshing_of rec x.refresh ≡ Some r → has (unanswered catalogue x r) from ≡ true → P (change_refresh (map (with_answer rec from stored)) (begin_step x))
-  pub answer_refresh : (from : ℕ) (view : ViewId) (rec : ℕ) (stored : Stored) → Comes given from (message.RefreshRequest view rec) → holds_view x view ≡ true → is_doubtful x rec ≡ false → value_at rec x.copies ≡ Some stored → P (send (message.RefreshAnswer view rec stored.value stored.date) from (begin_step x))
+  pub start_refresh : (view : View) (rec : ℕ) (o : Stepped) → Joined x view o → is_open catalogue o.site rec ≡ true → Has (keys o.site.copies) rec → P o → P (start_refresh catalogue view rec o)
+  pub end_refresh : (rec : ℕ) (r : Refreshing) (own : Stored) (o : Stepped) → refreshing_of rec o.site.refresh ≡ Some r → is_empty (unanswered catalogue o.site r) ≡ true → is_doubtful o.site r.rec ≡ false → value_at r.rec o.site.copies ≡ Some own → P o → P (end_refresh catalogue r own o)
+  pub keep_answer : (from : ℕ) (view : ViewId) (rec : ℕ) (stored : Stored) (r : Refreshing) → Comes given from (message.RefreshAnswer view rec stored) → holds_view x view ≡ true → refreshing_of rec x.refresh ≡ Some r → has (unanswered catalogue x r) from ≡ true → P (change_refresh (map (with_answer rec from stored)) (begin_step x))
+  pub answer_refresh : (from : ℕ) (view : ViewId) (rec : ℕ) (stored : Stored) → Comes given from (message.RefreshRequest view rec) → holds_view x view ≡ true → is_doubtful x rec ≡ false → value_at rec x.copies ≡ Some stored → P (send (message.RefreshAnswer view rec stored) from (begin_step x))
   pub ask_again : (view : View) (r : Refreshing) (o : Stepped) → x.held ≡ Some view → Has x.refresh r → o.site.views ≡ x.views → P o → P (ask_again catalogue view.id r o)
   -- parts of other sites' transactions
   pub refuse_view : (from : ℕ) (txn : TxnId) (view : ViewId) (number : ℕ) → Asks given from txn view number → holds_view x view ≡ false → P (refuse_view txn number from (begin_step x))
   pub refuse_lock : (from : ℕ) (txn : TxnId) (view : ViewId) (number rec : ℕ) (exclusive : Bool) (holder : Owner) → Requests given from txn view number rec exclusive → holds_view x view ≡ true → has_txn x.ended txn ≡ false → conflict rec exclusive txn x.locks ≡ Some holder → P (send (message.Refuse txn number (obstacle.Held holder)) from (begin_step x))
   pub grant_read : (from : ℕ) (txn : TxnId) (view : ViewId) (number rec : ℕ) (stored : Stored) → Comes given from (message.ReadRequest txn view number rec) → holds_view x view ≡ true → has_txn x.ended txn ≡ false → value_at rec x.copies ≡ Some stored → conflict rec false txn x.locks ≡ None → P (grant txn view rec false (message.ReadAnswer txn number stored.value) from (begin_step x))
   pub grant_write : (from : ℕ) (txn : TxnId) (view : ViewId) (number rec : ℕ) (stored : Stored) → Comes given from (message.WriteRequest txn view number rec) → holds_view x view ≡ true → has_txn x.ended txn ≡ false → value_at rec x.copies ≡ Some stored → conflict rec true txn x.locks ≡ None → P (grant txn view rec true (message.WriteAnswer txn number) from (begin_step x))
-  pub doubt_again : (from : ℕ) (txn : TxnId) (view : ViewId) (number : ℕ) (reads : List ℕ) (writes : List (ℕ × List ℕ)) → Comes given from (message.Prepare txn view number reads writes) → holds_view x view ≡ true → has_txn x.ended txn ≡ false → has_doubt txn x.doubts ≡ true → P (send (message.Vote txn) from (begin_step x))
-  pub vote_again : (from : ℕ) (txn : TxnId) (view : ViewId) (number : ℕ) (reads : List ℕ) (writes : List (ℕ × List ℕ)) (part : Part) → Comes given from (message.Prepare txn view number reads writes) → holds_view x view ≡ true → has_txn x.ended txn ≡ false → part_of txn x.parts ≡ Some part → part.voted ≡ true → P (send (message.Vote part.txn) from (begin_step x))
-  pub vote_reading : (from : ℕ) (txn : TxnId) (view : ViewId) (number : ℕ) (reads : List ℕ) (writes : List (ℕ × List ℕ)) (part : Part) → Comes given from (message.Prepare txn view number reads writes) → holds_view x view ≡ true → has_txn x.ended txn ≡ false → has_doubt txn x.doubts ≡ false → part_of txn x.parts ≡ Some part → part.voted ≡ false → has_all_locks x.locks part.txn reads writes ≡ true → is_empty writes ≡ true → P (send (message.Vote part.txn) from (change_participant (with_vote part) (begin_step x)))
-  pub vote_writing : (from : ℕ) (txn : TxnId) (view : ViewId) (number : ℕ) (reads : List ℕ) (writes : List (ℕ × List ℕ)) (part : Part) → Comes given from (message.Prepare txn view number reads writes) → holds_view x view ≡ true → has_txn x.ended txn ≡ false → has_doubt txn x.doubts ≡ false → part_of txn x.parts ≡ Some part → part.voted ≡ false → has_all_locks x.locks part.txn reads writes ≡ true → is_empty writes ≡ false → P (send (message.Vote part.txn) from (force (entry.Yes part.txn part.view writes) (change_participant (with_new_doubt part writes) (begin_step x))))
+  pub doubt_again : (from : ℕ) (txn : TxnId) (view : ViewId) (number : ℕ) (reads : List ℕ) (writes : List (ℕ × Change)) → Comes given from (message.Prepare txn view number reads writes) → holds_view x view ≡ true → has_txn x.ended txn ≡ false → has_doubt txn x.doubts ≡ true → P (send (message.Vote txn) from (begin_step x))
+  pub vote_again : (from : ℕ) (txn : TxnId) (view : ViewId) (number : ℕ) (reads : List ℕ) (writes : List (ℕ × Change)) (part : Part) → Comes given from (message.Prepare txn view number reads writes) → holds_view x view ≡ true → has_txn x.ended txn ≡ false → part_of txn x.parts ≡ Some part → part.voted ≡ true → P (send (message.Vote part.txn) from (begin_step x))
+  pub vote_reading : (from : ℕ) (txn : TxnId) (view : ViewId) (number : ℕ) (reads : List ℕ) (writes : List (ℕ × Change)) (part : Part) → Comes given from (message.Prepare txn view number reads writes) → holds_view x view ≡ true → has_txn x.ended txn ≡ false → has_doubt txn x.doubts ≡ false → part_of txn x.parts ≡ Some part → part.voted ≡ false → has_all_locks x.locks part.txn reads writes ≡ true → is_empty writes ≡ true → P (send (message.Vote part.txn) from (change_participant (with_vote part) (begin_step x)))
+  pub vote_writing : (from : ℕ) (txn : TxnId) (view : ViewId) (number : ℕ) (reads : List ℕ) (writes : List (ℕ × Change)) (part : Part) → Comes given from (message.Prepare txn view number reads writes) → holds_view x view ≡ true → has_txn x.ended txn ≡ false → has_doubt txn x.doubts ≡ false → part_of txn x.parts ≡ Some part → part.voted ≡ false → has_all_locks x.locks part.txn reads writes ≡ true → is_empty writes ≡ false → P (send (message.Vote part.txn) from (force (entry.Yes part.txn part.view writes) (change_participant (with_new_doubt part writes) (begin_step x))))
   pub end_here : (from : ℕ) (txn : TxnId) (commit : Bool) → Comes given from (message.Outcome txn commit) → P (end_here from txn commit (doubt_of txn x.doubts) (begin_step x))
   -- this site's transactions
   pub coordinator : OfCoordinator catalogue x given (Back x P)

@@ -1,7 +1,7 @@
 -- Parts are of other sites' transactions and of the held view; doubts and the dates of copies are at most the promise.
 use Rattle.std.proofs.Common.{◌≡◌, ◌≢◌, ◌⊎◌, ◌∙◌, ap, sym, ℕ, Bool, true, false, cond, List, [], ◌∷◌, ◌++◌, map, refl, arith, inr, ⊎_elim, append-nil}
 use Rattle.std.specs.Prelude.{Option, Some, None, is_some, nat_lt, ◌||◌, ◌==◌, not, option_map, filter}
-use Rattle.vp_model.specs.Types.{ViewId, TxnId, View, Stored, Message, Sent, Input, Part, Refreshing, Pending, Live, Ending, Doubt, Decision}
+use Rattle.vp_model.specs.Types.{Change, ViewId, TxnId, View, Stored, Message, Sent, Input, Part, Refreshing, Pending, Live, Ending, Doubt, Decision}
 use Rattle.vp_base.specs.declared.site.Ending.TheVariants.{Committed}
 use Rattle.vp_model.specs.Types.entry
 use Rattle.vp_model.specs.Types.message
@@ -10,8 +10,8 @@ use Rattle.vp_model.specs.Words.{same_txn, txn_before, value_at, put_at, view_be
 use Rattle.vp_model.specs.Catalogue.{Catalogue}
 use Rattle.vp_model.specs.Durable.{doubt_of, with_writes}
 use Rattle.vp_model.specs.Site.{Here, ViewState, ParticipantState, send, change_participant, change_refresh, SiteState, Lent, Stepped, begin_step, lent, put_back, letters, force, change_copies}
-use Rattle.vp_model.specs.Transactions.{keep_writes, complete, writes_held, last_writes}
-use Rattle.vp_model.specs.Refresh.{refreshing_of, newest, take_newer, end_refresh, start_refresh, other_holders, unanswered}
+use Rattle.vp_model.specs.Transactions.{last_changes, entry_of, keep_writes, complete, writes_held}
+use Rattle.vp_model.specs.Refresh.{refreshing_of, newest, take_newer, unlist, end_refresh, start_refresh, other_holders, unanswered}
 use Rattle.vp_model.specs.Views.{part_of, has_part, has_doubt, other_sites, drop_view, start_inviting, hold}
 use Rattle.vp_model.specs.Calls.{start_txn, take_lock, read_at, write_at, prepare_parts, prepare_for}
 use Rattle.vp_model.specs.Answers.{is_decided}
@@ -30,7 +30,7 @@ abbrev pub PartOk : SiteState → Part → Type 0
 PartOk x p = (v : View) × (x.held ≡ Some v) × (v.id ≡ p.view) × (p.txn.site ≢ x.id)
 
 abbrev pub DoubtOk : ViewId → ℕ → Doubt → Type 0
-DoubtOk promise id d = AtMost d.1 promise × (d.0.site ≢ id)
+DoubtOk promise id d = AtMost d.view promise × (d.txn.site ≢ id)
 
 pub record Below (x : SiteState) : Type 0 where
   pub parts : (p : Part) → Has x.parts p → PartOk x p
@@ -39,7 +39,7 @@ pub record Below (x : SiteState) : Type 0 where
   pub answers : (r : Refreshing) (a : ℕ × Stored) → Has x.refresh r → Has r.answers a → AtMost a.1.date x.promise
 
 abbrev pub IsDated : Message → Type 0
-IsDated (message.RefreshAnswer view rec value date) = AtMost date view
+IsDated (message.RefreshAnswer view rec stored) = AtMost stored.date view
 IsDated m = Unit {0}
 
 pub record Lies (x : SiteState) (o : Stepped) : Type 0 where
@@ -48,11 +48,11 @@ pub record Lies (x : SiteState) (o : Stepped) : Type 0 where
   pub sent : (m : Sent) → Has o.effects.messages m → IsDated m.message
 
 abbrev pub is_undated : Message → Bool
-is_undated (message.RefreshAnswer view rec value date) = false
+is_undated (message.RefreshAnswer view rec stored) = false
 is_undated m = true
 
 undated : (m : Message) → is_undated m ≡ true → IsDated m
-undated (message.RefreshAnswer view rec value date) e = cc
+undated (message.RefreshAnswer view rec stored) e = cc
 undated m e = tt
 
 -- the same parts, doubts, copies and answers, and the same view and promise
@@ -76,7 +76,7 @@ below_same a b e l = record {
 pub self_same : (a : SiteState) → SameBelow a a
 self_same a = record { id = refl; promise = refl; held = refl; parts = refl; doubts = refl; copies = refl; refresh = λ r s h k. (r, h, k) }
 
-module _ (catalogue : Catalogue) (x : SiteState) (given : Input) (tidy : Tidy x) (led : Led x) (below : Below x) (others : (from : ℕ) (txn : TxnId) (view : ViewId) (number : ℕ) → Asks given from txn view number → txn.site ≢ x.id) (dated : (from : ℕ) (view : ViewId) (rec : ℕ) (stored : Stored) → Comes given from (message.RefreshAnswer view rec stored.value stored.date) → AtMost stored.date view) where
+module _ (catalogue : Catalogue) (x : SiteState) (given : Input) (tidy : Tidy x) (led : Led x) (below : Below x) (others : (from : ℕ) (txn : TxnId) (view : ViewId) (number : ℕ) → Asks given from txn view number → txn.site ≢ x.id) (dated : (from : ℕ) (view : ViewId) (rec : ℕ) (stored : Stored) → Comes given from (message.RefreshAnswer view rec stored) → AtMost stored.date view) where
   begins : Lies x (begin_step x)
   begins = record { id = refl; below = below; sent = λ m h. absurd (has_none m h) }
 
@@ -144,7 +144,7 @@ module _ (catalogue : Catalogue) (x : SiteState) (given : Input) (tidy : Tidy x)
     below = record {
       parts = below.parts;
       doubts = below.doubts;
-      copies = λ c h. ⊎_elim (λ (e : c.1.date ≡ t.view). rw e (live_below t n)) (λ old. below.copies c old) (writes_has t.view (writes_held catalogue x.id (last_writes t.ops)) x.copies c h);
+      copies = λ c h. ⊎_elim (λ (e : c.1.date ≡ t.view). rw e (live_below t n)) (λ old. below.copies c old) (writes_has t.view (writes_held catalogue x.id (last_changes (entry_of t))) x.copies c h);
       answers = below.answers;
     };
     sent = λ m h. absurd (has_none m h);
@@ -164,7 +164,7 @@ module _ (catalogue : Catalogue) (x : SiteState) (given : Input) (tidy : Tidy x)
     id = i ∙ l.id;
     below = record {
       parts = λ a h. absurd (has_none a (rw (ap (λ (p : ParticipantState). p.parts) (p ∙ left.participant)) at h));
-      doubts = λ d h. let q = l.below.doubts d (rw (ap (λ (p : ParticipantState). p.doubts) p) at h) in (AtMost-trans d.1 o.site.promise e.site.promise q.0 up, (λ z. q.1 (z ∙ i)));
+      doubts = λ d h. let q = l.below.doubts d (rw (ap (λ (p : ParticipantState). p.doubts) p) at h) in (AtMost-trans d.view o.site.promise e.site.promise q.0 up, (λ z. q.1 (z ∙ i)));
       copies = λ a h. AtMost-trans a.1.date o.site.promise e.site.promise (l.below.copies a (rw c at h)) up;
       answers = λ q a h k. absurd (has_none q (rw (r ∙ left.refresh) at h));
     };
@@ -238,8 +238,8 @@ module _ (catalogue : Catalogue) (x : SiteState) (given : Input) (tidy : Tidy x)
       go true = record { id = l.id; below = newer; sent = l.sent }
       go false = l
 
-  ends_refresh : (rec : ℕ) (r : Refreshing) (own : Stored) (o : Stepped) → refreshing_of rec o.site.refresh ≡ Some r → value_at r.rec o.site.copies ≡ Some own → Lies x o → Lies x (end_refresh r own o)
-  unfolding end_refresh take_newer
+  ends_refresh : (rec : ℕ) (r : Refreshing) (own : Stored) (o : Stepped) → refreshing_of rec o.site.refresh ≡ Some r → value_at r.rec o.site.copies ≡ Some own → Lies x o → Lies x (end_refresh catalogue r own o)
+  unfolding end_refresh unlist take_newer
   ends_refresh rec r own o e v l =
       let listed = find_has (λ (q : Refreshing). q.rec == rec) o.site.refresh r e in
       let c = value_has r.rec o.site.copies own v in
@@ -306,14 +306,14 @@ module _ (catalogue : Catalogue) (x : SiteState) (given : Input) (tidy : Tidy x)
       (put_has (λ (a : Part) (b : Part). same_txn a.txn b.txn) (λ (a : Part) (b : Part). txn_before a.txn b.txn) (record part { voted = true }) x.parts a q))
       below.doubts refl refl refl below.copies refl refl (letter_undated x.id from (message.Vote part.txn) refl)
 
-  votes_writing : (from : ℕ) (part : Part) (writes : List (ℕ × List ℕ)) → Has x.parts part → Lies x (send (message.Vote part.txn) from (force (entry.Yes part.txn part.view writes) (change_participant (with_new_doubt part writes) (begin_step x))))
+  votes_writing : (from : ℕ) (part : Part) (writes : List (ℕ × Change)) → Has x.parts part → Lies x (send (message.Vote part.txn) from (force (entry.Yes part.txn part.view writes) (change_participant (with_new_doubt part writes) (begin_step x))))
   votes_writing from part writes h =
       let q = below.parts part h in
       let up : AtMost part.view x.promise = AtMost-same part.view x.promise (sym q.2 ∙ (tidy.held q.0 q.1).0) in
       others_now (with_new_doubt part writes x.participant) _ (letter x.id from (message.Vote part.txn) ∷ [])
       (λ a k. below.parts a (filter_has (λ (other : Part). not (same_txn other.txn part.txn)) x.parts a k).0)
-      (λ d k. ⊎_elim (λ (new : d ≡ (part.txn, part.view, writes)). rw new (up, q.3)) (λ old. below.doubts d old)
-      (put_has (λ (a : Doubt) (b : Doubt). same_txn a.0 b.0) (λ (a : Doubt) (b : Doubt). txn_before a.0 b.0) (part.txn, part.view, writes) x.doubts d k))
+      (λ d k. ⊎_elim (λ (new : d ≡ (record { txn = part.txn; view = part.view; writes = writes })). rw new (up, q.3)) (λ old. below.doubts d old)
+      (put_has (λ (a : Doubt) (b : Doubt). same_txn a.txn b.txn) (λ (a : Doubt) (b : Doubt). txn_before a.txn b.txn) (record { txn = part.txn; view = part.view; writes = writes }) x.doubts d k))
       refl refl refl below.copies refl refl (letter_undated x.id from (message.Vote part.txn) refl)
 
   ends_here : (from : ℕ) (txn : TxnId) (commit : Bool) (doubt : Option Doubt) → doubt_of txn x.doubts ≡ doubt → Lies x (end_here from txn commit doubt (begin_step x))
@@ -327,10 +327,10 @@ module _ (catalogue : Catalogue) (x : SiteState) (given : Input) (tidy : Tidy x)
       parts a h = below.parts a (filter_has (λ (part : Part). not (same_txn part.txn txn)) x.parts a h).0
 
       doubts : (d : Doubt) → Has p.doubts d → DoubtOk x.promise x.id d
-      doubts d h = below.doubts d (filter_has (λ (d : Doubt). not (same_txn d.0 txn)) x.doubts d h).0
+      doubts d h = below.doubts d (filter_has (λ (d : Doubt). not (same_txn d.txn txn)) x.doubts d h).0
 
-      copied : (d : Doubt) → doubt_of txn x.doubts ≡ Some d → (c : ℕ × Stored) → Has (with_writes d.1 d.2 x.copies) c → AtMost c.1.date x.promise
-      copied d e c h = ⊎_elim (λ (q : c.1.date ≡ d.1). rw q (below.doubts d (find_has (λ (d : Doubt). same_txn d.0 txn) x.doubts d e)).0) (λ old. below.copies c old) (writes_has d.1 d.2 x.copies c h)
+      copied : (d : Doubt) → doubt_of txn x.doubts ≡ Some d → (c : ℕ × Stored) → Has (with_writes d.view d.writes x.copies) c → AtMost c.1.date x.promise
+      copied d e c h = ⊎_elim (λ (q : c.1.date ≡ d.view). rw q (below.doubts d (find_has (λ (d : Doubt). same_txn d.txn txn) x.doubts d e)).0) (λ old. below.copies c old) (writes_has d.view d.writes x.copies c h)
 
       go : (commit : Bool) (doubt : Option Doubt) → doubt_of txn x.doubts ≡ doubt → Lies x (end_here from txn commit doubt (begin_step x))
       go true None e = others_now p _ (letter x.id from (message.Ack txn) ∷ []) parts doubts refl refl refl below.copies refl refl (letter_undated x.id from (message.Ack txn) refl)
@@ -359,13 +359,13 @@ module _ (catalogue : Catalogue) (x : SiteState) (given : Input) (tidy : Tidy x)
           let z : Has (put_at from stored q.answers) a = rw (← same) at k in
           ⊎_elim (λ (new : a ≡ (from, stored)). rw new now) (λ old. below.answers q a h old) (put_has (λ (a : ℕ × Stored) (b : ℕ × Stored). a.0 == b.0) (λ (a : ℕ × Stored) (b : ℕ × Stored). nat_lt a.0 b.0) (from, stored) q.answers a z)
 
-  answers_refresh : (from rec : ℕ) (view : ViewId) (stored : Stored) → holds_view x view ≡ true → value_at rec x.copies ≡ Some stored → Lies x (send (message.RefreshAnswer view rec stored.value stored.date) from (begin_step x))
+  answers_refresh : (from rec : ℕ) (view : ViewId) (stored : Stored) → holds_view x view ≡ true → value_at rec x.copies ≡ Some stored → Lies x (send (message.RefreshAnswer view rec stored) from (begin_step x))
   answers_refresh from rec view stored e v =
       let c = value_has rec x.copies stored v in
       record {
         id = refl;
         below = below;
-        sent = λ m h. rw (← (has_one_is (letter x.id from (message.RefreshAnswer view rec stored.value stored.date)) m h))
+        sent = λ m h. rw (← (has_one_is (letter x.id from (message.RefreshAnswer view rec stored)) m h))
             (AtMost-along (below.copies c.0 c.1) (ap (λ (s : Stored). s.date) (sym c.2)) (held_promise view e));
       }
 
@@ -375,7 +375,7 @@ module _ (catalogue : Catalogue) (x : SiteState) (given : Input) (tidy : Tidy x)
 
   resends : (d : Decision) (o : Stepped) → Lies x o → Lies x (put_back o (resend_one o.site.id d (lent o)))
   unfolding resend_one
-  resends d o l = beside o _ (letters o.site.id (λ q. message.Outcome d.0 true) d.1) (self_same o.site) refl (letters_undated o.site.id (λ q. message.Outcome d.0 true) d.1 (λ q. refl)) l
+  resends d o l = beside o _ (letters o.site.id (λ q. message.Outcome d.txn true) d.waiting) (self_same o.site) refl (letters_undated o.site.id (λ q. message.Outcome d.txn true) d.waiting (λ q. refl)) l
 
   inquires : (txns : List TxnId) (o : Stepped) → Lies x o → Lies x (inquire txns o)
   unfolding inquire
@@ -433,6 +433,6 @@ module _ (catalogue : Catalogue) (x : SiteState) (given : Input) (tidy : Tidy x)
     inquire = λ o c l. inquires (known o.site.participant) o l;
   }
 
-pub below-step : (catalogue : Catalogue) (x : SiteState) (given : Input) → Tidy x → Led x → Below x → ((from : ℕ) (txn : TxnId) (view : ViewId) (number : ℕ) → Asks given from txn view number → txn.site ≢ x.id) → ((from : ℕ) (view : ViewId) (rec : ℕ) (stored : Stored) → Comes given from (message.RefreshAnswer view rec stored.value stored.date) → AtMost stored.date view) → Lies x (step catalogue x given)
+pub below-step : (catalogue : Catalogue) (x : SiteState) (given : Input) → Tidy x → Led x → Below x → ((from : ℕ) (txn : TxnId) (view : ViewId) (number : ℕ) → Asks given from txn view number → txn.site ≢ x.id) → ((from : ℕ) (view : ViewId) (rec : ℕ) (stored : Stored) → Comes given from (message.RefreshAnswer view rec stored) → AtMost stored.date view) → Lies x (step catalogue x given)
 below-step catalogue x given tidy led below others dated =
     step-keeps catalogue x given (Lies x) (table catalogue x given tidy led below others dated) (begins catalogue x given tidy led below others dated)

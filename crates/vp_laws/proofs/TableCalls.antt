@@ -14,8 +14,8 @@ use Rattle.vp_model.specs.Types.op
 use Rattle.vp_model.specs.Words.{same_txn, change_first, without_first, first, is_empty, value_at, for_some}
 use Rattle.vp_model.specs.Catalogue.{Catalogue, find_record, inside, total}
 use Rattle.vp_model.specs.Site.{CoordinatorState, SiteState, Lent, lent_reply}
-use Rattle.vp_model.specs.Transactions.{finished_of, last_writes, keep_writes, close, decide, complete}
-use Rattle.vp_model.specs.Refresh.{members_in, is_usable, other_holders}
+use Rattle.vp_model.specs.Transactions.{last_changes, entry_of, finished_of, last_writes, keep_writes, close, decide, complete}
+use Rattle.vp_model.specs.Refresh.{members_in, is_open, other_holders}
 use Rattle.vp_model.specs.Calls.{handled, handling, with_record, take_lock, lock_here, answer_read, answer_write, read, read_at, write_elsewhere, write, write_at, commit, prepare_parts, new_call, live_call, finished_call, on_txn_call, own_call, on_call}
 use Rattle.vp_model.specs.Step.{on_input, step}
 use Rattle.vp_model.specs.Told.{is_early_refusal}
@@ -45,7 +45,7 @@ pub data IsCallOf (txn : TxnId) (number : ℕ) : Call → Type 0 where
 
 -- a record that may be used has a copy here or at another site of the view
 abbrev pub HasHolders : Catalogue → SiteState → Type 0
-HasHolders catalogue x = (rec : ℕ) → is_usable catalogue x rec ≡ true → value_at rec x.copies ≡ None → (q : ℕ) × (first (other_holders catalogue x rec) ≡ Some q)
+HasHolders catalogue x = (rec : ℕ) → is_open catalogue x rec ≡ true → value_at rec x.copies ≡ None → (q : ℕ) × (first (other_holders catalogue x rec) ≡ Some q)
 
 -- where there is a first one
 by_first : (P : Lent → Type 0) (o : Option ℕ) (f : ℕ → Lent → Lent) (b : Lent) → (q : ℕ) × (o ≡ Some q) → ((q : ℕ) → P (f q b)) → P (for_some o f b)
@@ -102,7 +102,7 @@ module _ (catalogue : Catalogue) (x : SiteState) (port : ℕ) (txn : TxnId) (num
     elsewhere name rec =
         option_map_or (λ stored. lock_here x.id t p name rec false (answer_read t p rec stored.value) (lent_at x)) (value_at rec x.copies) (for_some (first (other_holders catalogue x rec)) (read_at x.id t p rec) (lent_at x))
 
-    reads : (name : List ℕ) (rec : ℕ) → is_usable catalogue x rec ≡ true → Q (read catalogue x.id x.held t p name rec (lent_at x))
+    reads : (name : List ℕ) (rec : ℕ) → is_open catalogue x rec ≡ true → Q (read catalogue x.id x.held t p name rec (lent_at x))
     unfolding read take_lock read_at
     reads name rec a =
         by_option Q (λ value. answer_read t p rec value (lent_at x)) (value_at rec (last_writes t.ops)) (elsewhere name rec)
@@ -124,7 +124,7 @@ module _ (catalogue : Catalogue) (x : SiteState) (port : ℕ) (txn : TxnId) (num
     writes : (name value : List ℕ) (rec : ℕ) → Q (write catalogue x.id x.held t p name value rec (lent_at x))
     unfolding write take_lock
     writes name value rec =
-        by_option Q (λ before. answer_write t p rec value (lent_at x)) (value_at rec (last_writes t.ops)) (not_written name value rec)
+        by_option Q (λ before. answer_write t p rec value (lent_at x)) (value_at rec (last_changes (entry_of t))) (not_written name value rec)
         (λ before e. completes (op.Write rec value) (answer.Written t.txn p.number) (lent_at x) refl)
         (λ n. by_option Q (λ stored. lock_here x.id t p name rec true (write_elsewhere catalogue x.id x.held t p rec value) (lent_at x)) (value_at rec x.copies) (write_elsewhere catalogue x.id x.held t p rec value (lent_at x))
         (λ stored e. locks name rec true (write_elsewhere catalogue x.id x.held t p rec value) (writes_elsewhere rec value (take_lock t.txn rec true (lent_at x)) refl))
@@ -134,15 +134,15 @@ module _ (catalogue : Catalogue) (x : SiteState) (port : ℕ) (txn : TxnId) (num
     no_weight name rec = lent_reply (answer.Inaccessible t.txn p.number name (inside catalogue rec (members_in x.held)) (total catalogue rec)) p.port (lent_at x)
 
     abbrev if_usable : (name : List ℕ) (use_record : ℕ → Lent → Lent) (rec : ℕ) → Lent
-    if_usable name use_record rec = if is_usable catalogue x rec then use_record rec (lent_at x) else no_weight name rec
+    if_usable name use_record rec = if is_open catalogue x rec then use_record rec (lent_at x) else no_weight name rec
 
     abbrev found : (name : List ℕ) (use_record : ℕ → Lent → Lent) (rec : ℕ) → Lent
     found name use_record rec = if nat_le 64 (length t.ops) then lent_reply (answer.TooManyOps t.txn p.number) p.port (lent_at x) else if_usable name use_record rec
 
-    uses : (name : List ℕ) (use_record : ℕ → Lent → Lent) → ((rec : ℕ) → is_usable catalogue x rec ≡ true → Q (use_record rec (lent_at x))) → Q (with_record catalogue x.held t p name use_record (lent_at x))
+    uses : (name : List ℕ) (use_record : ℕ → Lent → Lent) → ((rec : ℕ) → is_open catalogue x rec ≡ true → Q (use_record rec (lent_at x))) → Q (with_record catalogue x.held t p name use_record (lent_at x))
     unfolding with_record
     uses name use_record used = by_option Q (found name use_record) (find_record catalogue name) (lent_reply (answer.NoRecord t.txn p.number) p.port (lent_at x))
-        (λ rec e. by_test Q (nat_le 64 (length t.ops)) (lent_reply (answer.TooManyOps t.txn p.number) p.port (lent_at x)) (if_usable name use_record rec) (λ many. refused _ refl) (λ few. by_test Q (is_usable catalogue x rec) (use_record rec (lent_at x)) (no_weight name rec) (λ a. used rec a) (λ not_usable. refused _ refl)))
+        (λ rec e. by_test Q (nat_le 64 (length t.ops)) (lent_reply (answer.TooManyOps t.txn p.number) p.port (lent_at x)) (if_usable name use_record rec) (λ many. refused _ refl) (λ few. by_test Q (is_open catalogue x rec) (use_record rec (lent_at x)) (no_weight name rec) (λ a. used rec a) (λ not_usable. refused _ refl)))
         (λ none. refused _ refl)
 
     commits : Q (commit catalogue x.id t p (lent_at x))

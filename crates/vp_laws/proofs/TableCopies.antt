@@ -2,7 +2,7 @@
 use Rattle.std.proofs.Common.{◌≡◌, ◌⊎◌, ◌∙◌, ap, sym, subst, ℕ, Bool, true, false, cond, List, [], ◌∷◌, map, refl, inl, inr, ⊎_elim}
 use Rattle.std.specs.Prelude.{Option, Some, None, filter, find, option_map, not, ◌==◌, nat_lt}
 use Rattle.std.proofs.lemmas.Bool.{eqb-true}
-use Rattle.vp_model.specs.Types.{ViewId, TxnId, View, Commit, Input, Stored, Live, Ending, Refreshing, Doubt}
+use Rattle.vp_model.specs.Types.{Change, ViewId, TxnId, View, Commit, Input, Stored, Live, Ending, Refreshing, Doubt}
 use Rattle.vp_model.specs.Types.entry
 use Rattle.vp_model.specs.Types.input
 use Rattle.vp_model.specs.Types.message
@@ -11,8 +11,8 @@ use Rattle.vp_model.specs.Catalogue.{Catalogue}
 use Rattle.vp_model.specs.Locks.{without_guard}
 use Rattle.vp_model.specs.Durable.{doubt_of, with_writes}
 use Rattle.vp_model.specs.Site.{Here, SiteState, Lent, Stepped, begin_step, put_back, force, change_copies}
-use Rattle.vp_model.specs.Transactions.{last_writes, writes_held, close, keep_writes, decide, complete}
-use Rattle.vp_model.specs.Refresh.{newer, newest, take_newer, end_refresh, start_refresh, refreshing_of, unanswered}
+use Rattle.vp_model.specs.Transactions.{last_changes, entry_of, writes_held, close, keep_writes, decide, complete}
+use Rattle.vp_model.specs.Refresh.{newer, newest, take_newer, unlist, end_refresh, start_refresh, refreshing_of, unanswered}
 use Rattle.vp_model.specs.Views.{drop_view, start_inviting, hold}
 use Rattle.vp_model.specs.Calls.{start_txn, take_lock, read_at, write_at, prepare_parts}
 use Rattle.vp_model.specs.Messages.{holds_view, with_answer, accept, on_accept, on_stale, grant, end_here}
@@ -33,13 +33,13 @@ dated_at date w = (w.0, record { value = w.1; date = date })
 -- an answer was kept, or comes now in the held view from a site that had not answered
 pub data AnswerNow (catalogue : Catalogue) (x : SiteState) (given : Input) (rec : ℕ) (k : ℕ × Stored) : Type 0 where
   was : (r : Refreshing) → Has x.refresh r → r.rec ≡ rec → Has r.answers k → AnswerNow catalogue x given rec k
-  came : (from : ℕ) (view : ViewId) (r : Refreshing) (stored : Stored) → Comes given from (message.RefreshAnswer view rec stored.value stored.date) → (from, stored) ≡ k → holds_view x view ≡ true → Has x.refresh r → r.rec ≡ rec → has (unanswered catalogue x r) from ≡ true → AnswerNow catalogue x given rec k
+  came : (from : ℕ) (view : ViewId) (r : Refreshing) (stored : Stored) → Comes given from (message.RefreshAnswer view rec stored) → (from, stored) ≡ k → holds_view x view ≡ true → Has x.refresh r → r.rec ≡ rec → has (unanswered catalogue x r) from ≡ true → AnswerNow catalogue x given rec k
 
 -- a copy was there, is of a doubt that commits, of an entry of this step, or of an answer to a refresh
 pub data CopyNow (catalogue : Catalogue) (x : SiteState) (given : Input) (commits : List Commit) (a : ℕ × Stored) : Type 0 where
   still : Has x.copies a → CopyNow catalogue x given commits a
-  outcome : (from : ℕ) (d : Doubt) (w : ℕ × List ℕ) → Comes given from (message.Outcome d.0 true) → Has x.doubts d → Has d.2 w → dated_at d.1 w ≡ a → CopyNow catalogue x given commits a
-  entered : (e : Commit) (w : ℕ × List ℕ) → Has commits e → Has (writes_held catalogue x.id (last_writes e.ops)) w → dated_at e.view w ≡ a → CopyNow catalogue x given commits a
+  outcome : (from : ℕ) (d : Doubt) (w : ℕ × List ℕ) → Comes given from (message.Outcome d.txn true) → Has x.doubts d → Has d.writes w → dated_at d.view w ≡ a → CopyNow catalogue x given commits a
+  entered : (e : Commit) (w : ℕ × List ℕ) → Has commits e → Has (writes_held catalogue x.id (last_changes e)) w → dated_at e.view w ≡ a → CopyNow catalogue x given commits a
   refreshed : (k : ℕ × Stored) → AnswerNow catalogue x given a.0 k → k.1 ≡ a.1 → CopyNow catalogue x given commits a
 
 pub record Copies (catalogue : Catalogue) (x : SiteState) (given : Input) (o : Stepped) : Type 0 where
@@ -54,7 +54,7 @@ replaced_from n v pairs a h = let r = map_has (λ (p : ℕ × Stored). cond (p.0
     go true p k e = inl (sym e)
     go false p k e = inr (rw (← e) k)
 
-written_from : (date : ViewId) (writes : List (ℕ × List ℕ)) (copies : List (ℕ × Stored)) (a : ℕ × Stored) → Has (with_writes date writes copies) a → ((w : ℕ × List ℕ) × Has writes w × (dated_at date w ≡ a)) ⊎ Has copies a
+written_from : (date : ViewId) (writes : List (ℕ × Change)) (copies : List (ℕ × Stored)) (a : ℕ × Stored) → Has (with_writes date writes copies) a → ((w : ℕ × List ℕ) × Has writes w × (dated_at date w ≡ a)) ⊎ Has copies a
 written_from date [] copies a h = inr h
 written_from date (w ∷ writes) copies a h = ⊎_elim
     (λ (q : (v : ℕ × List ℕ) × Has writes v × (dated_at date v ≡ a)). inl (q.0, has_more w writes q.0 q.1, q.2))
@@ -126,8 +126,8 @@ module _ (catalogue : Catalogue) (x : SiteState) (given : Input) (tidy : Tidy x)
       }
       go false = p
 
-  finishes : (rec : ℕ) (r : Refreshing) (own : Stored) (o : Stepped) → refreshing_of rec o.site.refresh ≡ Some r → value_at r.rec o.site.copies ≡ Some own → P o → P (end_refresh r own o)
-  unfolding end_refresh
+  finishes : (rec : ℕ) (r : Refreshing) (own : Stored) (o : Stepped) → refreshing_of rec o.site.refresh ≡ Some r → value_at r.rec o.site.copies ≡ Some own → P o → P (end_refresh catalogue r own o)
+  unfolding end_refresh unlist
   finishes rec r own o e v p = removes (take_newer r.rec own (newest own r.answers) o) (takes r own (newest own r.answers) o new p)
     where
       there : Has o.site.refresh r
@@ -152,7 +152,7 @@ module _ (catalogue : Catalogue) (x : SiteState) (given : Input) (tidy : Tidy x)
         (put_has (λ (a : Refreshing) (b : Refreshing). a.rec == b.rec) (λ (a : Refreshing) (b : Refreshing). nat_lt a.rec b.rec) (record { rec = rec; answers = [] }) o.site.refresh r h);
   }
 
-  keeps_answer : (from : ℕ) (view : ViewId) (rec : ℕ) (stored : Stored) (r : Refreshing) → Comes given from (message.RefreshAnswer view rec stored.value stored.date) → holds_view x view ≡ true → refreshing_of rec x.refresh ≡ Some r → has (unanswered catalogue x r) from ≡ true → P (record (begin_step x) { site = record x { refresh = map (with_answer rec from stored) x.refresh } })
+  keeps_answer : (from : ℕ) (view : ViewId) (rec : ℕ) (stored : Stored) (r : Refreshing) → Comes given from (message.RefreshAnswer view rec stored) → holds_view x view ≡ true → refreshing_of rec x.refresh ≡ Some r → has (unanswered catalogue x r) from ≡ true → P (record (begin_step x) { site = record x { refresh = map (with_answer rec from stored) x.refresh } })
   keeps_answer from view rec stored r c held f u = record {
     copies = λ a h. CopyNow.still h;
     answers = λ q k h a. let z = map_has (with_answer rec from stored) x.refresh q h in (go z.0 z.1 (z.0.rec == rec) refl q k z.2 a, refl);
@@ -173,9 +173,9 @@ module _ (catalogue : Catalogue) (x : SiteState) (given : Input) (tidy : Tidy x)
   ends_here from txn false (Some d) f c = same (begin_step x) _ refl refl refl refl starts
   ends_here from txn true (Some d) f c = record {
     copies = λ a h. ⊎_elim
-        (λ (q : (w : ℕ × List ℕ) × Has d.2 w × (dated_at d.1 w ≡ a)). CopyNow.outcome from d q.0 (c ∙ ap (λ (t : TxnId). input.Message from (message.Outcome t true)) (sym (same_txn-is d.0 txn (find_true (λ (d : Doubt). same_txn d.0 txn) x.doubts d f)))) (find_has (λ (d : Doubt). same_txn d.0 txn) x.doubts d f) q.1 q.2)
+        (λ (q : (w : ℕ × List ℕ) × Has d.writes w × (dated_at d.view w ≡ a)). CopyNow.outcome from d q.0 (c ∙ ap (λ (t : TxnId). input.Message from (message.Outcome t true)) (sym (same_txn-is d.txn txn (find_true (λ (d : Doubt). same_txn d.txn txn) x.doubts d f)))) (find_has (λ (d : Doubt). same_txn d.txn txn) x.doubts d f) q.1 q.2)
         (λ old. CopyNow.still old)
-        (written_from d.1 d.2 x.copies a h);
+        (written_from d.view d.writes x.copies a h);
     answers = starts.answers;
   }
 
@@ -194,9 +194,9 @@ module _ (catalogue : Catalogue) (x : SiteState) (given : Input) (tidy : Tidy x)
       (λ e. record { copies = λ a h. CopyNow.still (rw (ap (λ (h : Here). h.copies) (decided-ends x.id t (lent_at x)).here) at h); answers = starts.answers })
       (λ e. let l = keep_writes catalogue x.id t (lent_at x) in record {
         copies = λ a h. ⊎_elim
-            (λ (q : (w : ℕ × List ℕ) × Has (writes_held catalogue x.id (last_writes t.ops)) w × (dated_at t.view w ≡ a)). CopyNow.entered (record { txn = t.txn; view = t.view; ops = t.ops }) q.0 (rw (decided-commits x.id t l) (has_one _)) q.1 q.2)
+            (λ (q : (w : ℕ × List ℕ) × Has (writes_held catalogue x.id (last_changes (entry_of t))) w × (dated_at t.view w ≡ a)). CopyNow.entered (entry_of t) q.0 (rw (decided-commits x.id t l) (has_one _)) q.1 q.2)
             (λ old. CopyNow.still old)
-            (written_from t.view (writes_held catalogue x.id (last_writes t.ops)) x.copies a (rw (ap (λ (h : Here). h.copies) (decided-ends x.id t l).here) at h));
+            (written_from t.view (writes_held catalogue x.id (last_changes (entry_of t))) x.copies a (rw (ap (λ (h : Here). h.copies) (decided-ends x.id t l).here) at h));
         answers = starts.answers;
       })
 

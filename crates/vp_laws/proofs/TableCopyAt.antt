@@ -4,7 +4,7 @@ use Rattle.std.proofs.Common.{◌≡◌, ◌≢◌, ◌⊎◌, ◌∙◌, ap, sy
 use Rattle.std.specs.Prelude.{Option, Some, None, filter, not, ◌==◌, nat_lt}
 use Rattle.std.proofs.lemmas.Bool.{eqb-true}
 use Rattle.std.proofs.lemmas.Bool.Decides.{nat_tests}
-use Rattle.vp_model.specs.Types.{ViewId, TxnId, View, Commit, Op, Input, Stored, Live, Ending, Refreshing, Doubt}
+use Rattle.vp_model.specs.Types.{Change, ViewId, TxnId, View, Commit, Op, Input, Stored, Live, Ending, Refreshing, Doubt}
 use Rattle.vp_model.specs.Types.entry
 use Rattle.vp_model.specs.Types.input
 use Rattle.vp_model.specs.Types.message
@@ -13,8 +13,8 @@ use Rattle.vp_model.specs.Catalogue.{Catalogue}
 use Rattle.vp_model.specs.Locks.{without_guard}
 use Rattle.vp_model.specs.Durable.{doubt_of, without_doubt, with_writes}
 use Rattle.vp_model.specs.Site.{Here, SiteState, Lent, Stepped, begin_step, put_back, force, change_copies}
-use Rattle.vp_model.specs.Transactions.{last_writes, writes_held, close, keep_writes, decide, complete}
-use Rattle.vp_model.specs.Refresh.{newer, newest, take_newer, end_refresh, start_refresh, refreshing_of, unanswered, is_doubtful}
+use Rattle.vp_model.specs.Transactions.{last_changes, entry_of, last_writes, writes_held, close, keep_writes, decide, complete}
+use Rattle.vp_model.specs.Refresh.{newer, newest, take_newer, unlist, end_refresh, start_refresh, refreshing_of, unanswered, is_doubtful}
 use Rattle.vp_model.specs.Views.{drop_view, start_inviting, hold}
 use Rattle.vp_model.specs.Calls.{start_txn, take_lock, read_at, write_at, prepare_parts}
 use Rattle.vp_model.specs.Messages.{holds_view, with_answer, accept, on_accept, on_stale, grant, end_here}
@@ -35,19 +35,19 @@ use Rattle.vp_laws.proofs.Rows.{step-keeps}
 -- no doubt on the record has been made a copy, and no entry of this step wrote it here
 pub record Untaken (catalogue : Catalogue) (x : SiteState) (given : Input) (doubts : List Doubt) (commits : List Commit) (rec : ℕ) : Type 0 where
   -- a doubt on it whose commit came is here still
-  pub outcome : (from : ℕ) (d : Doubt) → Comes given from (message.Outcome d.0 true) → doubt_of d.0 x.doubts ≡ Some d → Has (keys d.2) rec → Has doubts d
+  pub outcome : (from : ℕ) (d : Doubt) → Comes given from (message.Outcome d.txn true) → doubt_of d.txn x.doubts ≡ Some d → Has (keys d.writes) rec → Has doubts d
   -- an entry of this step has not written it
-  pub entered : (e : Commit) → Has commits e → Has (keys (writes_held catalogue x.id (last_writes e.ops))) rec → ⊥
+  pub entered : (e : Commit) → Has commits e → Has (keys (writes_held catalogue x.id (last_changes e))) rec → ⊥
 
 -- a copy was there and is untaken, or is of a doubt that commits, which is gone, or of an entry of this step
 pub data OwnCopy (catalogue : Catalogue) (x : SiteState) (given : Input) (doubts : List Doubt) (commits : List Commit) (a : ℕ × Stored) : Type 0 where
   still : Has x.copies a → Untaken catalogue x given doubts commits a.0 → OwnCopy catalogue x given doubts commits a
-  outcome : (from : ℕ) (d : Doubt) (w : ℕ × List ℕ) → Comes given from (message.Outcome d.0 true) → Has x.doubts d → Has d.2 w → dated_at d.1 w ≡ a → ((u : Doubt) → Has doubts u → u.0 ≢ d.0) → OwnCopy catalogue x given doubts commits a
-  entered : (e : Commit) (w : ℕ × List ℕ) → Has commits e → Has (writes_held catalogue x.id (last_writes e.ops)) w → dated_at e.view w ≡ a → OwnCopy catalogue x given doubts commits a
+  outcome : (from : ℕ) (d : Doubt) (w : ℕ × List ℕ) → Comes given from (message.Outcome d.txn true) → Has x.doubts d → Has d.writes w → dated_at d.view w ≡ a → ((u : Doubt) → Has doubts u → u.txn ≢ d.txn) → OwnCopy catalogue x given doubts commits a
+  entered : (e : Commit) (w : ℕ × List ℕ) → Has commits e → Has (writes_held catalogue x.id (last_changes e)) w → dated_at e.view w ≡ a → OwnCopy catalogue x given doubts commits a
 
 -- no doubt among these writes the record
 abbrev pub Certain : List Doubt → ℕ → Type 0
-Certain doubts rec = (d : Doubt) → Has doubts d → Has (keys d.2) rec → ⊥
+Certain doubts rec = (d : Doubt) → Has doubts d → Has (keys d.writes) rec → ⊥
 
 -- a refresh of the record has ended in the view of the start: each other holder has answered, and the copy is as new as each answer
 pub record Refreshed (catalogue : Catalogue) (x : SiteState) (given : Input) (doubts : List Doubt) (rec : ℕ) (c : Stored) : Type 0 where
@@ -101,7 +101,7 @@ replaced_not n v pairs a h = let r = map_has (λ (p : ℕ × Stored). cond (p.0 
     go true p t k e = inl (sym e)
     go false p t k e = inr (rw (← e) k, (λ z. differs p.0 n t (z ∙ ap (λ (q : ℕ × Stored). q.0) (sym e))))
 
-written_or_not : (date : ViewId) (writes : List (ℕ × List ℕ)) (copies : List (ℕ × Stored)) (a : ℕ × Stored) → Has (with_writes date writes copies) a → ((w : ℕ × List ℕ) × Has writes w × (dated_at date w ≡ a)) ⊎ (Has copies a × (Has (keys writes) a.0 → ⊥))
+written_or_not : (date : ViewId) (writes : List (ℕ × Change)) (copies : List (ℕ × Stored)) (a : ℕ × Stored) → Has (with_writes date writes copies) a → ((w : ℕ × List ℕ) × Has writes w × (dated_at date w ≡ a)) ⊎ (Has copies a × (Has (keys writes) a.0 → ⊥))
 written_or_not date [] copies a h = inr (h, (λ k. has_none a.0 k))
 written_or_not date (w ∷ writes) copies a h = ⊎_elim
     (λ (q : (v : ℕ × List ℕ) × Has writes v × (dated_at date v ≡ a)). inl (q.0, has_more w writes q.0 q.1, q.2))
@@ -116,7 +116,7 @@ module _ (catalogue : Catalogue) (x : SiteState) (given : Input) (tidy : Tidy x)
   P = CopiesAt catalogue x given
 
   at_start : (rec : ℕ) → Untaken catalogue x given x.doubts [] rec
-  at_start rec = record { outcome = λ from d c f k. find_has (λ (u : Doubt). same_txn u.0 d.0) x.doubts d f; entered = λ e h k. has_none e h }
+  at_start rec = record { outcome = λ from d c f k. find_has (λ (u : Doubt). same_txn u.txn d.txn) x.doubts d f; entered = λ e h k. has_none e h }
 
   kept : (a : ℕ × Stored) → Has x.copies a → CopyAt catalogue x given x.doubts [] a
   kept a h = CopyAt.here (OwnCopy.still h (at_start a.0))
@@ -162,8 +162,8 @@ module _ (catalogue : Catalogue) (x : SiteState) (given : Input) (tidy : Tidy x)
       }
       go false = p
 
-  finishes : (rec : ℕ) (r : Refreshing) (own : Stored) (o : Stepped) → refreshing_of rec o.site.refresh ≡ Some r → is_empty (unanswered catalogue o.site r) ≡ true → is_doubtful o.site r.rec ≡ false → value_at r.rec o.site.copies ≡ Some own → P o → P (end_refresh r own o)
-  unfolding end_refresh
+  finishes : (rec : ℕ) (r : Refreshing) (own : Stored) (o : Stepped) → refreshing_of rec o.site.refresh ≡ Some r → is_empty (unanswered catalogue o.site r) ≡ true → is_doubtful o.site r.rec ≡ false → value_at r.rec o.site.copies ≡ Some own → P o → P (end_refresh catalogue r own o)
+  unfolding end_refresh unlist
   finishes rec r own o e all sure v p = removes (take_newer r.rec own (newest own r.answers) o) (takes r own (newest own r.answers) o new p)
     where
       there : Has o.site.refresh r
@@ -176,7 +176,7 @@ module _ (catalogue : Catalogue) (x : SiteState) (given : Input) (tidy : Tidy x)
           (newest_from own r.answers)
         where
           certain : Certain o.site.doubts r.rec
-          certain d h k = let t = any_false (λ (d : Doubt). has (keys d.2) r.rec) o.site.doubts sure d h in let z = has_test (keys d.2) r.rec k in cc
+          certain d h k = let t = any_false (λ (d : Doubt). has (keys d.writes) r.rec) o.site.doubts sure d h in let z = has_test (keys d.writes) r.rec k in cc
 
           ended : (k : ℕ × Stored) × Has r.answers k × (k.1 ≡ newest own r.answers) → Refreshed catalogue x given o.site.doubts r.rec (newest own r.answers)
           ended q = record {
@@ -207,7 +207,7 @@ module _ (catalogue : Catalogue) (x : SiteState) (given : Input) (tidy : Tidy x)
         (put_has (λ (a : Refreshing) (b : Refreshing). a.rec == b.rec) (λ (a : Refreshing) (b : Refreshing). nat_lt a.rec b.rec) (record { rec = rec; answers = [] }) o.site.refresh r h);
   }
 
-  keeps_answer : (from : ℕ) (view : ViewId) (rec : ℕ) (stored : Stored) (r : Refreshing) → Comes given from (message.RefreshAnswer view rec stored.value stored.date) → holds_view x view ≡ true → refreshing_of rec x.refresh ≡ Some r → has (unanswered catalogue x r) from ≡ true → P (record (begin_step x) { site = record x { refresh = map (with_answer rec from stored) x.refresh } })
+  keeps_answer : (from : ℕ) (view : ViewId) (rec : ℕ) (stored : Stored) (r : Refreshing) → Comes given from (message.RefreshAnswer view rec stored) → holds_view x view ≡ true → refreshing_of rec x.refresh ≡ Some r → has (unanswered catalogue x r) from ≡ true → P (record (begin_step x) { site = record x { refresh = map (with_answer rec from stored) x.refresh } })
   keeps_answer from view rec stored r c held f u = record {
     id = refl;
     copies = kept;
@@ -223,7 +223,7 @@ module _ (catalogue : Catalogue) (x : SiteState) (given : Input) (tidy : Tidy x)
           (put_has (λ (a : ℕ × Stored) (b : ℕ × Stored). a.0 == b.0) (λ (a : ℕ × Stored) (b : ℕ × Stored). nat_lt a.0 b.0) (from, stored) old.answers k (rw (← (ap (λ (r : Refreshing). r.answers) same)) at a))
 
   -- copies as the step began, where no doubt with a copy goes
-  taken_none : (e : Stepped) → e.site.id ≡ x.id → e.site.held ≡ x.held → e.site.copies ≡ x.copies → e.site.refresh ≡ x.refresh → e.effects.commits ≡ [] → ((from : ℕ) (d : Doubt) → Comes given from (message.Outcome d.0 true) → doubt_of d.0 x.doubts ≡ Some d → Has e.site.doubts d) → P e
+  taken_none : (e : Stepped) → e.site.id ≡ x.id → e.site.held ≡ x.held → e.site.copies ≡ x.copies → e.site.refresh ≡ x.refresh → e.effects.commits ≡ [] → ((from : ℕ) (d : Doubt) → Comes given from (message.Outcome d.txn true) → doubt_of d.txn x.doubts ≡ Some d → Has e.site.doubts d) → P e
   taken_none e i v c r cs keep = record {
     id = i;
     copies = λ a h. CopyAt.here (OwnCopy.still (rw c at h) (record { outcome = λ from d k f z. keep from d k f; entered = λ u h z. has_none u (rw cs at h) }));
@@ -232,30 +232,30 @@ module _ (catalogue : Catalogue) (x : SiteState) (given : Input) (tidy : Tidy x)
 
   ends_here : (from : ℕ) (txn : TxnId) (commit : Bool) (doubt : Option Doubt) → doubt_of txn x.doubts ≡ doubt → Comes given from (message.Outcome txn commit) → P (end_here from txn commit doubt (begin_step x))
   unfolding end_here
-  ends_here from txn true None f c = taken_none _ refl refl refl refl refl (λ other d k g. absurd (let same : d.0 ≡ txn = (let z = sym k ∙ c in cc) in let h : doubt_of txn x.doubts ≡ Some d = subst (λ (t : TxnId). doubt_of t x.doubts ≡ Some d) same g in cc))
+  ends_here from txn true None f c = taken_none _ refl refl refl refl refl (λ other d k g. absurd (let same : d.txn ≡ txn = (let z = sym k ∙ c in cc) in let h : doubt_of txn x.doubts ≡ Some d = subst (λ (t : TxnId). doubt_of t x.doubts ≡ Some d) same g in cc))
   ends_here from txn false None f c = taken_none _ refl refl refl refl refl (λ other d k g. absurd (let z = sym k ∙ c in cc))
   ends_here from txn false (Some d) f c = taken_none _ refl refl refl refl refl (λ other u k g. absurd (let z = sym k ∙ c in cc))
   ends_here from txn true (Some d) f c = record {
     id = refl;
     copies = λ a h. ⊎_elim
-        (λ (q : (w : ℕ × List ℕ) × Has d.2 w × (dated_at d.1 w ≡ a)). CopyAt.here (OwnCopy.outcome from d q.0 (c ∙ ap (λ (t : TxnId). input.Message from (message.Outcome t true)) (sym is_named)) (find_has (λ (d : Doubt). same_txn d.0 txn) x.doubts d f) q.1 q.2 gone))
-        (λ (old : Has x.copies a × (Has (keys d.2) a.0 → ⊥)). CopyAt.here (OwnCopy.still old.0 (record { outcome = λ other u k g z. absurd (old.1 (subst (λ (d : Doubt). Has (keys d.2) a.0) (only u other k g) z)); entered = λ e h z. has_none e h })))
-        (written_or_not d.1 d.2 x.copies a h);
+        (λ (q : (w : ℕ × List ℕ) × Has d.writes w × (dated_at d.view w ≡ a)). CopyAt.here (OwnCopy.outcome from d q.0 (c ∙ ap (λ (t : TxnId). input.Message from (message.Outcome t true)) (sym is_named)) (find_has (λ (d : Doubt). same_txn d.txn txn) x.doubts d f) q.1 q.2 gone))
+        (λ (old : Has x.copies a × (Has (keys d.writes) a.0 → ⊥)). CopyAt.here (OwnCopy.still old.0 (record { outcome = λ other u k g z. absurd (old.1 (subst (λ (d : Doubt). Has (keys d.writes) a.0) (only u other k g) z)); entered = λ e h z. has_none e h })))
+        (written_or_not d.view d.writes x.copies a h);
     answers = starts.answers;
   }
     where
-      is_named : d.0 ≡ txn
-      is_named = same_txn-is d.0 txn (find_true (λ (d : Doubt). same_txn d.0 txn) x.doubts d f)
+      is_named : d.txn ≡ txn
+      is_named = same_txn-is d.txn txn (find_true (λ (d : Doubt). same_txn d.txn txn) x.doubts d f)
 
       other_name : (t u : TxnId) → not (same_txn t u) ≡ true → t ≢ u
       other_name t u e same = grind (arith, nat_tests, e, same)
 
-      gone : (u : Doubt) → Has (without_doubt txn x.doubts) u → u.0 ≢ d.0
-      gone u h same = other_name u.0 txn (filter_has (λ (d : Doubt). not (same_txn d.0 txn)) x.doubts u h).1 (same ∙ is_named)
+      gone : (u : Doubt) → Has (without_doubt txn x.doubts) u → u.txn ≢ d.txn
+      gone u h same = other_name u.txn txn (filter_has (λ (d : Doubt). not (same_txn d.txn txn)) x.doubts u h).1 (same ∙ is_named)
 
-      only : (u : Doubt) (other : ℕ) → Comes given other (message.Outcome u.0 true) → doubt_of u.0 x.doubts ≡ Some u → u ≡ d
+      only : (u : Doubt) (other : ℕ) → Comes given other (message.Outcome u.txn true) → doubt_of u.txn x.doubts ≡ Some u → u ≡ d
       only u other k g =
-          let same : u.0 ≡ txn = (let z = sym k ∙ c in cc) in
+          let same : u.txn ≡ txn = (let z = sym k ∙ c in cc) in
           let h : doubt_of txn x.doubts ≡ Some u = subst (λ (t : TxnId). doubt_of t x.doubts ≡ Some u) same g in
           cc
 
@@ -274,31 +274,31 @@ module _ (catalogue : Catalogue) (x : SiteState) (given : Input) (tidy : Tidy x)
       (λ e. record {
         id = refl;
         copies = λ a h. CopyAt.here (OwnCopy.still (rw (ap (λ (h : Here). h.copies) (decided-ends x.id t (lent_at x)).here) at h) (record {
-          outcome = λ from d c f k. find_has (λ (u : Doubt). same_txn u.0 d.0) x.doubts d f;
-          entered = λ u g k. wrote_none u (has_one_is (record { txn = t.txn; view = t.view; ops = t.ops }) u (rw (decided-commits x.id t (lent_at x)) at g)) (is_none (last_writes t.ops) e) a.0 k;
+          outcome = λ from d c f k. find_has (λ (u : Doubt). same_txn u.txn d.txn) x.doubts d f;
+          entered = λ u g k. wrote_none u (has_one_is (entry_of t) u (rw (decided-commits x.id t (lent_at x)) at g)) (is_none (last_writes t.ops) e) a.0 k;
         }));
         answers = starts.answers;
       })
       (λ e. let l = keep_writes catalogue x.id t (lent_at x) in record {
         id = refl;
         copies = λ a h. ⊎_elim
-            (λ (q : (w : ℕ × List ℕ) × Has (writes_held catalogue x.id (last_writes t.ops)) w × (dated_at t.view w ≡ a)). CopyAt.here (OwnCopy.entered (record { txn = t.txn; view = t.view; ops = t.ops }) q.0 (rw (decided-commits x.id t l) (has_one _)) q.1 q.2))
-            (λ (old : Has x.copies a × (Has (keys (writes_held catalogue x.id (last_writes t.ops))) a.0 → ⊥)). CopyAt.here (OwnCopy.still old.0 (record {
-              outcome = λ from d c f k. find_has (λ (u : Doubt). same_txn u.0 d.0) x.doubts d f;
-              entered = λ u g k. old.1 (subst (λ (ops : List Op). Has (keys (writes_held catalogue x.id (last_writes ops))) a.0) (sym (ap (λ (u : Commit). u.ops) (has_one_is (record { txn = t.txn; view = t.view; ops = t.ops }) u (rw (decided-commits x.id t l) at g)))) k);
+            (λ (q : (w : ℕ × List ℕ) × Has (writes_held catalogue x.id (last_changes (entry_of t))) w × (dated_at t.view w ≡ a)). CopyAt.here (OwnCopy.entered (entry_of t) q.0 (rw (decided-commits x.id t l) (has_one _)) q.1 q.2))
+            (λ (old : Has x.copies a × (Has (keys (writes_held catalogue x.id (last_changes (entry_of t)))) a.0 → ⊥)). CopyAt.here (OwnCopy.still old.0 (record {
+              outcome = λ from d c f k. find_has (λ (u : Doubt). same_txn u.txn d.txn) x.doubts d f;
+              entered = λ u g k. old.1 (subst (λ (ops : List Op). Has (keys (writes_held catalogue x.id (last_writes ops))) a.0) (sym (ap (λ (u : Commit). u.ops) (has_one_is (entry_of t) u (rw (decided-commits x.id t l) at g)))) k);
             })))
-            (written_or_not t.view (writes_held catalogue x.id (last_writes t.ops)) x.copies a (rw (ap (λ (h : Here). h.copies) (decided-ends x.id t l).here) at h));
+            (written_or_not t.view (writes_held catalogue x.id (last_changes (entry_of t))) x.copies a (rw (ap (λ (h : Here). h.copies) (decided-ends x.id t l).here) at h));
         answers = starts.answers;
       })
     where
-      is_none : (ws : List (ℕ × List ℕ)) → is_empty ws ≡ true → ws ≡ []
+      is_none : (ws : List (ℕ × Change)) → is_empty ws ≡ true → ws ≡ []
       is_none [] e = refl
       is_none (w ∷ ws) e = cc
 
-      wrote_none : (u : Commit) → record { txn = t.txn; view = t.view; ops = t.ops } ≡ u → last_writes t.ops ≡ [] → (rec : ℕ) → Has (keys (writes_held catalogue x.id (last_writes u.ops))) rec → ⊥
+      wrote_none : (u : Commit) → entry_of t ≡ u → last_writes t.ops ≡ [] → (rec : ℕ) → Has (keys (writes_held catalogue x.id (last_changes u))) rec → ⊥
       wrote_none u is none rec k =
           let same : last_writes u.ops ≡ [] = ap (λ (u : Commit). last_writes u.ops) (sym is) ∙ none in
-          has_none rec (subst (λ (ws : List (ℕ × List ℕ)). Has (keys (writes_held catalogue x.id ws)) rec) same k)
+          has_none rec (subst (λ (ws : List (ℕ × Change)). Has (keys (writes_held catalogue x.id ws)) rec) same k)
 
   pub table : Table catalogue x given P
   unfolding on_stale on_accept hold fix ask_again start_inviting accept grant start_txn take_lock complete read_at write_at prepare_parts mark_calls resend_one inquire

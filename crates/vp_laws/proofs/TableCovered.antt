@@ -8,7 +8,7 @@ use Rattle.vp_model.specs.Types.{ViewId, View, Input, Stored, Refreshing, Decisi
 use Rattle.vp_model.specs.Words.{is_empty, keys, put, value_at}
 use Rattle.vp_model.specs.Catalogue.{Catalogue}
 use Rattle.vp_model.specs.Site.{SiteState, Stepped, begin_step, lent, put_back}
-use Rattle.vp_model.specs.Refresh.{is_usable, is_usable_in, newest, take_newer, end_refresh, settle_one, settle, settle_all, start_refresh, start_refresh_all, refreshing_of, unanswered, is_doubtful}
+use Rattle.vp_model.specs.Refresh.{is_open, is_usable_in, newest, take_newer, unlist, end_refresh, settle_one, settle, settle_all, start_refresh, start_refresh_all, refreshing_of, unanswered, is_doubtful}
 use Rattle.vp_model.specs.Views.{hold, join, usable_here, refresh_here}
 use Rattle.vp_model.specs.Messages.{on_message, on_view_commit}
 use Rattle.vp_model.specs.Step.{fix, fix_view, tick_view, resend_one, resend, inquire, known, on_tick, on_input, step}
@@ -92,8 +92,8 @@ module _ (catalogue : Catalogue) (x : SiteState) (given : Input) (view : View) w
   differs : (a b c : ℕ) → a ≡ b → c ≢ b → not (a == c) ≡ true
   differs a b c e n = let t : (a == c) ≡ false = grind (arith, nat_tests, e, n) in rw t refl
 
-  finishes : (rec : ℕ) (r : Refreshing) (own : Stored) (o : Stepped) → refreshing_of rec o.site.refresh ≡ Some r → is_empty (unanswered catalogue o.site r) ≡ true → is_doubtful o.site r.rec ≡ false → value_at r.rec o.site.copies ≡ Some own → P o → P (end_refresh r own o)
-  unfolding end_refresh
+  finishes : (rec : ℕ) (r : Refreshing) (own : Stored) (o : Stepped) → refreshing_of rec o.site.refresh ≡ Some r → is_empty (unanswered catalogue o.site r) ≡ true → is_doubtful o.site r.rec ≡ false → value_at r.rec o.site.copies ≡ Some own → P o → P (end_refresh catalogue r own o)
+  unfolding end_refresh unlist
   finishes rec r own o e a d v p = record {
     held = t.held ∙ p.held;
     fresh = λ q h. p.fresh q (rw t.refresh at (kept q h));
@@ -118,7 +118,7 @@ module _ (catalogue : Catalogue) (x : SiteState) (given : Input) (view : View) w
       none : {C : Type 0} (k : ℕ × Stored) → Has r.answers k → C
       none k h = absurd (has_none k (rw (p.fresh r there) at h))
 
-      over : (k : ℕ) → r.rec ≡ k → Ended catalogue x given (end_refresh r own o) k
+      over : (k : ℕ) → r.rec ≡ k → Ended catalogue x given (end_refresh catalogue r own o) k
       over k z = record {
         r = r;
         on = z;
@@ -142,7 +142,7 @@ module _ (catalogue : Catalogue) (x : SiteState) (given : Input) (view : View) w
 
   -- the record is among those that are put under refresh
   usable_has : (o : Stepped) (rec : ℕ) → o.site.held ≡ Some view → o.site.copies ≡ x.copies → is_usable_in catalogue (Some view) rec ≡ true → Has (keys x.copies) rec → Has (usable_here catalogue o.site) rec
-  usable_has o rec v c usable copied = filter_keeps (is_usable catalogue o.site) (keys o.site.copies) rec (rw c copied) (rw v usable)
+  usable_has o rec v c usable copied = filter_keeps (is_open catalogue o.site) (keys o.site.copies) rec (rw c copied) (rw v usable)
 
   refreshes : (o : Stepped) → o.site.held ≡ Some view → o.site.copies ≡ x.copies → o.site.refresh ≡ [] → P (refresh_here catalogue view o)
   unfolding refresh_here
@@ -181,7 +181,7 @@ pub data Quits (catalogue : Catalogue) (x : SiteState) (given : Input) (o : Step
   still : IsUnlisted x.refresh rec → o.site.held ≡ x.held → Quits catalogue x given o rec
   ended : Ended catalogue x given o rec → Quits catalogue x given o rec
 
-pub quits : (catalogue : Catalogue) (x : SiteState) (given : Input) → (x.held ≡ None → x.refresh ≡ []) → Tidy x → Unlisting catalogue x given (step catalogue x given) → (rec : ℕ) (v : View) → (step catalogue x given).site.held ≡ Some v → is_usable catalogue (step catalogue x given).site rec ≡ true → Has (keys x.copies) rec → IsUnlisted (step catalogue x given).site.refresh rec → Quits catalogue x given (step catalogue x given) rec
+pub quits : (catalogue : Catalogue) (x : SiteState) (given : Input) → (x.held ≡ None → x.refresh ≡ []) → Tidy x → Unlisting catalogue x given (step catalogue x given) → (rec : ℕ) (v : View) → (step catalogue x given).site.held ≡ Some v → is_open catalogue (step catalogue x given).site rec ≡ true → Has (keys x.copies) rec → IsUnlisted (step catalogue x given).site.refresh rec → Quits catalogue x given (step catalogue x given) rec
 quits catalogue x given idle tidy u rec v held usable copied unlisted = go (u.unlisted rec v held unlisted)
   where
     o : Stepped

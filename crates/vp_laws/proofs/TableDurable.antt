@@ -8,7 +8,7 @@ use Rattle.vp_model.specs.Catalogue.{Catalogue}
 use Rattle.vp_model.specs.Durable.{DurableState, apply, apply_all, doubt_of, without_doubt}
 use Rattle.vp_model.specs.Site.{SiteState, Lent, Stepped, begin_step}
 use Rattle.vp_model.specs.Transactions.{keep_writes, complete}
-use Rattle.vp_model.specs.Refresh.{take_newer, end_refresh, start_refresh}
+use Rattle.vp_model.specs.Refresh.{take_newer, unlist, end_refresh, start_refresh}
 use Rattle.vp_model.specs.Views.{drop_view, start_inviting, hold}
 use Rattle.vp_model.specs.Calls.{start_txn, take_lock, read_at, write_at, prepare_parts}
 use Rattle.vp_model.specs.Messages.{accept, on_accept, on_stale, grant, end_here}
@@ -40,8 +40,8 @@ module _ (catalogue : Catalogue) (x : SiteState) (given : Input) where
   unfolding keep_writes apply
   keeps_writes t l h = grind (arith, apply_all-force)
 
-  ends_refresh : (r : Refreshing) (own : Stored) (o : Stepped) → Folds (durable_of x) o → Folds (durable_of x) (end_refresh r own o)
-  unfolding end_refresh take_newer apply
+  ends_refresh : (r : Refreshing) (own : Stored) (o : Stepped) → Folds (durable_of x) o → Folds (durable_of x) (end_refresh catalogue r own o)
+  unfolding end_refresh unlist take_newer apply
   ends_refresh r own o h = grind (arith, apply_all-force)
 
   ends_here : (from : ℕ) (txn : TxnId) (commit : Bool) (doubt : Option Doubt) → doubt_of txn x.doubts ≡ doubt → Folds (durable_of x) (end_here from txn commit doubt (begin_step x))

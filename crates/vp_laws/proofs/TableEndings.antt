@@ -9,7 +9,7 @@ use Rattle.vp_model.specs.Words.{same_txn, txn_before, is_empty, at_most, for_ea
 use Rattle.vp_model.specs.Catalogue.{Catalogue}
 use Rattle.vp_model.specs.Durable.{put_decision, with_decision, acknowledged}
 use Rattle.vp_model.specs.Site.{CoordinatorState, SiteState, Lent, letters}
-use Rattle.vp_model.specs.Transactions.{put_live, with_finished, answers_after, keep_writes, writing_parts, decide, decided, complete}
+use Rattle.vp_model.specs.Transactions.{entry_of, put_live, with_finished, answers_after, keep_writes, writing_parts, decide, decided, complete}
 use Rattle.vp_model.specs.Refresh.{other_holders}
 use Rattle.vp_model.specs.Calls.{begun, with_begun, start_txn, take_lock, read_at, write_at, prepare_parts, prepare_for}
 use Rattle.vp_model.specs.Answers.{with_acknowledged, is_live, is_decided}
@@ -26,8 +26,8 @@ use Rattle.vp_laws.proofs.OnlyCoordinator.{is_aside, OnCoordinator, Keeps, only_
 
 -- a decision and a finished transaction are of no live one, and a finished one has a name that was given in this life
 pub record Settled (id life : ℕ) (c : CoordinatorState) : Type 0 where
-  pub decisions : (d : Decision) (t : Live) → Has c.decisions d → Has c.live t → t.txn ≢ d.0
-  pub own : (d : Decision) → Has c.decisions d → d.0.site ≡ id
+  pub decisions : (d : Decision) (t : Live) → Has c.decisions d → Has c.live t → t.txn ≢ d.txn
+  pub own : (d : Decision) → Has c.decisions d → d.txn.site ≡ id
   pub finished : (f : Finished) (t : Live) → Has c.finished f → Has c.live t → t.txn ≢ f.txn
   pub names : (f : Finished) → Has c.finished f → (f.txn.site ≡ id) × (f.txn.life ≡ life) × (f.txn.seq ≤ c.seq)
 
@@ -39,7 +39,7 @@ abbrev pub WasLive : SiteState → TxnId → Type 0
 WasLive x txn = (u : Live) × Has x.live u × (u.txn ≡ txn)
 
 abbrev pub WasDecided : List Decision → TxnId → Type 0
-WasDecided decisions txn = (d : Decision) × Has decisions d × (d.0 ≡ txn)
+WasDecided decisions txn = (d : Decision) × Has decisions d × (d.txn ≡ txn)
 
 abbrev pub IsEntered : List Commit → TxnId → Type 0
 IsEntered cs txn = (e : Commit) × Has cs e × (e.txn ≡ txn)
@@ -68,7 +68,7 @@ pub record Endings (x : SiteState) (given : Input) (c : CoordinatorState) (ms : 
   pub says : (m : Sent) → Has ms m → Says x given c.live cs m.to m.message
   pub entered : (e : Commit) → Has cs e → WasLive x e.txn × NotLive c.live e.txn
   pub once : (cs ≡ []) ⊎ ((e : Commit) × (cs ≡ e ∷ []))
-  pub decided : (d : Decision) → Has c.decisions d → WasDecided x.decisions d.0 ⊎ IsEntered cs d.0
+  pub decided : (d : Decision) → Has c.decisions d → WasDecided x.decisions d.txn ⊎ IsEntered cs d.txn
   pub finished : (f : Finished) → Has c.finished f → FinishedFrom x cs f
 
 -- a message that tells no end
@@ -108,7 +108,7 @@ at_most-has n xs a h = go (nat_lt n (length xs)) h
     go true q = dropped xs a q
     go false q = q
 
-module _ (catalogue : Catalogue) (x : SiteState) (given : Input) (led : Led x) (apart : Apart x.live) (settled : Settled x.id x.life x.coordinator) (fresh : (d : Decision) → Has x.decisions d → d.0 ≢ next_name x) where
+module _ (catalogue : Catalogue) (x : SiteState) (given : Input) (led : Led x) (apart : Apart x.live) (settled : Settled x.id x.life x.coordinator) (fresh : (d : Decision) → Has x.decisions d → d.txn ≢ next_name x) where
   abbrev R : CoordinatorState → List Sent → List Commit → Type 0
   R = Endings x given
 
@@ -214,22 +214,22 @@ module _ (catalogue : Catalogue) (x : SiteState) (given : Input) (led : Led x) (
     finished = λ f h. ⊎_elim (λ old. r.finished f old) (λ (new : (f.txn ≡ t.txn) × (f.ending ≡ why)). inr ((was.0, was.1, was.2 ∙ sym new.0), inr (rw new.1 abort, (λ e k. absurd (has_none e k))))) (finished_has t why c f h);
   }
 
-  decision_has : (txn : TxnId) (waiting : List ℕ) (decisions : List Decision) (d : Decision) → Has (with_decision txn waiting decisions) d → (d.0 ≡ txn) ⊎ Has decisions d
+  decision_has : (txn : TxnId) (waiting : List ℕ) (decisions : List Decision) (d : Decision) → Has (with_decision txn waiting decisions) d → (d.txn ≡ txn) ⊎ Has decisions d
   decision_has txn waiting decisions d h = go (is_empty waiting) h
     where
-      go : (b : Bool) → Has (cond b decisions (put_decision (txn, waiting) decisions)) d → (d.0 ≡ txn) ⊎ Has decisions d
+      go : (b : Bool) → Has (cond b decisions (put_decision (record { txn = txn; waiting = waiting }) decisions)) d → (d.txn ≡ txn) ⊎ Has decisions d
       go true q = inr q
-      go false q = ⊎_elim (λ (new : d ≡ (txn, waiting)). inl (ap (λ (d : Decision). d.0) new)) (λ old. inr old) (put_has (λ (a : Decision) (b : Decision). same_txn a.0 b.0) (λ (a : Decision) (b : Decision). txn_before a.0 b.0) (txn, waiting) decisions d q)
+      go false q = ⊎_elim (λ (new : d ≡ (record { txn = txn; waiting = waiting })). inl (ap (λ (d : Decision). d.txn) new)) (λ old. inr old) (put_has (λ (a : Decision) (b : Decision). same_txn a.txn b.txn) (λ (a : Decision) (b : Decision). txn_before a.txn b.txn) (record { txn = txn; waiting = waiting }) decisions d q)
 
   -- a commit: the decisions are the old ones and perhaps this one
-  commits : (t : Live) (c : CoordinatorState) (ms : List Sent) (e : Commit) → WasLive x t.txn → e.txn ≡ t.txn → c.live ≡ x.live → c.finished ≡ x.finished → c.seq ≡ x.seq → ((d : Decision) → Has c.decisions d → (d.0 ≡ t.txn) ⊎ Has x.decisions d) → ms ≡ letters x.id (λ q. message.Outcome t.txn true) t.parts → R (with_finished t Committed c) ms (e ∷ [])
+  commits : (t : Live) (c : CoordinatorState) (ms : List Sent) (e : Commit) → WasLive x t.txn → e.txn ≡ t.txn → c.live ≡ x.live → c.finished ≡ x.finished → c.seq ≡ x.seq → ((d : Decision) → Has c.decisions d → (d.txn ≡ t.txn) ⊎ Has x.decisions d) → ms ≡ letters x.id (λ q. message.Outcome t.txn true) t.parts → R (with_finished t Committed c) ms (e ∷ [])
   commits t c ms e was name v f s decisions said = record {
     apart = apart_without t.txn c.live away;
     up = rw s (same_up x.seq);
     live = λ u h. let k : Has x.live u = rw v at (without_first_has (named t.txn) c.live u h) in inl (u, k, refl);
     settled = record {
-      decisions = λ d u k h. ⊎_elim (λ (new : d.0 ≡ t.txn). (λ g. gone t Committed c away u h (g ∙ new))) (λ old. settled.decisions d u old (rw v at (without_first_has (named t.txn) c.live u h))) (decisions d k);
-      own = λ d k. ⊎_elim (λ (new : d.0 ≡ t.txn). ap (λ (t : TxnId). t.site) new ∙ (site_of t.txn was).0) (λ old. settled.own d old) (decisions d k);
+      decisions = λ d u k h. ⊎_elim (λ (new : d.txn ≡ t.txn). (λ g. gone t Committed c away u h (g ∙ new))) (λ old. settled.decisions d u old (rw v at (without_first_has (named t.txn) c.live u h))) (decisions d k);
+      own = λ d k. ⊎_elim (λ (new : d.txn ≡ t.txn). ap (λ (t : TxnId). t.site) new ∙ (site_of t.txn was).0) (λ old. settled.own d old) (decisions d k);
       finished = λ g u k h. ⊎_elim (λ old. settled.finished g u (rw f at old) (rw v at (without_first_has (named t.txn) c.live u h))) (λ (new : (g.txn ≡ t.txn) × (g.ending ≡ Committed)). (λ z. gone t Committed c away u h (z ∙ new.0))) (finished_has t Committed c g k);
       names = λ g k. ⊎_elim (λ old. let n = settled.names g (rw f at old) in (n.0, n.1, rw s n.2)) (λ (new : (g.txn ≡ t.txn) × (g.ending ≡ Committed)). let n = site_of t.txn was in (ap (λ (t : TxnId). t.site) new.0 ∙ n.0, ap (λ (t : TxnId). t.life) new.0 ∙ n.1, rw (ap (λ (t : TxnId). t.seq) new.0, s) n.2)) (finished_has t Committed c g k);
     };
@@ -237,7 +237,7 @@ module _ (catalogue : Catalogue) (x : SiteState) (given : Input) (led : Led x) (
         subst (λ (m : Sent). Says x given (with_finished t Committed c).live (e ∷ []) m.to m.message) q.2 ((site_of t.txn was).0, gone t Committed c away, inr (e, has_one e, name));
     entered = λ g h. let same : e ≡ g = has_one_is e g h in let txn : t.txn ≡ g.txn = sym name ∙ ap (λ (e : Commit). e.txn) same in ((was.0, was.1, was.2 ∙ txn), (λ u k z. gone t Committed c away u k (z ∙ sym txn)));
     once = inr (e, refl);
-    decided = λ d k. ⊎_elim (λ (new : d.0 ≡ t.txn). inr (e, has_one e, name ∙ sym new)) (λ old. inl (d, old, refl)) (decisions d k);
+    decided = λ d k. ⊎_elim (λ (new : d.txn ≡ t.txn). inr (e, has_one e, name ∙ sym new)) (λ old. inl (d, old, refl)) (decisions d k);
     finished = λ g h. ⊎_elim (λ old. inl (rw f at old)) (λ (new : (g.txn ≡ t.txn) × (g.ending ≡ Committed)). inr ((was.0, was.1, was.2 ∙ sym new.0), inl (new.1, (e, has_one e, name ∙ sym new.0)))) (finished_has t Committed c g h);
   }
     where
@@ -256,7 +256,7 @@ module _ (catalogue : Catalogue) (x : SiteState) (given : Input) (led : Led x) (
   decides t n = decide-cases L catalogue x.id t (lent_at x) (λ e. without) (λ e. with_writes)
     where
       entry : Commit
-      entry = record { txn = t.txn; view = t.view; ops = t.ops }
+      entry = entry_of t
 
       without : L (decided x.id t (lent_at x))
       without =
@@ -295,13 +295,13 @@ module _ (catalogue : Catalogue) (x : SiteState) (given : Input) (led : Led x) (
       higher a b h = omega arith
 
   -- a decision that some site has acknowledged
-  acknowledged_has : (txn : TxnId) (site : ℕ) (decisions : List Decision) (d : Decision) → Has (acknowledged txn site decisions) d → (e : Decision) × Has decisions e × (e.0 ≡ d.0)
+  acknowledged_has : (txn : TxnId) (site : ℕ) (decisions : List Decision) (d : Decision) → Has (acknowledged txn site decisions) d → (e : Decision) × Has decisions e × (e.txn ≡ d.txn)
   acknowledged_has txn site decisions d h =
-      let f = (filter_has (λ (d : Decision). not (is_empty d.1)) _ d h).0 in
-      let r = map_has (λ (d : Decision). cond (same_txn d.0 txn) (d.0, filter (λ q. not (q == site)) d.1) d) decisions d f in
-      (r.0, r.1, sym (first_same (same_txn r.0.0 txn) r.0 (filter (λ q. not (q == site)) r.0.1)) ∙ ap (λ (d : Decision). d.0) r.2)
+      let f = (filter_has (λ (d : Decision). not (is_empty d.waiting)) _ d h).0 in
+      let r = map_has (λ (d : Decision). cond (same_txn d.txn txn) (record { txn = d.txn; waiting = filter (λ q. not (q == site)) d.waiting }) d) decisions d f in
+      (r.0, r.1, sym (first_same (same_txn r.0.txn txn) r.0 (filter (λ q. not (q == site)) r.0.waiting)) ∙ ap (λ (d : Decision). d.txn) r.2)
     where
-      first_same : (b : Bool) (d : Decision) (rest : List ℕ) → (cond b (d.0, rest) d).0 ≡ d.0
+      first_same : (b : Bool) (d : Decision) (rest : List ℕ) → (cond b (record { txn = d.txn; waiting = rest }) d).txn ≡ d.txn
       first_same true d rest = refl
       first_same false d rest = refl
 
@@ -327,7 +327,7 @@ module _ (catalogue : Catalogue) (x : SiteState) (given : Input) (led : Led x) (
   is_live_not txn live e t h g = same_txn-not t.txn txn (any_false (named txn) live e t h) g
 
   is_decided_has : (txn : TxnId) (decisions : List Decision) → is_decided txn decisions ≡ true → WasDecided decisions txn
-  is_decided_has txn decisions e = let q = any_true (λ (d : Decision). same_txn d.0 txn) decisions e in (q.0, q.1, same_txn-is q.0.0 txn q.2)
+  is_decided_has txn decisions e = let q = any_true (λ (d : Decision). same_txn d.txn txn) decisions e in (q.0, q.1, same_txn-is q.0.txn txn q.2)
 
   same_number : (a b : ℕ) → (a == b) ≡ true → a ≡ b
   same_number a b e = grind (arith, nat_tests, e)
@@ -378,23 +378,23 @@ module _ (catalogue : Catalogue) (x : SiteState) (given : Input) (led : Led x) (
     resends = λ c d ms cs tick h r. resends c d ms cs h r;
   }
     where
-      resends : (c : CoordinatorState) (d : Decision) (ms : List Sent) (cs : List Commit) → Has c.decisions d → R c ms cs → R c (ms ++ letters x.id (λ q. message.Outcome d.0 true) d.1) cs
+      resends : (c : CoordinatorState) (d : Decision) (ms : List Sent) (cs : List Commit) → Has c.decisions d → R c ms cs → R c (ms ++ letters x.id (λ q. message.Outcome d.txn true) d.waiting) cs
       resends c d ms cs h r = record {
         apart = r.apart;
         up = r.up;
         live = r.live;
         settled = r.settled;
         says = λ m k. ⊎_elim (λ old. r.says m old)
-            (λ new. let q = map_has (λ (q : ℕ). letter x.id q (message.Outcome d.0 true)) d.1 m new in
+            (λ new. let q = map_has (λ (q : ℕ). letter x.id q (message.Outcome d.txn true)) d.waiting m new in
             subst (λ (m : Sent). Says x given c.live cs m.to m.message) q.2 (r.settled.own d h, (λ t g. r.settled.decisions d t h g), r.decided d h))
-            (has_cases ms (letters x.id (λ q. message.Outcome d.0 true) d.1) m k);
+            (has_cases ms (letters x.id (λ q. message.Outcome d.txn true) d.waiting) m k);
         entered = r.entered;
         once = r.once;
         decided = r.decided;
         finished = r.finished;
       }
 
-pub endings-step : (catalogue : Catalogue) (x : SiteState) (given : Input) → Led x → Apart x.live → Settled x.id x.life x.coordinator → ((d : Decision) → Has x.decisions d → d.0 ≢ next_name x) → OnCoordinator catalogue x given (Endings x given) (step catalogue x given)
+pub endings-step : (catalogue : Catalogue) (x : SiteState) (given : Input) → Led x → Apart x.live → Settled x.id x.life x.coordinator → ((d : Decision) → Has x.decisions d → d.txn ≢ next_name x) → OnCoordinator catalogue x given (Endings x given) (step catalogue x given)
 endings-step catalogue x given led apart settled fresh =
     let k = keeps catalogue x given led apart settled fresh in
     step-keeps catalogue x given (OnCoordinator catalogue x given (Endings x given)) (only_table catalogue x given (Endings x given) k) (only_begins catalogue x given (Endings x given) k)

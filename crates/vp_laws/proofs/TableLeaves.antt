@@ -9,7 +9,7 @@ use Rattle.vp_model.specs.Words.{same_view, same_txn, has_txn, view_before, repl
 use Rattle.vp_model.specs.Catalogue.{Catalogue}
 use Rattle.vp_model.specs.Durable.{doubt_of}
 use Rattle.vp_model.specs.Site.{ViewState, ParticipantState, SiteState, Lent, Stepped, begin_step, put_back, force, change_copies, change_views}
-use Rattle.vp_model.specs.Refresh.{newest, take_newer, end_refresh, start_refresh}
+use Rattle.vp_model.specs.Refresh.{newest, take_newer, unlist, end_refresh, start_refresh}
 use Rattle.vp_model.specs.Views.{drop_view, start_inviting, hold, has_part, has_doubt}
 use Rattle.vp_model.specs.Messages.{put_part, with_ended, with_acceptance, accept, on_accept, on_stale, grant, end_here}
 use Rattle.vp_model.specs.Step.{without_wait, fix, ask_again, resend_one, inquire, step}
@@ -31,7 +31,7 @@ pub record Leaves (x : SiteState) (given : Input) (o : Stepped) : Type 0 where
   -- a transaction that had ended here has, or the site has left its view
   pub ended : (txn : TxnId) → has_txn x.ended txn ≡ true → (has_txn o.site.ended txn ≡ true) ⊎ ((i : ViewId) → Uses o.site i → Precedes x.promise i)
   -- where an outcome comes for a doubt, it stays or has ended here, if a view is held
-  pub outcome : (d : Doubt) → Has x.doubts d → OutcomeComes given d.0 → Has o.site.doubts d ⊎ ((has_txn o.site.ended d.0 ≡ true) ⊎ (x.held ≡ None))
+  pub outcome : (d : Doubt) → Has x.doubts d → OutcomeComes given d.txn → Has o.site.doubts d ⊎ ((has_txn o.site.ended d.txn ≡ true) ⊎ (x.held ≡ None))
 
 -- no view is held, awaited or invited to
 pub unused : (x : SiteState) (i : ViewId) → x.held ≡ None → x.waiting ≡ None → x.inviting ≡ None → Uses x i → ⊥
@@ -103,7 +103,7 @@ module _ (catalogue : Catalogue) (x : SiteState) (given : Input) where
   part_changes e v n none = record {
     uses = λ i u. inl (uses_same e.site x i (ap (λ (v : ViewState). v.held) v) (ap (λ (v : ViewState). v.waiting) v) (ap (λ (v : ViewState). v.inviting) v) u);
     ended = λ txn g. inl (rw n g);
-    outcome = λ a g c. absurd (none a.0 c);
+    outcome = λ a g c. absurd (none a.txn c);
   }
 
   drops : (l : Lent) → P (drop_view (put_back (begin_step x) l))
@@ -200,8 +200,8 @@ module _ (catalogue : Catalogue) (x : SiteState) (given : Input) where
       go true = silent o (force (entry.Copy rec best) (change_copies (replace_at rec best) o)) refl refl p
       go false = p
 
-  ends_refresh : (r : Refreshing) (own : Stored) (o : Stepped) → P o → P (end_refresh r own o)
-  unfolding end_refresh
+  ends_refresh : (r : Refreshing) (own : Stored) (o : Stepped) → P o → P (end_refresh catalogue r own o)
+  unfolding end_refresh unlist
   ends_refresh r own o p = silent (take_newer r.rec own (newest own r.answers) o) _ refl refl (takes_newer r.rec own (newest own r.answers) o p)
 
   grants : (from : ℕ) (txn : TxnId) (view : ViewId) (rec : ℕ) (exclusive : Bool) (words : Message) → ((u : TxnId) → OutcomeComes given u → ⊥) → P (grant txn view rec exclusive words from (begin_step x))
@@ -234,7 +234,7 @@ module _ (catalogue : Catalogue) (x : SiteState) (given : Input) where
       ended_when None e = inr e
       ended_when (Some v) e = inl (ended_new txn x.ended)
 
-      named : (d : Doubt) → OutcomeComes given d.0 → d.0 ≡ txn
+      named : (d : Doubt) → OutcomeComes given d.txn → d.txn ≡ txn
       named d (p, b, e) = let z = sym e ∙ c in cc
 
       now : (e : Stepped) → e.site.views ≡ x.views → e.site.participant ≡ with_ended (is_some x.held) txn x.participant → P e

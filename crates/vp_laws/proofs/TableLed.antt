@@ -14,8 +14,8 @@ use Rattle.vp_model.specs.Words.{same_txn, is_view, view_before, has, for_each, 
 use Rattle.vp_model.specs.Catalogue.{Catalogue, holders}
 use Rattle.vp_model.specs.Durable.{doubt_of}
 use Rattle.vp_model.specs.Site.{ViewState, CoordinatorState, ParticipantState, SiteState, Lent, Stepped, begin_step, lent, put_back, letters, force, change_copies}
-use Rattle.vp_model.specs.Transactions.{with_finished, close, put_live, decided, keep_writes, complete, wait_for}
-use Rattle.vp_model.specs.Refresh.{members, newest, take_newer, end_refresh, start_refresh, other_holders, unanswered}
+use Rattle.vp_model.specs.Transactions.{entry_of, with_finished, close, put_live, decided, keep_writes, complete, wait_for}
+use Rattle.vp_model.specs.Refresh.{members, newest, take_newer, unlist, end_refresh, start_refresh, other_holders, unanswered}
 use Rattle.vp_model.specs.Views.{other_sites, drop_view, start_inviting, hold}
 use Rattle.vp_model.specs.Calls.{begun, with_begun, start_txn, take_lock, read_at, write_at, prepare_parts, prepare_for}
 use Rattle.vp_model.specs.Answers.{is_decided}
@@ -166,7 +166,7 @@ module _ (catalogue : Catalogue) (x : SiteState) (given : Input) (tidy : Tidy x)
 
   decideds : (t : Live) (l : Lent) → Handled x t → K l → K (decided x.id t l)
   decideds t l n q = ends t Committed true l _ (decided-ends x.id t l)
-      (λ c h. ⊎_elim (λ old. inl old) (λ new. inr (rw (← (has_one_is (record { txn = t.txn; view = t.view; ops = t.ops }) c new)) (n.was, n.live, ap (λ (t : Live). t.txn) n.same, ap (λ (t : Live). t.view) n.same, ap (λ (t : Live). t.ops) n.same))) (has_cases l.effects.commits _ c (rw decided-commits at h))) q
+      (λ c h. ⊎_elim (λ old. inl old) (λ new. inr (rw (← (has_one_is (entry_of t) c new)) (n.was, n.live, ap (λ (t : Live). t.txn) n.same, ap (λ (t : Live). t.view) n.same, ap (λ (t : Live). t.ops) n.same))) (has_cases l.effects.commits _ c (rw decided-commits at h))) q
 
   -- only the locks or the copies, and other words than asking ones
   plain : (l now : Lent) → now.seq ≡ l.seq → now.live ≡ l.live → now.effects.messages ≡ l.effects.messages → now.effects.commits ≡ l.effects.commits → K l → K now
@@ -385,8 +385,8 @@ module _ (catalogue : Catalogue) (x : SiteState) (given : Input) (tidy : Tidy x)
       go true = silent o _ (record { id = refl; life = refl; seq = refl; live = refl; held = refl; ended = λ n q. q; refresh = λ n q. q; monitor = λ n q. q }) refl refl l
       go false = l
 
-  ends_refresh : (r : Refreshing) (own : Stored) (o : Stepped) → Leads x o → Leads x (end_refresh r own o)
-  unfolding end_refresh
+  ends_refresh : (r : Refreshing) (own : Stored) (o : Stepped) → Leads x o → Leads x (end_refresh catalogue r own o)
+  unfolding end_refresh unlist
   ends_refresh r own o l =
       silent (take_newer r.rec own (newest own r.answers) o) _ (record { id = refl; life = refl; seq = refl; live = refl; held = refl; ended = λ n q. q; refresh = λ n q. rw q refl; monitor = λ n q. q }) refl refl (takes_newer r.rec own (newest own r.answers) o l)
 
@@ -422,7 +422,7 @@ module _ (catalogue : Catalogue) (x : SiteState) (given : Input) (tidy : Tidy x)
 
   resends : (d : Decision) (o : Stepped) → Leads x o → Leads x (put_back o (resend_one o.site.id d (lent o)))
   unfolding resend_one
-  resends d o l = beside o _ (letters o.site.id (λ q. message.Outcome d.0 true) d.1) (self_same o.site) refl refl (letters_none o.site.id (λ q. message.Outcome d.0 true) d.1 (λ q. refl)) l
+  resends d o l = beside o _ (letters o.site.id (λ q. message.Outcome d.txn true) d.waiting) (self_same o.site) refl refl (letters_none o.site.id (λ q. message.Outcome d.txn true) d.waiting (λ q. refl)) l
 
   inquires : (txns : List TxnId) (o : Stepped) → Leads x o → Leads x (inquire txns o)
   unfolding inquire
@@ -472,7 +472,7 @@ module _ (catalogue : Catalogue) (x : SiteState) (given : Input) (tidy : Tidy x)
     start_refresh = λ view rec o e a h l. starts_refresh view rec o e.held l;
     end_refresh = λ rec r own o e a d v l. ends_refresh r own o l;
     keep_answer = λ from view rec stored r c e f g. silent (begin_step x) _ (record { id = refl; life = refl; seq = refl; live = refl; held = refl; ended = λ n q. q; refresh = λ n q. rw q refl; monitor = λ n q. q }) refl refl begins;
-    answer_refresh = λ from view rec stored c e d v. one _ x.id from (message.RefreshAnswer view rec stored.value stored.date) refl (self_same x) refl refl;
+    answer_refresh = λ from view rec stored c e d v. one _ x.id from (message.RefreshAnswer view rec stored) refl (self_same x) refl refl;
     ask_again = λ view r o e h v l. asks_again view.id r o l;
     refuse_view = λ from txn view number a e. one _ x.id from (message.Refuse txn number (obstacle.OtherView (held_id x))) refl (self_same x) refl refl;
     refuse_lock = λ from txn view number rec exclusive holder r e n c. one _ x.id from (message.Refuse txn number (obstacle.Held holder)) refl (self_same x) refl refl;

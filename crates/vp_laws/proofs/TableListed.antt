@@ -8,8 +8,8 @@ use Rattle.vp_model.specs.Catalogue.{Catalogue}
 use Rattle.vp_model.specs.Locks.{without_guard}
 use Rattle.vp_model.specs.Durable.{doubt_of}
 use Rattle.vp_model.specs.Site.{Here, SiteState, Lent, Stepped, begin_step, put_back, force, change_copies}
-use Rattle.vp_model.specs.Transactions.{last_writes, writes_held, close, keep_writes, decide, complete}
-use Rattle.vp_model.specs.Refresh.{is_usable, newest, take_newer, end_refresh, start_refresh}
+use Rattle.vp_model.specs.Transactions.{last_changes, entry_of, writes_held, close, keep_writes, decide, complete}
+use Rattle.vp_model.specs.Refresh.{is_open, newest, take_newer, unlist, end_refresh, start_refresh}
 use Rattle.vp_model.specs.Views.{drop_view, start_inviting, hold}
 use Rattle.vp_model.specs.Calls.{start_txn, take_lock, read_at, write_at, prepare_parts}
 use Rattle.vp_model.specs.Messages.{with_answer, accept, on_accept, on_stale, grant, end_here}
@@ -25,7 +25,7 @@ use Rattle.vp_laws.proofs.TableLocks.{replaced_keys, written_keys}
 
 -- the record has a copy among these, and may be used
 abbrev pub IsListed : Catalogue → List ℕ → SiteState → ℕ → Type 0
-IsListed catalogue copied x rec = Has copied rec × (is_usable catalogue x rec ≡ true)
+IsListed catalogue copied x rec = Has copied rec × (is_open catalogue x rec ≡ true)
 
 -- it was under refresh in the same view, or the view was joined now
 pub data ListedNow (x : SiteState) (o : Stepped) (rec : ℕ) : Type 0 where
@@ -87,14 +87,14 @@ module _ (catalogue : Catalogue) (x : SiteState) (given : Input) (tidy : Tidy x)
       go true = same o (force (entry.Copy rec best) (change_copies (replace_at rec best) o)) refl (replaced_keys rec best o.site.copies) refl p
       go false = p
 
-  finishes : (r : Refreshing) (own : Stored) (o : Stepped) → P o → P (end_refresh r own o)
-  unfolding end_refresh
+  finishes : (r : Refreshing) (own : Stored) (o : Stepped) → P o → P (end_refresh catalogue r own o)
+  unfolding end_refresh unlist
   finishes r own o p = removes (take_newer r.rec own (newest own r.answers) o) (takes r.rec own (newest own r.answers) o p)
     where
       removes : (n : Stepped) → P n → P (record n { site = record n.site { here = record n.site.here { locks = without_guard r.rec n.site.locks }; refresh = filter (λ other. not (other.rec == r.rec)) n.site.refresh } })
       removes n g = fewer n _ refl refl (λ q h. (q, (filter_has (λ (other : Refreshing). not (other.rec == r.rec)) n.site.refresh q h).0, refl)) g
 
-  refreshes : (view : View) (rec : ℕ) (o : Stepped) → Joined x view o → is_usable catalogue o.site rec ≡ true → Has (keys o.site.copies) rec → P o → P (start_refresh catalogue view rec o)
+  refreshes : (view : View) (rec : ℕ) (o : Stepped) → Joined x view o → is_open catalogue o.site rec ≡ true → Has (keys o.site.copies) rec → P o → P (start_refresh catalogue view rec o)
   unfolding start_refresh
   refreshes view rec o j usable there p = record {
     copied = p.copied;
@@ -120,7 +120,7 @@ module _ (catalogue : Catalogue) (x : SiteState) (given : Input) (tidy : Tidy x)
   ends_here from txn true None = same (begin_step x) _ refl refl refl starts
   ends_here from txn false None = same (begin_step x) _ refl refl refl starts
   ends_here from txn false (Some d) = same (begin_step x) _ refl refl refl starts
-  ends_here from txn true (Some d) = same (begin_step x) _ refl (written_keys d.1 d.2 x.copies) refl starts
+  ends_here from txn true (Some d) = same (begin_step x) _ refl (written_keys d.view d.writes x.copies) refl starts
 
   abbrev K : Lent → Type 0
   K = Back x P
@@ -135,7 +135,7 @@ module _ (catalogue : Catalogue) (x : SiteState) (given : Input) (tidy : Tidy x)
   unfolding keep_writes
   decides t = decide-cases K catalogue x.id t (lent_at x)
       (λ e. quiet (lent_at x) _ (ap (λ (h : Here). keys h.copies) (decided-ends x.id t (lent_at x)).here) starts)
-      (λ e. let l = keep_writes catalogue x.id t (lent_at x) in quiet (lent_at x) _ (ap (λ (h : Here). keys h.copies) (decided-ends x.id t l).here ∙ written_keys t.view (writes_held catalogue x.id (last_writes t.ops)) x.copies) starts)
+      (λ e. let l = keep_writes catalogue x.id t (lent_at x) in quiet (lent_at x) _ (ap (λ (h : Here). keys h.copies) (decided-ends x.id t l).here ∙ written_keys t.view (writes_held catalogue x.id (last_changes (entry_of t))) x.copies) starts)
 
   pub table : Table catalogue x given P
   unfolding on_stale on_accept hold fix ask_again start_inviting accept grant start_txn take_lock complete read_at write_at prepare_parts mark_calls resend_one inquire

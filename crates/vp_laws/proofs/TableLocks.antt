@@ -4,7 +4,7 @@ use Rattle.std.specs.Prelude.{Option, Some, None, filter, find, option_map, not,
 use Rattle.std.specs.List.{list_all}
 use Rattle.std.proofs.lemmas.Bool.Decides.{nat_tests}
 use Rattle.std.proofs.lemmas.Bool.{eqb-true}
-use Rattle.vp_model.specs.Types.{ViewId, TxnId, View, Message, Input, Stored, Lock, Part, Op, Answer, Pending, Live, Ending, Refreshing, Doubt}
+use Rattle.vp_model.specs.Types.{Change, ViewId, TxnId, View, Message, Input, Stored, Lock, Part, Op, Answer, Pending, Live, Ending, Refreshing, Doubt}
 use Rattle.vp_base.specs.declared.site.Ending.TheVariants.{Committed}
 use Rattle.vp_model.specs.Types.entry
 use Rattle.vp_model.specs.Types.input
@@ -16,8 +16,8 @@ use Rattle.vp_model.specs.Catalogue.{Catalogue}
 use Rattle.vp_model.specs.Durable.{doubt_of, without_doubt, with_writes, with_outcome}
 use Rattle.vp_model.specs.Locks.{conflict, holds, with_lock, without_owner, without_guard}
 use Rattle.vp_model.specs.Site.{ViewState, ParticipantState, CoordinatorState, Here, SiteState, Lent, Stepped, begin_step, put_back, force, change_copies}
-use Rattle.vp_model.specs.Transactions.{wait_for, last_writes, writes_held, keep_writes, complete}
-use Rattle.vp_model.specs.Refresh.{newest, take_newer, end_refresh, start_refresh, other_holders}
+use Rattle.vp_model.specs.Transactions.{last_changes, entry_of, wait_for, last_writes, writes_held, keep_writes, complete}
+use Rattle.vp_model.specs.Refresh.{newest, take_newer, unlist, end_refresh, start_refresh, other_holders}
 use Rattle.vp_model.specs.Views.{part_of, drop_view, start_inviting, hold, has_part, has_doubt}
 use Rattle.vp_model.specs.Calls.{begun, start_txn, take_lock, read_at, write_at, prepare_parts}
 use Rattle.vp_model.specs.Messages.{put_part, with_vote, with_new_doubt, with_answer, has_all_locks, accept, on_accept, on_stale, grant, end_here}
@@ -65,12 +65,12 @@ replaced_keys {K} n v (p ∷ pairs) = ap (λ (k : ℕ). k ∷ keys (replace_at n
     go true e = sym (eqb-true p.0 n e)
     go false e = refl
 
-pub written_keys : (date : ViewId) (writes : List (ℕ × List ℕ)) (copies : List (ℕ × Stored)) → keys (with_writes date writes copies) ≡ keys copies
+pub written_keys : (date : ViewId) (writes : List (ℕ × Change)) (copies : List (ℕ × Stored)) → keys (with_writes date writes copies) ≡ keys copies
 written_keys date [] copies = refl
 written_keys date (w ∷ writes) copies = written_keys date writes (replace_at w.0 (record { value = w.1; date = date }) copies) ∙ replaced_keys w.0 (record { value = w.1; date = date }) copies
 
 outcome_keys : (doubt : Option Doubt) (commit : Bool) (copies : List (ℕ × Stored)) → keys (with_outcome doubt commit copies) ≡ keys copies
-outcome_keys (Some d) true copies = written_keys d.1 d.2 copies
+outcome_keys (Some d) true copies = written_keys d.view d.writes copies
 outcome_keys (Some d) false copies = refl
 outcome_keys None commit copies = refl
 
@@ -96,7 +96,7 @@ change_names t (a ∷ live) u h = go (same_txn a.txn t.txn) refl (λ q. change_n
 weaker : (rec : ℕ) (txn : TxnId) (locks : List Lock) → HasLock rec true (owner.Txn txn) locks → HasLock rec false (owner.Txn txn) locks
 weaker rec txn locks h = record { lock = h.lock; has = h.has; on = h.on; by = h.by; strong = λ e. cc }
 
-module _ (catalogue : Catalogue) (x : SiteState) (given : Input) (tidy : Tidy x) (led : Led x) (below : Below x) (apart : Apart x.live) (ok : LocksAt catalogue x) (outcomes : (from : ℕ) (txn : TxnId) (commit : Bool) → Comes given from (message.Outcome txn commit) → NotLive x.live txn) (awaited : (i : ViewId) → x.waiting ≡ Some i → Precedes opening i × ((d : Doubt) → Has x.doubts d → Precedes d.1 i)) (invited : (b : ViewId × List ℕ) → x.inviting ≡ Some b → Precedes opening b.0 × ((d : Doubt) → Has x.doubts d → Precedes d.1 b.0)) where
+module _ (catalogue : Catalogue) (x : SiteState) (given : Input) (tidy : Tidy x) (led : Led x) (below : Below x) (apart : Apart x.live) (ok : LocksAt catalogue x) (outcomes : (from : ℕ) (txn : TxnId) (commit : Bool) → Comes given from (message.Outcome txn commit) → NotLive x.live txn) (awaited : (i : ViewId) → x.waiting ≡ Some i → Precedes opening i × ((d : Doubt) → Has x.doubts d → Precedes d.view i)) (invited : (b : ViewId × List ℕ) → x.inviting ≡ Some b → Precedes opening b.0 × ((d : Doubt) → Has x.doubts d → Precedes d.view b.0)) where
   abbrev P : Stepped → Type 0
   P = Guards catalogue x given
 
@@ -165,8 +165,8 @@ module _ (catalogue : Catalogue) (x : SiteState) (given : Input) (tidy : Tidy x)
       go true = same o (force (entry.Copy rec best) (change_copies (replace_at rec best) o)) refl refl refl refl (replaced_keys rec best o.site.copies) refl p
       go false = p
 
-  finishes : (r : Refreshing) (own : Stored) (o : Stepped) → P o → P (end_refresh r own o)
-  unfolding end_refresh
+  finishes : (r : Refreshing) (own : Stored) (o : Stepped) → P o → P (end_refresh catalogue r own o)
+  unfolding end_refresh unlist
   finishes r own o p = let g = takes_newer r.rec own (newest own r.answers) o p in unguards (take_newer r.rec own (newest own r.answers) o) g
     where
       unguards : (n : Stepped) → P n → P (record n { site = record n.site { here = record n.site.here { locks = without_guard r.rec n.site.locks }; refresh = filter (λ other. not (other.rec == r.rec)) n.site.refresh } })
@@ -190,7 +190,7 @@ module _ (catalogue : Catalogue) (x : SiteState) (given : Input) (tidy : Tidy x)
       none : x.held ≡ None
       none = ⊎_elim (λ e. (tidy.waiting view.id e).1) (λ e. (tidy.inviting (view.id, view.members) e).1) j.origin
 
-      below_it : (d : Doubt) → Has x.doubts d → Precedes d.1 view.id
+      below_it : (d : Doubt) → Has x.doubts d → Precedes d.view view.id
       below_it d h = ⊎_elim (λ e. (awaited view.id e).1 d h) (λ e. (invited (view.id, view.members) e).1 d h) j.origin
 
       go : IsKnown o.site.live o.site.parts o.site.doubts txn → LowerDoubt o.site.doubts view.id txn
@@ -281,7 +281,7 @@ module _ (catalogue : Catalogue) (x : SiteState) (given : Input) (tidy : Tidy x)
       there : (has_part txn x.parts || has_doubt txn x.doubts) ≡ true → IsKnown x.live x.parts x.doubts txn
       there e = ⊎_elim
           (λ p. let q = any_true (λ (part : Part). same_txn part.txn txn) x.parts p in inr (inl (q.0, q.1, same_txn-is q.0.txn txn q.2)))
-          (λ d. let q = any_true (λ (d : Doubt). same_txn d.0 txn) x.doubts d in inr (inr (q.0, q.1, same_txn-is q.0.0 txn q.2)))
+          (λ d. let q = any_true (λ (d : Doubt). same_txn d.txn txn) x.doubts d in inr (inr (q.0, q.1, same_txn-is q.0.txn txn q.2)))
           (either_true _ _ e)
 
       site : ParticipantState → SiteState
@@ -321,28 +321,28 @@ module _ (catalogue : Catalogue) (x : SiteState) (given : Input) (tidy : Tidy x)
       let b = both_true (holds r true (owner.Txn txn) x.locks) (list_all (λ rec. holds rec true (owner.Txn txn) x.locks) recs) e in
       ⊎_elim (λ (one : r ≡ rec). rw (← one) (holds_has r txn x.locks b.0)) (λ more. all_held recs txn b.1 rec more) (has_cons r recs rec h)
 
-  doubting_ok : (part : Part) (reads : List ℕ) (writes : List (ℕ × List ℕ)) → has_doubt part.txn x.doubts ≡ false → has_all_locks x.locks part.txn reads writes ≡ true → LocksOk catalogue x.live (with_new_doubt part writes x.participant).parts (with_new_doubt part writes x.participant).doubts x.refresh x.held (keys x.copies) x.locks
+  doubting_ok : (part : Part) (reads : List ℕ) (writes : List (ℕ × Change)) → has_doubt part.txn x.doubts ≡ false → has_all_locks x.locks part.txn reads writes ≡ true → LocksOk catalogue x.live (with_new_doubt part writes x.participant).parts (with_new_doubt part writes x.participant).doubts x.refresh x.held (keys x.copies) x.locks
   doubting_ok part reads writes certain all = shares_change catalogue x.live x.parts x.doubts x.refresh x.held (keys x.copies) x.locks ok _ _
       (λ u p. split u p (same_txn p.0.txn part.txn) refl)
       (λ d h. put_old same_name before_name new x.doubts d h (unlike_it d h))
-      (λ d rec h k. ⊎_elim (λ (is : d ≡ new). rw (ap (λ (d : Doubt). d.0) is) (all_held (keys writes) part.txn (both_true _ _ all).0 rec (rw (ap (λ (d : Doubt). d.2) is) at k))) (λ old. ok.doubted d rec old k) (put_has same_name before_name new x.doubts d h))
+      (λ d rec h k. ⊎_elim (λ (is : d ≡ new). rw (ap (λ (d : Doubt). d.txn) is) (all_held (keys writes) part.txn (both_true _ _ all).0 rec (rw (ap (λ (d : Doubt). d.writes) is) at k))) (λ old. ok.doubted d rec old k) (put_has same_name before_name new x.doubts d h))
     where
       new : Doubt
-      new = (part.txn, part.view, writes)
+      new = (record { txn = part.txn; view = part.view; writes = writes })
 
       same_name : Doubt → Doubt → Bool
-      same_name a b = same_txn a.0 b.0
+      same_name a b = same_txn a.txn b.txn
 
       before_name : Doubt → Doubt → Bool
-      before_name a b = txn_before a.0 b.0
+      before_name a b = txn_before a.txn b.txn
 
       turned : (a b : TxnId) → same_txn a b ≡ false → same_txn b a ≡ false
       turned a b e = grind (arith, nat_tests, e)
 
-      unlike_it : (d : Doubt) → Has x.doubts d → same_txn part.txn d.0 ≡ false
-      unlike_it d h = turned d.0 part.txn (any_false (λ (d : Doubt). same_txn d.0 part.txn) x.doubts certain d h)
+      unlike_it : (d : Doubt) → Has x.doubts d → same_txn part.txn d.txn ≡ false
+      unlike_it d h = turned d.txn part.txn (any_false (λ (d : Doubt). same_txn d.txn part.txn) x.doubts certain d h)
 
-      split : (u : TxnId) (p : (p : Part) × Has x.parts p × (p.txn ≡ u)) (b : Bool) → same_txn p.0.txn part.txn ≡ b → ((q : Part) × Has (filter (λ (other : Part). not (same_txn other.txn part.txn)) x.parts) q × (q.txn ≡ u)) ⊎ ((d : Doubt) × Has (put same_name before_name new x.doubts) d × (d.0 ≡ u))
+      split : (u : TxnId) (p : (p : Part) × Has x.parts p × (p.txn ≡ u)) (b : Bool) → same_txn p.0.txn part.txn ≡ b → ((q : Part) × Has (filter (λ (other : Part). not (same_txn other.txn part.txn)) x.parts) q × (q.txn ≡ u)) ⊎ ((d : Doubt) × Has (put same_name before_name new x.doubts) d × (d.txn ≡ u))
       split u (p, h, e) true is = inr (new, put_new same_name before_name new x.doubts, sym (same_txn-is p.txn part.txn is) ∙ e)
       split u (p, h, e) false is = inl (p, filter_keeps (λ (other : Part). not (same_txn other.txn part.txn)) x.parts p h (rw is refl), e)
 
@@ -531,7 +531,7 @@ module _ (catalogue : Catalogue) (x : SiteState) (given : Input) (tidy : Tidy x)
       named_so : n.was.txn ≡ t.txn
       named_so = sym (ap (λ (t : Live). t.txn) n.same)
 
-      other_doubt : (d : Doubt) → Has x.doubts d → d.0 ≢ t.txn
+      other_doubt : (d : Doubt) → Has x.doubts d → d.txn ≢ t.txn
       other_doubt d h z = (below.doubts d h).1 (ap (λ (t : TxnId). t.site) (z ∙ sym named_so) ∙ (led.names n.was n.live).0)
 
       split : (rec : ℕ) (z : Bool) (u : TxnId) → HasLock rec z (owner.Txn u) l.locks → (b : Bool) → same_txn u t.txn ≡ b → HasLock rec z (owner.Txn u) now.locks ⊎ Gone x given (put_back (begin_step x) now) u
@@ -540,7 +540,7 @@ module _ (catalogue : Catalogue) (x : SiteState) (given : Input) (tidy : Tidy x)
 
   keeps_copies : (t : Live) → K (keep_writes catalogue x.id t (lent_at x))
   unfolding keep_writes
-  keeps_copies t = same (begin_step x) (put_back (begin_step x) (keep_writes catalogue x.id t (lent_at x))) refl refl refl refl (written_keys t.view (writes_held catalogue x.id (last_writes t.ops)) x.copies) refl starts
+  keeps_copies t = same (begin_step x) (put_back (begin_step x) (keep_writes catalogue x.id t (lent_at x))) refl refl refl refl (written_keys t.view (writes_held catalogue x.id (last_changes (entry_of t))) x.copies) refl starts
 
   marks : (l : Lent) → K l → K (mark_calls l)
   unfolding mark_calls
@@ -610,5 +610,5 @@ module _ (catalogue : Catalogue) (x : SiteState) (given : Input) (tidy : Tidy x)
       certain : (part : Part) (txn : TxnId) → part_of txn x.parts ≡ Some part → has_doubt txn x.doubts ≡ false → has_doubt part.txn x.doubts ≡ false
       certain part txn f d = rw (same_txn-is part.txn txn (find_true (λ (p : Part). same_txn p.txn txn) x.parts part f)) d
 
-pub guards-step : (catalogue : Catalogue) (x : SiteState) (given : Input) → Tidy x → Led x → Below x → Apart x.live → LocksAt catalogue x → ((from : ℕ) (txn : TxnId) (commit : Bool) → Comes given from (message.Outcome txn commit) → NotLive x.live txn) → ((i : ViewId) → x.waiting ≡ Some i → Precedes opening i × ((d : Doubt) → Has x.doubts d → Precedes d.1 i)) → ((b : ViewId × List ℕ) → x.inviting ≡ Some b → Precedes opening b.0 × ((d : Doubt) → Has x.doubts d → Precedes d.1 b.0)) → Guards catalogue x given (step catalogue x given)
+pub guards-step : (catalogue : Catalogue) (x : SiteState) (given : Input) → Tidy x → Led x → Below x → Apart x.live → LocksAt catalogue x → ((from : ℕ) (txn : TxnId) (commit : Bool) → Comes given from (message.Outcome txn commit) → NotLive x.live txn) → ((i : ViewId) → x.waiting ≡ Some i → Precedes opening i × ((d : Doubt) → Has x.doubts d → Precedes d.view i)) → ((b : ViewId × List ℕ) → x.inviting ≡ Some b → Precedes opening b.0 × ((d : Doubt) → Has x.doubts d → Precedes d.view b.0)) → Guards catalogue x given (step catalogue x given)
 guards-step catalogue x given tidy led below apart ok outcomes awaited invited = step-keeps catalogue x given (Guards catalogue x given) (table catalogue x given tidy led below apart ok outcomes awaited invited) (starts catalogue x given tidy led below apart ok outcomes awaited invited)

@@ -1,7 +1,7 @@
 -- The names of transactions and views that stand in a site, and in what it sends: a step makes no other ones than it has or is given.
 use Rattle.std.proofs.Common.{◌≡◌, ◌⊎◌, ◌∙◌, ap, sym, subst, ℕ, Bool, true, false, cond, List, [], ◌∷◌, ◌++◌, map, refl, arith, inr, ⊎_elim, append-nil}
 use Rattle.std.specs.Prelude.{Option, Some, None, is_some, nat_lt, ◌&&◌, ◌||◌, ◌==◌, not, option_map, filter, fold}
-use Rattle.vp_model.specs.Types.{ViewId, TxnId, View, Stored, Owner, Obstacle, Message, Sent, Input, Lock, Part, Refreshing, Pending, Live, Ending, Doubt, Decision}
+use Rattle.vp_model.specs.Types.{Change, ViewId, TxnId, View, Stored, Owner, Obstacle, Message, Sent, Input, Lock, Part, Refreshing, Pending, Live, Ending, Doubt, Decision}
 use Rattle.vp_base.specs.declared.site.Ending.TheVariants.{Committed}
 use Rattle.vp_model.specs.Types.owner
 use Rattle.vp_model.specs.Types.entry
@@ -12,8 +12,8 @@ use Rattle.vp_model.specs.Catalogue.{Catalogue}
 use Rattle.vp_model.specs.Durable.{doubt_of, put_decision, with_decision, acknowledged, with_writes}
 use Rattle.vp_model.specs.Locks.{raised, holds, with_lock, without_owner, lesser, least_owner, conflicting, conflict}
 use Rattle.vp_model.specs.Site.{Here, ViewState, CoordinatorState, ParticipantState, send, change_participant, change_refresh, SiteState, Lent, Stepped, begin_step, lent, put_back, letters, force, change_copies}
-use Rattle.vp_model.specs.Transactions.{writing_parts, keep_writes, complete, writes_held, last_writes}
-use Rattle.vp_model.specs.Refresh.{newer, refreshing_of, newest, take_newer, end_refresh, start_refresh, other_holders, unanswered}
+use Rattle.vp_model.specs.Transactions.{last_changes, entry_of, writing_parts, keep_writes, complete, writes_held}
+use Rattle.vp_model.specs.Refresh.{newer, refreshing_of, newest, take_newer, unlist, end_refresh, start_refresh, other_holders, unanswered}
 use Rattle.vp_model.specs.Views.{outlasts, with_view, part_of, has_part, has_doubt, other_sites, drop_view, start_inviting, hold}
 use Rattle.vp_model.specs.Calls.{start_txn, take_lock, read_at, write_at, prepare_parts, prepare_for}
 use Rattle.vp_model.specs.Answers.{with_acknowledged, is_decided}
@@ -57,15 +57,15 @@ module _ (N : TxnId → Type 0) (A : ViewId → Type 0) where
   Named (message.Ack t) = N t
   Named (message.Inquire t) = N t
   Named (message.RefreshRequest v r) = A v
-  Named (message.RefreshAnswer v r value date) = A v × A date
+  Named (message.RefreshAnswer v r stored) = A v × A stored.date
   Named (message.Probe v) = A v
 
   pub record Names (s : SiteState) : Type 0 where
     pub held : (v : View) → s.held ≡ Some v → A v.id
     pub parts : (p : Part) → Has s.parts p → N p.txn × A p.view
-    pub doubts : (d : Doubt) → Has s.doubts d → N d.0 × A d.1
+    pub doubts : (d : Doubt) → Has s.doubts d → N d.txn × A d.view
     pub ended : (t : TxnId) → Has s.ended t → N t
-    pub decisions : (d : Decision) → Has s.decisions d → N d.0
+    pub decisions : (d : Decision) → Has s.decisions d → N d.txn
     pub locks : (l : Lock) → Has s.locks l → OwnerNamed l.owner
     pub copies : (c : ℕ × Stored) → Has s.copies c → A c.1.date
     pub answers : (r : Refreshing) (a : ℕ × Stored) → Has s.refresh r → Has r.answers a → A a.1.date
@@ -125,28 +125,28 @@ module _ (N : TxnId → Type 0) (A : ViewId → Type 0) where
       least_named (conflicting rec exclusive (owner.Txn txn) locks) holder
       (λ l h. all l (filter_has (λ (lock : Lock). (lock.rec == rec) && (exclusive || lock.exclusive) && not (same_owner lock.owner (owner.Txn txn))) locks l h).0) e
 
-  pub decision_named : (txn : TxnId) (waiting : List ℕ) (decisions : List Decision) → N txn → ((d : Decision) → Has decisions d → N d.0) → (d : Decision) → Has (with_decision txn waiting decisions) d → N d.0
+  pub decision_named : (txn : TxnId) (waiting : List ℕ) (decisions : List Decision) → N txn → ((d : Decision) → Has decisions d → N d.txn) → (d : Decision) → Has (with_decision txn waiting decisions) d → N d.txn
   decision_named txn waiting decisions mine all d h = go (is_empty waiting) h
     where
-      go : (b : Bool) → Has (cond b decisions (put_decision (txn, waiting) decisions)) d → N d.0
+      go : (b : Bool) → Has (cond b decisions (put_decision (record { txn = txn; waiting = waiting }) decisions)) d → N d.txn
       go true q = all d q
-      go false q = ⊎_elim (λ (new : d ≡ (txn, waiting)). rw new mine) (λ old. all d old) (put_has (λ (a : Decision) (b : Decision). same_txn a.0 b.0) (λ (a : Decision) (b : Decision). txn_before a.0 b.0) (txn, waiting) decisions d q)
+      go false q = ⊎_elim (λ (new : d ≡ (record { txn = txn; waiting = waiting })). rw new mine) (λ old. all d old) (put_has (λ (a : Decision) (b : Decision). same_txn a.txn b.txn) (λ (a : Decision) (b : Decision). txn_before a.txn b.txn) (record { txn = txn; waiting = waiting }) decisions d q)
 
-  pub acknowledged_named : (txn : TxnId) (site : ℕ) (decisions : List Decision) → ((d : Decision) → Has decisions d → N d.0) → (d : Decision) → Has (acknowledged txn site decisions) d → N d.0
+  pub acknowledged_named : (txn : TxnId) (site : ℕ) (decisions : List Decision) → ((d : Decision) → Has decisions d → N d.txn) → (d : Decision) → Has (acknowledged txn site decisions) d → N d.txn
   acknowledged_named txn site decisions all d h =
-      let f = (filter_has (λ (d : Decision). not (is_empty d.1)) _ d h).0 in
-      let r = map_has (λ (d : Decision). cond (same_txn d.0 txn) (d.0, filter (λ q. not (q == site)) d.1) d) decisions d f in
-      rw (sym (ap (λ (d : Decision). d.0) r.2) ∙ first_same (same_txn r.0.0 txn) r.0 (filter (λ q. not (q == site)) r.0.1)) (all r.0 r.1)
+      let f = (filter_has (λ (d : Decision). not (is_empty d.waiting)) _ d h).0 in
+      let r = map_has (λ (d : Decision). cond (same_txn d.txn txn) (record { txn = d.txn; waiting = filter (λ q. not (q == site)) d.waiting }) d) decisions d f in
+      rw (sym (ap (λ (d : Decision). d.txn) r.2) ∙ first_same (same_txn r.0.txn txn) r.0 (filter (λ q. not (q == site)) r.0.waiting)) (all r.0 r.1)
     where
-      first_same : (b : Bool) (d : Decision) (rest : List ℕ) → (cond b (d.0, rest) d).0 ≡ d.0
+      first_same : (b : Bool) (d : Decision) (rest : List ℕ) → (cond b (record { txn = d.txn; waiting = rest }) d).txn ≡ d.txn
       first_same true d rest = refl
       first_same false d rest = refl
 
-  puts_named : (doubts : List Doubt) (txns : List TxnId) → ((d : Doubt) → Has doubts d → N d.0) → ((t : TxnId) → Has txns t → N t) → (t : TxnId) → Has (for_each doubts (λ (d : Doubt). put_txn d.0) txns) t → N t
+  puts_named : (doubts : List Doubt) (txns : List TxnId) → ((d : Doubt) → Has doubts d → N d.txn) → ((t : TxnId) → Has txns t → N t) → (t : TxnId) → Has (for_each doubts (λ (d : Doubt). put_txn d.txn) txns) t → N t
   puts_named [] txns one all t h = all t h
   puts_named (d ∷ doubts) txns one all t h =
-      puts_named doubts (put_txn d.0 txns) (λ e q. one e (has_more d doubts e q))
-      (λ u q. ⊎_elim (λ (new : u ≡ d.0). rw new (one d (has_first d doubts))) (λ old. all u old) (put_has same_txn txn_before d.0 txns u q)) t h
+      puts_named doubts (put_txn d.txn txns) (λ e q. one e (has_more d doubts e q))
+      (λ u q. ⊎_elim (λ (new : u ≡ d.txn). rw new (one d (has_first d doubts))) (λ old. all u old) (put_has same_txn txn_before d.txn txns u q)) t h
 
   pub known_named : (s : SiteState) → Names s → (t : TxnId) → Has (known s.participant) t → N t
   known_named s n t h =
@@ -228,7 +228,7 @@ module _ (N : TxnId → Type 0) (A : ViewId → Type 0) where
         ended = names.ended;
         decisions = decision_named t.txn (writing_parts catalogue t) x.decisions (live_named t n).0 names.decisions;
         locks = names.locks;
-        copies = λ c h. ⊎_elim (λ (e : c.1.date ≡ t.view). subst A (sym e) (live_named t n).1) (λ old. names.copies c old) (writes_has t.view (writes_held catalogue x.id (last_writes t.ops)) x.copies c h);
+        copies = λ c h. ⊎_elim (λ (e : c.1.date ≡ t.view). subst A (sym e) (live_named t n).1) (λ old. names.copies c old) (writes_has t.view (writes_held catalogue x.id (last_changes (entry_of t))) x.copies c h);
         answers = names.answers;
       };
       sent = λ m h. absurd (has_none m h);
@@ -323,8 +323,8 @@ module _ (N : TxnId → Type 0) (A : ViewId → Type 0) where
         go true = record { names = taken; sent = l.sent }
         go false = l
 
-    ends_refresh : (rec : ℕ) (r : Refreshing) (own : Stored) (o : Stepped) → refreshing_of rec o.site.refresh ≡ Some r → value_at r.rec o.site.copies ≡ Some own → Calls o → Calls (end_refresh r own o)
-    unfolding end_refresh
+    ends_refresh : (rec : ℕ) (r : Refreshing) (own : Stored) (o : Stepped) → refreshing_of rec o.site.refresh ≡ Some r → value_at r.rec o.site.copies ≡ Some own → Calls o → Calls (end_refresh catalogue r own o)
+    unfolding end_refresh unlist
     ends_refresh rec r own o e v l =
         let listed = find_has (λ (q : Refreshing). q.rec == rec) o.site.refresh r e in
         let c = value_has r.rec o.site.copies own v in
@@ -392,14 +392,14 @@ module _ (N : TxnId → Type 0) (A : ViewId → Type 0) where
         })
         (names.parts part h).0 refl
 
-    votes_writing : (from : ℕ) (part : Part) (writes : List (ℕ × List ℕ)) → Has x.parts part → Calls (send (message.Vote part.txn) from (force (entry.Yes part.txn part.view writes) (change_participant (with_new_doubt part writes) (begin_step x))))
+    votes_writing : (from : ℕ) (part : Part) (writes : List (ℕ × Change)) → Has x.parts part → Calls (send (message.Vote part.txn) from (force (entry.Yes part.txn part.view writes) (change_participant (with_new_doubt part writes) (begin_step x))))
     votes_writing from part writes h =
         one _ x.id from (message.Vote part.txn)
         (record {
           held = names.held;
           parts = λ a k. names.parts a (filter_has (λ (other : Part). not (same_txn other.txn part.txn)) x.parts a k).0;
-          doubts = λ d k. ⊎_elim (λ (new : d ≡ (part.txn, part.view, writes)). let n = names.parts part h in (subst N (sym (ap (λ (d : Doubt). d.0) new)) n.0, subst A (sym (ap (λ (d : Doubt). d.1) new)) n.1)) (λ old. names.doubts d old)
-              (put_has (λ (a : Doubt) (b : Doubt). same_txn a.0 b.0) (λ (a : Doubt) (b : Doubt). txn_before a.0 b.0) (part.txn, part.view, writes) x.doubts d k);
+          doubts = λ d k. ⊎_elim (λ (new : d ≡ (record { txn = part.txn; view = part.view; writes = writes })). let n = names.parts part h in (subst N (sym (ap (λ (d : Doubt). d.txn) new)) n.0, subst A (sym (ap (λ (d : Doubt). d.view) new)) n.1)) (λ old. names.doubts d old)
+              (put_has (λ (a : Doubt) (b : Doubt). same_txn a.txn b.txn) (λ (a : Doubt) (b : Doubt). txn_before a.txn b.txn) (record { txn = part.txn; view = part.view; writes = writes }) x.doubts d k);
           ended = names.ended;
           decisions = names.decisions;
           locks = names.locks;
@@ -416,7 +416,7 @@ module _ (N : TxnId → Type 0) (A : ViewId → Type 0) where
         now copies dates = record {
           held = names.held;
           parts = λ a h. names.parts a (filter_has (λ (part : Part). not (same_txn part.txn txn)) x.parts a h).0;
-          doubts = λ d h. names.doubts d (filter_has (λ (d : Doubt). not (same_txn d.0 txn)) x.doubts d h).0;
+          doubts = λ d h. names.doubts d (filter_has (λ (d : Doubt). not (same_txn d.txn txn)) x.doubts d h).0;
           ended = λ t h. ended_has (is_some x.held && not (has_txn x.ended txn)) t h;
           decisions = names.decisions;
           locks = without_named (owner.Txn txn) x.here.locks names.locks;
@@ -428,13 +428,13 @@ module _ (N : TxnId → Type 0) (A : ViewId → Type 0) where
             ended_has true t h = ⊎_elim (λ old. names.ended t old) (λ new. subst N (has_one_is txn t new) n) (has_cases x.ended (txn ∷ []) t h)
             ended_has false t h = names.ended t h
 
-        copied : (d : Doubt) → doubt_of txn x.doubts ≡ Some d → (c : ℕ × Stored) → Has (with_writes d.1 d.2 x.copies) c → A c.1.date
-        copied d e c h = ⊎_elim (λ (q : c.1.date ≡ d.1). subst A (sym q) (names.doubts d (find_has (λ (d : Doubt). same_txn d.0 txn) x.doubts d e)).1) (λ old. names.copies c old) (writes_has d.1 d.2 x.copies c h)
+        copied : (d : Doubt) → doubt_of txn x.doubts ≡ Some d → (c : ℕ × Stored) → Has (with_writes d.view d.writes x.copies) c → A c.1.date
+        copied d e c h = ⊎_elim (λ (q : c.1.date ≡ d.view). subst A (sym q) (names.doubts d (find_has (λ (d : Doubt). same_txn d.txn txn) x.doubts d e)).1) (λ old. names.copies c old) (writes_has d.view d.writes x.copies c h)
 
         go : (commit : Bool) (doubt : Option Doubt) → doubt_of txn x.doubts ≡ doubt → Calls (end_here from txn commit doubt (begin_step x))
         go true None e = one _ x.id from (message.Ack txn) (now x.copies names.copies) n refl
         go false None e = silent (begin_step x) _ (now x.copies names.copies) refl begins
-        go true (Some d) e = one _ x.id from (message.Ack txn) (now (with_writes d.1 d.2 x.copies) (copied d e)) n refl
+        go true (Some d) e = one _ x.id from (message.Ack txn) (now (with_writes d.view d.writes x.copies) (copied d e)) n refl
         go false (Some d) e = silent (begin_step x) _ (now x.copies names.copies) refl begins
 
     keeps_answer : (from rec : ℕ) (stored : Stored) → A stored.date → Calls (change_refresh (map (with_answer rec from stored)) (begin_step x))
@@ -455,10 +455,10 @@ module _ (N : TxnId → Type 0) (A : ViewId → Type 0) where
             let z : Has (put_at from stored q.answers) a = rw (← same) at k in
             ⊎_elim (λ (new : a ≡ (from, stored)). subst A (sym (ap (λ (a : ℕ × Stored). a.1.date) new)) named) (λ old. names.answers q a h old) (put_has (λ (a : ℕ × Stored) (b : ℕ × Stored). a.0 == b.0) (λ (a : ℕ × Stored) (b : ℕ × Stored). nat_lt a.0 b.0) (from, stored) q.answers a z)
 
-    answers_refresh : (from rec : ℕ) (view : ViewId) (stored : Stored) → A view → value_at rec x.copies ≡ Some stored → Calls (send (message.RefreshAnswer view rec stored.value stored.date) from (begin_step x))
+    answers_refresh : (from rec : ℕ) (view : ViewId) (stored : Stored) → A view → value_at rec x.copies ≡ Some stored → Calls (send (message.RefreshAnswer view rec stored) from (begin_step x))
     answers_refresh from rec view stored n v =
         let c = value_has rec x.copies stored v in
-        one _ x.id from (message.RefreshAnswer view rec stored.value stored.date) names (n, subst A (ap (λ (s : Stored). s.date) c.2) (names.copies c.0 c.1)) refl
+        one _ x.id from (message.RefreshAnswer view rec stored) names (n, subst A (ap (λ (s : Stored). s.date) c.2) (names.copies c.0 c.1)) refl
 
     writes_at : (t : Live) (p : Pending) (rec : ℕ) (sites : List ℕ) (l : Lent) → Has x.live t → K l → K (write_at x.id t p rec sites l)
     unfolding write_at
@@ -466,7 +466,7 @@ module _ (N : TxnId → Type 0) (A : ViewId → Type 0) where
 
     resends : (d : Decision) (o : Stepped) → Has o.site.decisions d → Calls o → Calls (put_back o (resend_one o.site.id d (lent o)))
     unfolding resend_one
-    resends d o h l = more o _ (letters o.site.id (λ q. message.Outcome d.0 true) d.1) l.names refl (letters_named o.site.id (λ q. message.Outcome d.0 true) d.1 (λ q. l.names.decisions d h)) l
+    resends d o h l = more o _ (letters o.site.id (λ q. message.Outcome d.txn true) d.waiting) l.names refl (letters_named o.site.id (λ q. message.Outcome d.txn true) d.waiting (λ q. l.names.decisions d h)) l
 
     inquires : (o : Stepped) → Calls o → Calls (inquire (known o.site.participant) o)
     unfolding inquire
@@ -484,7 +484,7 @@ module _ (N : TxnId → Type 0) (A : ViewId → Type 0) where
     views_now : (v : ViewState) → v.held ≡ x.held → Names (record x { views = v })
     views_now v e = same_names _ x e refl refl refl refl refl refl refl names
 
-    coordinator_now : (c : CoordinatorState) → ((d : Decision) → Has c.decisions d → N d.0) → Names (record x { coordinator = c })
+    coordinator_now : (c : CoordinatorState) → ((d : Decision) → Has c.decisions d → N d.txn) → Names (record x { coordinator = c })
     coordinator_now c all = record { held = names.held; parts = names.parts; doubts = names.doubts; ended = names.ended; decisions = all; locks = names.locks; copies = names.copies; answers = names.answers }
 
     view_of : (v : ViewId) → holds_view x v ≡ true → A v
@@ -511,7 +511,7 @@ module _ (N : TxnId → Type 0) (A : ViewId → Type 0) where
       probe = λ view c e. more (begin_step x) (probe_all catalogue view (begin_step x)) _ (views_now (with_monitor x.views) refl) refl (letters_named x.id (λ q. message.Probe view.id) (other_sites catalogue x.id) (λ q. names.held view e)) begins;
       start_refresh = λ view rec o e a h l. starts_refresh view rec o e.held l;
       end_refresh = λ rec r own o e a d v l. ends_refresh rec r own o e v l;
-      keep_answer = λ from view rec stored r c e f g. keeps_answer from rec stored (arrived from (message.RefreshAnswer view rec stored.value stored.date) c).1;
+      keep_answer = λ from view rec stored r c e f g. keeps_answer from rec stored (arrived from (message.RefreshAnswer view rec stored) c).1;
       answer_refresh = λ from view rec stored c e d v. answers_refresh from rec view stored (view_of view e) v;
       ask_again = λ view r o e h v l. asks_again view r o e l;
       refuse_view = λ from txn view number a e. one _ x.id from (message.Refuse txn number (obstacle.OtherView (held_id x))) names ((asked_named from txn view number a).0, held_named x.held refl) refl;

@@ -11,8 +11,8 @@ use Rattle.vp_model.specs.Words.{same_txn, txn_before, replace_at, view_before}
 use Rattle.vp_model.specs.Catalogue.{Catalogue}
 use Rattle.vp_model.specs.Durable.{doubt_of, without_doubt}
 use Rattle.vp_model.specs.Site.{SiteState, Lent, Stepped, begin_step, put_back, force, change_copies}
-use Rattle.vp_model.specs.Transactions.{last_writes, writes_held, writing_parts, keep_writes, complete}
-use Rattle.vp_model.specs.Refresh.{take_newer, newest, end_refresh, start_refresh}
+use Rattle.vp_model.specs.Transactions.{last_changes, entry_of, writes_held, writing_parts, keep_writes, complete}
+use Rattle.vp_model.specs.Refresh.{take_newer, newest, unlist, end_refresh, start_refresh}
 use Rattle.vp_model.specs.Views.{has_doubt, drop_view, start_inviting, hold}
 use Rattle.vp_model.specs.Calls.{start_txn, take_lock, read_at, write_at, prepare_parts}
 use Rattle.vp_model.specs.Messages.{with_part, accept, on_accept, on_stale, grant, end_here}
@@ -30,7 +30,7 @@ pub record OutcomeFor (x : SiteState) (given : Input) (txn : TxnId) (commit : Bo
   pub comes : Comes given from (message.Outcome txn commit)
   pub doubt : Doubt
   pub there : Has x.doubts doubt
-  pub named : doubt.0 ≡ txn
+  pub named : doubt.txn ≡ txn
 
 abbrev pub OutcomesCome : SiteState → Input → List LogRecord → Type 0
 OutcomesCome x given rs = (txn : TxnId) (commit : Bool) → Has rs (entry.Outcome txn commit) → OutcomeFor x given txn commit
@@ -41,7 +41,7 @@ IsForced o txn = (commit : Bool) × Has o.effects.records (entry.Outcome txn com
 
 -- a doubt is still there, or ends by an outcome
 abbrev pub DoubtsStay : SiteState → Stepped → Type 0
-DoubtsStay x o = (d : Doubt) → Has x.doubts d → Has o.site.doubts d ⊎ IsForced o d.0
+DoubtsStay x o = (d : Doubt) → Has x.doubts d → Has o.site.doubts d ⊎ IsForced o d.txn
 
 abbrev is_outcome : LogRecord → Bool
 is_outcome (entry.Outcome txn commit) = true
@@ -56,8 +56,8 @@ find_none {A} test (y ∷ ys) e a h = go (test y) refl e (λ q k. find_none test
     go false t q rest = ⊎_elim (λ (same : y ≡ a). rw (← same) t) (λ more. rest q more) (has_cons y ys a h)
 
 -- a transaction that is not in doubt has no doubt
-no_such : (doubts : List Doubt) (txn named : TxnId) (d : Doubt) → named ≡ txn → has_doubt txn doubts ≡ false → Has doubts d → same_txn named d.0 ≡ false
-no_such doubts txn named d is e h = rw is (turned d.0 txn (any_false (λ (d : Doubt). same_txn d.0 txn) doubts e d h))
+no_such : (doubts : List Doubt) (txn named : TxnId) (d : Doubt) → named ≡ txn → has_doubt txn doubts ≡ false → Has doubts d → same_txn named d.txn ≡ false
+no_such doubts txn named d is e h = rw is (turned d.txn txn (any_false (λ (d : Doubt). same_txn d.txn txn) doubts e d h))
   where
     turned : (a b : TxnId) → same_txn a b ≡ false → same_txn b a ≡ false
     turned a b e = grind (arith, nat_tests, e)
@@ -85,13 +85,13 @@ module _ (catalogue : Catalogue) (x : SiteState) (given : Input) where
   alike : (o e : Stepped) → e.effects.records ≡ o.effects.records → e.site.doubts ≡ o.site.doubts → P o → P e
   alike o e is same p = record {
     come = λ txn commit h. p.come txn commit (rw is at h);
-    stays = λ d h. ⊎_elim (λ here. inl (rw same here)) (λ (ends : IsForced o d.0). inr (ends.0, rw is ends.1)) (p.stays d h);
+    stays = λ d h. ⊎_elim (λ here. inl (rw same here)) (λ (ends : IsForced o d.txn). inr (ends.0, rw is ends.1)) (p.stays d h);
   }
 
   more : (o e : Stepped) (r : LogRecord) → is_outcome r ≡ false → e.effects.records ≡ o.effects.records ++ r ∷ [] → e.site.doubts ≡ o.site.doubts → P o → P e
   more o e r other is same p = record {
     come = one_more o.effects.records e.effects.records r other is p.come;
-    stays = λ d h. ⊎_elim (λ here. inl (rw same here)) (λ (ends : IsForced o d.0). inr (ends.0, rw is (has_left o.effects.records (r ∷ []) _ ends.1))) (p.stays d h);
+    stays = λ d h. ⊎_elim (λ here. inl (rw same here)) (λ (ends : IsForced o d.txn). inr (ends.0, rw is (has_left o.effects.records (r ∷ []) _ ends.1))) (p.stays d h);
   }
 
   takes_newer : (rec : ℕ) (own best : Stored) (o : Stepped) → P o → P (take_newer rec own best o)
@@ -102,8 +102,8 @@ module _ (catalogue : Catalogue) (x : SiteState) (given : Input) where
       go true = more o _ (entry.Copy rec best) refl refl refl p
       go false = p
 
-  ends_refresh : (r : Refreshing) (own : Stored) (o : Stepped) → P o → P (end_refresh r own o)
-  unfolding end_refresh
+  ends_refresh : (r : Refreshing) (own : Stored) (o : Stepped) → P o → P (end_refresh catalogue r own o)
+  unfolding end_refresh unlist
   ends_refresh r own o p = alike (take_newer r.rec own (newest own r.answers) o) _ refl refl (takes_newer r.rec own (newest own r.answers) o p)
 
   outcome : (from : ℕ) (txn : TxnId) (commit : Bool) (d : Doubt) → Comes given from (message.Outcome txn commit) → doubt_of txn x.doubts ≡ Some d → OutcomesCome x given (entry.Outcome txn commit ∷ [])
@@ -115,23 +115,23 @@ module _ (catalogue : Catalogue) (x : SiteState) (given : Input) where
         from = from;
         comes = c ∙ ap (λ (n : TxnId). input.Message from (message.Outcome n commit)) named ∙ ap (λ (b : Bool). input.Message from (message.Outcome t b)) so;
         doubt = d;
-        there = find_has (λ (d : Doubt). same_txn d.0 txn) x.doubts d e;
-        named = same_txn-is d.0 txn (find_true (λ (d : Doubt). same_txn d.0 txn) x.doubts d e) ∙ named;
+        there = find_has (λ (d : Doubt). same_txn d.txn txn) x.doubts d e;
+        named = same_txn-is d.txn txn (find_true (λ (d : Doubt). same_txn d.txn txn) x.doubts d e) ∙ named;
       }
 
-  other_stays : (txn : TxnId) (d : Doubt) → Has x.doubts d → same_txn d.0 txn ≡ false → Has (without_doubt txn x.doubts) d
-  other_stays txn d h e = filter_keeps (λ (d : Doubt). not (same_txn d.0 txn)) x.doubts d h (ap not e)
+  other_stays : (txn : TxnId) (d : Doubt) → Has x.doubts d → same_txn d.txn txn ≡ false → Has (without_doubt txn x.doubts) d
+  other_stays txn d h e = filter_keeps (λ (d : Doubt). not (same_txn d.txn txn)) x.doubts d h (ap not e)
 
   -- a doubt ends where it is this transaction's
-  ended : (txn : TxnId) (commit : Bool) (d u : Doubt) → Has x.doubts u → Has (without_doubt txn x.doubts) u ⊎ ((b : Bool) × Has (entry.Outcome txn commit ∷ []) (entry.Outcome u.0 b))
-  ended txn commit d u h = go (same_txn u.0 txn) refl
+  ended : (txn : TxnId) (commit : Bool) (d u : Doubt) → Has x.doubts u → Has (without_doubt txn x.doubts) u ⊎ ((b : Bool) × Has (entry.Outcome txn commit ∷ []) (entry.Outcome u.txn b))
+  ended txn commit d u h = go (same_txn u.txn txn) refl
     where
-      go : (b : Bool) → same_txn u.0 txn ≡ b → Has (without_doubt txn x.doubts) u ⊎ ((b : Bool) × Has (entry.Outcome txn commit ∷ []) (entry.Outcome u.0 b))
-      go true e = inr (commit, subst (λ (n : TxnId). Has (entry.Outcome txn commit ∷ []) (entry.Outcome n commit)) (sym (same_txn-is u.0 txn e)) (has_one (entry.Outcome txn commit)))
+      go : (b : Bool) → same_txn u.txn txn ≡ b → Has (without_doubt txn x.doubts) u ⊎ ((b : Bool) × Has (entry.Outcome txn commit ∷ []) (entry.Outcome u.txn b))
+      go true e = inr (commit, subst (λ (n : TxnId). Has (entry.Outcome txn commit ∷ []) (entry.Outcome n commit)) (sym (same_txn-is u.txn txn e)) (has_one (entry.Outcome txn commit)))
       go false e = inl (other_stays txn u h e)
 
   undoubted : (txn : TxnId) → doubt_of txn x.doubts ≡ None → (u : Doubt) → Has x.doubts u → Has (without_doubt txn x.doubts) u
-  undoubted txn e u h = other_stays txn u h (find_none (λ (d : Doubt). same_txn d.0 txn) x.doubts e u h)
+  undoubted txn e u h = other_stays txn u h (find_none (λ (d : Doubt). same_txn d.txn txn) x.doubts e u h)
 
   ends_here : (from : ℕ) (txn : TxnId) (commit : Bool) (doubt : Option Doubt) → Comes given from (message.Outcome txn commit) → doubt_of txn x.doubts ≡ doubt → P (end_here from txn commit doubt (begin_step x))
   unfolding end_here
@@ -145,7 +145,7 @@ module _ (catalogue : Catalogue) (x : SiteState) (given : Input) where
 
   keeps_writes : (t : Live) (l : Lent) → K l → K (keep_writes catalogue x.id t l)
   unfolding keep_writes
-  keeps_writes t l p = more (put_back (begin_step x) l) (put_back (begin_step x) (keep_writes catalogue x.id t l)) (entry.Commit t.txn t.view (writes_held catalogue x.id (last_writes t.ops)) (writing_parts catalogue t)) refl refl refl p
+  keeps_writes t l p = more (put_back (begin_step x) l) (put_back (begin_step x) (keep_writes catalogue x.id t l)) (entry.Commit t.txn t.view (writes_held catalogue x.id (last_changes (entry_of t))) (writing_parts catalogue t)) refl refl refl p
 
   starts : P (begin_step x)
   starts = none (begin_step x) refl refl
@@ -179,7 +179,7 @@ module _ (catalogue : Catalogue) (x : SiteState) (given : Input) where
     vote_reading = λ from txn view number reads writes part c e n d f v a w. none _ refl refl;
     vote_writing = λ from txn view number reads writes part c e n d f v a w. record {
       come = one_more [] _ (entry.Yes part.txn part.view writes) refl refl (λ t b h. absurd (has_none _ h));
-      stays = λ u h. inl (put_old (λ (a : Doubt) (b : Doubt). same_txn a.0 b.0) (λ (a : Doubt) (b : Doubt). txn_before a.0 b.0) (part.txn, part.view, writes) x.doubts u h (no_such x.doubts txn part.txn u (same_txn-is part.txn txn (find_true (λ (p : Part). same_txn p.txn txn) x.parts part f)) d h));
+      stays = λ u h. inl (put_old (λ (a : Doubt) (b : Doubt). same_txn a.txn b.txn) (λ (a : Doubt) (b : Doubt). txn_before a.txn b.txn) (record { txn = part.txn; view = part.view; writes = writes }) x.doubts u h (no_such x.doubts txn part.txn u (same_txn-is part.txn txn (find_true (λ (p : Part). same_txn p.txn txn) x.parts part f)) d h));
     };
     end_here = λ from txn commit c. ends_here from txn commit (doubt_of txn x.doubts) c refl;
     coordinator = record {

@@ -12,7 +12,7 @@ use Rattle.vp_model.specs.Durable.{doubt_of}
 use Rattle.vp_model.specs.Locks.{conflict}
 use Rattle.vp_model.specs.Site.{SiteState, Lent, Stepped, begin_step, lent, put_back, letters, force, change_copies}
 use Rattle.vp_model.specs.Transactions.{keep_writes, complete}
-use Rattle.vp_model.specs.Refresh.{newest, take_newer, end_refresh, start_refresh, other_holders, unanswered}
+use Rattle.vp_model.specs.Refresh.{newest, take_newer, unlist, end_refresh, start_refresh, other_holders, unanswered}
 use Rattle.vp_model.specs.Views.{other_sites, drop_view, start_inviting, hold}
 use Rattle.vp_model.specs.Calls.{start_txn, take_lock, read_at, write_at, prepare_parts, prepare_for}
 use Rattle.vp_model.specs.Answers.{is_decided}
@@ -84,8 +84,8 @@ module _ (catalogue : Catalogue) (x : SiteState) (given : Input) where
       go true = silent o (force (entry.Copy rec best) (change_copies (replace_at rec best) o)) refl refl p
       go false = p
 
-  ends_refresh : (r : Refreshing) (own : Stored) (o : Stepped) → P o → P (end_refresh r own o)
-  unfolding end_refresh
+  ends_refresh : (r : Refreshing) (own : Stored) (o : Stepped) → P o → P (end_refresh catalogue r own o)
+  unfolding end_refresh unlist
   ends_refresh r own o p = silent (take_newer r.rec own (newest own r.answers) o) _ refl refl (takes_newer r.rec own (newest own r.answers) o p)
 
   ends_here : (from : ℕ) (txn : TxnId) (commit : Bool) (doubt : Option Doubt) → P (end_here from txn commit doubt (begin_step x))
@@ -104,7 +104,7 @@ module _ (catalogue : Catalogue) (x : SiteState) (given : Input) where
 
   resent : (d : Decision) (o : Stepped) → P o → P (put_back o (resend_one o.site.id d (lent o)))
   unfolding resend_one
-  resent d o p = many o _ o.site.id (λ q. message.Outcome d.0 true) d.1 refl refl (λ q. refl) p
+  resent d o p = many o _ o.site.id (λ q. message.Outcome d.txn true) d.waiting refl refl (λ q. refl) p
 
   abbrev K : Lent → Type 0
   K = Back x P
@@ -145,7 +145,7 @@ module _ (catalogue : Catalogue) (x : SiteState) (given : Input) where
     start_refresh = λ view rec o e a h p. many o (start_refresh catalogue view rec o) o.site.id (λ q. message.RefreshRequest view.id rec) (other_holders catalogue o.site rec) refl refl (λ q. refl) p;
     end_refresh = λ rec r own o e a d v p. ends_refresh r own o p;
     keep_answer = λ from view rec stored r c e f g. silent (begin_step x) _ refl refl begins;
-    answer_refresh = λ from view rec stored c e d v. one _ from (message.RefreshAnswer view rec stored.value stored.date) refl refl refl;
+    answer_refresh = λ from view rec stored c e d v. one _ from (message.RefreshAnswer view rec stored) refl refl refl;
     ask_again = λ view r o e h v p. many o (ask_again catalogue view.id r o) o.site.id (λ q. message.RefreshRequest view.id r.rec) (unanswered catalogue o.site r) refl refl (λ q. refl) p;
     refuse_view = λ from txn view number a e. refusal _ from txn number (obstacle.OtherView (held_id x)) (Refused.other view a e) refl refl;
     refuse_lock = λ from txn view number rec exclusive holder r e n c. refusal _ from txn number (obstacle.Held holder) (Refused.held view rec exclusive holder r c) refl refl;

@@ -9,8 +9,8 @@ use Rattle.vp_model.specs.Words.{without_first, view_before, replace_at}
 use Rattle.vp_model.specs.Catalogue.{Catalogue}
 use Rattle.vp_model.specs.Durable.{doubt_of}
 use Rattle.vp_model.specs.Site.{reply, CoordinatorState, SiteState, Lent, Stepped, begin_step, put_back, force, change_copies}
-use Rattle.vp_model.specs.Transactions.{answer_of, with_pending_reply, finish, close, keep_writes, decided, decide, complete}
-use Rattle.vp_model.specs.Refresh.{newest, take_newer, end_refresh, start_refresh}
+use Rattle.vp_model.specs.Transactions.{entry_of, answer_of, with_pending_reply, finish, close, keep_writes, decided, decide, complete}
+use Rattle.vp_model.specs.Refresh.{newest, take_newer, unlist, end_refresh, start_refresh}
 use Rattle.vp_model.specs.Views.{drop_view, start_inviting, invite, hold}
 use Rattle.vp_model.specs.Calls.{start_txn, take_lock, read_at, write_at, prepare_parts}
 use Rattle.vp_model.specs.Messages.{accept, on_accept, on_stale, grant, end_here}
@@ -132,7 +132,7 @@ module _ (catalogue : Catalogue) (x : SiteState) (given : Input) (led : Led x) (
   }
     where
       entry : Commit
-      entry = record { txn = t.txn; view = t.view; ops = t.ops }
+      entry = entry_of t
 
       entering : (l now : Lent) → now.effects.commits ≡ l.effects.commits ++ entry ∷ [] → now.effects.replies ≡ l.effects.replies ++ with_pending t.txn Committed t.pending → l.effects.commits ≡ [] → l.effects.replies ≡ [] → Replying x now.live now.effects.commits now.effects.replies
       entering l now cs rs none quiet =
@@ -178,8 +178,8 @@ module _ (catalogue : Catalogue) (x : SiteState) (given : Input) (led : Led x) (
       go true = (refl, refl, refl)
       go false = (refl, refl, refl)
 
-  ends_refresh : (r : Refreshing) (own : Stored) (o : Stepped) → S (end_refresh r own o) → P o → P (end_refresh r own o)
-  unfolding end_refresh
+  ends_refresh : (r : Refreshing) (own : Stored) (o : Stepped) → S (end_refresh catalogue r own o) → P o → P (end_refresh catalogue r own o)
+  unfolding end_refresh unlist
   ends_refresh r own o base p = let q = same_taken r.rec own (newest own r.answers) o in silent o _ base q.0 q.1 q.2 p
 
   ends_here : (from : ℕ) (txn : TxnId) (commit : Bool) (doubt : Option Doubt) → S (end_here from txn commit doubt (begin_step x)) → P (end_here from txn commit doubt (begin_step x))

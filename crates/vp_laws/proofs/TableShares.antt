@@ -2,7 +2,7 @@
 use Rattle.std.proofs.Common.{◌≡◌, ◌≢◌, ◌⊎◌, ◌∙◌, ap, sym, subst, ℕ, Bool, true, false, cond, List, [], ◌∷◌, ◌++◌, map, refl, arith, inl, inr, ⊎_elim, append-nil}
 use Rattle.std.specs.Prelude.{Option, Some, None, is_some, filter, not, ◌==◌, ◌||◌}
 use Rattle.std.proofs.lemmas.Bool.Decides.{nat_tests}
-use Rattle.vp_model.specs.Types.{ViewId, TxnId, Message, Sent, Input, Stored, Part, Refreshing, Live, Doubt}
+use Rattle.vp_model.specs.Types.{Change, ViewId, TxnId, Message, Sent, Input, Stored, Part, Refreshing, Live, Doubt}
 use Rattle.vp_model.specs.Types.entry
 use Rattle.vp_model.specs.Types.input
 use Rattle.vp_model.specs.Types.message
@@ -13,7 +13,7 @@ use Rattle.vp_model.specs.Durable.{doubt_of}
 use Rattle.vp_model.specs.Locks.{conflict}
 use Rattle.vp_model.specs.Site.{ParticipantState, SiteState, Lent, Stepped, begin_step, lent, put_back, letters, force, change_copies}
 use Rattle.vp_model.specs.Transactions.{keep_writes, complete}
-use Rattle.vp_model.specs.Refresh.{newest, take_newer, end_refresh, start_refresh, other_holders, unanswered, is_doubtful}
+use Rattle.vp_model.specs.Refresh.{newest, take_newer, unlist, end_refresh, start_refresh, other_holders, unanswered, is_doubtful}
 use Rattle.vp_model.specs.Views.{part_of, has_part, has_doubt, other_sites, drop_view, start_inviting, hold}
 use Rattle.vp_model.specs.Calls.{start_txn, take_lock, read_at, write_at, prepare_parts, prepare_for}
 use Rattle.vp_model.specs.Answers.{is_decided}
@@ -31,7 +31,7 @@ abbrev pub fresh_part : TxnId → ViewId → Part
 fresh_part txn view = record { txn = txn; view = view; voted = false }
 
 -- a prepare came for a part of its transaction, which has all the locks
-pub record Prepared (x : SiteState) (given : Input) (from : ℕ) (part : Part) (reads : List ℕ) (writes : List (ℕ × List ℕ)) : Type 0 where
+pub record Prepared (x : SiteState) (given : Input) (from : ℕ) (part : Part) (reads : List ℕ) (writes : List (ℕ × Change)) : Type 0 where
   pub view : ViewId
   pub number : ℕ
   pub comes : Comes given from (message.Prepare part.txn view number reads writes)
@@ -54,13 +54,13 @@ pub record Granted (x : SiteState) (given : Input) (from : ℕ) (txn : TxnId) (n
 -- a part was here, has voted without writes, or is new for a request
 pub data PartNow (x : SiteState) (given : Input) (p : Part) : Type 0 where
   still : Has x.parts p → PartNow x given p
-  voted : (from : ℕ) (part : Part) (reads : List ℕ) (writes : List (ℕ × List ℕ)) → Prepared x given from part reads writes → is_empty writes ≡ true → record part { voted = true } ≡ p → PartNow x given p
+  voted : (from : ℕ) (part : Part) (reads : List ℕ) (writes : List (ℕ × Change)) → Prepared x given from part reads writes → is_empty writes ≡ true → record part { voted = true } ≡ p → PartNow x given p
   fresh : (from : ℕ) (txn : TxnId) (number rec : ℕ) (exclusive : Bool) (stored : Stored) (g : Granted x given from txn number rec exclusive stored) → fresh_part txn g.view ≡ p → PartNow x given p
 
 -- a doubt was here, or is new for a prepare
 pub data DoubtNow (x : SiteState) (given : Input) (d : Doubt) : Type 0 where
   still : Has x.doubts d → DoubtNow x given d
-  fresh : (from : ℕ) (part : Part) (reads : List ℕ) (writes : List (ℕ × List ℕ)) → Prepared x given from part reads writes → is_empty writes ≡ false → (part.txn, part.view, writes) ≡ d → DoubtNow x given d
+  fresh : (from : ℕ) (part : Part) (reads : List ℕ) (writes : List (ℕ × Change)) → Prepared x given from part reads writes → is_empty writes ≡ false → (record { txn = part.txn; view = part.view; writes = writes }) ≡ d → DoubtNow x given d
 
 -- an outcome of the transaction came
 abbrev pub OutcomeComes : Input → TxnId → Type 0
@@ -71,7 +71,7 @@ is_reply (message.Vote txn) = true
 is_reply (message.Ack txn) = true
 is_reply (message.ReadAnswer txn number value) = true
 is_reply (message.WriteAnswer txn number) = true
-is_reply (message.RefreshAnswer view rec value date) = true
+is_reply (message.RefreshAnswer view rec stored) = true
 is_reply m = false
 
 -- a prepare of this transaction came in the held view
@@ -87,21 +87,21 @@ pub record Answered (x : SiteState) (given : Input) (from : ℕ) (txn : TxnId) :
 -- what a message answers, and what the site has then
 pub data ReplyTo (x : SiteState) (given : Input) (p : ParticipantState) (m : Sent) : Type 0 where
   other : is_reply m.message ≡ false → ReplyTo x given p m
-  doubt_again : (d : Doubt) → Answered x given m.to d.0 → Has x.doubts d → Has p.doubts d → message.Vote d.0 ≡ m.message → ReplyTo x given p m
+  doubt_again : (d : Doubt) → Answered x given m.to d.txn → Has x.doubts d → Has p.doubts d → message.Vote d.txn ≡ m.message → ReplyTo x given p m
   vote_again : (part : Part) → Answered x given m.to part.txn → Has x.parts part → Has p.parts part → part.voted ≡ true → message.Vote part.txn ≡ m.message → ReplyTo x given p m
-  vote_reading : (part : Part) (reads : List ℕ) (writes : List (ℕ × List ℕ)) → Prepared x given m.to part reads writes → is_empty writes ≡ true → Has p.parts (record part { voted = true }) → message.Vote part.txn ≡ m.message → ReplyTo x given p m
-  vote_writing : (part : Part) (reads : List ℕ) (writes : List (ℕ × List ℕ)) → Prepared x given m.to part reads writes → is_empty writes ≡ false → Has p.doubts (part.txn, part.view, writes) → message.Vote part.txn ≡ m.message → ReplyTo x given p m
-  acks : (txn : TxnId) → Comes given m.to (message.Outcome txn true) → ((d : Doubt) → Has p.doubts d → d.0 ≢ txn) → message.Ack txn ≡ m.message → ReplyTo x given p m
+  vote_reading : (part : Part) (reads : List ℕ) (writes : List (ℕ × Change)) → Prepared x given m.to part reads writes → is_empty writes ≡ true → Has p.parts (record part { voted = true }) → message.Vote part.txn ≡ m.message → ReplyTo x given p m
+  vote_writing : (part : Part) (reads : List ℕ) (writes : List (ℕ × Change)) → Prepared x given m.to part reads writes → is_empty writes ≡ false → Has p.doubts (record { txn = part.txn; view = part.view; writes = writes }) → message.Vote part.txn ≡ m.message → ReplyTo x given p m
+  acks : (txn : TxnId) → Comes given m.to (message.Outcome txn true) → ((d : Doubt) → Has p.doubts d → d.txn ≢ txn) → message.Ack txn ≡ m.message → ReplyTo x given p m
   read_answer : (txn : TxnId) (number rec : ℕ) (stored : Stored) → Granted x given m.to txn number rec false stored → message.ReadAnswer txn number stored.value ≡ m.message → ReplyTo x given p m
   write_answer : (txn : TxnId) (number rec : ℕ) (stored : Stored) → Granted x given m.to txn number rec true stored → message.WriteAnswer txn number ≡ m.message → ReplyTo x given p m
-  refresh_answer : (view : ViewId) (rec : ℕ) (stored : Stored) → Comes given m.to (message.RefreshRequest view rec) → holds_view x view ≡ true → is_doubtful x rec ≡ false → value_at rec x.copies ≡ Some stored → message.RefreshAnswer view rec stored.value stored.date ≡ m.message → ReplyTo x given p m
+  refresh_answer : (view : ViewId) (rec : ℕ) (stored : Stored) → Comes given m.to (message.RefreshRequest view rec) → holds_view x view ≡ true → is_doubtful x rec ≡ false → value_at rec x.copies ≡ Some stored → message.RefreshAnswer view rec stored ≡ m.message → ReplyTo x given p m
 
 pub record Shares (x : SiteState) (given : Input) (o : Stepped) : Type 0 where
   pub id : o.site.id ≡ x.id
   pub parts : (p : Part) → Has o.site.parts p → PartNow x given p
   pub doubts : (d : Doubt) → Has o.site.doubts d → DoubtNow x given d
   -- a doubt stays until an outcome comes
-  pub stays : (d : Doubt) → Has x.doubts d → Has o.site.doubts d ⊎ OutcomeComes given d.0
+  pub stays : (d : Doubt) → Has x.doubts d → Has o.site.doubts d ⊎ OutcomeComes given d.txn
   pub from : (m : Sent) → Has o.effects.messages m → m.from ≡ x.id
   pub replies : (m : Sent) → Has o.effects.messages m → ReplyTo x given o.site.participant m
 
@@ -135,7 +135,7 @@ module _ (catalogue : Catalogue) (x : SiteState) (given : Input) where
   one o to words quiet i p ms = many (begin_step x) o (λ q. words) (to ∷ []) i p ms (λ q. quiet) starts
 
   -- a reply, with other parts and doubts
-  replying : (o : Stepped) (p : ParticipantState) (to : ℕ) (words : Message) → o.site.id ≡ x.id → o.site.participant ≡ p → o.effects.messages ≡ letter x.id to words ∷ [] → ((a : Part) → Has p.parts a → PartNow x given a) → ((d : Doubt) → Has p.doubts d → DoubtNow x given d) → ((d : Doubt) → Has x.doubts d → Has p.doubts d ⊎ OutcomeComes given d.0) → ReplyTo x given p (letter x.id to words) → P o
+  replying : (o : Stepped) (p : ParticipantState) (to : ℕ) (words : Message) → o.site.id ≡ x.id → o.site.participant ≡ p → o.effects.messages ≡ letter x.id to words ∷ [] → ((a : Part) → Has p.parts a → PartNow x given a) → ((d : Doubt) → Has p.doubts d → DoubtNow x given d) → ((d : Doubt) → Has x.doubts d → Has p.doubts d ⊎ OutcomeComes given d.txn) → ReplyTo x given p (letter x.id to words) → P o
   replying o p to words i same ms parts doubts stays reply = record {
     id = i;
     parts = λ a h. parts a (rw same at h);
@@ -153,8 +153,8 @@ module _ (catalogue : Catalogue) (x : SiteState) (given : Input) where
       go true = silent o (force (entry.Copy rec best) (change_copies (replace_at rec best) o)) refl refl refl l
       go false = l
 
-  ends_refresh : (r : Refreshing) (own : Stored) (o : Stepped) → P o → P (end_refresh r own o)
-  unfolding end_refresh
+  ends_refresh : (r : Refreshing) (own : Stored) (o : Stepped) → P o → P (end_refresh catalogue r own o)
+  unfolding end_refresh unlist
   ends_refresh r own o l = silent (take_newer r.rec own (newest own r.answers) o) _ refl refl refl (takes_newer r.rec own (newest own r.answers) o l)
 
   part_there : (txn : TxnId) (part : Part) → part_of txn x.parts ≡ Some part → Has x.parts part
@@ -185,13 +185,13 @@ module _ (catalogue : Catalogue) (x : SiteState) (given : Input) where
       replying _ (with_part txn g.view x.participant) from words refl refl refl (granted_parts from txn number rec exclusive stored g)
       (λ d h. DoubtNow.still (rw with_part-doubts at h)) (λ d h. inl (rw with_part-doubts h)) reply
 
-  no_such : (txn : TxnId) (d : Doubt) (writes : List (ℕ × List ℕ)) (view : ViewId) → has_doubt txn x.doubts ≡ false → Has x.doubts d → same_txn txn d.0 ≡ false
-  no_such txn d writes view e h = let n = any_false (λ (d : Doubt). same_txn d.0 txn) x.doubts e d h in turned d.0 txn n
+  no_such : (txn : TxnId) (d : Doubt) (writes : List (ℕ × Change)) (view : ViewId) → has_doubt txn x.doubts ≡ false → Has x.doubts d → same_txn txn d.txn ≡ false
+  no_such txn d writes view e h = let n = any_false (λ (d : Doubt). same_txn d.txn txn) x.doubts e d h in turned d.txn txn n
     where
       turned : (a b : TxnId) → same_txn a b ≡ false → same_txn b a ≡ false
       turned a b e = grind (arith, nat_tests, e)
 
-  votes_reading : (from : ℕ) (part : Part) (reads : List ℕ) (writes : List (ℕ × List ℕ)) → Prepared x given from part reads writes → is_empty writes ≡ true → (o : Stepped) → o.site.id ≡ x.id → o.site.participant ≡ with_vote part x.participant → o.effects.messages ≡ letter x.id from (message.Vote part.txn) ∷ [] → P o
+  votes_reading : (from : ℕ) (part : Part) (reads : List ℕ) (writes : List (ℕ × Change)) → Prepared x given from part reads writes → is_empty writes ≡ true → (o : Stepped) → o.site.id ≡ x.id → o.site.participant ≡ with_vote part x.participant → o.effects.messages ≡ letter x.id from (message.Vote part.txn) ∷ [] → P o
   votes_reading from part reads writes p e o i same ms =
       replying o (with_vote part x.participant) from (message.Vote part.txn) i same ms
       (λ a h. ⊎_elim (λ (new : a ≡ record part { voted = true }). PartNow.voted from part reads writes p e (sym new)) (λ old. PartNow.still old)
@@ -199,29 +199,29 @@ module _ (catalogue : Catalogue) (x : SiteState) (given : Input) where
       (λ d h. DoubtNow.still h) (λ d h. inl h)
       (ReplyTo.vote_reading part reads writes p e (put_new (λ (a : Part) (b : Part). same_txn a.txn b.txn) (λ (a : Part) (b : Part). txn_before a.txn b.txn) (record part { voted = true }) x.parts) refl)
 
-  votes_writing : (from : ℕ) (part : Part) (reads : List ℕ) (writes : List (ℕ × List ℕ)) → Prepared x given from part reads writes → is_empty writes ≡ false → (o : Stepped) → o.site.id ≡ x.id → o.site.participant ≡ with_new_doubt part writes x.participant → o.effects.messages ≡ letter x.id from (message.Vote part.txn) ∷ [] → P o
+  votes_writing : (from : ℕ) (part : Part) (reads : List ℕ) (writes : List (ℕ × Change)) → Prepared x given from part reads writes → is_empty writes ≡ false → (o : Stepped) → o.site.id ≡ x.id → o.site.participant ≡ with_new_doubt part writes x.participant → o.effects.messages ≡ letter x.id from (message.Vote part.txn) ∷ [] → P o
   votes_writing from part reads writes p e o i same ms =
       replying o (with_new_doubt part writes x.participant) from (message.Vote part.txn) i same ms
       (λ a h. PartNow.still (filter_has (λ (other : Part). not (same_txn other.txn part.txn)) x.parts a h).0)
-      (λ d h. ⊎_elim (λ (new : d ≡ (part.txn, part.view, writes)). DoubtNow.fresh from part reads writes p e (sym new)) (λ old. DoubtNow.still old)
-      (put_has (λ (a : Doubt) (b : Doubt). same_txn a.0 b.0) (λ (a : Doubt) (b : Doubt). txn_before a.0 b.0) (part.txn, part.view, writes) x.doubts d h))
-      (λ d h. inl (put_old (λ (a : Doubt) (b : Doubt). same_txn a.0 b.0) (λ (a : Doubt) (b : Doubt). txn_before a.0 b.0) (part.txn, part.view, writes) x.doubts d h (no_such part.txn d writes part.view p.certain h)))
-      (ReplyTo.vote_writing part reads writes p e (put_new (λ (a : Doubt) (b : Doubt). same_txn a.0 b.0) (λ (a : Doubt) (b : Doubt). txn_before a.0 b.0) (part.txn, part.view, writes) x.doubts) refl)
+      (λ d h. ⊎_elim (λ (new : d ≡ (record { txn = part.txn; view = part.view; writes = writes })). DoubtNow.fresh from part reads writes p e (sym new)) (λ old. DoubtNow.still old)
+      (put_has (λ (a : Doubt) (b : Doubt). same_txn a.txn b.txn) (λ (a : Doubt) (b : Doubt). txn_before a.txn b.txn) (record { txn = part.txn; view = part.view; writes = writes }) x.doubts d h))
+      (λ d h. inl (put_old (λ (a : Doubt) (b : Doubt). same_txn a.txn b.txn) (λ (a : Doubt) (b : Doubt). txn_before a.txn b.txn) (record { txn = part.txn; view = part.view; writes = writes }) x.doubts d h (no_such part.txn d writes part.view p.certain h)))
+      (ReplyTo.vote_writing part reads writes p e (put_new (λ (a : Doubt) (b : Doubt). same_txn a.txn b.txn) (λ (a : Doubt) (b : Doubt). txn_before a.txn b.txn) (record { txn = part.txn; view = part.view; writes = writes }) x.doubts) refl)
 
-  answered_by : (from : ℕ) (txn t : TxnId) (view : ViewId) (number : ℕ) (reads : List ℕ) (writes : List (ℕ × List ℕ)) → Comes given from (message.Prepare txn view number reads writes) → holds_view x view ≡ true → has_txn x.ended txn ≡ false → t ≡ txn → Answered x given from t
+  answered_by : (from : ℕ) (txn t : TxnId) (view : ViewId) (number : ℕ) (reads : List ℕ) (writes : List (ℕ × Change)) → Comes given from (message.Prepare txn view number reads writes) → holds_view x view ≡ true → has_txn x.ended txn ≡ false → t ≡ txn → Answered x given from t
   answered_by from txn t view number reads writes c e n same = rw same (record { view = view; number = number; reads = reads; writes = writes; comes = c; held = e; going = n })
 
-  prepared_by : (from : ℕ) (txn : TxnId) (view : ViewId) (number : ℕ) (reads : List ℕ) (writes : List (ℕ × List ℕ)) (part : Part) → Comes given from (message.Prepare txn view number reads writes) → holds_view x view ≡ true → has_txn x.ended txn ≡ false → has_doubt txn x.doubts ≡ false → part_of txn x.parts ≡ Some part → part.voted ≡ false → has_all_locks x.locks part.txn reads writes ≡ true → Prepared x given from part reads writes
+  prepared_by : (from : ℕ) (txn : TxnId) (view : ViewId) (number : ℕ) (reads : List ℕ) (writes : List (ℕ × Change)) (part : Part) → Comes given from (message.Prepare txn view number reads writes) → holds_view x view ≡ true → has_txn x.ended txn ≡ false → has_doubt txn x.doubts ≡ false → part_of txn x.parts ≡ Some part → part.voted ≡ false → has_all_locks x.locks part.txn reads writes ≡ true → Prepared x given from part reads writes
   prepared_by from txn view number reads writes part c e n d f v a =
       let same = part_same txn part f in
       record { view = view; number = number; comes = rw same c; held = e; going = rw same n; certain = rw same d; part_here = part_there txn part f; unvoted = v; locks = a }
 
-  doubts_again : (from : ℕ) (txn : TxnId) (view : ViewId) (number : ℕ) (reads : List ℕ) (writes : List (ℕ × List ℕ)) → Comes given from (message.Prepare txn view number reads writes) → holds_view x view ≡ true → has_txn x.ended txn ≡ false → has_doubt txn x.doubts ≡ true → (o : Stepped) → o.site.id ≡ x.id → o.site.participant ≡ x.participant → o.effects.messages ≡ letter x.id from (message.Vote txn) ∷ [] → P o
+  doubts_again : (from : ℕ) (txn : TxnId) (view : ViewId) (number : ℕ) (reads : List ℕ) (writes : List (ℕ × Change)) → Comes given from (message.Prepare txn view number reads writes) → holds_view x view ≡ true → has_txn x.ended txn ≡ false → has_doubt txn x.doubts ≡ true → (o : Stepped) → o.site.id ≡ x.id → o.site.participant ≡ x.participant → o.effects.messages ≡ letter x.id from (message.Vote txn) ∷ [] → P o
   doubts_again from txn view number reads writes c e n d o i same ms =
-      let q = any_true (λ (d : Doubt). same_txn d.0 txn) x.doubts d in
-      let is = same_txn-is q.0.0 txn q.2 in
+      let q = any_true (λ (d : Doubt). same_txn d.txn txn) x.doubts d in
+      let is = same_txn-is q.0.txn txn q.2 in
       replying o x.participant from (message.Vote txn) i same ms (λ a h. PartNow.still h) (λ d h. DoubtNow.still h) (λ d h. inl h)
-      (ReplyTo.doubt_again q.0 (answered_by from txn q.0.0 view number reads writes c e n is) q.1 q.1 (ap (λ (t : TxnId). message.Vote t) is))
+      (ReplyTo.doubt_again q.0 (answered_by from txn q.0.txn view number reads writes c e n is) q.1 q.1 (ap (λ (t : TxnId). message.Vote t) is))
 
   ends_here : (from : ℕ) (txn : TxnId) (commit : Bool) (doubt : Option Doubt) → Comes given from (message.Outcome txn commit) → P (end_here from txn commit doubt (begin_step x))
   unfolding end_here
@@ -234,20 +234,20 @@ module _ (catalogue : Catalogue) (x : SiteState) (given : Input) where
       parts a h = PartNow.still (filter_has (λ (part : Part). not (same_txn part.txn txn)) x.parts a h).0
 
       doubts : (d : Doubt) → Has now.doubts d → DoubtNow x given d
-      doubts d h = DoubtNow.still (filter_has (λ (d : Doubt). not (same_txn d.0 txn)) x.doubts d h).0
+      doubts d h = DoubtNow.still (filter_has (λ (d : Doubt). not (same_txn d.txn txn)) x.doubts d h).0
 
-      stays : (commit : Bool) → Comes given from (message.Outcome txn commit) → (d : Doubt) → Has x.doubts d → Has now.doubts d ⊎ OutcomeComes given d.0
-      stays commit c d h = split (same_txn d.0 txn) refl
+      stays : (commit : Bool) → Comes given from (message.Outcome txn commit) → (d : Doubt) → Has x.doubts d → Has now.doubts d ⊎ OutcomeComes given d.txn
+      stays commit c d h = split (same_txn d.txn txn) refl
         where
           came : Comes given from (message.Outcome txn commit)
           came = c
 
-          split : (b : Bool) → same_txn d.0 txn ≡ b → Has now.doubts d ⊎ OutcomeComes given d.0
-          split true e = inr (from, commit, came ∙ ap (λ (t : TxnId). input.Message from (message.Outcome t commit)) (sym (same_txn-is d.0 txn e)))
-          split false e = inl (filter_keeps (λ (d : Doubt). not (same_txn d.0 txn)) x.doubts d h (ap not e))
+          split : (b : Bool) → same_txn d.txn txn ≡ b → Has now.doubts d ⊎ OutcomeComes given d.txn
+          split true e = inr (from, commit, came ∙ ap (λ (t : TxnId). input.Message from (message.Outcome t commit)) (sym (same_txn-is d.txn txn e)))
+          split false e = inl (filter_keeps (λ (d : Doubt). not (same_txn d.txn txn)) x.doubts d h (ap not e))
 
-      gone : (d : Doubt) → Has now.doubts d → d.0 ≢ txn
-      gone d h e = let q = (filter_has (λ (d : Doubt). not (same_txn d.0 txn)) x.doubts d h).1 in clash d.0 txn q e
+      gone : (d : Doubt) → Has now.doubts d → d.txn ≢ txn
+      gone d h e = let q = (filter_has (λ (d : Doubt). not (same_txn d.txn txn)) x.doubts d h).1 in clash d.txn txn q e
         where
           clash : (a b : TxnId) → not (same_txn a b) ≡ true → a ≢ b
           clash a b q e = grind (arith, nat_tests, q, e)
@@ -318,7 +318,7 @@ module _ (catalogue : Catalogue) (x : SiteState) (given : Input) where
     start_refresh = λ view rec o e a h p. many o (start_refresh catalogue view rec o) (λ q. message.RefreshRequest view.id rec) (other_holders catalogue o.site rec) refl refl refl (λ q. refl) p;
     end_refresh = λ rec r own o e a d v p. ends_refresh r own o p;
     keep_answer = λ from view rec stored r c e f g. silent (begin_step x) _ refl refl refl starts;
-    answer_refresh = λ from view rec stored c e d v. replying _ x.participant from (message.RefreshAnswer view rec stored.value stored.date) refl refl refl (λ a h. PartNow.still h) (λ d h. DoubtNow.still h) (λ d h. inl h) (ReplyTo.refresh_answer view rec stored c e d v refl);
+    answer_refresh = λ from view rec stored c e d v. replying _ x.participant from (message.RefreshAnswer view rec stored) refl refl refl (λ a h. PartNow.still h) (λ d h. DoubtNow.still h) (λ d h. inl h) (ReplyTo.refresh_answer view rec stored c e d v refl);
     ask_again = λ view r o e h v p. many o (ask_again catalogue view.id r o) (λ q. message.RefreshRequest view.id r.rec) (unanswered catalogue o.site r) refl refl refl (λ q. refl) p;
     refuse_view = λ from txn view number a e. one _ from (message.Refuse txn number (obstacle.OtherView (held_id x))) refl refl refl refl;
     refuse_lock = λ from txn view number rec exclusive holder r e n c. one _ from (message.Refuse txn number (obstacle.Held holder)) refl refl refl refl;
@@ -351,7 +351,7 @@ module _ (catalogue : Catalogue) (x : SiteState) (given : Input) where
       acknowledge = λ from txn c w. hushed (lent_at x) _ refl starts;
       answer_inquiry = λ from txn c s n. asking (lent_at x) _ (λ q. message.Outcome txn (is_decided txn x.decisions)) (from ∷ []) refl (λ q. refl) starts;
     };
-    resend_one = λ d o c h p. many o (put_back o (resend_one o.site.id d (lent o))) (λ q. message.Outcome d.0 true) d.1 refl refl refl (λ q. refl) p;
+    resend_one = λ d o c h p. many o (put_back o (resend_one o.site.id d (lent o))) (λ q. message.Outcome d.txn true) d.waiting refl refl refl (λ q. refl) p;
     inquire = λ o c p. inquires (known o.site.participant) o p;
   }
 

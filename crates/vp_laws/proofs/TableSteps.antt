@@ -8,8 +8,8 @@ use Rattle.vp_model.specs.Types.message
 use Rattle.vp_model.specs.Words.{has, is_empty, change_first, for_each, put_number, value_at}
 use Rattle.vp_model.specs.Catalogue.{Catalogue}
 use Rattle.vp_model.specs.Site.{CoordinatorState, SiteState, Lent, letters}
-use Rattle.vp_model.specs.Transactions.{put_live, close, with_finished, keep_writes, last_writes, decide, complete}
-use Rattle.vp_model.specs.Refresh.{is_usable, other_holders}
+use Rattle.vp_model.specs.Transactions.{last_changes, entry_of, put_live, close, with_finished, keep_writes, last_writes, decide, complete}
+use Rattle.vp_model.specs.Refresh.{is_open, other_holders}
 use Rattle.vp_model.specs.Calls.{begun, start_txn, take_lock, read_at, write_at, prepare_parts, prepare_for}
 use Rattle.vp_model.specs.Answers.{is_decided, with_acknowledged}
 use Rattle.vp_model.specs.Step.{mark, mark_calls, step}
@@ -41,7 +41,7 @@ writing t p sites = record t { parts = for_each sites put_number t.parts; pendin
 pub record AskingRead (catalogue : Catalogue) (x : SiteState) (given : Input) (u : Live) (p : Pending) (rec q : ℕ) : Type 0 where
   pub next : IsNext given u p
   pub reads : Reads catalogue p rec
-  pub usable : is_usable catalogue x rec ≡ true
+  pub usable : is_open catalogue x rec ≡ true
   pub unwritten : value_at rec (last_writes u.ops) ≡ None
   pub no_copy : value_at rec x.copies ≡ None
   pub holder : Has (other_holders catalogue x rec) q
@@ -50,8 +50,8 @@ pub record AskingRead (catalogue : Catalogue) (x : SiteState) (given : Input) (u
 pub record AskingWrite (catalogue : Catalogue) (x : SiteState) (given : Input) (u : Live) (p : Pending) (rec : ℕ) (value : List ℕ) : Type 0 where
   pub next : IsNext given u p
   pub writes : Writes catalogue p rec value
-  pub usable : is_usable catalogue x rec ≡ true
-  pub unwritten : value_at rec (last_writes u.ops) ≡ None
+  pub usable : is_open catalogue x rec ≡ true
+  pub unwritten : value_at rec (last_changes (entry_of u)) ≡ None
   pub others : is_empty (other_holders catalogue x rec) ≡ false
 
 pub record AskingVotes (given : Input) (u : Live) (p : Pending) : Type 0 where
@@ -166,7 +166,7 @@ module _ (catalogue : Catalogue) (x : SiteState) (given : Input) (led : Led x) (
       (λ z. ends t Committed true (keep_writes catalogue x.id t (lent_at x)) _ (entry ∷ []) (decided-ends x.id t _) (decided-commits x.id t _) entered (record { apart = starts.apart; live = starts.live; sent = starts.sent; entered = starts.entered }))
     where
       entry : Commit
-      entry = record { txn = t.txn; view = t.view; ops = t.ops }
+      entry = entry_of t
 
       entered : (e : Commit) → Has (entry ∷ []) e → EnteredFor catalogue x given e
       entered e h = record { was = t; handled = n; decides = d; is = has_one_is entry e h }
@@ -259,7 +259,7 @@ module _ (catalogue : Catalogue) (x : SiteState) (given : Input) (led : Led x) (
     aside = λ c ms extra cs quiet r. plus c ms extra cs (λ m h. SentFor.aside (quiet m h)) r;
     starts = starts;
     moves = moves;
-    resends = λ c d ms cs tick h r. plus c ms _ cs (outcomes d.0 true d.1 c.live) r;
+    resends = λ c d ms cs tick h r. plus c ms _ cs (outcomes d.txn true d.waiting c.live) r;
   }
     where
       plus : (c : CoordinatorState) (ms extra : List Sent) (cs : List Commit) → ((m : Sent) → Has extra m → SentFor catalogue x given c.live m) → R c ms cs → R c (ms ++ extra) cs

@@ -11,7 +11,7 @@ use Rattle.vp_model.specs.Words.{put, put_at, view_before, replace_at, value_at,
 use Rattle.vp_model.specs.Catalogue.{Catalogue}
 use Rattle.vp_model.specs.Locks.{without_guard}
 use Rattle.vp_model.specs.Site.{SiteState, Stepped, begin_step, put_back, force, change_copies}
-use Rattle.vp_model.specs.Refresh.{newest, take_newer, end_refresh, start_refresh, refreshing_of, unanswered, is_doubtful}
+use Rattle.vp_model.specs.Refresh.{newest, take_newer, unlist, end_refresh, start_refresh, refreshing_of, unanswered, is_doubtful}
 use Rattle.vp_model.specs.Views.{drop_view, start_inviting, hold}
 use Rattle.vp_model.specs.Durable.{doubt_of}
 use Rattle.vp_model.specs.Messages.{with_answer, accept, on_accept, on_stale, grant, end_here}
@@ -150,8 +150,8 @@ module _ (catalogue : Catalogue) (x : SiteState) (given : Input) (tidy : Tidy x)
       })
       go k u h none (inr z) = on o (unguarded r n) k t.id t.held t.doubts (t.other k z) (p.unlisted k u h (λ q g is. none q (filter_keeps (λ (other : Refreshing). not (other.rec == r.rec)) n.site.refresh q (rw t.refresh g) (differs q.rec k r.rec is z)) is))
 
-  finishes : (rec : ℕ) (r : Refreshing) (own : Stored) (o : Stepped) → refreshing_of rec o.site.refresh ≡ Some r → is_empty (unanswered catalogue o.site r) ≡ true → is_doubtful o.site r.rec ≡ false → value_at r.rec o.site.copies ≡ Some own → CopiesAt catalogue x given (end_refresh r own o) → P o → P (end_refresh r own o)
-  unfolding end_refresh
+  finishes : (rec : ℕ) (r : Refreshing) (own : Stored) (o : Stepped) → refreshing_of rec o.site.refresh ≡ Some r → is_empty (unanswered catalogue o.site r) ≡ true → is_doubtful o.site r.rec ≡ false → value_at r.rec o.site.copies ≡ Some own → CopiesAt catalogue x given (end_refresh catalogue r own o) → P o → P (end_refresh catalogue r own o)
+  unfolding end_refresh unlist
   finishes rec r own o e a d v base p = removes rec r own o (take_newer r.rec own (newest own r.answers) o) e a d (took r.rec own (newest own r.answers) o v) p base
 
   refreshes : (view : View) (rec : ℕ) (o : Stepped) → CopiesAt catalogue x given (start_refresh catalogue view rec o) → P o → P (start_refresh catalogue view rec o)

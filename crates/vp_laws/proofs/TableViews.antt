@@ -10,7 +10,7 @@ use Rattle.vp_model.specs.Catalogue.{Catalogue}
 use Rattle.vp_model.specs.Durable.{doubt_of}
 use Rattle.vp_model.specs.Site.{ViewState, change_views, force, change_copies, SiteState, Lent, Stepped, begin_step, lent, put_back, letters}
 use Rattle.vp_model.specs.Transactions.{decide, keep_writes, complete}
-use Rattle.vp_model.specs.Refresh.{newest, take_newer, end_refresh, start_refresh, other_holders, unanswered}
+use Rattle.vp_model.specs.Refresh.{newest, take_newer, unlist, end_refresh, start_refresh, other_holders, unanswered}
 use Rattle.vp_model.specs.Views.{with_invitation, is_spent, other_sites, drop_view, start_inviting, hold}
 use Rattle.vp_model.specs.Calls.{start_txn, take_lock, read_at, write_at, prepare_parts, prepare_for}
 use Rattle.vp_model.specs.Messages.{with_wait, accept, on_accept, with_acceptance, on_stale, with_heard, grant, end_here}
@@ -280,8 +280,8 @@ module _ (catalogue : Catalogue) (x : SiteState) (given : Input) (tidy : Tidy x)
       go true = silent x given o _ refl refl refl l
       go false = l
 
-  ends_refresh : (r : Refreshing) (own : Stored) (o : Stepped) → Local x given o → Local x given (end_refresh r own o)
-  unfolding end_refresh
+  ends_refresh : (r : Refreshing) (own : Stored) (o : Stepped) → Local x given o → Local x given (end_refresh catalogue r own o)
+  unfolding end_refresh unlist
   ends_refresh r own o l = silent x given _ _ refl refl refl (takes_newer r.rec own (newest own r.answers) o l)
 
   asks_again : (id : ViewId) (r : Refreshing) (o : Stepped) → Local x given o → Local x given (ask_again catalogue id r o)
@@ -301,7 +301,7 @@ module _ (catalogue : Catalogue) (x : SiteState) (given : Input) (tidy : Tidy x)
 
   resends : (d : Decision) (o : Stepped) → Local x given o → Local x given (put_back o (resend_one o.site.id d (lent o)))
   unfolding resend_one
-  resends d o l = beside x given o _ _ refl refl refl (letters_quiet x given o.site.id (λ q. message.Outcome d.0 true) d.1 (λ q. refl)) l
+  resends d o l = beside x given o _ _ refl refl refl (letters_quiet x given o.site.id (λ q. message.Outcome d.txn true) d.waiting (λ q. refl)) l
 
   inquires : (txns : List TxnId) (o : Stepped) → Local x given o → Local x given (inquire txns o)
   unfolding inquire
@@ -328,7 +328,7 @@ module _ (catalogue : Catalogue) (x : SiteState) (given : Input) (tidy : Tidy x)
     start_refresh = λ view rec o e a h l. starts_refresh view rec o l;
     end_refresh = λ rec r own o e a d v l. ends_refresh r own o l;
     keep_answer = λ from view rec stored r c e f g. silent x given (begin_step x) _ refl refl refl begins;
-    answer_refresh = λ from view rec stored c e d v. one_more (message.RefreshAnswer view rec stored.value stored.date) from tt;
+    answer_refresh = λ from view rec stored c e d v. one_more (message.RefreshAnswer view rec stored) from tt;
     ask_again = λ view r o e h v l. asks_again view.id r o l;
     refuse_view = λ from txn view number a e. one_more _ from tt;
     refuse_lock = λ from txn view number rec exclusive holder r e n c. one_more _ from tt;

@@ -1,7 +1,7 @@
 -- Prepares and votes: a prepare speaks of a live transaction whose commit is pending, and a vote answers a prepare.
 use Rattle.std.proofs.Common.{◌≡◌, ◌∙◌, ap, sym, ℕ, ◌+◌, ◌≤◌, Bool, true, false, cond, List, [], ◌∷◌, ◌++◌, map, refl, arith, inl, inr, ⊎_elim, append-nil}
 use Rattle.std.specs.Prelude.{Option, Some, None, is_some, ◌==◌, not, filter}
-use Rattle.vp_model.specs.Types.{ViewId, TxnId, View, Stored, Op, Answer, Message, Sent, Input, Part, Refreshing, Pending, Live, Ending, Doubt}
+use Rattle.vp_model.specs.Types.{Change, ViewId, TxnId, View, Stored, Op, Answer, Message, Sent, Input, Part, Refreshing, Pending, Live, Ending, Doubt}
 use Rattle.vp_base.specs.declared.site.Ending.TheVariants.{Committed}
 use Rattle.vp_model.specs.Types.answer
 use Rattle.vp_model.specs.Types.entry
@@ -12,8 +12,8 @@ use Rattle.vp_model.specs.Words.{same_txn, change_first, without_first, view_bef
 use Rattle.vp_model.specs.Catalogue.{Catalogue}
 use Rattle.vp_model.specs.Durable.{doubt_of}
 use Rattle.vp_model.specs.Site.{CoordinatorState, reply, SiteState, Lent, Stepped, begin_step, lent, put_back, letters, force, change_copies, change_views, change_refresh}
-use Rattle.vp_model.specs.Transactions.{keep_writes, complete, wait_for, last_writes, writes_held}
-use Rattle.vp_model.specs.Refresh.{newest, take_newer, end_refresh, start_refresh, other_holders, unanswered}
+use Rattle.vp_model.specs.Transactions.{last_changes, entry_of, keep_writes, complete, wait_for, writes_held}
+use Rattle.vp_model.specs.Refresh.{newest, take_newer, unlist, end_refresh, start_refresh, other_holders, unanswered}
 use Rattle.vp_model.specs.Views.{part_of, other_sites, drop_view, start_inviting, invite, hold}
 use Rattle.vp_model.specs.Calls.{begun, start_txn, take_lock, read_at, write_at, prepare_parts, prepare_for, records_read_at}
 use Rattle.vp_model.specs.Answers.{is_decided}
@@ -41,7 +41,7 @@ pub data LiveFrom (x : SiteState) (t : Live) : Type 0 where
   new : t.txn ≡ next_name x → LiveFrom x t
 
 -- the transaction waits for the votes on its commit, and the prepare says what it has done at that part
-pub record IsPrepared (catalogue : Catalogue) (t : Live) (to : ℕ) (view : ViewId) (number : ℕ) (reads : List ℕ) (writes : List (ℕ × List ℕ)) : Type 0 where
+pub record IsPrepared (catalogue : Catalogue) (t : Live) (to : ℕ) (view : ViewId) (number : ℕ) (reads : List ℕ) (writes : List (ℕ × Change)) : Type 0 where
   pub pending : Pending
   pub waits : t.pending ≡ Some pending
   pub commit : is_commit pending.call ≡ true
@@ -49,7 +49,7 @@ pub record IsPrepared (catalogue : Catalogue) (t : Live) (to : ℕ) (view : View
   pub part : Has t.parts to
   pub in_view : t.view ≡ view
   pub has_read : records_read_at to t.remote ≡ reads
-  pub has_written : writes_held catalogue to (last_writes t.ops) ≡ writes
+  pub has_written : writes_held catalogue to (last_changes (entry_of t)) ≡ writes
 
 abbrev pub Prepares : Catalogue → List Live → ℕ → Message → Type 0
 Prepares catalogue live to (message.Prepare txn view number reads writes) = (t : Live) → Has live t → t.txn ≡ txn → IsPrepared catalogue t to view number reads writes
@@ -57,7 +57,7 @@ Prepares catalogue live to m = Unit {0}
 
 -- a vote answers a prepare that came
 abbrev pub MayVote : Input → ℕ → Message → Type 0
-MayVote given to (message.Vote txn) = (view : ViewId) × (number : ℕ) × (reads : List ℕ) × (writes : List (ℕ × List ℕ)) × Comes given to (message.Prepare txn view number reads writes)
+MayVote given to (message.Vote txn) = (view : ViewId) × (number : ℕ) × (reads : List ℕ) × (writes : List (ℕ × Change)) × Comes given to (message.Prepare txn view number reads writes)
 MayVote given to m = Unit {0}
 
 pub record Votes (catalogue : Catalogue) (x : SiteState) (given : Input) (o : Stepped) : Type 0 where
@@ -81,7 +81,7 @@ still_votes given to (message.Vote txn) e = cc
 still_votes given to m e = tt
 
 -- fewer or other live transactions for which the prepare holds too
-prepares_on : (catalogue : Catalogue) (live now : List Live) (to : ℕ) (m : Message) → ((t : Live) → Has now t → (view : ViewId) (number : ℕ) (reads : List ℕ) (writes : List (ℕ × List ℕ)) → ((u : Live) → Has live u → u.txn ≡ t.txn → IsPrepared catalogue u to view number reads writes) → IsPrepared catalogue t to view number reads writes) → Prepares catalogue live to m → Prepares catalogue now to m
+prepares_on : (catalogue : Catalogue) (live now : List Live) (to : ℕ) (m : Message) → ((t : Live) → Has now t → (view : ViewId) (number : ℕ) (reads : List ℕ) (writes : List (ℕ × Change)) → ((u : Live) → Has live u → u.txn ≡ t.txn → IsPrepared catalogue u to view number reads writes) → IsPrepared catalogue t to view number reads writes) → Prepares catalogue live to m → Prepares catalogue now to m
 prepares_on catalogue live now to (message.Prepare txn view number reads writes) f h = λ t q e. f t q view number reads writes (λ u r g. h u r (g ∙ e))
 prepares_on catalogue live now to m f h = tt
 
@@ -140,7 +140,7 @@ module _ (catalogue : Catalogue) (x : SiteState) (given : Input) (led : Led x) (
   K = Back x (Votes catalogue x given)
 
   -- a vote on a prepare that came
-  voted : (o : Stepped) (from : ℕ) (txn t : TxnId) (view : ViewId) (number : ℕ) (reads : List ℕ) (writes : List (ℕ × List ℕ)) → Comes given from (message.Prepare txn view number reads writes) → t ≡ txn → o.site.live ≡ x.live → o.site.id ≡ x.id → o.effects.messages ≡ letter x.id from (message.Vote t) ∷ [] → Votes catalogue x given o
+  voted : (o : Stepped) (from : ℕ) (txn t : TxnId) (view : ViewId) (number : ℕ) (reads : List ℕ) (writes : List (ℕ × Change)) → Comes given from (message.Prepare txn view number reads writes) → t ≡ txn → o.site.live ≡ x.live → o.site.id ≡ x.id → o.effects.messages ≡ letter x.id from (message.Vote t) ∷ [] → Votes catalogue x given o
   voted o from txn t view number reads writes c e live i ms = record {
     apart = subst Apart (sym live) apart;
     live = λ u h. begins.live u (rw live at h);
@@ -159,10 +159,10 @@ module _ (catalogue : Catalogue) (x : SiteState) (given : Input) (led : Led x) (
     id = i ∙ l.id;
   }
     where
-      not_waiting : (view : ViewId) (number : ℕ) (reads : List ℕ) (writes : List (ℕ × List ℕ)) (to : ℕ) → IsPrepared catalogue u to view number reads writes → ⊥
+      not_waiting : (view : ViewId) (number : ℕ) (reads : List ℕ) (writes : List (ℕ × Change)) (to : ℕ) → IsPrepared catalogue u to view number reads writes → ⊥
       not_waiting view number reads writes to q = ⊎_elim (λ none. absurd (some_not u.pending q.pending q.waits none)) (λ doing. absurd (let a = q.waits in let b = doing.1 in let c = q.commit in let d = doing.2 in operating_not u.pending q.pending doing.0 a b c d)) idle
 
-      carried : (to : ℕ) (a : Live) → Has e.site.live a → (view : ViewId) (number : ℕ) (reads : List ℕ) (writes : List (ℕ × List ℕ)) → ((b : Live) → Has o.site.live b → b.txn ≡ a.txn → IsPrepared catalogue b to view number reads writes) → IsPrepared catalogue a to view number reads writes
+      carried : (to : ℕ) (a : Live) → Has e.site.live a → (view : ViewId) (number : ℕ) (reads : List ℕ) (writes : List (ℕ × Change)) → ((b : Live) → Has o.site.live b → b.txn ≡ a.txn → IsPrepared catalogue b to view number reads writes) → IsPrepared catalogue a to view number reads writes
       carried to a q view number reads writes f =
           ⊎_elim (λ (at : a ≡ t). absurd (not_waiting view number reads writes to (f u (rw was h) (sym name ∙ ap (λ (t : Live). t.txn) (sym at)))))
           (λ old. f a old.0 refl) (change_cases t o.site.live l.apart a (rw now at q))
@@ -187,8 +187,8 @@ module _ (catalogue : Catalogue) (x : SiteState) (given : Input) (led : Led x) (
       moved : Votes catalogue x given waiting
       moved = put_on now t (begin_step x) waiting [] h (inl idle) refl refl refl refl refl (λ m k. absurd (has_none m k)) begins
 
-      ready : (to : ℕ) → Has t.parts to → (a : Live) → Has waiting.site.live a → a.txn ≡ t.txn → IsPrepared catalogue a to t.view p.number (records_read_at to t.remote) (writes_held catalogue to (last_writes t.ops))
-      ready to part a q e = ⊎_elim (λ (at : a ≡ now). subst (λ (a : Live). IsPrepared catalogue a to t.view p.number (records_read_at to t.remote) (writes_held catalogue to (last_writes t.ops))) (sym at) (record {
+      ready : (to : ℕ) → Has t.parts to → (a : Live) → Has waiting.site.live a → a.txn ≡ t.txn → IsPrepared catalogue a to t.view p.number (records_read_at to t.remote) (writes_held catalogue to (last_changes (entry_of t)))
+      ready to part a q e = ⊎_elim (λ (at : a ≡ now). subst (λ (a : Live). IsPrepared catalogue a to t.view p.number (records_read_at to t.remote) (writes_held catalogue to (last_changes (entry_of t)))) (sym at) (record {
         pending = record p { missing = t.parts };
         waits = refl;
         commit = commit;
@@ -224,7 +224,7 @@ module _ (catalogue : Catalogue) (x : SiteState) (given : Input) (led : Led x) (
   mark_from t (LiveFrom.operating u h n i) = LiveFrom.operating u h n i
   mark_from t (LiveFrom.new n) = LiveFrom.new n
 
-  mark_prepared : (t : Live) (to : ℕ) (view : ViewId) (number : ℕ) (reads : List ℕ) (writes : List (ℕ × List ℕ)) → IsPrepared catalogue t to view number reads writes → IsPrepared catalogue (mark t) to view number reads writes
+  mark_prepared : (t : Live) (to : ℕ) (view : ViewId) (number : ℕ) (reads : List ℕ) (writes : List (ℕ × Change)) → IsPrepared catalogue t to view number reads writes → IsPrepared catalogue (mark t) to view number reads writes
   mark_prepared t to view number reads writes q =
       let r = marked_call-same t.pending q.pending q.waits in
       record { pending = r.0; waits = r.1; commit = ap is_commit r.2 ∙ q.commit; numbered = r.3 ∙ q.numbered; part = q.part; in_view = q.in_view; has_read = q.has_read; has_written = q.has_written }
@@ -288,8 +288,8 @@ module _ (catalogue : Catalogue) (x : SiteState) (given : Input) (led : Led x) (
       go true = silent o (force (entry.Copy rec best) (change_copies (replace_at rec best) o)) refl refl refl l
       go false = l
 
-  ends_refresh : (r : Refreshing) (own : Stored) (o : Stepped) → Votes catalogue x given o → Votes catalogue x given (end_refresh r own o)
-  unfolding end_refresh
+  ends_refresh : (r : Refreshing) (own : Stored) (o : Stepped) → Votes catalogue x given o → Votes catalogue x given (end_refresh catalogue r own o)
+  unfolding end_refresh unlist
   ends_refresh r own o l = silent (take_newer r.rec own (newest own r.answers) o) _ refl refl refl (takes_newer r.rec own (newest own r.answers) o l)
 
   ends_here : (from : ℕ) (txn : TxnId) (commit : Bool) (doubt : Option Doubt) → Votes catalogue x given (end_here from txn commit doubt (begin_step x))
@@ -324,7 +324,7 @@ module _ (catalogue : Catalogue) (x : SiteState) (given : Input) (led : Led x) (
     start_refresh = λ view rec o e a h l. starts_refresh view rec o l;
     end_refresh = λ rec r own o e a d v l. ends_refresh r own o l;
     keep_answer = λ from view rec stored r c e f g. silent (begin_step x) (change_refresh (map (with_answer rec from stored)) (begin_step x)) refl refl refl begins;
-    answer_refresh = λ from view rec stored c e d v. one _ from (message.RefreshAnswer view rec stored.value stored.date) refl refl refl refl;
+    answer_refresh = λ from view rec stored c e d v. one _ from (message.RefreshAnswer view rec stored) refl refl refl refl;
     ask_again = λ view r o e h v l. alike o (ask_again catalogue view.id r o) (letters o.site.id (λ q. message.RefreshRequest view.id r.rec) (unanswered catalogue o.site r)) refl refl refl (letters_still o.site.id (λ q. message.RefreshRequest view.id r.rec) (unanswered catalogue o.site r) (λ q. refl)) l;
     refuse_view = λ from txn view number a e. one _ from (message.Refuse txn number (obstacle.OtherView (held_id x))) refl refl refl refl;
     refuse_lock = λ from txn view number rec exclusive holder r e n c. one _ from (message.Refuse txn number (obstacle.Held holder)) refl refl refl refl;
@@ -351,7 +351,7 @@ module _ (catalogue : Catalogue) (x : SiteState) (given : Input) (led : Led x) (
       answer_inquiry = λ from txn c s n. plain (lent_at x) _ (letter x.id from (message.Outcome txn (is_decided txn x.decisions)) ∷ []) refl refl (letter_still x.id from (message.Outcome txn (is_decided txn x.decisions)) refl) begins;
     };
     answers_inviting = λ port c s l. silent (invite catalogue (begin_step x)) (reply (answer.Inviting (next_view x)) port (invite catalogue (begin_step x))) refl refl refl l;
-    resend_one = λ d o c h l. alike o (put_back o (resend_one o.site.id d (lent o))) (letters o.site.id (λ q. message.Outcome d.0 true) d.1) refl refl refl (letters_still o.site.id (λ q. message.Outcome d.0 true) d.1 (λ q. refl)) l;
+    resend_one = λ d o c h l. alike o (put_back o (resend_one o.site.id d (lent o))) (letters o.site.id (λ q. message.Outcome d.txn true) d.waiting) refl refl refl (letters_still o.site.id (λ q. message.Outcome d.txn true) d.waiting (λ q. refl)) l;
     inquire = λ o c l. inquires (known o.site.participant) o l;
   }
 

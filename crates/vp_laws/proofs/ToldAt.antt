@@ -20,7 +20,7 @@ use Rattle.vp_one_site.proofs.ToldLines.{Report, IsReported, Tells, IsUnheard}
 use Rattle.vp_laws.proofs.Members.{Has, has_none, has_first, has_more, filter_keeps, both_true, any_false}
 use Rattle.vp_laws.proofs.Apart.{same_txn-is}
 use Rattle.vp_laws.proofs.Scenes.{Scene, plain_at}
-use Rattle.vp_laws.proofs.Stopping.{shared_holder}
+use Rattle.vp_laws.proofs.Stopping.{in_force_holder}
 use Rattle.vp_laws.proofs.InvEntered.{has_test}
 use Rattle.vp_laws.proofs.InvHeld.{holds_copy}
 use Rattle.vp_laws.proofs.TableLocks.{not_copied}
@@ -123,7 +123,7 @@ first_of_some (x ∷ xs) q h = (x, refl)
 pub has_holders : (catalogue : Catalogue) (w : Scene) (s : ℕ) (x : SiteState) → plain_at w s ≡ Some x → Known catalogue w → HasHolders catalogue x
 has_holders catalogue w s x up k rec usable none =
     let members = members_in x.held in
-    let q = shared_holder catalogue rec members members usable usable in
+    let q = in_force_holder catalogue rec members usable in
     let other : q.0 ≢ x.id = (λ z. not_copied rec x.copies none (holds_copy catalogue w s x up (k.views.site s x up).kept k.held rec (subst (Has (holders catalogue rec)) (z ∙ (k.views.site s x up).id) q.1))) in
     first_of_some (other_holders catalogue x rec) q.0 (filter_keeps _ (holders catalogue rec) q.0 q.1 (both (has_test members q.0 q.2) (differs q.0 x.id other)))
   where

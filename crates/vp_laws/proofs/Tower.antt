@@ -4,7 +4,7 @@ use Rattle.std.specs.Prelude.{Some}
 use Rattle.vp_model.specs.Types.{View, Input, Message, Live}
 use Rattle.vp_model.specs.Words.{keys}
 use Rattle.vp_model.specs.Catalogue.{Catalogue}
-use Rattle.vp_model.specs.Refresh.{is_usable}
+use Rattle.vp_model.specs.Refresh.{is_open}
 use Rattle.vp_model.specs.Durable.{DurableState}
 use Rattle.vp_model.specs.Site.{SiteState, Stepped}
 use Rattle.vp_model.specs.Step.{step}
@@ -127,7 +127,7 @@ pub record Does (catalogue : Catalogue) (w new : Scene) (s : ℕ) (x : SiteState
   pub guards : Guards catalogue x given o
   pub copies : Copies catalogue x given o
   pub unlisting : Unlisting catalogue x given o
-  pub quits : (rec : ℕ) (v : View) → o.site.held ≡ Some v → is_usable catalogue o.site rec ≡ true → Has (keys x.copies) rec → IsUnlisted o.site.refresh rec → Quits catalogue x given o rec
+  pub quits : (rec : ℕ) (v : View) → o.site.held ≡ Some v → is_open catalogue o.site rec ≡ true → Has (keys x.copies) rec → IsUnlisted o.site.refresh rec → Quits catalogue x given o rec
   pub was : (j : ℕ) (y : SiteState) (t : Live) → UsedTxn w t.txn → Has y.live t → NowIs w s o.site j y → Was w j t
   pub split : (j : ℕ) (y : SiteState) (t : Live) → NowIs w s o.site j y → Has y.live t → (q rec : ℕ) (exclusive : Bool) → HasAnswered new q t.txn rec exclusive → Split w s x given o j t q rec exclusive
   pub st : Acted w new s x o
@@ -159,7 +159,7 @@ does catalogue w s x given up r k n =
       led = led;
       below = below;
       local = local-step catalogue x given ok.tidy;
-      endings = (endings-step catalogue x given led apart settled (λ d h. fresh w s x up ok.id d.0 ((k.names.site s x up).decisions d h))).kept;
+      endings = (endings-step catalogue x given led apart settled (λ d h. fresh w s x up ok.id d.txn ((k.names.site s x up).decisions d h))).kept;
       steps = (steps-step catalogue x given led apart).kept;
       shares = shares-step catalogue x given;
       grows = record {

@@ -7,7 +7,7 @@ use Rattle.vp_model.specs.Words.{same_view, keys, value_at}
 use Rattle.vp_model.specs.Catalogue.{Catalogue, holders, start_values}
 use Rattle.vp_model.specs.Durable.{DurableState}
 use Rattle.vp_model.specs.Site.{SiteState}
-use Rattle.vp_model.specs.Refresh.{is_usable, refreshing_of}
+use Rattle.vp_model.specs.Refresh.{is_open, refreshing_of}
 use Rattle.vp_model.specs.Step.{durable_of}
 use Rattle.vp_laws.proofs.Members.{Has}
 use Rattle.vp_laws.proofs.Order.{AtMost, Precedes, same_is, same_from}
@@ -31,7 +31,7 @@ after_between catalogue journal c d rec h none = go (slice_get (start_values cat
 not_same : (i : ViewId) → same_view i i ≡ false → ⊥
 not_same i e = let t : same_view i i ≡ true = same_from i i refl in cc
 
-module _ (catalogue : Catalogue) (w : Scene) (shares : InvShares catalogue w) (inv : InvCopies catalogue w) (s rec : ℕ) (x : SiteState) (v : View) (c : Stored) (up : plain_at w s ≡ Some x) (kept : durable_of x ≡ kept_at w s) (held : x.held ≡ Some v) (usable : is_usable catalogue x rec ≡ true) (unlisted : refreshing_of rec x.refresh ≡ None) (copy : value_at rec x.copies ≡ Some c) (agreed : Has w.agreed v) (member : Has v.members s) (holder : Has (holders catalogue rec) s) (dated : AtMost c.date v.id) (unentered : (d : Doubt) → Has (kept_at w s).doubts d → Has (keys d.2) rec → (e : Commit) → Has w.journal e → e.txn ≢ d.0) where
+module _ (catalogue : Catalogue) (w : Scene) (shares : InvShares catalogue w) (inv : InvCopies catalogue w) (s rec : ℕ) (x : SiteState) (v : View) (c : Stored) (up : plain_at w s ≡ Some x) (kept : durable_of x ≡ kept_at w s) (held : x.held ≡ Some v) (usable : is_open catalogue x rec ≡ true) (unlisted : refreshing_of rec x.refresh ≡ None) (copy : value_at rec x.copies ≡ Some c) (agreed : Has w.agreed v) (member : Has v.members s) (holder : Has (holders catalogue rec) s) (dated : AtMost c.date v.id) (unentered : (d : Doubt) → Has (kept_at w s).doubts d → Has (keys d.writes) rec → (e : Commit) → Has w.journal e → e.txn ≢ d.txn) where
   copy_kept : value_at rec (kept_at w s).copies ≡ Some c
   copy_kept = subst (λ (k : DurableState). value_at rec k.copies ≡ Some c) kept copy
 
@@ -53,8 +53,8 @@ module _ (catalogue : Catalogue) (w : Scene) (shares : InvShares catalogue w) (i
 
   at_date : value_after catalogue w.journal c.date rec ≡ Some c.value
   at_date = ⊎_elim
-      (λ (q : (u : Doubt) × Has (kept_at w s).doubts u × Has (keys u.2) rec × (u.1 ≡ c.date)).
-      subst (λ (es : List Commit). value_after catalogue es c.date rec ≡ Some c.value) (without_none q.0.0 w.journal (unentered q.0 q.1 q.2)) (inv.value_in_doubt s rec c q.0 copy_kept (q.1, q.2, q.3)))
+      (λ (q : (u : Doubt) × Has (kept_at w s).doubts u × Has (keys u.writes) rec × (u.view ≡ c.date)).
+      subst (λ (es : List Commit). value_after catalogue es c.date rec ≡ Some c.value) (without_none q.0.txn w.journal (unentered q.0 q.1 q.2)) (inv.value_in_doubt s rec c q.0 copy_kept (q.1, q.2, q.3)))
       (λ none. inv.value s rec c copy_kept (λ d on. none d on.0 on.1 on.2))
       (doubt_or_none (kept_at w s).doubts rec c.date)
 

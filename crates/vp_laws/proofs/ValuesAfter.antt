@@ -8,7 +8,7 @@ use Rattle.std.proofs.lemmas.List.Elements.{filter-append}
 use Rattle.vp_model.specs.Types.{ViewId, TxnId, Commit}
 use Rattle.vp_model.specs.Words.{same_view, view_before, same_txn, value_at}
 use Rattle.vp_model.specs.Catalogue.{Catalogue, start_values}
-use Rattle.vp_model.specs.Transactions.{last_writes}
+use Rattle.vp_model.specs.Transactions.{last_changes}
 use Rattle.vp_model.specs.OneCopy.{views_of, in_view, order}
 use Rattle.vp_laws.proofs.Members.{Has, has_none, has_first, has_more, has_cons, has_right, filter_has}
 use Rattle.vp_laws.proofs.Lists.{mapped_has}
@@ -25,7 +25,7 @@ overwritten writes rec before = option_map_or (λ value. value) (value_at rec wr
 -- the value of the record after these entries
 abbrev pub value_in : ℕ → List ℕ → List Commit → List ℕ
 value_in rec start [] = start
-value_in rec start (e ∷ es) = value_in rec (overwritten (last_writes e.ops) rec start) es
+value_in rec start (e ∷ es) = value_in rec (overwritten (last_changes e) rec start) es
 
 -- the entries of views up to this one
 abbrev pub upto : ViewId → List Commit → List Commit
@@ -81,24 +81,24 @@ upto_has d es f h = let q = filter_has (λ (e : Commit). not (view_before d e.vi
 
 pub value_append : (rec : ℕ) (start : List ℕ) (es fs : List Commit) → value_in rec start (es ++ fs) ≡ value_in rec (value_in rec start es) fs
 value_append rec start [] fs = refl
-value_append rec start (e ∷ es) fs = value_append rec (overwritten (last_writes e.ops) rec start) es fs
+value_append rec start (e ∷ es) fs = value_append rec (overwritten (last_changes e) rec start) es fs
 
 -- an entry that has not written the record leaves its value
-pub unwritten_value : (e : Commit) (rec : ℕ) → (Wrote e rec → ⊥) → value_at rec (last_writes e.ops) ≡ None
-unwritten_value e rec n = go (value_at rec (last_writes e.ops)) refl
+pub unwritten_value : (e : Commit) (rec : ℕ) → (Wrote e rec → ⊥) → value_at rec (last_changes e) ≡ None
+unwritten_value e rec n = go (value_at rec (last_changes e)) refl
   where
-    go : (o : Option (List ℕ)) → value_at rec (last_writes e.ops) ≡ o → o ≡ None
+    go : (o : Option (List ℕ)) → value_at rec (last_changes e) ≡ o → o ≡ None
     go None q = refl
-    go (Some v) q = let k = value_key rec (last_writes e.ops) v q in absurd (n (subst (Has _) k.2 (mapped_has (λ (p : ℕ × List ℕ). p.0) (last_writes e.ops) k.0 k.1)))
+    go (Some v) q = let k = value_key rec (last_changes e) v q in absurd (n (subst (Has _) k.2 (mapped_has (λ (p : ℕ × List ℕ). p.0) (last_changes e) k.0 k.1)))
 
-pub leaves_value : (e : Commit) (rec : ℕ) (start : List ℕ) → (Wrote e rec → ⊥) → overwritten (last_writes e.ops) rec start ≡ start
+pub leaves_value : (e : Commit) (rec : ℕ) (start : List ℕ) → (Wrote e rec → ⊥) → overwritten (last_changes e) rec start ≡ start
 leaves_value e rec start n = let z = unwritten_value e rec n in rw z refl
 
-pub written_value : (e : Commit) (rec : ℕ) → Wrote e rec → (value : List ℕ) × (value_at rec (last_writes e.ops) ≡ Some value)
-written_value e rec h = go (value_at rec (last_writes e.ops)) refl
+pub written_value : (e : Commit) (rec : ℕ) → Wrote e rec → (value : List ℕ) × (value_at rec (last_changes e) ≡ Some value)
+written_value e rec h = go (value_at rec (last_changes e)) refl
   where
-    go : (o : Option (List ℕ)) → value_at rec (last_writes e.ops) ≡ o → (value : List ℕ) × (value_at rec (last_writes e.ops) ≡ Some value)
-    go None q = absurd (not_copied rec (last_writes e.ops) q h)
+    go : (o : Option (List ℕ)) → value_at rec (last_changes e) ≡ o → (value : List ℕ) × (value_at rec (last_changes e) ≡ Some value)
+    go None q = absurd (not_copied rec (last_changes e) q h)
     go (Some v) q = (v, q)
 
 pub value_stays : (rec : ℕ) (start : List ℕ) (es : List Commit) → ((f : Commit) → Has es f → Wrote f rec → ⊥) → value_in rec start es ≡ start
@@ -106,10 +106,10 @@ value_stays rec start [] h = refl
 value_stays rec start (e ∷ es) h = rw (leaves_value e rec start (h e (has_first e es))) (value_stays rec start es (λ f q. h f (has_more e es f q)))
 
 -- one that has is the last to do so
-pub value_last : (rec : ℕ) (start value : List ℕ) (before behind : List Commit) (e : Commit) → value_at rec (last_writes e.ops) ≡ Some value → ((f : Commit) → Has behind f → Wrote f rec → ⊥) → value_in rec start (before ++ e ∷ behind) ≡ value
+pub value_last : (rec : ℕ) (start value : List ℕ) (before behind : List Commit) (e : Commit) → value_at rec (last_changes e) ≡ Some value → ((f : Commit) → Has behind f → Wrote f rec → ⊥) → value_in rec start (before ++ e ∷ behind) ≡ value
 value_last rec start value before behind e w h =
     value_append rec start before (e ∷ behind)
-    ∙ value_stays rec (overwritten (last_writes e.ops) rec (value_in rec start before)) behind h
+    ∙ value_stays rec (overwritten (last_changes e) rec (value_in rec start before)) behind h
     ∙ ap (λ (o : Option (List ℕ)). option_map_or (λ value. value) o (value_in rec start before)) w
 
 -- where no entry between two views wrote the record, its value after both is the same
@@ -124,7 +124,7 @@ value_among rec start c d (e ∷ es) h none = go (view_before c e.view) (view_be
       where
         below : AtMost e.view c → Precedes d e.view → ⊥
         below a b = grind (arith, h)
-    go false false p q rest = rest (overwritten (last_writes e.ops) rec start)
+    go false false p q rest = rest (overwritten (last_changes e) rec start)
 
 pub value_between : (rec : ℕ) (start : List ℕ) (journal : List Commit) (c d : ViewId) → AtMost c d → ((f : Commit) → Has journal f → Precedes c f.view → AtMost f.view d → Wrote f rec → ⊥) → value_up_to rec start journal d ≡ value_up_to rec start journal c
 value_between rec start journal c d h none = value_among rec start c d (order journal) h (λ f q. none f (order_has journal f q))
@@ -159,7 +159,7 @@ module _ (rec : ℕ) (start : List ℕ) (journal : List Commit) (e : Commit) whe
           ∙ sym (ap (value_in rec start) (was_at d) ∙ value_append rec start (upto d s.before) (upto d s.behind))
 
   -- or one that has, where no entry above it has
-  pub value_written : (d : ViewId) (value : List ℕ) → AtMost e.view d → value_at rec (last_writes e.ops) ≡ Some value → ((f : Commit) → Has journal f → Precedes e.view f.view → AtMost f.view d → Wrote f rec → ⊥) → value_up_to rec start (journal ++ e ∷ []) d ≡ value
+  pub value_written : (d : ViewId) (value : List ℕ) → AtMost e.view d → value_at rec (last_changes e) ≡ Some value → ((f : Commit) → Has journal f → Precedes e.view f.view → AtMost f.view d → Wrote f rec → ⊥) → value_up_to rec start (journal ++ e ∷ []) d ≡ value
   value_written d value h w none =
       let t = test_up_to d e.view h in
       let first : upto d (e ∷ s.behind) ≡ e ∷ upto d s.behind = rw t refl in
@@ -225,7 +225,7 @@ module _ (journal : List Commit) (v : ViewId) where
   upto_ends = ends_at (views_of journal) (views_rising journal) (λ f h e. subst (Has (views_of journal)) e (view_there journal f h))
 
 -- an entry that stands anywhere in the journal: no later entry of its view wrote the record
-pub value_of_last : (rec : ℕ) (start value : List ℕ) (front back : List Commit) (e : Commit) → value_at rec (last_writes e.ops) ≡ Some value → ((f : Commit) → Has back f → f.view ≡ e.view → Wrote f rec → ⊥) → value_up_to rec start (front ++ e ∷ back) e.view ≡ value
+pub value_of_last : (rec : ℕ) (start value : List ℕ) (front back : List Commit) (e : Commit) → value_at rec (last_changes e) ≡ Some value → ((f : Commit) → Has back f → f.view ≡ e.view → Wrote f rec → ⊥) → value_up_to rec start (front ++ e ∷ back) e.view ≡ value
 value_of_last rec start value front back e w none =
     let j = front ++ e ∷ back in
     let low = upto_ends j e.view in

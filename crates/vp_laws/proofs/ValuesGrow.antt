@@ -34,17 +34,17 @@ after_is catalogue journal date rec q value h all = go (slice_get catalogue.reco
         ap (option_map (λ start. value_up_to rec start journal date)) is ∙ ap (λ (v : List ℕ). Some v) (all entry.start)
 
 -- some doubt of the view writes the record, or none does
-pub doubt_or_none : (doubts : List Doubt) (rec : ℕ) (date : ViewId) → ((u : Doubt) × Has doubts u × Has (keys u.2) rec × (u.1 ≡ date)) ⊎ ((u : Doubt) → Has doubts u → Has (keys u.2) rec → u.1 ≡ date → ⊥)
-doubt_or_none doubts rec date = go (list_any (λ (u : Doubt). has (keys u.2) rec && same_view u.1 date) doubts) refl
+pub doubt_or_none : (doubts : List Doubt) (rec : ℕ) (date : ViewId) → ((u : Doubt) × Has doubts u × Has (keys u.writes) rec × (u.view ≡ date)) ⊎ ((u : Doubt) → Has doubts u → Has (keys u.writes) rec → u.view ≡ date → ⊥)
+doubt_or_none doubts rec date = go (list_any (λ (u : Doubt). has (keys u.writes) rec && same_view u.view date) doubts) refl
   where
-    go : (b : Bool) → list_any (λ (u : Doubt). has (keys u.2) rec && same_view u.1 date) doubts ≡ b → ((u : Doubt) × Has doubts u × Has (keys u.2) rec × (u.1 ≡ date)) ⊎ ((u : Doubt) → Has doubts u → Has (keys u.2) rec → u.1 ≡ date → ⊥)
+    go : (b : Bool) → list_any (λ (u : Doubt). has (keys u.writes) rec && same_view u.view date) doubts ≡ b → ((u : Doubt) × Has doubts u × Has (keys u.writes) rec × (u.view ≡ date)) ⊎ ((u : Doubt) → Has doubts u → Has (keys u.writes) rec → u.view ≡ date → ⊥)
     go true e =
-        let q = any_true (λ (u : Doubt). has (keys u.2) rec && same_view u.1 date) doubts e in
-        let t = both_true (has (keys q.0.2) rec) (same_view q.0.1 date) q.2 in
-        inl (q.0, q.1, has_from_test (keys q.0.2) rec t.0, same_is q.0.1 date t.1)
+        let q = any_true (λ (u : Doubt). has (keys u.writes) rec && same_view u.view date) doubts e in
+        let t = both_true (has (keys q.0.writes) rec) (same_view q.0.view date) q.2 in
+        inl (q.0, q.1, has_from_test (keys q.0.writes) rec t.0, same_is q.0.view date t.1)
     go false e = inr (λ u h on is.
-        let t = any_false (λ (u : Doubt). has (keys u.2) rec && same_view u.1 date) doubts e u h in
-        not_both_tests (has (keys u.2) rec) (same_view u.1 date) t (has_test (keys u.2) rec on) (same_from u.1 date is))
+        let t = any_false (λ (u : Doubt). has (keys u.writes) rec && same_view u.view date) doubts e u h in
+        not_both_tests (has (keys u.writes) rec) (same_view u.view date) t (has_test (keys u.writes) rec on) (same_from u.view date is))
       where
         not_both_tests : (a b : Bool) → (a && b) ≡ false → a ≡ true → b ≡ true → ⊥
         not_both_tests true b e f g = cc

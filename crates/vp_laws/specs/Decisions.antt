@@ -22,7 +22,7 @@ Forces catalogue x given txn commit = Contains (step catalogue x given).effects.
 -- by: the journal before the step; last: the journal in the end
 pub record EndsByJournal (catalogue : Catalogue) (by last : List Commit) (x : SiteState) (given : Input) : Type 0 where
   -- a doubt is there after the step, or ends by an outcome
-  pub ends : (d : Doubt) → Contains x.doubts d → Contains (step catalogue x given).site.doubts d ⊎ ((commit : Bool) × Forces catalogue x given d.0 commit)
+  pub ends : (d : Doubt) → Contains x.doubts d → Contains (step catalogue x given).site.doubts d ⊎ ((commit : Bool) × Forces catalogue x given d.txn commit)
   -- by a commit, which makes its writes copies, only where the transaction has an entry
   pub commits : (txn : TxnId) → Forces catalogue x given txn true → has_entry by txn ≡ true
   -- by an abort, which drops it, only where the transaction never has one

@@ -7,7 +7,7 @@ use Rattle.vp_model.specs.Types.message
 use Rattle.vp_model.specs.Words.{same_txn, is_empty}
 use Rattle.vp_model.specs.Catalogue.{Catalogue, accessible}
 use Rattle.vp_model.specs.Site.{SiteState}
-use Rattle.vp_model.specs.Transactions.{last_writes, writes_held}
+use Rattle.vp_model.specs.Transactions.{last_changes, entry_of, writes_held}
 use Rattle.vp_model.specs.World.{Place, WorldState, place_of, site_of}
 use Rattle.std.specs.Prelude.{Option, None, List, []}
 
@@ -27,7 +27,7 @@ doubts_of w site = doubts_in (place_of site w.places)
 -- and with its last values there
 abbrev pub VotesLeaveDoubts : Catalogue → WorldState → Type 0
 VotesLeaveDoubts catalogue w =
-    (from to : ℕ) (txn : TxnId) (x : SiteState) (t : Live) → Contains w.sent (record { from = from; to = to; message = message.Vote txn }) → site_of w txn.site ≡ Some x → Contains x.live t → t.txn ≡ txn → is_empty (writes_held catalogue from (last_writes t.ops)) ≡ false → Contains (doubts_of w from) (txn, t.view, writes_held catalogue from (last_writes t.ops))
+    (from to : ℕ) (txn : TxnId) (x : SiteState) (t : Live) → Contains w.sent (record { from = from; to = to; message = message.Vote txn }) → site_of w txn.site ≡ Some x → Contains x.live t → t.txn ≡ txn → is_empty (writes_held catalogue from (last_changes (entry_of t))) ≡ false → Contains (doubts_of w from) (record { txn = txn; view = t.view; writes = writes_held catalogue from (last_changes (entry_of t)) })
 
 -- the record of an operation
 abbrev pub record_in : Op → ℕ

@@ -5,7 +5,7 @@ use Rattle.vp_model.specs.Types.{TxnId, Commit, Stored, Lock}
 use Rattle.vp_model.specs.Types.owner
 use Rattle.vp_model.specs.Words.{keys, opening}
 use Rattle.vp_model.specs.Site.{SiteState}
-use Rattle.vp_model.specs.Transactions.{last_writes}
+use Rattle.vp_model.specs.Transactions.{last_changes}
 use Rattle.vp_model.specs.World.{Place, WorldState, place_of, site_of}
 
 -- two locks of transactions on one record, of which one is exclusive, are of one transaction
@@ -24,4 +24,4 @@ copies_of w site = copies_in (place_of site w.places)
 -- each copy that is not of the opening view is of the view of an entry that wrote the record
 abbrev pub CopiesAreDated : WorldState → Type 0
 CopiesAreDated w =
-    (s : ℕ) (c : ℕ × Stored) → Contains (copies_of w s) c → (c.1.date ≡ opening → ⊥) → (e : Commit) × Contains w.journal e × Contains (keys (last_writes e.ops)) c.0 × (e.view ≡ c.1.date)
+    (s : ℕ) (c : ℕ × Stored) → Contains (copies_of w s) c → (c.1.date ≡ opening → ⊥) → (e : Commit) × Contains w.journal e × Contains (keys (last_changes e)) c.0 × (e.view ≡ c.1.date)

@@ -11,7 +11,7 @@ use Rattle.vp_model.specs.Catalogue.{Catalogue, find_record}
 use Rattle.vp_model.specs.Durable.{with_writes}
 use Rattle.vp_model.specs.Locks.{conflict}
 use Rattle.vp_model.specs.Site.{CoordinatorState, Here, Lent, lent_reply}
-use Rattle.vp_model.specs.Transactions.{answer_of, last_writes, writes_held}
+use Rattle.vp_model.specs.Transactions.{entry_of, answer_of, last_writes, writes_held}
 use Rattle.vp_model.specs.Calls.{handled, start_txn}
 use Rattle.vp_model.specs.World.{Moment}
 use Rattle.vp_model.specs.Told.{answers_in, reported, reports, is_call, is_early_refusal, takes}
@@ -26,7 +26,7 @@ use Rattle.vp_one_site.proofs.ToldLines.{IsReported, reports-silent, reports-kno
 use Rattle.vp_one_site.proofs.Outcome.{IsAlone, IsOld, IsRepeat, IsDone, Outcome, is_plain}
 use Rattle.vp_one_site.proofs.Invariant.{IsWorld, lone_view, ValuesHold, Holds, IsTrueEnd, words_justified, lines_in}
 use Rattle.vp_one_site.proofs.Copies.{stored_of, copies_at, found_within, usable_alone, none_other}
-use Rattle.vp_one_site.proofs.Changes.{lone, Ended, Advanced, Adds, entry_of, entry_own, close_ends, decide_ends, decide_commits, decide_copies, close_here, complete_advances}
+use Rattle.vp_one_site.proofs.Changes.{lone, Ended, Advanced, Adds, entry_own, close_ends, decide_ends, decide_commits, decide_copies, close_here, complete_advances}
 use Rattle.vp_one_site.proofs.Refused.{refused_last, none_refused, refusal_is, refused_end}
 use Rattle.vp_one_site.proofs.KeptNames.{names-ended, names-advanced, names-begun, now_over, ended_over, entry_of_over, advanced_over, begun_over, with_new, new_name}
 use Rattle.vp_one_site.proofs.KeptLocks.{locks-ended, locks-advanced, locks-begun}

@@ -9,7 +9,7 @@ use Rattle.vp_model.specs.Catalogue.{Catalogue}
 use Rattle.vp_model.specs.Durable.{with_writes}
 use Rattle.vp_model.specs.Locks.{without_owner}
 use Rattle.vp_model.specs.Site.{CoordinatorState, Here, Lent}
-use Rattle.vp_model.specs.Transactions.{answer_of, last_writes, writes_held, close, decide, decided, keep_writes, finish, complete}
+use Rattle.vp_model.specs.Transactions.{entry_of, answer_of, last_writes, writes_held, close, decide, decided, keep_writes, finish, complete}
 use Rattle.vp_model.specs.Calls.{handling}
 use Rattle.vp_model.specs.Headline.{has_entry}
 use Rattle.vp_one_site.proofs.Lists.{any_append}
@@ -24,10 +24,6 @@ lone c here = record { coordinator = c; here = here; effects = record { records 
 -- the transaction as it is kept after its end
 abbrev pub finished_now : Live → ℕ → Ending → Finished
 finished_now t number why = record { txn = t.txn; answers = t.answers ++ answer_of t.txn number why ∷ []; ending = why }
-
--- its entry of the journal
-abbrev pub entry_of : Live → Commit
-entry_of t = record { txn = t.txn; view = t.view; ops = t.ops }
 
 -- the transaction has ended
 pub record Ended (t : Live) (number : ℕ) (why : Ending) (c : CoordinatorState) (here : Here) (l : Lent) : Type 0 where

@@ -10,7 +10,8 @@ use Rattle.vp_one_site.proofs.Members.{Has, has_cases, has_one_is}
 use Rattle.vp_one_site.proofs.Lists.{Apart, changed_has, changed_apart, without_has, without_apart, drop_has, apart_append, none_true, any_false}
 use Rattle.vp_one_site.proofs.LockTables.{same_txn_is, same_txn-sym}
 use Rattle.vp_one_site.proofs.Invariant.{IsNamed, IsOver, IsLive, IsFinished, IsEntry, NamesHold, same_live, same_entry}
-use Rattle.vp_one_site.proofs.Changes.{Ended, Advanced, Adds, advanced, finished_now, entry_of, entry_other, entry_own}
+use Rattle.vp_model.specs.Transactions.{entry_of}
+use Rattle.vp_one_site.proofs.Changes.{Ended, Advanced, Adds, advanced, finished_now, entry_other, entry_own}
 
 pub both_named : (x y z : TxnId) → same_txn x z ≡ true → same_txn y z ≡ true → same_txn x y ≡ true
 both_named x y z p q = grind (arith, nat_tests)

@@ -11,7 +11,7 @@ use Rattle.vp_base.specs.declared.site.Ending.TheVariants.{Committed, Aborted, L
 use Rattle.vp_model.specs.Words.{same_txn, value_at, put_at}
 use Rattle.vp_model.specs.Catalogue.{Catalogue}
 use Rattle.vp_model.specs.Site.{CoordinatorState, Here, Lent}
-use Rattle.vp_model.specs.Transactions.{answer_of, live_of, finished_of}
+use Rattle.vp_model.specs.Transactions.{entry_of, answer_of, live_of, finished_of}
 use Rattle.vp_model.specs.Told.{answers_in, is_step, call_in, reported, put_first, reports, is_early_refusal, is_call, takes, told_by}
 use Rattle.vp_one_site.proofs.Members.{Has, has_none, has_cons, has_cases, has_one_is, find_has, find_true}
 use Rattle.vp_one_site.proofs.Lists.{Apart, drop_has}
@@ -20,7 +20,7 @@ use Rattle.vp_one_site.proofs.LockTables.{same_txn_is, same_txn-self, same_txn-s
 use Rattle.vp_one_site.proofs.ToldLines.{Report, reports-last, collected_one, IsReported, reports-known, reported_lasts, Tells, TellsLive, begins, tells_on, tells_on_live, unheard_on, IsDoneBy, tells_more}
 use Rattle.vp_one_site.proofs.Outcome.{IsOld}
 use Rattle.vp_one_site.proofs.Invariant.{IsNamed, NamesHold, ToldHolds, same_live}
-use Rattle.vp_one_site.proofs.Changes.{Ended, Advanced, Adds, advanced, finished_now, entry_of}
+use Rattle.vp_one_site.proofs.Changes.{Ended, Advanced, Adds, advanced, finished_now}
 use Rattle.vp_one_site.proofs.KeptNames.{left_live, now_live, live_or_new, new_live, new_name, with_new}
 
 -- the line is a call with these answers

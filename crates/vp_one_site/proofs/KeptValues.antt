@@ -9,7 +9,7 @@ use Rattle.vp_model.specs.Words.{same_txn, value_at, opening}
 use Rattle.vp_model.specs.Catalogue.{Catalogue, start_values}
 use Rattle.vp_model.specs.Durable.{with_writes}
 use Rattle.vp_model.specs.Site.{CoordinatorState, Here, Lent}
-use Rattle.vp_model.specs.Transactions.{last_writes, writes_held}
+use Rattle.vp_model.specs.Transactions.{entry_of, last_writes, writes_held}
 use Rattle.vp_model.specs.OneCopy.{Values, play, serial}
 use Rattle.vp_one_site.specs.OneSite.{IsOnlyAt}
 use Rattle.vp_one_site.proofs.Members.{Has}
@@ -17,7 +17,7 @@ use Rattle.vp_one_site.proofs.Play.{op_record, set_all, get_within, get_all, get
 use Rattle.vp_one_site.proofs.LockTables.{NoConflict, HasLock, same_txn-self}
 use Rattle.vp_one_site.proofs.Outcome.{is_write, IsFrom}
 use Rattle.vp_one_site.proofs.Invariant.{NamesHold, LocksHold, ValuesHold, copies_of}
-use Rattle.vp_one_site.proofs.Changes.{Ended, Advanced, Adds, advanced, entry_of}
+use Rattle.vp_one_site.proofs.Changes.{Ended, Advanced, Adds, advanced}
 use Rattle.vp_one_site.proofs.Copies.{stored_of, copies_at, all_replaced, length_set_all, all_held, found_within}
 use Rattle.vp_one_site.proofs.KeptNames.{left_live, now_live, live_or_new, new_live, with_new}
 use Rattle.vp_one_site.proofs.KeptLocks.{HasLocks, wrote_lock}

@@ -21,7 +21,7 @@ written_keys date [] copies = refl
 written_keys date (w ∷ writes) copies = written_keys date writes (replace_at w.0 (record { value = w.1; date = date }) copies) ∙ replaced_keys w.0 (record { value = w.1; date = date }) copies
 
 outcome_keys : (doubt : Option Doubt) (commit : Bool) (copies : List (ℕ × Stored)) → keys (with_outcome doubt commit copies) ≡ keys copies
-outcome_keys (Some d) true copies = written_keys d.1 d.2 copies
+outcome_keys (Some d) true copies = written_keys d.view d.writes copies
 outcome_keys (Some d) false copies = refl
 outcome_keys None commit copies = refl
 

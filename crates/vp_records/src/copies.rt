@@ -4,7 +4,7 @@ ghost use Rattle.std.specs.Prelude.{◌≡◌, IfOk, true, option_copied};
 ghost use Rattle.vp_model.specs.Words.{replace_at, for_each};
 ghost use Rattle.vp_model.specs.Durable.{with_writes, with_outcome};
 
-use vp_base::{Copies, CopyOf, NoMemory, RecId, Stored, TxnId, Value, ViewId, Writes};
+use vp_base::{Copies, CopyOf, Doubt, NoMemory, RecId, Stored, Value, ViewId};
 use vp_lists::{replace_at, write_copies};
 
 /// After a transaction of the view wrote these values.
@@ -21,15 +21,12 @@ pub fn written(
 }
 
 /// After a commit ends the doubt, where there is one.
-pub fn committed(
-    copies: &Copies,
-    doubt: Option<&(TxnId, ViewId, Writes)>,
-) -> Result<Copies, NoMemory>
+pub fn committed(copies: &Copies, doubt: Option<&Doubt>) -> Result<Copies, NoMemory>
     ensures { IfOk result (λ after. after ≡ with_outcome (option_copied doubt.entry) true copies.now) }
 {
     match doubt {
         None => copies.copy_of(),
-        Some((_, view, writes)) => written(copies, view, writes.as_slice()),
+        Some(doubt) => written(copies, &doubt.view, doubt.writes.as_slice()),
     }
 }
 

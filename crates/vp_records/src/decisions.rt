@@ -1,11 +1,12 @@
 //! The decisions that some site has not acknowledged.
 
 ghost use Rattle.std.specs.Prelude.{◌≡◌, ◌==◌, IfOk, not, filter, map, if◌then◌else◌};
+ghost use Rattle.vp_base.specs.declared.entry.Decision.{Decision};
 ghost use Rattle.vp_model.specs.Words.{same_txn, is_empty};
 ghost use Rattle.vp_model.specs.Durable.{with_decision, acknowledged};
 
 use std::mem;
-use vp_base::{CopyOf, Decisions, NoMemory, SiteId, Sites, TxnId};
+use vp_base::{CopyOf, Decision, Decisions, NoMemory, SiteId, Sites, TxnId};
 use vp_lists::{is_same_txn, put_in};
 
 /// The decisions with this one in its place, where one of the same transaction goes. One that waits for no site is not kept.
@@ -18,15 +19,19 @@ pub fn with_decision(
 {
     let mut kept = decisions.copy_of()?;
     if !waiting.as_slice().is_empty() {
-        put_in(&mut kept, (*txn, waiting.copy_of()?))?;
+        let decision = Decision {
+            txn: *txn,
+            waiting: waiting.copy_of()?,
+        };
+        put_in(&mut kept, decision)?;
     }
     Ok(kept)
 }
 
-fn is_awaited(decision: &(TxnId, Sites)) -> bool
-    ensures { result ≡ not (is_empty decision.now.1) }
+fn is_awaited(decision: &Decision) -> bool
+    ensures { result ≡ not (is_empty decision.now.waiting) }
 {
-    !decision.1.as_slice().is_empty()
+    !decision.waiting.as_slice().is_empty()
 }
 
 fn drop_site(sites: &mut Sites, site: SiteId)
@@ -38,26 +43,26 @@ fn drop_site(sites: &mut Sites, site: SiteId)
     *sites = Sites::from_vec(items);
 }
 
-fn acknowledge_one(decision: &mut (TxnId, Sites), txn: &TxnId, site: SiteId)
-    ensures { decision.new ≡ (if same_txn decision.old.0 txn.now
-        then (decision.old.0, filter (λ q. not (q == site)) decision.old.1)
+fn acknowledge_one(decision: &mut Decision, txn: &TxnId, site: SiteId)
+    ensures { decision.new ≡ (if same_txn decision.old.txn txn.now
+        then record decision.old { waiting = filter (λ q. not (q == site)) decision.old.waiting }
         else decision.old) }
 {
-    if is_same_txn(&decision.0, txn) {
-        drop_site(&mut decision.1, site);
+    if is_same_txn(&decision.txn, txn) {
+        drop_site(&mut decision.waiting, site);
     }
 }
 
-fn acknowledge_all(decisions: &mut [(TxnId, Sites)], txn: &TxnId, site: SiteId)
-    ensures { decisions.new ≡ map (λ d. if same_txn d.0 txn.now then (d.0, filter (λ q. not (q == site)) d.1) else d) decisions.old }
+fn acknowledge_all(decisions: &mut [Decision], txn: &TxnId, site: SiteId)
+    ensures { decisions.new ≡ map (λ (d : Decision). if same_txn d.txn txn.now then record d { waiting = filter (λ q. not (q == site)) d.waiting } else d) decisions.old }
 {
     for decision in decisions.iter_mut() {
         acknowledge_one(decision, txn, site);
     }
 }
 
-fn drop_ended(decisions: &mut Vec<(TxnId, Sites)>)
-    ensures { decisions.new.items ≡ filter (λ d. not (is_empty d.1)) decisions.old.items }
+fn drop_ended(decisions: &mut Vec<Decision>)
+    ensures { decisions.new.items ≡ filter (λ d. not (is_empty d.waiting)) decisions.old.items }
 {
     decisions.retain(|decision| is_awaited(decision));
 }

@@ -4,7 +4,7 @@ ghost use Rattle.std.specs.Prelude.{◌≡◌, IfOk};
 ghost use Rattle.vp_model.specs.Durable.{put_doubt, without_doubt};
 
 use std::mem;
-use vp_base::{CopyOf, InDoubt, NoMemory, TxnId, ViewId, Writes};
+use vp_base::{CopyOf, Doubt, InDoubt, NoMemory, TxnId, ViewId, Writes};
 use vp_lists::{is_same_txn, put_in};
 
 /// The doubts with this one in its place, where one of the same transaction goes.
@@ -14,10 +14,15 @@ pub fn with_doubt(
     view: &ViewId,
     writes: &Writes,
 ) -> Result<InDoubt, NoMemory>
-    ensures { IfOk result (λ kept. kept ≡ put_doubt (txn.now, view.now, writes.now) doubts.now) }
+    ensures { IfOk result (λ kept. kept ≡ put_doubt (record { txn = txn.now; view = view.now; writes = writes.now }) doubts.now) }
 {
     let mut kept = doubts.copy_of()?;
-    put_in(&mut kept, (*txn, *view, writes.copy_of()?))?;
+    let doubt = Doubt {
+        txn: *txn,
+        view: *view,
+        writes: writes.copy_of()?,
+    };
+    put_in(&mut kept, doubt)?;
     Ok(kept)
 }
 
@@ -27,6 +32,6 @@ pub fn drop_doubt(doubts: &mut InDoubt, txn: &TxnId)
 {
     let none = InDoubt::new(doubts.allocator());
     let mut items = mem::replace(doubts, none).into_vec();
-    items.retain(|doubt| !is_same_txn(&doubt.0, txn));
+    items.retain(|doubt| !is_same_txn(&doubt.txn, txn));
     *doubts = InDoubt::from_vec(items);
 }

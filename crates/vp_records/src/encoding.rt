@@ -8,7 +8,9 @@ ghost use Rattle.vp_bytes.specs.Doubts.{IsDoubts, doubts_bytes};
 ghost use Rattle.vp_records.specs.Batches.{IsBatch, batch_bytes};
 ghost use Rattle.vp_records.specs.Records.{IsLogRecord, record_bytes, record_code, record_fields};
 
-use vp_base::{Batch, LogRecord, NoMemory, RecId, SiteId, Sites, Stored, TxnId, ViewId, Writes};
+use vp_base::{
+    Batch, Decision, Doubt, LogRecord, NoMemory, RecId, SiteId, Stored, TxnId, ViewId, Writes,
+};
 use vp_bytes::{
     put_byte, put_copies, put_copy, put_decisions, put_doubt, put_doubts, put_sites, put_txn,
     put_u32, put_u64, put_view,
@@ -123,8 +125,8 @@ fn put_acked(out: &mut Vec<u8>, txn: &TxnId, site: SiteId) -> Result<(), NoMemor
 fn put_saved(
     out: &mut Vec<u8>,
     copies: &[(RecId, Stored)],
-    doubts: &[(TxnId, ViewId, Writes)],
-    decisions: &[(TxnId, Sites)],
+    doubts: &[Doubt],
+    decisions: &[Decision],
 ) -> Result<(), NoMemory>
     requires copies { IsCopies copies.now }
     requires doubts { IsDoubts doubts.now }

@@ -10,6 +10,7 @@ use Rattle.vp_base.specs.declared.message.Message.TheVariants as message
 use Rattle.vp_wire.specs.declared.kind.MessageKind.{MessageKind}
 use Rattle.vp_wire.specs.declared.kind.MessageKind.TheVariants as kinds
 use Rattle.vp_bytes.specs.Fields.{Spelled, view_bytes, txn_bytes, numbered_bytes, request_bytes, counted_bytes, writes_bytes, outcome_byte, IsRequest, IsRecord, IsSites, IsRecs, IsWrites}
+use Rattle.vp_bytes.specs.Copies.{stored_of}
 use Rattle.vp_wire.specs.Grammar.{obstacle_bytes, message_kind, message_bytes, IsObstacle, IsMessage}
 use Rattle.vp_base.specs.Calls.{IsNumbered}
 use Rattle.vp_wire.specs.Messages.{message_at}
@@ -37,7 +38,7 @@ MessageOf kinds.Outcome = Made (Spelled (pair_bytes txn_bytes (λ (commit : Bool
 MessageOf kinds.Ack = Made (Spelled txn_bytes IsTxn) (λ p. message.Ack p)
 MessageOf kinds.Inquire = Made (Spelled txn_bytes IsTxn) (λ p. message.Inquire p)
 MessageOf kinds.RefreshRequest = Made (Spelled (pair_bytes view_bytes (λ (rec : ℕ). rec ∷ [])) (PairAllowed IsView IsRecord)) (λ p. message.RefreshRequest p.0 p.1)
-MessageOf kinds.RefreshAnswer = Made (Spelled (pair_bytes view_bytes (pair_bytes (λ (rec : ℕ). rec ∷ []) (pair_bytes counted_bytes view_bytes))) (PairAllowed IsView (PairAllowed IsRecord (PairAllowed (λ (value : List ℕ). IsValue value value) IsView)))) (λ p. message.RefreshAnswer p.0 p.1.0 p.1.1.0 p.1.1.1)
+MessageOf kinds.RefreshAnswer = Made (Spelled (pair_bytes view_bytes (pair_bytes (λ (rec : ℕ). rec ∷ []) (pair_bytes counted_bytes view_bytes))) (PairAllowed IsView (PairAllowed IsRecord (PairAllowed (λ (value : List ℕ). IsValue value value) IsView)))) (λ p. message.RefreshAnswer p.0 p.1.0 (stored_of p.1.1.0 p.1.1.1))
 MessageOf kinds.Probe = Made (Spelled view_bytes IsView) (λ p. message.Probe p)
 
 pub message_fields_exact : (kind : MessageKind) → Exact (MessageOf kind) (message_at kind)
@@ -57,7 +58,7 @@ message_fields_exact kinds.Outcome = then_field (λ txn p. message.Outcome txn p
 message_fields_exact kinds.Ack = made_exact (λ txn. message.Ack txn) txn_exact
 message_fields_exact kinds.Inquire = made_exact (λ txn. message.Inquire txn) txn_exact
 message_fields_exact kinds.RefreshRequest = then_field (λ view p. message.RefreshRequest view p) view_free view_exact (λ view. made_exact (λ rec. message.RefreshRequest view rec) rec_exact)
-message_fields_exact kinds.RefreshAnswer = then_field (λ view p. message.RefreshAnswer view p.0 p.1.0 p.1.1) view_free view_exact (λ view. then_field (λ rec p. message.RefreshAnswer view rec p.0 p.1) rec_free rec_exact (λ rec. then_field (λ value p. message.RefreshAnswer view rec value p) value_free value_exact (λ value. made_exact (λ date. message.RefreshAnswer view rec value date) view_exact)))
+message_fields_exact kinds.RefreshAnswer = then_field (λ view p. message.RefreshAnswer view p.0 (stored_of p.1.0 p.1.1)) view_free view_exact (λ view. then_field (λ rec p. message.RefreshAnswer view rec (stored_of p.0 p.1)) rec_free rec_exact (λ rec. then_field (λ value p. message.RefreshAnswer view rec (stored_of value p)) value_free value_exact (λ value. made_exact (λ date. message.RefreshAnswer view rec (stored_of value date)) view_exact)))
 message_fields_exact kinds.Probe = made_exact (λ view. message.Probe view) view_exact
 
 abbrev pub message_form : Message → MessageKind
@@ -76,7 +77,7 @@ message_form (message.Outcome txn commit) = kinds.Outcome
 message_form (message.Ack txn) = kinds.Ack
 message_form (message.Inquire txn) = kinds.Inquire
 message_form (message.RefreshRequest view rec) = kinds.RefreshRequest
-message_form (message.RefreshAnswer view rec value date) = kinds.RefreshAnswer
+message_form (message.RefreshAnswer view rec stored) = kinds.RefreshAnswer
 message_form (message.Probe view) = kinds.Probe
 
 -- The message is one of this kind, with these fields.
@@ -102,7 +103,7 @@ message_to kinds.Outcome m t h = subst (λ (m : Message). IsMessageOf kinds.Outc
 message_to kinds.Ack m t h = subst (λ (m : Message). IsMessageOf kinds.Ack m t) (sym h.is) (refl, h.spelled.is, h.spelled.allowed)
 message_to kinds.Inquire m t h = subst (λ (m : Message). IsMessageOf kinds.Inquire m t) (sym h.is) (refl, h.spelled.is, h.spelled.allowed)
 message_to kinds.RefreshRequest m t h = subst (λ (m : Message). IsMessageOf kinds.RefreshRequest m t) (sym h.is) (refl, h.spelled.is, (h.spelled.allowed.0, h.spelled.allowed.1))
-message_to kinds.RefreshAnswer m t h = subst (λ (m : Message). IsMessageOf kinds.RefreshAnswer m t) (sym h.is) (refl, h.spelled.is, (h.spelled.allowed.0, h.spelled.allowed.1.0, h.spelled.allowed.1.1.0, h.spelled.allowed.1.1.1))
+message_to kinds.RefreshAnswer m t h = subst (λ (m : Message). IsMessageOf kinds.RefreshAnswer m t) (sym h.is) (refl, h.spelled.is, (h.spelled.allowed.0, (h.spelled.allowed.1.0, h.spelled.allowed.1.1.0, h.spelled.allowed.1.1.1)))
 message_to kinds.Probe m t h = subst (λ (m : Message). IsMessageOf kinds.Probe m t) (sym h.is) (refl, h.spelled.is, h.spelled.allowed)
 
 pub message_from : (m : Message) → IsMessage m → MessageOf (message_form m) m (message_fields m)
@@ -121,7 +122,7 @@ message_from (message.Outcome txn commit) a = record { from = (txn, commit); spe
 message_from (message.Ack txn) a = record { from = txn; spelled = record { is = refl; allowed = a }; is = refl }
 message_from (message.Inquire txn) a = record { from = txn; spelled = record { is = refl; allowed = a }; is = refl }
 message_from (message.RefreshRequest view rec) a = record { from = (view, rec); spelled = record { is = refl; allowed = (a.0, a.1) }; is = refl }
-message_from (message.RefreshAnswer view rec value date) a = record { from = (view, (rec, (value, date))); spelled = record { is = refl; allowed = (a.0, (a.1, (a.2, a.3))) }; is = refl }
+message_from (message.RefreshAnswer view rec stored) a = record { from = (view, (rec, (stored.value, stored.date))); spelled = record { is = refl; allowed = (a.0, (a.1.0, (a.1.1, a.1.2))) }; is = refl }
 message_from (message.Probe view) a = record { from = view; spelled = record { is = refl; allowed = a }; is = refl }
 
 pub message_coded : (m : Message) → message_code (message_form m) ≡ message_kind m
@@ -140,5 +141,5 @@ message_coded (message.Outcome txn commit) = refl
 message_coded (message.Ack txn) = refl
 message_coded (message.Inquire txn) = refl
 message_coded (message.RefreshRequest view rec) = refl
-message_coded (message.RefreshAnswer view rec value date) = refl
+message_coded (message.RefreshAnswer view rec stored) = refl
 message_coded (message.Probe view) = refl

@@ -12,6 +12,7 @@ use Rattle.vp_base.specs.declared.event.Call.TheVariants as call
 use Rattle.vp_base.specs.declared.answer.Answer.{Answer}
 use Rattle.vp_base.specs.declared.answer.Answer.TheVariants as answer
 use Rattle.vp_bytes.specs.Fields.{number_bytes, view_bytes, maybe_view_bytes, txn_bytes, owner_bytes, counted_bytes, writes_bytes, numbered_bytes, request_bytes, outcome_byte, IsSite, IsRecord, IsMaybeView, IsOwner, IsSites, IsRecs, IsWrites, IsRequest, Spelled}
+use Rattle.vp_bytes.specs.Copies.{copy_bytes, IsCopy}
 use Rattle.vp_wire.specs.declared.frame.Frame.{Frame}
 use Rattle.vp_wire.specs.declared.frame.Body.{Body}
 use Rattle.vp_wire.specs.declared.frame.Body.TheVariants as body
@@ -36,7 +37,7 @@ message_kind (message.Outcome txn commit) = 12
 message_kind (message.Ack txn) = 13
 message_kind (message.Inquire txn) = 14
 message_kind (message.RefreshRequest view rec) = 15
-message_kind (message.RefreshAnswer view rec value date) = 16
+message_kind (message.RefreshAnswer view rec stored) = 16
 message_kind (message.Probe view) = 17
 
 abbrev pub message_bytes : Message → List ℕ
@@ -55,7 +56,7 @@ message_bytes (message.Outcome txn commit) = txn_bytes txn ++ outcome_byte commi
 message_bytes (message.Ack txn) = txn_bytes txn
 message_bytes (message.Inquire txn) = txn_bytes txn
 message_bytes (message.RefreshRequest view rec) = view_bytes view ++ rec ∷ []
-message_bytes (message.RefreshAnswer view rec value date) = view_bytes view ++ rec ∷ (counted_bytes value ++ view_bytes date)
+message_bytes (message.RefreshAnswer view rec stored) = view_bytes view ++ copy_bytes (rec, stored)
 message_bytes (message.Probe view) = view_bytes view
 
 abbrev pub call_bytes : Call → List ℕ
@@ -128,7 +129,7 @@ IsMessage (message.Outcome txn commit) = IsTxn txn
 IsMessage (message.Ack txn) = IsTxn txn
 IsMessage (message.Inquire txn) = IsTxn txn
 IsMessage (message.RefreshRequest view rec) = IsView view × IsRecord rec
-IsMessage (message.RefreshAnswer view rec value date) = IsView view × IsRecord rec × IsValue value value × IsView date
+IsMessage (message.RefreshAnswer view rec stored) = IsView view × IsCopy (rec, stored)
 IsMessage (message.Probe view) = IsView view
 
 abbrev pub IsAnswer : Answer → Type 0

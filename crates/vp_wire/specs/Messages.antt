@@ -7,6 +7,7 @@ use Rattle.vp_base.specs.declared.message.Message.{Message}
 use Rattle.vp_base.specs.declared.message.Message.TheVariants as message
 use Rattle.vp_wire.specs.declared.kind.MessageKind.{MessageKind}
 use Rattle.vp_wire.specs.declared.kind.MessageKind.TheVariants as kinds
+use Rattle.vp_bytes.specs.Copies.{stored_of}
 use Rattle.vp_bytes.specs.Reading.{byte_at, within, view_at, txn_at, numbered_at, request_at, value_at, sites_at, recs_at, writes_at, outcome_at, owner_at, maybe_view_at}
 
 -- 1 and an owner, or 2 and a view or none
@@ -76,7 +77,7 @@ message_at kinds.RefreshAnswer bytes = do
   rec ← byte_at (within 0 255) view.1
   value ← value_at rec.1
   date ← view_at value.1
-  Ok (message.RefreshAnswer view.0 rec.0 value.0 date.0, date.1)
+  Ok (message.RefreshAnswer view.0 rec.0 (stored_of value.0 date.0), date.1)
 message_at kinds.Probe bytes = do
   view ← view_at bytes
   Ok (message.Probe view.0, view.1)

@@ -7,7 +7,7 @@ ghost use Rattle.vp_wire.specs.Messages.{message_at, obstacle_at};
 
 use crate::kind::MessageKind;
 use std::alloc::Global;
-use vp_base::{LineFault, Message, Obstacle};
+use vp_base::{LineFault, Message, Obstacle, Stored};
 use vp_bytes::{
     take_byte, take_maybe_view, take_numbered, take_outcome, take_owner, take_rec, take_recs,
     take_request, take_sites, take_txn, take_value, take_view, take_writes,
@@ -213,12 +213,8 @@ fn take_refresh_answer(alloc: Global, cursor: &mut Cursor) -> Result<Message, Li
     let rec = take_rec(cursor)?;
     let value = take_value(alloc, cursor)?;
     let date = take_view(cursor)?;
-    Ok(Message::RefreshAnswer {
-        view,
-        rec,
-        value,
-        date,
-    })
+    let stored = Stored { value, date };
+    Ok(Message::RefreshAnswer { view, rec, stored })
 }
 
 #[tactic(auto, unfolding(crate::specs::Messages::message_at))]

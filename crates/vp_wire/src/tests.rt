@@ -1,7 +1,7 @@
 use crate::{Body, Frame, WireFault, decode, encode};
 use bytes::BytesMut;
 use std::alloc::Global;
-use vp_base::{Answer, Call, Message, NoMemory, RecId, Value, ViewId};
+use vp_base::{Answer, Call, Message, NoMemory, RecId, Stored, Value, ViewId};
 
 #[test]
 fn a_tick_has_its_bytes(rt: HostRuntime) -> Result<(), NoMemory> {
@@ -57,8 +57,10 @@ fn a_copy_has_its_bytes(rt: HostRuntime) -> Result<(), NoMemory> {
         body: Body::Message(Message::RefreshAnswer {
             view: ViewId { number: 1, site: 2 },
             rec: RecId::new(0),
-            value,
-            date: ViewId { number: 0, site: 0 },
+            stored: Stored {
+                value,
+                date: ViewId { number: 0, site: 0 },
+            },
         }),
     };
     encode(&copy, &mut out)?;

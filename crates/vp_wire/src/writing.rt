@@ -2,16 +2,17 @@
 
 ghost use Rattle.std.specs.Prelude.{◌≡◌, ◌++◌, ◌∷◌, [], OnOk};
 ghost use Rattle.vp_bytes.specs.Fields.{IsSites, IsRecs, IsWrites, view_bytes, txn_bytes, counted_bytes, writes_bytes, numbered_bytes, request_bytes, outcome_byte};
+ghost use Rattle.vp_bytes.specs.Copies.{copy_bytes};
 ghost use Rattle.vp_wire.specs.Grammar.{IsMessage, IsFrame, message_kind, message_bytes, kind, fields, frame_bytes, obstacle_bytes};
 
 use crate::answers::put_answer;
 use crate::calls::put_call;
 use crate::frame::{Body, Frame};
 use bytes::BytesMut;
-use vp_base::{CallNo, Message, NoMemory, Obstacle, RecId, SiteId, TxnId, Value, ViewId};
+use vp_base::{CallNo, Message, NoMemory, Obstacle, RecId, SiteId, Stored, TxnId, Value, ViewId};
 use vp_bytes::{
-    put_byte, put_maybe_view, put_numbered, put_owner, put_recs, put_request, put_sites, put_txn,
-    put_value, put_view, put_writes,
+    put_byte, put_copy, put_maybe_view, put_numbered, put_owner, put_recs, put_request, put_sites,
+    put_txn, put_value, put_view, put_writes,
 };
 
 /// Appends the one spelling of the frame. Without memory a beginning of it may have been appended.
@@ -118,12 +119,7 @@ fn put_message(out: &mut BytesMut, message: &Message) -> Result<(), NoMemory>
         Message::Ack { txn } => put_txn(out, txn),
         Message::Inquire { txn } => put_txn(out, txn),
         Message::RefreshRequest { view, rec } => put_refresh_request(out, view, *rec),
-        Message::RefreshAnswer {
-            view,
-            rec,
-            value,
-            date,
-        } => put_refresh_answer(out, view, *rec, value, date),
+        Message::RefreshAnswer { view, rec, stored } => put_refresh_answer(out, view, *rec, stored),
         Message::Probe { view } => put_view(out, view),
     }
 }
@@ -234,12 +230,10 @@ fn put_refresh_answer(
     out: &mut BytesMut,
     view: &ViewId,
     rec: RecId,
-    value: &Value,
-    date: &ViewId,
+    stored: &Stored,
 ) -> Result<(), NoMemory>
-    ensures { OnOk result (out.new.items ≡ out.old.items ++ (view_bytes view.now ++ rec ∷ (counted_bytes value.now ++ view_bytes date.now))) }
+    ensures { OnOk result (out.new.items ≡ out.old.items ++ (view_bytes view.now ++ copy_bytes (rec, stored.now))) }
 {
-    put_refresh_request(out, view, rec)?;
-    put_value(out, value)?;
-    put_view(out, date)
+    put_view(out, view)?;
+    put_copy(out, rec, stored)
 }

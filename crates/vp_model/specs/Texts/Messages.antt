@@ -1,7 +1,7 @@
 -- Messages, as a trace shows them. Records are named.
 use Rattle.std.specs.Prelude.{ℕ, Bool, true, false, List, ◌∷◌, ◌++◌, flat_map, codes}
 use Rattle.std.specs.Fmt.{decimal}
-use Rattle.vp_model.specs.Types.{ViewId, TxnId, Obstacle, Message}
+use Rattle.vp_model.specs.Types.{Change, ViewId, TxnId, Obstacle, Message}
 use Rattle.vp_model.specs.Types.message
 use Rattle.vp_model.specs.Types.obstacle
 use Rattle.vp_model.specs.Catalogue.{Catalogue, name_of}
@@ -10,7 +10,7 @@ use Rattle.vp_model.specs.Texts.Fields.{view_text, held_text, txn_text, owner_te
 abbrev pub read_text : Catalogue → ℕ → List ℕ
 read_text catalogue rec = codes " r " ++ name_of catalogue rec
 
-abbrev pub write_text : Catalogue → ℕ × List ℕ → List ℕ
+abbrev pub write_text : Catalogue → ℕ × Change → List ℕ
 write_text catalogue write = codes " w " ++ (name_of catalogue write.0 ++ 32 ∷ write.1)
 
 abbrev pub obstacle_text : Obstacle → List ℕ

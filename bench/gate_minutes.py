@@ -1,0 +1,104 @@
+#!/usr/bin/env python3
+"""Tells the processor minutes of the gate, crate by crate: of its first check, of its tests and of its must-fail edits.
+
+gate_minutes.py [FOLDER [WORD ..]]
+
+Runs `rt ci WORD ..` in FOLDER (here, if none is named) and looks at its processes twice a second. What an earlier run kept is not done
+again and so costs nothing: the table is whole where nothing was kept, or where a WORD is --anew. The run's own output goes to standard
+error, the table, in Markdown, to standard output. The status is the run's.
+"""
+
+import os
+import re
+import subprocess
+import sys
+import time
+
+TICKS = os.sysconf("SC_CLK_TCK")
+KINDS = ("check", "tests", "edits")
+
+
+def processes():
+    """Each live process by its number: its parent, and the seconds that it and its ended children have used."""
+    found = {}
+    for name in os.listdir("/proc"):
+        if not name.isdigit():
+            continue
+        try:
+            with open(f"/proc/{name}/stat", encoding="utf-8", errors="replace") as file:
+                fields = file.read().rpartition(")")[2].split()
+        except OSError:
+            continue
+        found[int(name)] = int(fields[1]), sum(map(int, fields[11:15])) / TICKS
+    return found
+
+
+def job_of(number):
+    """The crate and the kind of the work that a process of the prover does, if it is one."""
+    try:
+        with open(f"/proc/{number}/cmdline", encoding="utf-8", errors="replace") as file:
+            words = file.read().split("\0")
+        folder = os.readlink(f"/proc/{number}/cwd")
+    except OSError:
+        return None
+    if not words[0].endswith("/rattle") or "--crate-name" not in words:
+        return None
+    crate = words[words.index("--crate-name") + 1]
+    if re.search(r"/rt-edit-\d+-", folder):
+        return crate, "edits"
+    return crate, "tests" if "--test" in words else "check"
+
+
+def look(top, jobs, known):
+    """Notes what each job below the process `top` has used so far."""
+    live = processes()
+    below = {}
+    for number, (parent, _) in live.items():
+        below.setdefault(parent, []).append(number)
+
+    def used(number):
+        return live[number][1] + sum(used(it) for it in below.get(number, ()))
+
+    def walk(number):
+        if number not in known:
+            known[number] = job_of(number)
+        if known[number]:
+            key = (*known[number], number)
+            jobs[key] = max(jobs.get(key, 0), used(number))
+            return
+        known.pop(number)
+        for it in below.get(number, ()):
+            walk(it)
+
+    if top in live:
+        walk(top)
+
+
+def table(jobs):
+    """The table, the dearest crate first, with a line of sums."""
+    sums, dearest = {}, {}
+    for (crate, kind, _), seconds in jobs.items():
+        sums.setdefault(crate, dict.fromkeys(KINDS, 0.0))[kind] += seconds
+        dearest[crate, kind] = max(dearest.get((crate, kind), 0.0), seconds)
+    lines = ["| Crate | First check | Tests | Edits | Together | Dearest edit, in seconds |", "|---|---|---|---|---|---|"]
+    for crate, of in sorted(sums.items(), key=lambda it: -sum(it[1].values())):
+        cells = [f"{of[kind] / 60:.1f}" for kind in KINDS]
+        lines.append(f"| `{crate}` | {' | '.join(cells)} | {sum(of.values()) / 60:.1f} | {dearest.get((crate, 'edits'), 0):.0f} |")
+    every = [sum(of[kind] for of in sums.values()) / 60 for kind in KINDS]
+    lines.append(f"| all | {' | '.join(f'{it:.1f}' for it in every)} | {sum(every):.1f} | |")
+    return "\n".join(lines)
+
+
+def main():
+    folder, words = (sys.argv[1:2] or ["."])[0], sys.argv[2:]
+    jobs, known = {}, {}
+    with subprocess.Popen(["rt", "ci", *words], cwd=folder, stdin=subprocess.DEVNULL, stdout=sys.stderr) as run:
+        while run.poll() is None:
+            look(run.pid, jobs, known)
+            time.sleep(0.5)
+    print(table(jobs))
+    return run.returncode
+
+
+if __name__ == "__main__":
+    sys.exit(main())

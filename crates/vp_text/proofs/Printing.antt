@@ -1,0 +1,67 @@
+-- Texts that are put down part by part: where a part fails, a beginning of the whole stands there.
+use Rattle.std.proofs.Common.{◌≡◌, ℕ, Bool, true, ◌&&◌, nat_eq, List, [], ◌∷◌, ◌++◌, length, drop, refl, sym, ap, ◌∙◌, append_assoc}
+use Rattle.std.specs.List.{starts_with}
+use Rattle.std.proofs.lemmas.List.{append-nil, append_cancel_left}
+use Rattle.std.proofs.lemmas.Bool.{and_from, and_parts}
+use Rattle.std.proofs.lemmas.Bool.Decides.{Decides-eqb}
+use Rattle.std.proofs.lemmas.Slice.Eq.{starts_is}
+use Rattle.vp_text.specs.Printing.{is_begun}
+
+-- what stands behind the old bytes, and what is missing of the text
+pub record IsBegun (old text new : List ℕ) : Type 0 where
+  pub front : List ℕ
+  pub rest : List ℕ
+  pub is : new ≡ old ++ front
+  pub parts : text ≡ front ++ rest
+
+starts_Decides : (w p : List ℕ) → (starts_with nat_eq w p ≡ true → w ≡ p ++ drop (length p) w) × ((r : List ℕ) → w ≡ p ++ r → starts_with nat_eq w p ≡ true)
+starts_Decides w p = starts_is Decides-eqb w p (starts_with nat_eq w p) refl
+
+pub begun_parts : (old text new : List ℕ) → is_begun old text new ≡ true → IsBegun old text new
+unfolding is_begun
+begun_parts old text new h =
+    let both = and_parts (starts_with nat_eq new old) (starts_with nat_eq (old ++ text) new) h in
+    let front = drop (length old) new in
+    let rest = drop (length new) (old ++ text) in
+    let is : new ≡ old ++ front = (starts_Decides new old).0 both.0 in
+    let all : old ++ text ≡ old ++ (front ++ rest) =
+    (starts_Decides (old ++ text) new).0 both.1 ∙ ap (λ (x : List ℕ). x ++ rest) is ∙ append_assoc old front rest in
+    record { front = front; rest = rest; is = is; parts = append_cancel_left old text (front ++ rest) all }
+
+pub begun_from : (old text new : List ℕ) → IsBegun old text new → is_begun old text new ≡ true
+unfolding is_begun
+begun_from old text new b =
+    let all : old ++ text ≡ new ++ b.rest =
+    ap (λ (x : List ℕ). old ++ x) b.parts ∙ sym (append_assoc old b.front b.rest) ∙ ap (λ (x : List ℕ). x ++ b.rest) (sym b.is) in
+    and_from (starts_with nat_eq new old) (starts_with nat_eq (old ++ text) new) ((starts_Decides new old).1 b.front b.is) ((starts_Decides (old ++ text) new).1 b.rest all)
+
+-- nothing of it
+pub begun_none : (old text new : List ℕ) → new ≡ old → is_begun old text new ≡ true
+begun_none old text new e = begun_from old text new (record { front = []; rest = text; is = e ∙ sym (append-nil old); parts = refl })
+
+-- all of it
+pub begun_whole : (old text new : List ℕ) → new ≡ old ++ text → is_begun old text new ≡ true
+begun_whole old text new e = begun_from old text new (record { front = text; rest = []; is = e; parts = sym (append-nil text) })
+
+-- a beginning of its first part
+pub begun_first : (old first more new : List ℕ) → is_begun old first new ≡ true → is_begun old (first ++ more) new ≡ true
+begun_first old first more new h =
+    let b = begun_parts old first new h in
+    begun_from old (first ++ more) new (record { front = b.front; rest = b.rest ++ more; is = b.is; parts = ap (λ (x : List ℕ). x ++ more) b.parts ∙ append_assoc b.front b.rest more })
+
+-- its first part, and a beginning of what follows
+pub begun_then : (old first more new : List ℕ) → is_begun (old ++ first) more new ≡ true → is_begun old (first ++ more) new ≡ true
+begun_then old first more new h =
+    let b = begun_parts (old ++ first) more new h in
+    begun_from old (first ++ more) new (record {
+      front = first ++ b.front;
+      rest = b.rest;
+      is = b.is ∙ append_assoc old first b.front;
+      parts = ap (λ (x : List ℕ). first ++ x) b.parts ∙ sym (append_assoc first b.front b.rest);
+    })
+
+-- its first byte, and a beginning of what follows
+pub begun_byte : (old : List ℕ) (byte : ℕ) (more new : List ℕ) → is_begun (old ++ byte ∷ []) more new ≡ true → is_begun old (byte ∷ more) new ≡ true
+begun_byte old byte more new h = begun_then old (byte ∷ []) more new h
+
+pub ruleset printing = (append_assoc, begun_none, begun_whole, begun_first, begun_then, begun_byte)
