@@ -1,15 +1,14 @@
 -- A row that puts the transaction in its place, or ends it, does the same whatever of its name stands there before.
-use Rattle.std.proofs.Common.{◌≡◌, ℕ, true, false, if◌then◌else◌, List, [], ◌∷◌, ◌++◌, length, nat_le, Option, Some, None, Result, Ok, Err, refl, ap, arith}
+use Rattle.std.proofs.Common.{◌≡◌, ℕ, true, false, if◌then◌else◌, List, [], ◌∷◌, ◌++◌, Option, Some, None, Result, Ok, Err, refl, ap, arith}
 use Rattle.std.proofs.lemmas.Bool.Decides.{nat_tests}
 use Rattle.vp_model.specs.Types.{View, Live, Pending, Op, Answer, Ending}
 use Rattle.vp_model.specs.Types.message
 use Rattle.vp_model.specs.Words.{is_empty, for_each, put_number}
-use Rattle.vp_model.specs.Catalogue.{Catalogue, find_record}
-use Rattle.vp_model.specs.Refresh.{is_usable_in}
-use Rattle.vp_model.specs.Site.{CoordinatorState, Lent, with_reply, with_message, with_messages, with_each_message, lent_reply}
-use Rattle.vp_model.specs.Transactions.{last_writes, finish, close, keep_writes, decided, decide, complete}
+use Rattle.vp_model.specs.Catalogue.{Catalogue}
+use Rattle.vp_model.specs.Site.{Lent, with_reply, with_message, with_messages, with_each_message, lent_reply}
+use Rattle.vp_model.specs.Transactions.{last_writes, finish, close, keep_writes, decided, decide, complete, wait_for}
 use Rattle.vp_model.specs.Calls.{handling, prepare_for, read_at, write_at, prepare_parts, with_record}
-use Rattle.vp_coordinator.specs.Lent.{in_place, usable_as, usable_record}
+use Rattle.vp_coordinator.specs.Lent.{in_place, usable_record}
 use Rattle.vp_coordinator.proofs.Hands.{put_live_again, drop_live_again}
 
 module _ (t : Live) (p : Pending) (l : Lent) where
@@ -42,6 +41,24 @@ module _ (t : Live) (p : Pending) (l : Lent) where
   decide_in_place catalogue id =
       elim (is_empty (last_writes t.ops)) as (λ b. decided id (handling t p) (if b then in_place t l else keep_writes catalogue id (handling t p) (in_place t l)) ≡ decided id (handling t p) (if b then l else keep_writes catalogue id (handling t p) l))
       [ true ↦ rw (drop_live_again t l.coordinator.live) refl | false ↦ rw (drop_live_again t l.coordinator.live) refl ]
+
+-- the same where the pending call is the transaction's own
+module _ (t : Live) (l : Lent) where
+  pub close_own : (id : ℕ) (why : Ending) → close id t why (in_place t l) ≡ close id t why l
+  unfolding close finish
+  close_own id why = rw (drop_live_again t l.coordinator.live) refl
+
+  pub decide_own : (catalogue : Catalogue) (id : ℕ) → decide catalogue id t (in_place t l) ≡ decide catalogue id t l
+  unfolding decide keep_writes decided finish
+  decide_own catalogue id =
+      elim (is_empty (last_writes t.ops)) as (λ b. decided id t (if b then in_place t l else keep_writes catalogue id t (in_place t l)) ≡ decided id t (if b then l else keep_writes catalogue id t l))
+      [ true ↦ rw (drop_live_again t l.coordinator.live) refl | false ↦ rw (drop_live_again t l.coordinator.live) refl ]
+
+pub wait_in_place : (t : Live) (p : Pending) (sites : List ℕ) (l : Lent) → wait_for t p sites (in_place t l) ≡ wait_for t p sites l
+wait_in_place t p sites l =
+    ap (λ live. record { coordinator = record l.coordinator { live = live }; here = l.here; effects = l.effects }) (put_live_again t (record t { pending = Some (record p { missing = sites }) }) l.coordinator.live refl)
+
+pub ruleset own_places = (complete_in_place, wait_in_place, close_own, decide_own)
 
 pub ruleset in_places = (complete_in_place, read_at_in_place, write_at_in_place, prepare_in_place, close_in_place, decide_in_place)
 

@@ -1,7 +1,8 @@
 //! The coordinator of a site.
 
-ghost use Rattle.std.specs.Prelude.{◌≡◌, OnOk, [], option_copied};
+ghost use Rattle.std.specs.Prelude.{◌≡◌, OnOk, IfOk, [], option_copied};
 ghost use Rattle.vp_model.specs.Calls.{own_call};
+ghost use Rattle.vp_model.specs.Answers.{on_answer};
 ghost use Rattle.vp_coordinator.specs.Lent.{lent_of, around};
 
 use crate::around::Around;
@@ -11,8 +12,9 @@ use crate::transactions::Transactions;
 use std::alloc::Global;
 use std::marker::Model;
 use std::mem;
-use vp_base::{Call, Effects, NoMemory, SiteId, View, ViewId};
+use vp_base::{Call, CopyOf, Decisions, Effects, Message, NoMemory, SiteId, View, ViewId};
 use vp_catalog::Catalog;
+use vp_records::Durable;
 
 /// The transactions of one life of a site.
 #[derive(Drop)]
@@ -40,6 +42,24 @@ impl Coordinator {
             life,
             transactions: Transactions::new(alloc),
         }
+    }
+
+    /// The coordinator of a site that starts a life with this durable part: it keeps the decisions, and has no transaction.
+    pub fn restore(
+        alloc: Global,
+        id: SiteId,
+        life: u32,
+        durable: &Durable,
+    ) -> Result<Coordinator, NoMemory>
+        ensures { IfOk result (λ c. c ≡ record { id = id; life = life; coordinator = record { seq = 0; live = []; finished = []; decisions = durable.now.decisions } }) }
+    {
+        let mut transactions = Transactions::new(alloc);
+        transactions.decisions = durable.decisions().copy_of()?;
+        Ok(Coordinator {
+            id,
+            life,
+            transactions,
+        })
     }
 
     pub fn id(&self) -> SiteId
@@ -82,6 +102,43 @@ impl Coordinator {
         lent.own_call(&at, from, call)?;
         give_back(lent, &mut self.transactions, here, effects);
         Ok(())
+    }
+
+    /// Does what a message does to the transactions of this site: an answer, a refusal, a vote, an acknowledgement or an
+    /// inquiry; another message does nothing here. Without memory the coordinator, what is here and the effects may only be
+    /// dropped.
+    pub fn on_answer(
+        &mut self,
+        catalog: &Catalog,
+        here: &mut Here,
+        from: SiteId,
+        message: &Message,
+        effects: &mut Effects,
+    ) -> Result<(), NoMemory>
+        ensures row { OnOk result (lent_of self.new.coordinator here.new effects.new ≡
+            on_answer catalog.now self.old.id from message.now (lent_of self.old.coordinator here.old effects.old)) }
+        ensures id { self.new.id ≡ self.old.id }
+        ensures life { self.new.life ≡ self.old.life }
+    {
+        // an answer reads neither the view nor the promise
+        let at = Around {
+            catalog,
+            held: None,
+            id: self.id,
+            life: self.life,
+            promise: ViewId { number: 0, site: 0 },
+        };
+        let mut lent = take(&mut self.transactions, here, effects);
+        lent.on_answer(&at, from, message)?;
+        give_back(lent, &mut self.transactions, here, effects);
+        Ok(())
+    }
+
+    /// The decisions that some site has not acknowledged.
+    pub fn decisions(&self) -> Result<Decisions, NoMemory>
+        ensures { IfOk result (λ decisions. decisions ≡ self.now.coordinator.decisions) }
+    {
+        self.transactions.decisions.copy_of()
     }
 }
 

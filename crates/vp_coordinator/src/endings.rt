@@ -97,11 +97,11 @@ impl Lent {
             view: t.view,
             ops,
         })?;
-        let told = Message::Outcome {
+        let outcome = Message::Outcome {
             txn: t.txn,
             commit: true,
         };
-        self.effects.send_all(id, t.parts.as_slice(), &told)?;
+        self.effects.send_all(id, t.parts.as_slice(), &outcome)?;
         self.here.locks.release(t.txn);
         self.coordinator
             .finish(t, Ending::Committed, &mut self.effects)

@@ -4,6 +4,7 @@
 //! its hands leaves an empty one of its name in its place.
 #![tactic(auto)]
 
+mod answers;
 mod around;
 mod calls;
 mod coordinator;

@@ -66,7 +66,12 @@ fn usable_record(
 }
 
 impl Lent {
-    fn answer_read(&mut self, handled: Handled, rec: RecId, value: Value) -> Result<(), NoMemory>
+    pub fn answer_read(
+        &mut self,
+        handled: Handled,
+        rec: RecId,
+        value: Value,
+    ) -> Result<(), NoMemory>
         ensures { OnOk result (self.new ≡ answer_read handled.live handled.pending rec value (in_place handled.live self.old)) }
     {
         let answer = Answer::Value {
@@ -77,7 +82,12 @@ impl Lent {
         self.complete(handled, Op::Read { rec, value }, answer)
     }
 
-    fn answer_write(&mut self, handled: Handled, rec: RecId, value: Value) -> Result<(), NoMemory>
+    pub fn answer_write(
+        &mut self,
+        handled: Handled,
+        rec: RecId,
+        value: Value,
+    ) -> Result<(), NoMemory>
         ensures { OnOk result (self.new ≡ answer_write handled.live handled.pending rec value (in_place handled.live self.old)) }
     {
         let answer = Answer::Written {

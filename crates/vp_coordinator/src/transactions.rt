@@ -1,22 +1,27 @@
 //! The transactions that a site began, and how they end.
 
-ghost use Rattle.std.specs.Prelude.{◌≡◌, ◌<◌, ◌-◌, ◌^◌, ◌++◌, ◌∷◌, [], OnOk, IfOk, Some, None, nat_le, if◌then◌else◌, length, option_copied};
+ghost use Rattle.std.specs.Prelude.{◌≡◌, ◌&&◌, ◌<◌, ◌-◌, ◌^◌, ◌++◌, ◌∷◌, [], OnOk, IfOk, Some, None, nat_le, if◌then◌else◌, length, option_copied};
 ghost use Rattle.std.specs.Option.{option_map_or};
 ghost use Rattle.vp_base.specs.declared.answer.Answer.TheVariants as answer;
-ghost use Rattle.vp_model.specs.Words.{same_txn, change_first, without_first};
+ghost use Rattle.vp_model.specs.Words.{same_txn, has, change_first, without_first};
 ghost use Rattle.vp_model.specs.Site.{with_reply};
 ghost use Rattle.vp_model.specs.Transactions.{live_of, finished_of, put_live, without_live, answer_of, answers_after, with_pending_reply, with_end, with_finished, with_kept};
 ghost use Rattle.vp_model.specs.Calls.{kept_answer, begun, with_begun};
+ghost use Rattle.vp_model.specs.Answers.{waits_for, with_acknowledged, is_live, is_decided};
 ghost use Rattle.vp_coordinator.specs.Lent.{told_by, told_after};
+ghost use Rattle.vp_coordinator.specs.Answered.{pending_for, waiting_call};
 
+use crate::around::has_site;
+use crate::lent::Handled;
 use std::alloc::Global;
 use std::collections::VecDeque;
 use std::marker::Model;
 use vp_base::{
-    Answer, CallNo, CopyOf, Decision, Effects, Ending, Finished, Live, NoMemory, Ops, Seq, Sites,
-    TxnId, ViewId,
+    Answer, CallNo, CopyOf, Decision, Decisions, Effects, Ending, Finished, Live, NoMemory, Ops,
+    Pending, Seq, SiteId, Sites, TxnId, ViewId,
 };
-use vp_lists::{OfTxn, put, replace_txn, take_txn};
+use vp_lists::{OfTxn, is_same_txn, put_in, replace_txn, take_txn};
+use vp_records::acknowledge;
 
 /// The live transactions, the ends of those that have ended, and the decisions that some site has not acknowledged.
 #[derive(Drop)]
@@ -24,7 +29,7 @@ pub struct Transactions {
     pub seq: u32,
     pub live: Vec<Live>,
     pub finished: VecDeque<Finished>,
-    pub decisions: Vec<Decision>,
+    pub decisions: Decisions,
 }
 
 impl Model for Transactions {
@@ -32,7 +37,7 @@ impl Model for Transactions {
 
     ghost Value = { CoordinatorState };
 
-    ghost view = { λ c. record { seq = c.seq; live = c.live.items; finished = c.finished.items; decisions = c.decisions.items } };
+    ghost view = { λ c. record { seq = c.seq; live = c.live.items; finished = c.finished.items; decisions = c.decisions } };
 }
 
 /// The answer that an ending gives to a call.
@@ -136,7 +141,7 @@ impl Transactions {
             seq: 0,
             live: Vec::new(alloc),
             finished: VecDeque::new(alloc),
-            decisions: Vec::new(alloc),
+            decisions: Decisions::new(alloc),
         }
     }
 
@@ -161,6 +166,55 @@ impl Transactions {
         ensures back { option_map_or (λ t. put_live t self.new) result self.new ≡ self.old }
     {
         lift(&mut self.live, txn)
+    }
+
+    /// Takes the transaction with its pending call, where that waits for the site.
+    pub fn take_waiting(&mut self, txn: &TxnId, from: SiteId) -> Result<Option<Handled>, NoMemory>
+        ensures taken { IfOk result (λ taken. taken ≡ waiting_call txn.now from self.old.live) }
+        ensures back { IfOk result (λ taken. option_map_or (λ h. put_live h.live self.new) taken self.new ≡ self.old) }
+    {
+        match self.take_up(txn) {
+            None => Ok(None),
+            Some(live) => match pending_for(&live, from)? {
+                None => {
+                    self.put_live(live);
+                    Ok(None)
+                }
+                Some(pending) => Ok(Some(Handled { live, pending })),
+            },
+        }
+    }
+
+    /// Whether a decision on the transaction waits for the site.
+    pub fn waits_for(&self, txn: &TxnId, site: SiteId) -> bool
+        ensures { result ≡ waits_for txn.now site self.now.decisions }
+    {
+        self.decisions
+            .as_slice()
+            .iter()
+            .any(|d| is_waiting(d, txn, site))
+    }
+
+    /// The site has acknowledged the decision.
+    pub fn acknowledge(&mut self, txn: &TxnId, from: SiteId)
+        ensures { self.new ≡ with_acknowledged txn.now from self.old }
+    {
+        acknowledge(&mut self.decisions, txn, from)
+    }
+
+    pub fn is_live(&self, txn: &TxnId) -> bool
+        ensures { result ≡ is_live txn.now self.now.live }
+    {
+        self.live.iter().any(|t| is_same_txn(&t.txn, txn))
+    }
+
+    pub fn is_decided(&self, txn: &TxnId) -> bool
+        ensures { result ≡ is_decided txn.now self.now.decisions }
+    {
+        self.decisions
+            .as_slice()
+            .iter()
+            .any(|d| is_same_txn(&d.txn, txn))
     }
 
     /// The transaction goes back into its place.
@@ -201,7 +255,7 @@ impl Transactions {
         if waiting.as_slice().is_empty() {
             return Ok(());
         }
-        put(&mut self.decisions, Decision { txn: *txn, waiting })
+        put_in(&mut self.decisions, Decision { txn: *txn, waiting })
     }
 
     /// What a call is told whose transaction is not live.
@@ -209,6 +263,22 @@ impl Transactions {
         ensures { IfOk result (λ told. told ≡ told_after txn.now number (finished_of txn.now self.now.finished)) }
     {
         told_in(&self.finished, txn, number)
+    }
+}
+
+fn is_waiting(decision: &Decision, txn: &TxnId, site: SiteId) -> bool
+    ensures { result ≡ (same_txn decision.now.txn txn.now && has decision.now.waiting site) }
+{
+    is_same_txn(&decision.txn, txn) && has_site(decision.waiting.as_slice(), site)
+}
+
+/// The pending call of the transaction, where it waits for the site.
+fn pending_for(t: &Live, from: SiteId) -> Result<Option<Pending>, NoMemory>
+    ensures { IfOk result (λ p. p ≡ pending_for from t.now) }
+{
+    match &t.pending {
+        Some(p) if has_site(p.missing.as_slice(), from) => Ok(Some(p.copy_of()?)),
+        _ => Ok(None),
     }
 }
 

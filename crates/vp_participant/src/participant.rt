@@ -23,8 +23,8 @@ use crate::parts::{drop_part, has_part, mark_voted, part_of, txns_of};
 use std::alloc::Global;
 use std::marker::Model;
 use vp_base::{
-    CopyOf, Doubt, InDoubt, LogRecord, NoMemory, Part, RecId, Recs, TxnId, Txns, Value, View, ViewId,
-    Writes,
+    CopyOf, Doubt, InDoubt, LogRecord, NoMemory, Part, RecId, Recs, TxnId, Txns, Value, View,
+    ViewId, Writes,
 };
 use vp_lists::{copy_all, is_same_txn, put};
 use vp_locks::{LockFault, Locks};
