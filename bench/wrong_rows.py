@@ -15,6 +15,7 @@ import tempfile
 
 TOP = pathlib.Path(__file__).resolve().parent.parent
 SPECS = "crates/vp_model/specs/"
+CRATES = ["vp_text", "vp_base", "vp_model", "vp_one_site", "vp_laws"]
 
 # name, file, the line as it stands, the wrong line
 ROWS = [
@@ -76,6 +77,28 @@ def without_worked_schedules(copy):
     replaced(theorem / "Lib.antt", "pub mod Worked\n", "")
 
 
+def without_shapes(copy):
+    """Takes out the laws of well-formed sites, so that the crates of frames and log records need no proof first."""
+    crate = copy / "crates/vp_laws"
+    for path in [*crate.glob("proofs/Shape*.antt"), *crate.glob("specs/Shape*.antt"), crate / "src/shaped.rt"]:
+        path.unlink()
+    shutil.rmtree(crate / "proofs/shaped")
+    shutil.rmtree(crate / "must-fail", ignore_errors=True)
+    for path, word in [("proofs/Lib.antt", "Shape"), ("specs/Lib.antt", "Shape"), ("src/lib.rt", "shaped")]:
+        kept = [line for line in (crate / path).read_text().splitlines() if word not in line]
+        (crate / path).write_text("\n".join(kept) + "\n")
+    crates = copy / "crates.txt"
+    kept = [line for line in crates.read_text().splitlines() if line.split(":")[0] in CRATES]
+    crates.write_text("\n".join(re.sub(" vp_(wire|records|bytes|catalog)", "", line) for line in kept) + "\n")
+
+
+def left_out(folder, names):
+    """What of the repository no copy needs."""
+    if pathlib.Path(folder).name == "crates":
+        return [name for name in names if name not in CRATES]
+    return [name for name in names if name == ".git"]
+
+
 def refusals(copy):
     done = subprocess.run(["rt", "check", "vp_laws", "--jobs", "1"], cwd=copy / "crates/vp_laws",
                           stdout=subprocess.PIPE, stderr=subprocess.STDOUT, text=True)
@@ -89,8 +112,9 @@ def main(words):
             continue
         with tempfile.TemporaryDirectory() as folder:
             copy = pathlib.Path(folder) / "copy"
-            shutil.copytree(TOP, copy, ignore=shutil.ignore_patterns(".git"))
+            shutil.copytree(TOP, copy, ignore=left_out)
             without_worked_schedules(copy)
+            without_shapes(copy)
             replaced(copy / SPECS / file, old, new)
             if file in IMPORTS:
                 replaced(copy / SPECS / file, *IMPORTS[file])

@@ -1,19 +1,22 @@
 //! The catalogue and its look-ups.
 
-ghost use Rattle.std.specs.Prelude.{◌≡◌, ◌≤◌, ◌<◌, ◌++◌, ◌∷◌, [], length, map, slice_get, option_map, option_copied, if◌then◌else◌, is_ok, nat_lt, Some, None, OnOk, IfOk, IfSome};
+ghost use Rattle.std.specs.Prelude.{◌≡◌, ◌≤◌, ◌<◌, ◌++◌, ◌∷◌, [], length, map, slice_get, option_map, option_copied, if◌then◌else◌, is_ok, nat_lt, ◌==◌, ◌&&◌, not, filter, Some, None, OnOk, IfOk, IfSome};
 ghost use Rattle.std.specs.List.{position_from};
 ghost use Rattle.std.specs.Str.{bytes_eq};
-ghost use Rattle.vp_model.specs.Words.{keys, value_at};
+ghost use Rattle.vp_model.specs.Words.{keys, value_at, has};
+ghost use Rattle.vp_model.specs.Refresh.{members_in, other_holders_in};
 ghost use Rattle.vp_catalog.specs.Entries.{last_site, has_port, has_name};
 ghost use Rattle.vp_catalog.specs.Adding.{Adds};
 ghost use Rattle.vp_model.specs.Catalogue.{sites_of, find_record, weights_of, holders, inside, total, accessible, weight, start_values, start_copies, copies_from};
 
 use crate::entry::Entry;
 use crate::fault::CatalogFault;
-use crate::placed::Placed;
+use crate::placed::{Placed, has_site};
 use std::alloc::Global;
 use std::marker::Model;
-use vp_base::{Copies, CopyOf, Name, Names, NoMemory, RecId, SiteId, Sites, Stored, Value, ViewId};
+use vp_base::{
+    Copies, CopyOf, Name, Names, NoMemory, RecId, SiteId, Sites, Stored, Value, View, ViewId,
+};
 
 /// Sites with their ports, ascending by site, and at most 256 records, which are known by their places.
 #[derive(Drop)]
@@ -202,6 +205,33 @@ impl Catalog {
         }
     }
 
+    /// Whether the site has a copy of the record.
+    pub fn is_holder(&self, rec: RecId, site: SiteId) -> bool
+        ensures { result ≡ has (holders self.now rec) site }
+    {
+        match self.holders(rec) {
+            Some(sites) => has_site(sites.as_slice(), site),
+            None => false,
+        }
+    }
+
+    /// The holders of the record that are members of the view, but for this site; none where there is no view.
+    pub fn other_holders(
+        &self,
+        id: SiteId,
+        held: Option<&View>,
+        rec: RecId,
+    ) -> Result<Sites, NoMemory>
+        ensures { IfOk result (λ others. others ≡ other_holders_in self.now id (option_copied held.entry) rec) }
+    {
+        let alloc = *self.records.allocator();
+        let none = Sites::new(alloc);
+        match self.holders(rec) {
+            Some(sites) => others_in(alloc, sites.as_slice(), members_of(held, &none), id),
+            None => Ok(none),
+        }
+    }
+
     /// The weight of the copy at a site, 0 where it has none.
     pub fn weight(&self, rec: RecId, site: SiteId) -> u32
         ensures { result ≡ weight self.now rec site }
@@ -240,27 +270,60 @@ impl Catalog {
     }
 
     /// The names of the records, in their order.
-    pub fn names(&self, alloc: Global) -> Result<Names, NoMemory>
+    pub fn names(&self) -> Result<Names, NoMemory>
         ensures { IfOk result (λ names. names ≡ map (λ entry. entry.name) self.now.records) }
     {
-        let names = names_of(alloc, &self.records)?;
+        let names = names_of(*self.records.allocator(), &self.records)?;
         Ok(Names::from_vec(names))
     }
 
     /// The values that the records start with, in their order.
-    pub fn start_values(&self, alloc: Global) -> Result<Vec<Value>, NoMemory>
+    pub fn start_values(&self) -> Result<Vec<Value>, NoMemory>
         ensures { IfOk result (λ values. values.items ≡ start_values self.now) }
     {
-        values_of(alloc, &self.records)
+        values_of(*self.records.allocator(), &self.records)
     }
 
     /// The copies of a site as they start: the catalogue's values, dated with the opening view.
-    pub fn copies(&self, alloc: Global, site: SiteId) -> Result<Copies, NoMemory>
+    pub fn copies(&self, site: SiteId) -> Result<Copies, NoMemory>
         ensures { IfOk result (λ copies. copies ≡ start_copies self.now site) }
     {
-        let copies = copies_at(alloc, &self.records, site)?;
+        let copies = copies_at(*self.records.allocator(), &self.records, site)?;
         Ok(Copies::from_vec(copies))
     }
+}
+
+/// The members of the view; `none` where there is no view.
+pub fn members_of<'a>(held: Option<&'a View>, none: &'a Sites) -> &'a Sites
+    requires { none.now ≡ [] }
+    ensures { result.now ≡ members_in (option_copied held.entry) }
+{
+    match held {
+        None => none,
+        Some(view) => &view.members,
+    }
+}
+
+fn is_other_member(members: &Sites, id: SiteId, site: SiteId) -> bool
+    ensures { result ≡ (has members.now site && not (site == id)) }
+{
+    has_site(members.as_slice(), site) && site != id
+}
+
+fn others_in(
+    alloc: Global,
+    sites: &[SiteId],
+    members: &Sites,
+    id: SiteId,
+) -> Result<Sites, NoMemory>
+    ensures { IfOk result (λ others. others ≡ filter (λ q. has members.now q && not (q == id)) sites.now) }
+{
+    let others = sites
+        .iter()
+        .copied()
+        .filter(|site| is_other_member(members, id, *site))
+        .collect(alloc)?;
+    Ok(Sites::from_vec(others))
 }
 
 fn names_of(alloc: Global, records: &[Placed]) -> Result<Vec<Name>, NoMemory>

@@ -12,11 +12,11 @@ mod printing;
 mod reading;
 mod site;
 
-pub use catalog::Catalog;
+pub use catalog::{Catalog, members_of};
 pub use entry::Entry;
 pub use fault::CatalogFault;
 pub use majority::majorities_share_a_holder;
-pub use placed::Placed;
+pub use placed::{Placed, has_site};
 pub use reading::take_entry;
 pub use site::take_site;
 

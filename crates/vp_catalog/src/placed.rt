@@ -113,7 +113,8 @@ fn holders_of(alloc: Global, weights: &[(SiteId, u16)]) -> Result<Vec<SiteId>, N
     Ok(holders)
 }
 
-fn has_site(sites: &[SiteId], site: SiteId) -> bool
+/// Whether the site stands in the list.
+pub fn has_site(sites: &[SiteId], site: SiteId) -> bool
     ensures { result ≡ has sites.now site }
 {
     sites.iter().any(|other| *other == site)

@@ -1,6 +1,7 @@
 //! The text of a catalogue.
 
-ghost use Rattle.std.specs.Prelude.{◌≡◌, ◌++◌, OnOk, flat_map};
+ghost use Rattle.std.specs.Prelude.{◌++◌, ◌∷◌, [], flat_map};
+ghost use Rattle.vp_text.specs.Printing.{Appends};
 ghost use Rattle.vp_model.specs.Texts.Schedule.{site_line, weight_text, record_line, catalogue_text};
 
 use crate::catalog::Catalog;
@@ -8,19 +9,21 @@ use crate::placed::Placed;
 use vp_base::{NoMemory, SiteId};
 use vp_text::print_number;
 
+#[tactic(auto, using(vp_text::proofs::Printing::printing))]
 fn print_site(out: &mut Vec<u8>, site: &(SiteId, u16)) -> Result<(), NoMemory>
-    ensures { OnOk result (out.new.items ≡ out.old.items ++ site_line site.now) }
+    ensures { Appends result out.old.items (site_line site.now) out.new.items }
 {
     out.extend_from_slice(b"site ")?;
-    print_number(out, u64::from(site.0.get()))?;
+    site.0.print(out)?;
     out.push(b' ')?;
     print_number(out, u64::from(site.1))?;
     out.push(b'\n')?;
     Ok(())
 }
 
+#[tactic(auto, using(vp_text::proofs::Printing::printing))]
 fn print_sites(out: &mut Vec<u8>, sites: &[(SiteId, u16)]) -> Result<(), NoMemory>
-    ensures { OnOk result (out.new.items ≡ out.old.items ++ flat_map site_line sites.now) }
+    ensures { Appends result out.old.items (flat_map site_line sites.now) out.new.items }
 {
     for site in sites {
         print_site(out, site)?;
@@ -28,18 +31,20 @@ fn print_sites(out: &mut Vec<u8>, sites: &[(SiteId, u16)]) -> Result<(), NoMemor
     Ok(())
 }
 
+#[tactic(auto, using(vp_text::proofs::Printing::printing))]
 fn print_weight(out: &mut Vec<u8>, weight: &(SiteId, u16)) -> Result<(), NoMemory>
-    ensures { OnOk result (out.new.items ≡ out.old.items ++ weight_text weight.now) }
+    ensures { Appends result out.old.items (weight_text weight.now) out.new.items }
 {
     out.push(b' ')?;
-    print_number(out, u64::from(weight.0.get()))?;
+    weight.0.print(out)?;
     out.push(b':')?;
     print_number(out, u64::from(weight.1))?;
     Ok(())
 }
 
+#[tactic(auto, using(vp_text::proofs::Printing::printing))]
 fn print_weights(out: &mut Vec<u8>, weights: &[(SiteId, u16)]) -> Result<(), NoMemory>
-    ensures { OnOk result (out.new.items ≡ out.old.items ++ flat_map weight_text weights.now) }
+    ensures { Appends result out.old.items (flat_map weight_text weights.now) out.new.items }
 {
     for weight in weights {
         print_weight(out, weight)?;
@@ -47,20 +52,33 @@ fn print_weights(out: &mut Vec<u8>, weights: &[(SiteId, u16)]) -> Result<(), NoM
     Ok(())
 }
 
-fn print_record(out: &mut Vec<u8>, placed: &Placed) -> Result<(), NoMemory>
-    ensures { OnOk result (out.new.items ≡ out.old.items ++ record_line placed.now) }
+/// The value that each copy starts with, the weights of the copies, and the newline.
+#[tactic(auto, using(vp_text::proofs::Printing::printing))]
+fn print_copies(out: &mut Vec<u8>, placed: &Placed) -> Result<(), NoMemory>
+    ensures { Appends result out.old.items
+        (placed.now.start ++ (flat_map weight_text placed.now.weights ++ 10 ∷ []))
+        out.new.items }
 {
-    out.extend_from_slice(b"record ")?;
-    placed.name().print(out)?;
-    out.push(b' ')?;
     placed.start().print(out)?;
     print_weights(out, placed.weights())?;
     out.push(b'\n')?;
     Ok(())
 }
 
+#[tactic(auto, using(vp_text::proofs::Printing::printing))]
+fn print_record(out: &mut Vec<u8>, placed: &Placed) -> Result<(), NoMemory>
+    ensures { Appends result out.old.items (record_line placed.now) out.new.items }
+{
+    out.extend_from_slice(b"record ")?;
+    placed.name().print(out)?;
+    out.push(b' ')?;
+    print_copies(out, placed)?;
+    Ok(())
+}
+
+#[tactic(auto, using(vp_text::proofs::Printing::printing))]
 fn print_records(out: &mut Vec<u8>, records: &[Placed]) -> Result<(), NoMemory>
-    ensures { OnOk result (out.new.items ≡ out.old.items ++ flat_map record_line records.now) }
+    ensures { Appends result out.old.items (flat_map record_line records.now) out.new.items }
 {
     for placed in records {
         print_record(out, placed)?;
@@ -69,9 +87,10 @@ fn print_records(out: &mut Vec<u8>, records: &[Placed]) -> Result<(), NoMemory>
 }
 
 impl Catalog {
-    /// Appends the lines of the catalogue. Without memory a beginning of them may have been appended.
+    /// Appends the lines of the catalogue. Without memory only a beginning of them may stand there.
+    #[tactic(auto, using(vp_text::proofs::Printing::printing))]
     pub fn print(&self, out: &mut Vec<u8>) -> Result<(), NoMemory>
-        ensures { OnOk result (out.new.items ≡ out.old.items ++ catalogue_text self.now) }
+        ensures { Appends result out.old.items (catalogue_text self.now) out.new.items }
     {
         print_sites(out, self.ports())?;
         print_records(out, self.records())

@@ -165,14 +165,17 @@ fn copies_start_with_their_values(rt: HostRuntime) -> Result<(), Fail> {
     let alloc = rt.alloc();
     let text = b"site 1 7001\nsite 2 7002\nrecord x 10 1:1 2:1\nrecord y 5 2:1\nrecord z 7 1:3\n";
     let catalog = catalog(alloc, text)?;
-    assert_eq!(rt; catalog.names(alloc)?.as_slice().len(), 3);
-    assert_eq!(rt; catalog.start_values(alloc)?.len(), 3);
-    let copies = catalog.copies(alloc, site(1)?)?;
+    assert_eq!(rt; catalog.names()?.as_slice().len(), 3);
+    assert_eq!(rt; catalog.start_values()?.len(), 3);
+    let copies = catalog.copies(site(1)?)?;
     let mut places = Vec::new(alloc);
     for (rec, stored) in copies.as_slice() {
         places.push(rec.get())?;
         assert_eq!(rt; stored.date.number, 0);
     }
     assert_eq!(rt; places.as_slice(), [0u8, 2].as_slice());
+    assert_eq!(rt; catalog.is_holder(RecId::new(1), site(1)?), false);
+    let others = catalog.other_holders(site(1)?, None, RecId::new(0))?;
+    assert_eq!(rt; others.as_slice().len(), 0);
     Ok(())
 }

@@ -1,3 +1,4 @@
 pub mod Hands
 pub mod Rows
+pub mod Answered
 pub mod Some

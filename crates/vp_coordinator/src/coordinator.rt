@@ -1,17 +1,20 @@
 //! The coordinator of a site.
 
-ghost use Rattle.std.specs.Prelude.{◌≡◌, OnOk, [], option_copied};
+ghost use Rattle.std.specs.Prelude.{◌≡◌, OnOk, IfOk, [], option_copied};
 ghost use Rattle.vp_model.specs.Calls.{own_call};
+ghost use Rattle.vp_model.specs.Answers.{on_answer};
 ghost use Rattle.vp_coordinator.specs.Lent.{lent_of, around};
 
+use crate::around::Around;
 use crate::here::Here;
-use crate::sites::At;
+use crate::lent::Lent;
 use crate::transactions::Transactions;
 use std::alloc::Global;
-use std::collections::VecDeque;
 use std::marker::Model;
-use vp_base::{Call, Effects, NoMemory, SiteId, View, ViewId};
+use std::mem;
+use vp_base::{Call, CopyOf, Decisions, Effects, Message, NoMemory, SiteId, View, ViewId};
 use vp_catalog::Catalog;
+use vp_records::Durable;
 
 /// The transactions of one life of a site.
 #[derive(Drop)]
@@ -37,13 +40,26 @@ impl Coordinator {
         Coordinator {
             id,
             life,
-            transactions: Transactions {
-                seq: 0,
-                live: Vec::new(alloc),
-                finished: VecDeque::new(alloc),
-                decisions: Vec::new(alloc),
-            },
+            transactions: Transactions::new(alloc),
         }
+    }
+
+    /// The coordinator of a site that starts a life with this durable part: it keeps the decisions, and has no transaction.
+    pub fn restore(
+        alloc: Global,
+        id: SiteId,
+        life: u32,
+        durable: &Durable,
+    ) -> Result<Coordinator, NoMemory>
+        ensures { IfOk result (λ c. c ≡ record { id = id; life = life; coordinator = record { seq = 0; live = []; finished = []; decisions = durable.now.decisions } }) }
+    {
+        let mut transactions = Transactions::new(alloc);
+        transactions.decisions = durable.decisions().copy_of()?;
+        Ok(Coordinator {
+            id,
+            life,
+            transactions,
+        })
     }
 
     pub fn id(&self) -> SiteId
@@ -75,13 +91,73 @@ impl Coordinator {
         ensures id { self.new.id ≡ self.old.id }
         ensures life { self.new.life ≡ self.old.life }
     {
-        let at = At {
+        let at = Around {
             catalog,
             held,
             id: self.id,
             life: self.life,
             promise,
         };
-        self.transactions.own_call(&at, from, call, here, effects)
+        let mut lent = take(&mut self.transactions, here, effects);
+        lent.own_call(&at, from, call)?;
+        give_back(lent, &mut self.transactions, here, effects);
+        Ok(())
     }
+
+    /// Does what a message does to the transactions of this site: an answer, a refusal, a vote, an acknowledgement or an
+    /// inquiry; another message does nothing here. Without memory the coordinator, what is here and the effects may only be
+    /// dropped.
+    pub fn on_answer(
+        &mut self,
+        catalog: &Catalog,
+        here: &mut Here,
+        from: SiteId,
+        message: &Message,
+        effects: &mut Effects,
+    ) -> Result<(), NoMemory>
+        ensures row { OnOk result (lent_of self.new.coordinator here.new effects.new ≡
+            on_answer catalog.now self.old.id from message.now (lent_of self.old.coordinator here.old effects.old)) }
+        ensures id { self.new.id ≡ self.old.id }
+        ensures life { self.new.life ≡ self.old.life }
+    {
+        // an answer reads neither the view nor the promise
+        let at = Around {
+            catalog,
+            held: None,
+            id: self.id,
+            life: self.life,
+            promise: ViewId { number: 0, site: 0 },
+        };
+        let mut lent = take(&mut self.transactions, here, effects);
+        lent.on_answer(&at, from, message)?;
+        give_back(lent, &mut self.transactions, here, effects);
+        Ok(())
+    }
+
+    /// The decisions that some site has not acknowledged.
+    pub fn decisions(&self) -> Result<Decisions, NoMemory>
+        ensures { IfOk result (λ decisions. decisions ≡ self.now.coordinator.decisions) }
+    {
+        self.transactions.decisions.copy_of()
+    }
+}
+
+/// What a row changes, as one. What stands in its place may only be dropped.
+fn take(transactions: &mut Transactions, here: &mut Here, effects: &mut Effects) -> Lent
+    ensures { result ≡ lent_of transactions.old here.old effects.old }
+{
+    let alloc = transactions.allocator();
+    Lent {
+        coordinator: mem::replace(transactions, Transactions::new(alloc)),
+        here: mem::replace(here, Here::none(alloc)),
+        effects: mem::replace(effects, Effects::none(alloc)),
+    }
+}
+
+fn give_back(lent: Lent, transactions: &mut Transactions, here: &mut Here, effects: &mut Effects)
+    ensures { lent_of transactions.new here.new effects.new ≡ lent }
+{
+    *transactions = lent.coordinator;
+    *here = lent.here;
+    *effects = lent.effects;
 }

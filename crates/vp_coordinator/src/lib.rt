@@ -1,14 +1,17 @@
 //! The transactions that this site began: what a client's call does to them, and how they end.
 //!
-//! Each method does a row of the definitions, by one equation on what the coordinator keeps, what is here and the
-//! effects. A method that has a transaction in its hands leaves an empty one of its name in its place.
+//! Each row of the definitions is a method of what the row changes, by one equation on it. A row that has a transaction in
+//! its hands leaves an empty one of its name in its place.
 #![tactic(auto)]
 
+mod answers;
+mod around;
 mod calls;
 mod coordinator;
-mod effects;
+mod endings;
 mod here;
-mod sites;
+mod lent;
+mod operations;
 mod transactions;
 mod writes;
 

@@ -1,27 +1,27 @@
 //! The transactions that a site began, and how they end.
 
-ghost use Rattle.std.specs.Prelude.{◌≡◌, ◌++◌, ◌∷◌, [], OnOk, IfOk, Some, None, nat_le, if◌then◌else◌, length, option_copied};
+ghost use Rattle.std.specs.Prelude.{◌≡◌, ◌&&◌, ◌<◌, ◌-◌, ◌^◌, ◌++◌, ◌∷◌, [], OnOk, IfOk, Some, None, nat_le, if◌then◌else◌, length, option_copied};
 ghost use Rattle.std.specs.Option.{option_map_or};
 ghost use Rattle.vp_base.specs.declared.answer.Answer.TheVariants as answer;
-ghost use Rattle.vp_model.specs.Words.{same_txn, change_first, without_first};
+ghost use Rattle.vp_model.specs.Words.{same_txn, has, change_first, without_first};
 ghost use Rattle.vp_model.specs.Site.{with_reply};
-ghost use Rattle.vp_model.specs.Transactions.{live_of, finished_of, last_writes, put_live, without_live, answer_of, answers_after, with_pending_reply, with_end, with_finished, with_kept, close, keep_writes, decided, decide};
-ghost use Rattle.vp_model.specs.Calls.{handling, kept_answer, begun};
-ghost use Rattle.vp_coordinator.specs.Lent.{lent_of, told_by, told_after};
+ghost use Rattle.vp_model.specs.Transactions.{live_of, finished_of, put_live, without_live, answer_of, answers_after, with_pending_reply, with_end, with_finished, with_kept};
+ghost use Rattle.vp_model.specs.Calls.{kept_answer, begun, with_begun};
+ghost use Rattle.vp_model.specs.Answers.{waits_for, with_acknowledged, is_live, is_decided};
+ghost use Rattle.vp_coordinator.specs.Lent.{told_by, told_after};
+ghost use Rattle.vp_coordinator.specs.Answered.{pending_for, waiting_call};
 
-use crate::effects::{commit, force, reply, send_all};
-use crate::here::Here;
-use crate::writes::{last_writes, writes_held, writing_parts};
+use crate::around::has_site;
+use crate::lent::Handled;
 use std::alloc::Global;
 use std::collections::VecDeque;
 use std::marker::Model;
-use std::mem;
 use vp_base::{
-    Answer, CallNo, Commit, CopyOf, Effects, Ending, Finished, Live, LogRecord, Message, NoMemory,
-    Ops, Pending, Seq, SiteId, Sites, TxnId, ViewId, Writes,
+    Answer, CallNo, CopyOf, Decision, Decisions, Effects, Ending, Finished, Live, NoMemory, Ops,
+    Pending, Seq, SiteId, Sites, TxnId, ViewId,
 };
-use vp_catalog::Catalog;
-use vp_lists::{OfTxn, put, replace_txn, take_txn, write_copies};
+use vp_lists::{OfTxn, is_same_txn, put_in, replace_txn, take_txn};
+use vp_records::acknowledge;
 
 /// The live transactions, the ends of those that have ended, and the decisions that some site has not acknowledged.
 #[derive(Drop)]
@@ -29,7 +29,7 @@ pub struct Transactions {
     pub seq: u32,
     pub live: Vec<Live>,
     pub finished: VecDeque<Finished>,
-    pub decisions: Vec<(TxnId, Sites)>,
+    pub decisions: Decisions,
 }
 
 impl Model for Transactions {
@@ -37,7 +37,7 @@ impl Model for Transactions {
 
     ghost Value = { CoordinatorState };
 
-    ghost view = { λ c. record { seq = c.seq; live = c.live.items; finished = c.finished.items; decisions = c.decisions.items } };
+    ghost view = { λ c. record { seq = c.seq; live = c.live.items; finished = c.finished.items; decisions = c.decisions } };
 }
 
 /// The answer that an ending gives to a call.
@@ -78,7 +78,7 @@ fn answer_pending(t: &mut Live, why: &Ending, effects: &mut Effects) -> Result<(
     if let Some(pending) = &t.pending {
         let number = pending.number;
         let to = pending.port;
-        reply(effects, to, answer_to(&t.txn, number, why)?)?;
+        effects.reply(to, answer_to(&t.txn, number, why)?)?;
         t.answers.push(answer_to(&t.txn, number, why)?)?;
     }
     Ok(())
@@ -100,17 +100,8 @@ pub fn told_again(answers: &[Answer], number: CallNo) -> Result<Option<Answer>, 
     }
 }
 
-/// The call that is handled counts as pending.
-pub fn handling(t: Live, p: Pending) -> Live
-    ensures { result ≡ handling t p }
-{
-    let mut t = t;
-    t.pending = Some(p);
-    t
-}
-
 /// A transaction without operations.
-pub fn new_live(alloc: Global, txn: &TxnId, view: ViewId) -> Live
+fn new_live(alloc: Global, txn: &TxnId, view: ViewId) -> Live
     ensures { result ≡ begun txn.now view }
 {
     Live {
@@ -143,10 +134,33 @@ fn lay_down(live: &mut Vec<Live>, t: Live)
 }
 
 impl Transactions {
+    pub fn new(alloc: Global) -> Transactions
+        ensures { result ≡ record { seq = 0; live = []; finished = []; decisions = [] } }
+    {
+        Transactions {
+            seq: 0,
+            live: Vec::new(alloc),
+            finished: VecDeque::new(alloc),
+            decisions: Decisions::new(alloc),
+        }
+    }
+
     pub fn allocator(&self) -> Global {
         *self.live.allocator()
     }
 
+    /// The next transaction begins.
+    pub fn begin(&mut self, txn: &TxnId, view: ViewId) -> Result<(), NoMemory>
+        requires { self.old.seq < 2 ^ 32 - 1 }
+        ensures { OnOk result (self.new ≡ with_begun (begun txn.now view) self.old) }
+    {
+        let t = new_live(self.allocator(), txn, view);
+        self.live.push(t)?;
+        self.seq += 1;
+        Ok(())
+    }
+
+    /// Takes the transaction into the hands of a row.
     pub fn take_up(&mut self, txn: &TxnId) -> Option<Live>
         ensures lifted { result ≡ live_of txn.now self.old.live }
         ensures back { option_map_or (λ t. put_live t self.new) result self.new ≡ self.old }
@@ -154,6 +168,56 @@ impl Transactions {
         lift(&mut self.live, txn)
     }
 
+    /// Takes the transaction with its pending call, where that waits for the site.
+    pub fn take_waiting(&mut self, txn: &TxnId, from: SiteId) -> Result<Option<Handled>, NoMemory>
+        ensures taken { IfOk result (λ taken. taken ≡ waiting_call txn.now from self.old.live) }
+        ensures back { IfOk result (λ taken. option_map_or (λ h. put_live h.live self.new) taken self.new ≡ self.old) }
+    {
+        match self.take_up(txn) {
+            None => Ok(None),
+            Some(live) => match pending_for(&live, from)? {
+                None => {
+                    self.put_live(live);
+                    Ok(None)
+                }
+                Some(pending) => Ok(Some(Handled { live, pending })),
+            },
+        }
+    }
+
+    /// Whether a decision on the transaction waits for the site.
+    pub fn waits_for(&self, txn: &TxnId, site: SiteId) -> bool
+        ensures { result ≡ waits_for txn.now site self.now.decisions }
+    {
+        self.decisions
+            .as_slice()
+            .iter()
+            .any(|d| is_waiting(d, txn, site))
+    }
+
+    /// The site has acknowledged the decision.
+    pub fn acknowledge(&mut self, txn: &TxnId, from: SiteId)
+        ensures { self.new ≡ with_acknowledged txn.now from self.old }
+    {
+        acknowledge(&mut self.decisions, txn, from)
+    }
+
+    pub fn is_live(&self, txn: &TxnId) -> bool
+        ensures { result ≡ is_live txn.now self.now.live }
+    {
+        self.live.iter().any(|t| is_same_txn(&t.txn, txn))
+    }
+
+    pub fn is_decided(&self, txn: &TxnId) -> bool
+        ensures { result ≡ is_decided txn.now self.now.decisions }
+    {
+        self.decisions
+            .as_slice()
+            .iter()
+            .any(|d| is_same_txn(&d.txn, txn))
+    }
+
+    /// The transaction goes back into its place.
     pub fn put_live(&mut self, t: Live)
         ensures { self.new ≡ put_live t self.old }
     {
@@ -167,7 +231,7 @@ impl Transactions {
     }
 
     /// The end of the transaction is kept, beside those of the 1,023 that ended last before it.
-    fn finish(&mut self, t: Live, why: Ending, effects: &mut Effects) -> Result<(), NoMemory>
+    pub fn finish(&mut self, t: Live, why: Ending, effects: &mut Effects) -> Result<(), NoMemory>
         ensures kept { OnOk result (self.new ≡ with_finished t why self.old) }
         ensures effects { OnOk result (effects.new ≡ with_pending_reply t.txn why t.pending effects.old) }
     {
@@ -185,113 +249,13 @@ impl Transactions {
         Ok(())
     }
 
-    /// The transaction ends without a commit.
-    #[tactic(auto, unfolding(vp_model::specs::Transactions::close, vp_model::specs::Transactions::finish))]
-    pub fn close(
-        &mut self,
-        id: SiteId,
-        t: Live,
-        why: Ending,
-        here: &mut Here,
-        effects: &mut Effects,
-    ) -> Result<(), NoMemory>
-        ensures { OnOk result (lent_of self.new here.new effects.new ≡ close id t why (lent_of self.old here.old effects.old)) }
-    {
-        let told = Message::Outcome {
-            txn: t.txn,
-            commit: false,
-        };
-        send_all(effects, id, t.parts.as_slice(), &told)?;
-        here.locks.release(t.txn);
-        self.finish(t, why, effects)
-    }
-
-    fn keep_decision(&mut self, txn: &TxnId, waiting: Sites) -> Result<(), NoMemory>
+    pub fn keep_decision(&mut self, txn: &TxnId, waiting: Sites) -> Result<(), NoMemory>
         ensures { OnOk result (self.new ≡ with_kept txn.now waiting self.old) }
     {
         if waiting.as_slice().is_empty() {
             return Ok(());
         }
-        put(&mut self.decisions, (*txn, waiting))
-    }
-
-    #[tactic(auto, unfolding(vp_model::specs::Transactions::keep_writes))]
-    fn keep_writes(
-        &mut self,
-        catalog: &Catalog,
-        id: SiteId,
-        t: &Live,
-        writes: &Writes,
-        here: &mut Here,
-        effects: &mut Effects,
-    ) -> Result<(), NoMemory>
-        requires { writes.now ≡ last_writes t.now.ops }
-        ensures { OnOk result (lent_of self.new here.new effects.new ≡ keep_writes catalog.now id t.now (lent_of self.old here.old effects.old)) }
-    {
-        let alloc = self.allocator();
-        let own = writes_held(alloc, catalog, id, writes.as_slice())?;
-        let waiting = writing_parts(alloc, catalog, t, writes.as_slice())?;
-        write_copies(&mut here.copies, &t.view, own.as_slice())?;
-        force(
-            effects,
-            LogRecord::Commit {
-                txn: t.txn,
-                view: t.view,
-                writes: own,
-                waiting: waiting.copy_of()?,
-            },
-        )?;
-        self.keep_decision(&t.txn, waiting)
-    }
-
-    #[tactic(auto, unfolding(vp_model::specs::Transactions::decided, vp_model::specs::Transactions::finish))]
-    fn decided(
-        &mut self,
-        id: SiteId,
-        t: Live,
-        here: &mut Here,
-        effects: &mut Effects,
-    ) -> Result<(), NoMemory>
-        ensures { OnOk result (lent_of self.new here.new effects.new ≡ decided id t (lent_of self.old here.old effects.old)) }
-    {
-        let mut t = t;
-        let none = Ops::new(self.allocator());
-        let ops = mem::replace(&mut t.ops, none);
-        commit(
-            effects,
-            Commit {
-                txn: t.txn,
-                view: t.view,
-                ops,
-            },
-        )?;
-        let told = Message::Outcome {
-            txn: t.txn,
-            commit: true,
-        };
-        send_all(effects, id, t.parts.as_slice(), &told)?;
-        here.locks.release(t.txn);
-        self.finish(t, Ending::Committed, effects)
-    }
-
-    /// The transaction commits.
-    #[tactic(auto, unfolding(vp_model::specs::Transactions::decide))]
-    pub fn decide(
-        &mut self,
-        catalog: &Catalog,
-        id: SiteId,
-        t: Live,
-        here: &mut Here,
-        effects: &mut Effects,
-    ) -> Result<(), NoMemory>
-        ensures { OnOk result (lent_of self.new here.new effects.new ≡ decide catalog.now id t (lent_of self.old here.old effects.old)) }
-    {
-        let writes = last_writes(self.allocator(), t.ops.as_slice())?;
-        if writes.as_slice().is_empty() {
-            return self.decided(id, t, here, effects);
-        }
-        self.keep_writes(catalog, id, &t, &writes, here, effects)?;
-        self.decided(id, t, here, effects)
+        put_in(&mut self.decisions, Decision { txn: *txn, waiting })
     }
 
     /// What a call is told whose transaction is not live.
@@ -299,6 +263,22 @@ impl Transactions {
         ensures { IfOk result (λ told. told ≡ told_after txn.now number (finished_of txn.now self.now.finished)) }
     {
         told_in(&self.finished, txn, number)
+    }
+}
+
+fn is_waiting(decision: &Decision, txn: &TxnId, site: SiteId) -> bool
+    ensures { result ≡ (same_txn decision.now.txn txn.now && has decision.now.waiting site) }
+{
+    is_same_txn(&decision.txn, txn) && has_site(decision.waiting.as_slice(), site)
+}
+
+/// The pending call of the transaction, where it waits for the site.
+fn pending_for(t: &Live, from: SiteId) -> Result<Option<Pending>, NoMemory>
+    ensures { IfOk result (λ p. p ≡ pending_for from t.now) }
+{
+    match &t.pending {
+        Some(p) if has_site(p.missing.as_slice(), from) => Ok(Some(p.copy_of()?)),
+        _ => Ok(None),
     }
 }
 

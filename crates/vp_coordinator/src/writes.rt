@@ -2,18 +2,18 @@
 
 ghost use Rattle.std.specs.Prelude.{◌≡◌, [], not, OnOk, IfOk, filter};
 ghost use Rattle.std.specs.List.{list_any};
-ghost use Rattle.vp_model.specs.Words.{has, is_empty, put_number, for_each};
+ghost use Rattle.vp_model.specs.Words.{has, is_empty, put_number, for_each, value_at};
 ghost use Rattle.vp_model.specs.Catalogue.{holders};
 ghost use Rattle.vp_model.specs.Transactions.{with_op, last_writes, writes_held, writing_parts};
 ghost use Rattle.vp_model.specs.Calls.{records_read_at, prepare_for};
 
-use crate::sites::is_holder;
+use crate::around::is_holder;
 use std::alloc::Global;
 use vp_base::{
     CopyOf, Live, Message, NoMemory, Op, Pending, RecId, Recs, SiteId, Sites, Value, Writes,
 };
 use vp_catalog::Catalog;
-use vp_lists::put;
+use vp_lists::{put, value_at};
 
 fn add_op(writes: &mut Vec<(RecId, Value)>, op: &Op) -> Result<(), NoMemory>
     ensures { OnOk result (writes.new.items ≡ with_op writes.old.items op.now) }
@@ -33,6 +33,17 @@ pub fn last_writes(alloc: Global, ops: &[Op]) -> Result<Writes, NoMemory>
         add_op(&mut writes, op)?;
     }
     Ok(Writes::from_vec(writes))
+}
+
+/// The value that the transaction wrote last.
+pub fn own_write(t: &Live, rec: RecId) -> Result<Option<Value>, NoMemory>
+    ensures { IfOk result (λ value. value ≡ value_at rec (last_writes t.now.ops)) }
+{
+    let writes = last_writes(t.ops.allocator(), t.ops.as_slice())?;
+    match value_at(writes.as_slice(), rec) {
+        None => Ok(None),
+        Some(value) => Ok(Some(value.copy_of()?)),
+    }
 }
 
 /// The writes of the records that the site holds.

@@ -17,7 +17,7 @@ use Rattle.vp_laws.proofs.TableCopies.{value_pair}
 use Rattle.vp_laws.proofs.TableLeaves.{Uses}
 use Rattle.vp_laws.proofs.Scenes.{Scene, plain_at}
 use Rattle.vp_laws.proofs.InvShares.{HasRequest}
-use Rattle.vp_laws.proofs.InvOps.{record_of, HasWritten}
+use Rattle.vp_laws.proofs.InvOps.{written_used, HasUsed, record_of, HasWritten}
 use Rattle.vp_laws.proofs.InvAnswers.{HasRead}
 use Rattle.vp_laws.proofs.InvEntered.{AgreedAs, other_holder}
 use Rattle.vp_laws.proofs.InvGuards.{txn_same}
@@ -78,12 +78,12 @@ module _ (catalogue : Catalogue) (w : Scene) (k : Known catalogue w) (copies : I
         (λ (other : q ≢ j). UsedAt.answered (HasAnswered.wrote ((k.answers.live j y t up live).wrote rec wrote q (subst (λ (held : Option View). Has (other_holders_in catalogue y.id held rec) q) (sym held) (other_holder catalogue y.id rec q v holder member (λ z. other (z ∙ id)))))))
         (same_site q j)
 
-    usable : (operation : Op) → Has t.ops operation → accessible catalogue (record_of operation) v.members ≡ true
-    usable operation h = subst (λ (held : Option View). is_usable_in catalogue held (record_of operation) ≡ true) held ((k.ops.live j y t up live).usable operation h)
+    usable : (rec : ℕ) → HasUsed t.ops rec → accessible catalogue rec v.members ≡ true
+    usable rec h = subst (λ (held : Option View). is_usable_in catalogue held rec ≡ true) held ((refresh.live j y t up live).usable rec h)
 
     wrote_some : (rec : ℕ) → HasWritten t rec → UsedSome catalogue w t v rec
     wrote_some rec wrote =
-        let a = usable (op.Write rec wrote.0) wrote.1 in
+        let a = usable rec (written_used t.ops rec wrote) in
         let q = in_force_holder catalogue rec v.members a in
         record { site = q.0; holder = q.1; member = q.2; exclusive = true; used = written_at rec q.0 wrote q.1 q.2 }
 
@@ -115,12 +115,15 @@ module _ (catalogue : Catalogue) (w : Scene) (k : Known catalogue w) (copies : I
             }
         go None e = ⊎_elim (λ wrote. wrote_some rec wrote) (λ r. elsewhere r.0 r.1) (reading.done j y t rec value up live h e)
 
-    pub used_some : (operation : Op) → Has t.ops operation → UsedSome catalogue w t v (record_of operation)
-    used_some (op.Read rec value) h = read_some rec value h
-    used_some (op.Write rec value) h = wrote_some rec (value, h)
+    op_some : (operation : Op) → Has t.ops operation → UsedSome catalogue w t v (record_of operation)
+    op_some (op.Read rec value) h = read_some rec value h
+    op_some (op.Write rec value) h = wrote_some rec (value, h)
+
+    pub used_some : (rec : ℕ) → HasUsed t.ops rec → UsedSome catalogue w t v rec
+    used_some rec h = subst (UsedSome catalogue w t v) h.2 (op_some h.0 h.1)
 
   -- so no other one has used what it wrote
-  pub no_conflict : (j i : ℕ) (y z : SiteState) (t u : Live) → plain_at w j ≡ Some y → Has y.live t → plain_at w i ≡ Some z → Has z.live u → (v : View) → AgreedAs w t.view v → t.view ≡ u.view → (operation : Op) → Has u.ops operation → HasWritten t (record_of operation) → t.txn ≡ u.txn
-  no_conflict j i y z t u up live up_u live_u v agreed same operation h wrote =
-      let q = used_some i z u up_u live_u v (agreed.0, agreed.1 ∙ same) operation h in
-      apart_used j i y z t u up live up_u live_u same q.site (record_of operation) q.exclusive (written_at j y t up live v agreed (record_of operation) q.site wrote q.holder q.member) q.used
+  pub no_conflict : (j i : ℕ) (y z : SiteState) (t u : Live) → plain_at w j ≡ Some y → Has y.live t → plain_at w i ≡ Some z → Has z.live u → (v : View) → AgreedAs w t.view v → t.view ≡ u.view → (rec : ℕ) → HasUsed u.ops rec → HasWritten t rec → t.txn ≡ u.txn
+  no_conflict j i y z t u up live up_u live_u v agreed same rec h wrote =
+      let q = used_some i z u up_u live_u v (agreed.0, agreed.1 ∙ same) rec h in
+      apart_used j i y z t u up live up_u live_u same q.site rec q.exclusive (written_at j y t up live v agreed rec q.site wrote q.holder q.member) q.used

@@ -10,8 +10,8 @@ use Rattle.vp_one_site.proofs.Play.{serial-append}
 use Rattle.vp_laws.proofs.Members.{Has, has_right, has_cases, has_one_is}
 use Rattle.vp_laws.proofs.Order.{Precedes, AtMost-trans, Precedes-at_most, from_before}
 use Rattle.vp_laws.proofs.Journal.{Rising, Split, Precedes-trans, views_rising, flat_has, order_has, order_more}
-use Rattle.vp_laws.proofs.ValuesAfter.{upto, in_at, test_up_to, up_to_from, upto_all, upto_none, upto_append, upto_has}
 use Rattle.vp_laws.proofs.Playing.{WritesNone, up_to_own, serial_agrees, agrees_behind}
+use Rattle.vp_laws.proofs.UpTo.{upto, in_at, test_up_to, up_to_from, upto_all, upto_none, upto_append, upto_has}
 
 then_some : {X Y : Type 0} (o : Option X) (f : X → Option Y) (y : Y) → option_and_then f o ≡ Some y → (x : X) × (o ≡ Some x) × (f x ≡ Some y)
 then_some None f y e = cc
@@ -30,14 +30,14 @@ upto_first journal v (u ∷ vs) h = go (view_before v u) refl (upto_first journa
 
     above : Precedes v u → (f : Commit) → Has (here ++ later) f → Precedes v f.view
     above p f q = ⊎_elim
-        (λ first. rw (in_at journal v u f first) p)
-        (λ more. let r = flat_has (in_view journal) vs f more in rw (in_at journal v r.0 f r.2) (Precedes-trans v u r.0 p (h.0 r.0 r.1)))
+        (λ first. rw (in_at journal u f first) p)
+        (λ more. let r = flat_has (in_view journal) vs f more in rw (in_at journal r.0 f r.2) (Precedes-trans v u r.0 p (h.0 r.0 r.1)))
         (has_cases here later f q)
 
     go : (b : Bool) → view_before v u ≡ b → (rest : List Commit) × (later ≡ upto v later ++ rest) → (rest : List Commit) × (here ++ later ≡ upto v (here ++ later) ++ rest)
     go true e r = (here ++ later, sym (ap (λ (l : List Commit). l ++ (here ++ later)) (upto_none v (here ++ later) (above (from_before v u e)))))
     go false e r =
-        let all : upto v here ≡ here = upto_all v here (λ f q. rw (in_at journal v u f q) (up_to_from v u e)) in
+        let all : upto v here ≡ here = upto_all v here (λ f q. rw (in_at journal u f q) (up_to_from v u e)) in
         (r.0, ap (λ (l : List Commit). here ++ l) r.1 ∙ sym (append_assoc here (upto v later) r.0) ∙ ap (λ (l : List Commit). l ++ r.0) (sym (upto_append v here later ∙ ap (λ (l : List Commit). l ++ upto v later) all)))
 
 pub content_there : (start : Values) (journal : List Commit) (v : ViewId) (n : Values) → serial start (order journal) ≡ Some n → (m : Values) × (content start journal v ≡ Some m)

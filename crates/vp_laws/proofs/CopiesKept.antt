@@ -4,7 +4,6 @@ use Rattle.std.specs.Prelude.{Option, Some, None, find, ◌==◌}
 use Rattle.std.proofs.lemmas.Bool.{eqb-true}
 use Rattle.std.proofs.lemmas.Bool.Decides.{nat_tests}
 use Rattle.vp_model.specs.Types.{ViewId, View, Commit, Input, Stored, Refreshing, Doubt}
-use Rattle.vp_model.specs.Types.op
 use Rattle.vp_model.specs.Words.{value_at}
 use Rattle.vp_model.specs.Catalogue.{Catalogue, holders, accessible}
 use Rattle.vp_model.specs.Durable.{DurableState}
@@ -19,7 +18,7 @@ use Rattle.vp_laws.proofs.TableUnlisted.{IsUnlisted, Ended}
 use Rattle.vp_laws.proofs.TableCovered.{Quits}
 use Rattle.vp_laws.proofs.Scenes.{Scene, kept_at}
 use Rattle.vp_laws.proofs.InvShares.{InDoubt}
-use Rattle.vp_laws.proofs.InvEntered.{Wrote, AgreedAs, written_op}
+use Rattle.vp_laws.proofs.InvEntered.{Wrote, AgreedAs}
 use Rattle.vp_laws.proofs.InvHeld.{has_copy, holds_copy}
 use Rattle.vp_laws.proofs.InvListed.{not_below_itself}
 use Rattle.vp_laws.proofs.Closing.{Closed, Open, closed_lasts}
@@ -28,7 +27,7 @@ use Rattle.vp_laws.proofs.ValuesAfter.{value_after, without_entry}
 use Rattle.vp_laws.proofs.CopyInvariants.{FromView, DoubtOn, InvCopies, InvRefresh}
 use Rattle.vp_laws.proofs.CopyFacts.{still_below, copy_holder}
 use Rattle.vp_laws.proofs.Worlds.{NowIs, now_is}
-use Rattle.vp_laws.proofs.NewEntries.{entering, stops, agreed_was}
+use Rattle.vp_laws.proofs.NewEntries.{entering, stops, wrote_in_force, agreed_was}
 use Rattle.vp_laws.proofs.CopyOrigins.{Own, Origin, origin}
 use Rattle.vp_laws.proofs.CopyValues.{old_value, old_in_doubt, old_last}
 use Rattle.vp_laws.proofs.CopyWrites.{applied_date, applied_on, applied_sure, applied_value, applied_from, written_date, written_sure, written_value, written_from}
@@ -154,8 +153,7 @@ module _ (catalogue : Catalogue) (w new : Scene) (s : ℕ) (x : SiteState) (give
       ended_between : (e : Commit) → Has new.journal e → Wrote e rec → Precedes c.date e.view → Precedes e.view v.id → ⊥
       ended_between e there wrote later below =
           let u = n.led.entry e there in
-          let did = written_op e.ops rec wrote in
-          let p = shared_holder catalogue rec u.0.members v.members (n.entered.accessible e u.0 (op.Write rec did.0) there (u.1, u.2) did.1) in_view in
+          let p = shared_holder catalogue rec u.0.members v.members (wrote_in_force catalogue w new s x given o k n d refresh e u.0 rec there (u.1, u.2) wrote) in_view in
           ⊎_elim
           (λ (here : p.0 ≡ s).
           let a = above_kept s rec c kept_copy e u.0 there wrote later (u.1, u.2) (subst (Has u.0.members) here p.2) in
@@ -207,7 +205,7 @@ module _ (catalogue : Catalogue) (w new : Scene) (s : ℕ) (x : SiteState) (give
         go : Quits catalogue x given o rec → ⊥
         go (Quits.still none same) = ⊎_elim
             (λ old. still none same (origin catalogue w new s x given o k n d s rec c kept_copy) old)
-            (λ more. stops catalogue w new s x given o k n d e v rec more wrote below (still_closed none same))
+            (λ more. stops catalogue w new s x given o k n d refresh e v rec more wrote below (still_closed none same))
             (d.st.entered e there)
         go (Quits.ended q) = ended_between q e there wrote later below
 
@@ -232,5 +230,5 @@ module _ (catalogue : Catalogue) (w new : Scene) (s : ℕ) (x : SiteState) (give
           between_here rec v c (ap (λ (y : SiteState). y.held) same ∙ held) (subst (λ (y : SiteState). is_open catalogue y rec ≡ true) (sym same) usable) (subst (λ (y : SiteState). refreshing_of rec y.refresh ≡ None) (sym same) unlisted) (subst (λ (y : SiteState). value_at rec y.copies ≡ Some c) (sym same) h) e there wrote later below
       between_at j rec y v c e held usable unlisted h there wrote later below (NowIs.other m old) = ⊎_elim
           (λ was. copies.between j rec y v c e old held usable unlisted h was wrote later below)
-          (λ more. stops catalogue w new s x given o k n d e v rec more wrote below (copies.open_copy j rec y v c old held usable unlisted h))
+          (λ more. stops catalogue w new s x given o k n d refresh e v rec more wrote below (copies.open_copy j rec y v c old held usable unlisted h))
           (d.st.entered e there)

@@ -4,7 +4,6 @@ use Rattle.std.proofs.Common.{◌≡◌, ◌≢◌, ◌∙◌, ap, sym, subst, �
 use Rattle.std.specs.Prelude.{Some}
 use Rattle.vp_model.specs.Types.{Change, TxnId, View, Commit, Input, Stored, Doubt}
 use Rattle.vp_model.specs.Types.message
-use Rattle.vp_model.specs.Types.op
 use Rattle.vp_model.specs.Words.{keys}
 use Rattle.vp_model.specs.Catalogue.{Catalogue, holders, accessible}
 use Rattle.vp_model.specs.Durable.{DurableState}
@@ -28,6 +27,7 @@ use Rattle.vp_laws.proofs.CopyValues.{value_now}
 use Rattle.vp_laws.proofs.CopyWrites.{applied_above, written_above}
 use Rattle.vp_laws.proofs.Refreshes.{Answer, answer_listed, answer_view, answer_in, answer_unwritten, answer_usable, left_below, other_answer, all_closed}
 use Rattle.vp_laws.proofs.Tower.{Known, Does}
+use Rattle.vp_laws.proofs.InvOps.{written_used}
 
 -- a doubt of an entry's transaction writes what the entry wrote there
 pub doubt_on : (catalogue : Catalogue) (w : Scene) → InvShares catalogue w → (e : Commit) (j rec : ℕ) (u : Doubt) → Has w.journal e → Wrote e rec → Has (holders catalogue rec) j → Has (kept_at w j).doubts u → u.txn ≡ e.txn → Has (keys u.writes) rec
@@ -126,8 +126,7 @@ module _ (catalogue : Catalogue) (w new : Scene) (s : ℕ) (x : SiteState) (give
 
             below : Precedes e.view u.id → InDoubt new j e.txn
             below p =
-                let did = written_op e.ops rec wrote in
-                let q = shared_holder catalogue rec v.members u.members (k.entered.accessible e v (op.Write rec did.0) there v_was did.1) usable in
+                let q = shared_holder catalogue rec v.members u.members (refresh.entry e v rec there v_was (written_used e.ops rec (written_op e.ops rec wrote))).usable usable in
                 ⊎_elim
                 (λ (here : q.0 ≡ s). own_above j rec b.own e v holder b.from h wrote own_later agreed in_view)
                 (λ (other : q.0 ≢ s). absurd (missed q.0 q.1 q.2 q.3 other))

@@ -2,7 +2,6 @@
 use Rattle.std.proofs.Common.{◌≡◌, ◌⊎◌, ◌∙◌, sym, subst, ℕ, Bool, true, false, inl, inr, refl, arith, ⊎_elim}
 use Rattle.std.specs.Prelude.{Some}
 use Rattle.vp_model.specs.Types.{ViewId, View, Commit, Stored, Doubt}
-use Rattle.vp_model.specs.Types.op
 use Rattle.vp_model.specs.Words.{keys, opening, same_view, view_before, value_at}
 use Rattle.vp_model.specs.Catalogue.{Catalogue, holders}
 use Rattle.vp_laws.proofs.Members.{Has}
@@ -17,6 +16,7 @@ use Rattle.vp_laws.proofs.InvHeld.{holder_kept}
 use Rattle.vp_laws.proofs.Closing.{Open}
 use Rattle.vp_laws.proofs.CopyInvariants.{FromView, InvCopies, InvRefresh}
 use Rattle.vp_laws.proofs.Tower.{Known}
+use Rattle.vp_laws.proofs.InvOps.{written_used}
 
 pub still_below : (a b c : ViewId) → AtMost a b → Precedes b c → Precedes a c
 still_below a b c p q = omega arith
@@ -49,8 +49,7 @@ module _ (catalogue : Catalogue) (w : Scene) (k : Known catalogue w) (refresh : 
   -- the view of an entry
   pub entry_closes : (e : Commit) (rec : ℕ) (v : View) → Has w.journal e → Wrote e rec → AgreedAs w e.view v → Open catalogue w rec v
   entry_closes e rec v h wrote a =
-      let did = written_op e.ops rec wrote in
-      refresh.entry e v (op.Write rec did.0) h a did.1
+      refresh.entry e v rec h a (written_used e.ops rec (written_op e.ops rec wrote))
 
   pub closed_above : (s rec : ℕ) (date j : ViewId) → FromView catalogue w s rec date → IsDated w rec date → Precedes j date → ClosedAbove catalogue w s rec j
   closed_above s rec date j (FromView.closed v agreed later member opened) dated below = record { view = v; agreed = agreed; member = member; above = Precedes-trans j date v.id below later; opened = opened }

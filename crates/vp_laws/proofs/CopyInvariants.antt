@@ -1,7 +1,7 @@
 -- What holds of copies, of answers to a refresh and of closed records, as one invariant: each part needs the others.
 use Rattle.std.proofs.Common.{◌≡◌, ◌≢◌, ℕ, Bool, true, List, ◌∷◌, ◌++◌}
 use Rattle.std.specs.Prelude.{Some, None}
-use Rattle.vp_model.specs.Types.{ViewId, TxnId, View, Commit, Op, Stored, Live, Doubt}
+use Rattle.vp_model.specs.Types.{ViewId, TxnId, View, Commit, Stored, Live, Doubt}
 use Rattle.vp_model.specs.Types.message
 use Rattle.vp_model.specs.Words.{keys, value_at}
 use Rattle.vp_model.specs.Catalogue.{Catalogue, holders, accessible}
@@ -12,8 +12,9 @@ use Rattle.vp_laws.proofs.Order.{Precedes}
 use Rattle.vp_laws.proofs.LocalViews.{letter}
 use Rattle.vp_laws.proofs.Scenes.{Scene, plain_at, kept_at}
 use Rattle.vp_laws.proofs.InvShares.{HasRequest, InDoubt}
-use Rattle.vp_laws.proofs.InvOps.{record_of}
+use Rattle.vp_laws.proofs.InvOps.{HasUsed}
 use Rattle.vp_laws.proofs.InvEntered.{Wrote, AgreedAs}
+use Rattle.vp_laws.proofs.LiveUses.{LiveUses}
 use Rattle.vp_laws.proofs.Closing.{ClosedAt, Open}
 use Rattle.vp_laws.proofs.InvUsed.{HasAnswered}
 use Rattle.vp_laws.proofs.ValuesAfter.{value_after, without_entry}
@@ -50,8 +51,10 @@ pub record InvRefresh (catalogue : Catalogue) (w : Scene) : Type 0 where
   -- no entry of a view between wrote the record, where the sender was a member
   pub between : (p to rec : ℕ) (view : ViewId) (stored : Stored) (e : Commit) (v : View) → Has w.sent (letter p to (message.RefreshAnswer view rec stored)) → Has w.journal e → Wrote e rec → Precedes stored.date e.view → Precedes e.view view → AgreedAs w e.view v → Has v.members p → ⊥
   pub from : (p to rec : ℕ) (view : ViewId) (stored : Stored) → Has w.sent (letter p to (message.RefreshAnswer view rec stored)) → Precedes stored.date view → FromView catalogue w p rec stored.date
-  -- a record that an entry uses is closed for its view
-  pub entry : (e : Commit) (v : View) (operation : Op) → Has w.journal e → AgreedAs w e.view v → Has e.ops operation → Open catalogue w (record_of operation) v
+  -- what a live transaction uses is accessible in the view that its site holds
+  pub live : (s : ℕ) (x : SiteState) (t : Live) → plain_at w s ≡ Some x → Has x.live t → LiveUses catalogue x.held t
+  -- a record that an entry uses is open in its view
+  pub entry : (e : Commit) (v : View) (rec : ℕ) → Has w.journal e → AgreedAs w e.view v → HasUsed e.ops rec → Open catalogue w rec v
   -- and so is one that a site has answered for a live transaction
   pub used : (s q rec : ℕ) (exclusive : Bool) (x : SiteState) (t : Live) (v : View) → plain_at w s ≡ Some x → Has x.live t → HasAnswered w q t.txn rec exclusive → AgreedAs w t.view v → Open catalogue w rec v
   -- each record that a site is asked for a lock on is accessible in the view, and the site holds it

@@ -141,7 +141,7 @@ module _ (catalogue : Catalogue) (w new : Scene) (s : ℕ) (x : SiteState) (give
       holder = copy_holder catalogue w k j rec c t.was
 
       member : FromView catalogue w j rec c.date → e.view ≡ c.date → Doubted catalogue w new s x given o k n d e j rec
-      member (FromView.closed v agreed later m opened) is = absurd (stops catalogue w new s x given o k n d e v rec h wrote (subst (λ (i : ViewId). Precedes i v.id) (sym is) later) opened)
+      member (FromView.closed v agreed later m opened) is = absurd (stops catalogue w new s x given o k n d refresh e v rec h wrote (subst (λ (i : ViewId). Precedes i v.id) (sym is) later) opened)
       member (FromView.member v agreed m) is = ⊎_elim
           (λ (z : j ≡ s). absurd (t.entered z e h wrote))
           (λ other. doubted catalogue w new s x given o k n d e j rec v h (d.st.moved.agreed v agreed.0, agreed.1 ∙ sym is) m holder wrote other)
@@ -151,7 +151,7 @@ module _ (catalogue : Catalogue) (w new : Scene) (s : ℕ) (x : SiteState) (give
       go true q = let is = same_is e.view c.date q in (member from is, is)
       go false q =
           let a = closed_above catalogue w k refresh j rec c.date e.view from dated (strictly e.view c.date le (λ is. unlike q is)) in
-          absurd (stops catalogue w new s x given o k n d e a.view rec h wrote a.above a.opened)
+          absurd (stops catalogue w new s x given o k n d refresh e a.view rec h wrote a.above a.opened)
         where
           unlike : same_view e.view c.date ≡ false → e.view ≡ c.date → ⊥
           unlike q is = let z = same_from e.view c.date is in cc

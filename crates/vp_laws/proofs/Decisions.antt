@@ -14,6 +14,7 @@ use Rattle.vp_laws.specs.Decisions.{MayCome, Forces, DecisionsAgree}
 use Rattle.vp_laws.proofs.Members.{Has, has_of, contains}
 use Rattle.vp_laws.proofs.LocalViews.{letter}
 use Rattle.vp_laws.proofs.Table.{Comes}
+use Rattle.vp_laws.proofs.CopiesForced.{copies_come}
 use Rattle.vp_laws.proofs.TableOutcomes.{IsForced, doubts-step, outcomes-step}
 use Rattle.vp_laws.proofs.Scenes.{scene_of, kept_at}
 use Rattle.vp_laws.proofs.Events.{in_each}
@@ -56,6 +57,7 @@ decisions_agreed s m there site x given up may =
     let k = known s.catalogue (scene_of m.before) good.0.lower.lower.lower.lower in
     record {
       ends = doubts_end s.catalogue x given;
+      copies = copies_come s.catalogue x given (k.views.site site x up).tidy (λ r here. let q = (k.guards.site site x up).lower r here in (q.0, q.1));
       commits = λ txn forced. commit_entered s.catalogue m.before k site x given txn up may forced;
       aborts = λ txn forced.
           let is = moment_of s.catalogue (TwentyFirst s.catalogue) (kept_last s.catalogue) (λ w. EndedAt w txn) (ended_keeps s.catalogue txn) s.events m h in

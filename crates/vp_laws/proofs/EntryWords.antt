@@ -15,9 +15,11 @@ use Rattle.vp_laws.proofs.Members.{has_of, contains, all_of}
 use Rattle.vp_laws.proofs.Scenes.{kept_in}
 use Rattle.vp_laws.proofs.InvEndings.{Once}
 use Rattle.vp_laws.proofs.InvShares.{Sixth, shares_last}
-use Rattle.vp_laws.proofs.InvOps.{record_of}
-use Rattle.vp_laws.proofs.InvEntered.{Ninth, entered_last}
+use Rattle.vp_laws.proofs.InvOps.{op_used, record_of}
 use Rattle.vp_laws.proofs.Events.{in_last}
+use Rattle.vp_laws.proofs.InvCopies.{Eighteenth, copied_last}
+use Rattle.vp_laws.proofs.Tower.{known}
+use Rattle.vp_laws.proofs.Scenes.{scene_of}
 
 differ : (a b : TxnId) → b ≢ a → same_txn a b ≡ false
 differ a b n = grind (arith, nat_tests, n)
@@ -55,13 +57,13 @@ same_record (op.Write rec value) = refl
 pub entered : (s : Schedule) → EntriesAreAccessible s.catalogue (run_of s).world
 entered s e h =
     let w = (run_of s).world in
-    let inv = in_last s.catalogue (Ninth s.catalogue) (entered_last s.catalogue) s.events in
-    let led = inv.lower.lower.lower.lower.lower.third.second.first.led in
+    let inv = in_last s.catalogue (Eighteenth s.catalogue) (copied_last s.catalogue) s.events in
+    let led = (known s.catalogue (scene_of w) inv.lower).led in
     let there = has_of w.journal e h in
     let q = led.entry e there in (
       q.0,
       contains w.agreed q.0 q.1,
       q.2,
       contains q.0.members e.txn.site q.3,
-      (λ operation k. ap (λ (n : ℕ). accessible s.catalogue n q.0.members) (sym (same_record operation)) ∙ inv.upper.accessible e q.0 operation there (q.1, q.2) (has_of e.ops operation k)),
+      (λ operation k. ap (λ (n : ℕ). accessible s.catalogue n q.0.members) (sym (same_record operation)) ∙ (inv.upper.refresh.entry e q.0 (record_of operation) there (q.1, q.2) (op_used e.ops operation (has_of e.ops operation k))).usable),
     )

@@ -1,5 +1,5 @@
 -- In every world: between the date of a copy and the view of a doubt on it, whose transaction is live or has an entry, no entry wrote the record.
-use Rattle.std.proofs.Common.{◌≡◌, sym, subst, ℕ, List}
+use Rattle.std.proofs.Common.{subst, ℕ, List}
 use Rattle.vp_model.specs.Types.{TxnId, Doubt}
 use Rattle.vp_model.specs.Catalogue.{Catalogue}
 use Rattle.vp_model.specs.Step.{step}

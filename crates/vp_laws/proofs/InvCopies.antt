@@ -135,7 +135,8 @@ module _ (catalogue : Catalogue) where
       value = λ p to rec view stored h low. absurd (start_sent catalogue _ h);
       between = λ p to rec view stored e v h there wrote later below agreed member. start_sent catalogue _ h;
       from = λ p to rec view stored h low. absurd (start_sent catalogue _ h);
-      entry = λ e v operation h agreed did. absurd (start_entered catalogue e h);
+      live = λ s x t up h. absurd (no_live s (empty_durable (start_copies catalogue s)) t (subst (λ (x : SiteState). Has x.live t) (sym (started catalogue s x up)) h));
+      entry = λ e v rec h agreed did. absurd (start_entered catalogue e h);
       used = λ s q rec exclusive x t v up h has agreed. absurd (no_live s (empty_durable (start_copies catalogue s)) t (subst (λ (x : SiteState). Has x.live t) (sym (started catalogue s x up)) h));
       asked = λ from to number rec txn view exclusive v h agreed. absurd (no_request from to number rec txn view exclusive h);
     };
@@ -207,7 +208,8 @@ module _ (catalogue : Catalogue) (w new : Scene) (s : ℕ) (q : Quiet catalogue 
       value = λ p to rec view stored h low. value_same stored.date rec stored.value (refresh.value p to rec view stored (rw q.sent at h) low);
       between = λ p to rec view stored e v h there wrote later below agreed member. refresh.between p to rec view stored e v (rw q.sent at h) (entry_was e there) wrote later below (agreed_was e.view v agreed) member;
       from = λ p to rec view stored h low. from_now p rec stored.date (refresh.from p to rec view stored (rw q.sent at h) low);
-      entry = λ e v operation h agreed did. open_now _ v (refresh.entry e v operation (entry_was e h) (agreed_was e.view v agreed) did);
+      live = λ j y t up h. refresh.live j y t (still_live j y t up h) h;
+      entry = λ e v rec h agreed did. open_now rec v (refresh.entry e v rec (entry_was e h) (agreed_was e.view v agreed) did);
       used = λ j a rec exclusive y t v up h has agreed. open_now rec v (refresh.used j a rec exclusive y t v (still_live j y t up h) h (answered_on w new q.sent a t.txn rec exclusive has) (agreed_was t.view v agreed));
       asked = λ from to number rec txn view exclusive v h agreed. refresh.asked from to number rec txn view exclusive v (request_on w new q.sent from to txn view number rec exclusive h) (agreed_was view v agreed);
     };

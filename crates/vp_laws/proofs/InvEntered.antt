@@ -7,11 +7,11 @@ use Rattle.vp_model.specs.Types.{ViewId, TxnId, View, Commit, Message, Input, Op
 use Rattle.vp_model.specs.Types.message
 use Rattle.vp_model.specs.Types.op
 use Rattle.vp_model.specs.Words.{is_empty, has, is_view, keys}
-use Rattle.vp_model.specs.Catalogue.{Catalogue, holders, accessible, start_copies}
+use Rattle.vp_model.specs.Catalogue.{Catalogue, holders, start_copies}
 use Rattle.vp_model.specs.Durable.{DurableState, empty_durable}
 use Rattle.vp_model.specs.Site.{SiteState, Stepped}
 use Rattle.vp_model.specs.Transactions.{last_changes, last_writes}
-use Rattle.vp_model.specs.Refresh.{is_usable_in, other_holders_in}
+use Rattle.vp_model.specs.Refresh.{other_holders_in}
 use Rattle.vp_model.specs.Step.{start, step}
 use Rattle.vp_laws.proofs.Members.{Has, has_none, has_cons, filter_keeps, map_has}
 use Rattle.vp_laws.proofs.Order.{AtMost, Precedes, not_both, AtMost-same, same_site}
@@ -26,7 +26,7 @@ use Rattle.vp_laws.proofs.TableShares.{DoubtNow, Shares, shares-step}
 use Rattle.vp_laws.proofs.InvViews.{InvViews}
 use Rattle.vp_laws.proofs.InvLed.{InvLed}
 use Rattle.vp_laws.proofs.InvShares.{HasVote, InvShares}
-use Rattle.vp_laws.proofs.InvOps.{record_of, LiveOk, last_written}
+use Rattle.vp_laws.proofs.InvOps.{LiveOk, last_written}
 use Rattle.vp_laws.proofs.InvAnswers.{Eighth, answers_last}
 use Rattle.vp_laws.proofs.Events.{Arrives, Lasts}
 use Rattle.vp_laws.proofs.Worlds.{NowIs, now_is, QuietIs, quiet_is, started, start_entered, With, Above, with_last}
@@ -48,8 +48,6 @@ pub record Affected (catalogue : Catalogue) (w : Scene) (e : Commit) (s : ℕ) :
   pub member : Has view.members s
 
 pub record InvEntered (catalogue : Catalogue) (w : Scene) : Type 0 where
-  -- each record that an entry uses is accessible in its view
-  pub accessible : (e : Commit) (v : View) (operation : Op) → Has w.journal e → AgreedAs w e.view v → Has e.ops operation → accessible catalogue (record_of operation) v.members ≡ true
   -- each holder that an entry affects, but the coordinator, has voted on it
   pub voted : (e : Commit) (s : ℕ) → Has w.journal e → Affected catalogue w e s → s ≢ e.txn.site → HasVote w s e.txn
   -- a site that waits for a view has no doubt and no entry of it
@@ -109,13 +107,6 @@ module _ (catalogue : Catalogue) (w new : Scene) (s : ℕ) (x : SiteState) (give
       let ok = views.site s x up in
       let same : of.0 ≡ v = views_now.unique of.0 v (st.moved.agreed of.0 (ok.held of.0 of.1)) a.0 (of.2 ∙ viewed ∙ sym a.1) in
       of.1 ∙ ap (λ (v : View). Some v) same
-
-  accessible_new : (e : Commit) (v : View) (operation : Op) → EnteredFor catalogue x given e → AgreedAs new e.view v → Has e.ops operation → accessible catalogue (record_of operation) v.members ≡ true
-  accessible_new e v operation f a h =
-      let u = f.handled.was in
-      let done : u.ops ≡ e.ops = sym (ap (λ (t : Live). t.ops) f.handled.same) ∙ ap (λ (e : Commit). e.ops) f.is in
-      let usable = (ops u f.handled.live).usable operation (rw done h) in
-      subst (λ (held : Option View). is_usable_in catalogue held (record_of operation) ≡ true) (held_is e f v a) usable
 
   -- the parts of a transaction that is decided have voted
   part_voted : (t : Live) → Decides catalogue x given t → (q : ℕ) → Has t.parts q → HasVote new q t.txn
@@ -182,7 +173,6 @@ module _ (catalogue : Catalogue) (w new : Scene) (s : ℕ) (x : SiteState) (give
 
   pub entered_keep : InvEntered catalogue new
   entered_keep = record {
-    accessible = λ e v operation h a k. ⊎_elim (λ old. inv.accessible e v operation old (view_was e v old a) k) (λ more. accessible_new e v operation (c.entered e more) a k) (st.entered e h);
     voted = λ e k h a n. ⊎_elim (λ old. vote_stays k e.txn (inv.voted e k old (affected_was e k old a) n)) (λ more. voted_new e k (c.entered e more) a n) (st.entered e h);
     no_doubt = λ k y i d h f q. doubt_at k y i d f q (now_is w new s x o st k y h);
     no_entry = λ k y i e h f q site. entry_at k y i e f q site (now_is w new s x o st k y h);
@@ -211,7 +201,6 @@ no_wait catalogue s d i e = cc
 entered_above : (catalogue : Catalogue) → Above catalogue (Eighth catalogue) (InvEntered catalogue)
 entered_above catalogue = record {
   starts = record {
-    accessible = λ e v operation h a k. absurd (start_entered catalogue e h);
     voted = λ e s h a n. absurd (start_entered catalogue e h);
     no_doubt = λ s x i d h f q. absurd (no_wait catalogue s (empty_durable (start_copies catalogue s)) i (ap (λ (x : SiteState). x.waiting) (started catalogue s x h) ∙ f));
     no_entry = λ s x i e h f q site. absurd (start_entered catalogue e q);
@@ -227,7 +216,6 @@ entered_above catalogue = record {
       entered_keep catalogue w (acted w s x o) s x given o up r ok.id (ap (λ (d : DurableState). d.promise) ok.kept) second.first.views now.lower.lower.lower.lower.third.second.first.views led second.first.led (second.below.site s x up) sixth.upper (λ u h. low.lower.upper.live s x u up h) inv l
       (steps-step catalogue x given led (fourth.votes.site s x up)).kept (shares-step catalogue x given) (stepping catalogue w s x given up ok.kept l);
   quiet = λ w new s q low now inv. record {
-    accessible = λ e v operation h a k. inv.accessible e v operation (rw q.journal at h) (rw q.agreed at a.0, a.1) k;
     voted = λ e s h a n. let g = inv.voted e s (rw q.journal at h) (record { view = a.view; agreed = (rw q.agreed at a.agreed.0, a.agreed.1); rec = a.rec; wrote = a.wrote; holder = a.holder; member = a.member }) n in (g.0, rw q.sent g.1);
     no_doubt = λ k y i d h f z. quiet_doubt w s inv k y i d f z (quiet_is catalogue w new s q k y h);
     no_entry = λ k y i e h f z site. quiet_entry w s inv k y i e f (rw q.journal at z) site (quiet_is catalogue w new s q k y h);

@@ -1,4 +1,4 @@
--- What a live transaction has done and asks, in every world: its records are accessible, its parts are the other holders of
+-- What a live transaction has done and asks, in every world: its parts are the other holders of
 -- what it wrote, its numbers go up by one, and a request is of the pending call or of one that was answered.
 use Rattle.std.proofs.Common.{◌≡◌, ◌⊎◌, ◌∙◌, ap, sym, subst, ℕ, ◌+◌, Bool, true, false, cond, List, [], ◌∷◌, ◌++◌, refl, inl, inr, ⊎_elim, length, length-append}
 use Rattle.std.specs.Prelude.{Option, Some, None, fold, ◌==◌, nat_lt, not, find, option_map, nat_eq}
@@ -10,7 +10,7 @@ use Rattle.vp_model.specs.Catalogue.{Catalogue, find_record, start_copies}
 use Rattle.vp_model.specs.Durable.{DurableState, empty_durable}
 use Rattle.vp_model.specs.Site.{SiteState, Stepped, Lent}
 use Rattle.vp_model.specs.Transactions.{with_op, last_writes}
-use Rattle.vp_model.specs.Refresh.{is_usable_in, other_holders_in, other_holders}
+use Rattle.vp_model.specs.Refresh.{other_holders_in, other_holders}
 use Rattle.vp_model.specs.Calls.{begun}
 use Rattle.vp_model.specs.Step.{start, step, mark, marked_call}
 use Rattle.vp_laws.specs.Votes.{is_commit}
@@ -33,6 +33,16 @@ abbrev pub record_of : Op → ℕ
 record_of (op.Read rec value) = rec
 record_of (op.Write rec value) = rec
 
+-- an operation among these is on the record
+abbrev pub HasUsed : List Op → ℕ → Type 0
+HasUsed ops rec = (operation : Op) × Has ops operation × (record_of operation ≡ rec)
+
+pub op_used : (ops : List Op) (operation : Op) → Has ops operation → HasUsed ops (record_of operation)
+op_used ops operation h = (operation, h, refl)
+
+pub written_used : (ops : List Op) (rec : ℕ) → (value : List ℕ) × Has ops (op.Write rec value) → HasUsed ops rec
+written_used ops rec h = (op.Write rec h.0, h.1, refl)
+
 abbrev pub HasWritten : Live → ℕ → Type 0
 HasWritten t rec = (value : List ℕ) × Has t.ops (op.Write rec value)
 
@@ -40,18 +50,14 @@ pub record LiveOk (catalogue : Catalogue) (id : ℕ) (held : Option View) (t : L
   -- each operation has its answer, and the pending call has the next number
   pub numbers : length t.ops ≡ length t.answers
   pub next : (p : Pending) → t.pending ≡ Some p → p.number ≡ length t.answers + 1
-  -- each record that it used may be used in the held view
-  pub usable : (operation : Op) → Has t.ops operation → is_usable_in catalogue held (record_of operation) ≡ true
   -- the other holders in the view of each record that it wrote are parts
   pub written : (rec : ℕ) → HasWritten t rec → (q : ℕ) → Has (other_holders_in catalogue id held rec) q → Has t.parts q
   -- the sites that it read at are parts
   pub remote : (r : ℕ × ℕ) → Has t.remote r → Has t.parts r.0
   -- the sites that the pending call waits for are parts
   pub missing : (p : Pending) (q : ℕ) → t.pending ≡ Some p → Has p.missing q → Has t.parts q
-  -- a pending read is of a record that may be used
-  pub reading : (p : Pending) (rec : ℕ) → t.pending ≡ Some p → Reads catalogue p rec → is_usable_in catalogue held rec ≡ true
-  -- a pending write is of a record that may be used, and the other holders in the view are parts
-  pub writing : (p : Pending) (rec : ℕ) (value : List ℕ) → t.pending ≡ Some p → Writes catalogue p rec value → (is_usable_in catalogue held rec ≡ true) × ((q : ℕ) → Has (other_holders_in catalogue id held rec) q → Has t.parts q)
+  -- the other holders in the view of the record of a pending write are parts
+  pub writing : (p : Pending) (rec : ℕ) (value : List ℕ) → t.pending ≡ Some p → Writes catalogue p rec value → ((q : ℕ) → Has (other_holders_in catalogue id held rec) q → Has t.parts q)
 
 -- what stands among the last values was written
 last_from : (ops : List Op) (writes : List (ℕ × Change)) (p : ℕ × List ℕ) → Has (fold with_op writes ops) p → Has writes p ⊎ ((value : List ℕ) × Has ops (op.Write p.0 value))
@@ -103,19 +109,14 @@ module _ (catalogue : Catalogue) (x : SiteState) (given : Input) (all : (u : Liv
   marked_ok u h = record {
     numbers = h.numbers;
     next = λ p e. let q = unmarked u.pending p e in numbered q.0 p (h.next q.0 q.1) q.2;
-    usable = h.usable;
     written = h.written;
     remote = h.remote;
     missing = λ p a e k. let q = unmarked u.pending p e in h.missing q.0 a q.1 (rw (ap (λ (p : Pending). p.missing) q.2) k);
-    reading = λ p rec e r. let q = unmarked u.pending p e in h.reading q.0 rec q.1 (called_reads q.0 p rec q.2 r);
     writing = λ p rec value e r. let q = unmarked u.pending p e in h.writing q.0 rec value q.1 (called_writes q.0 p rec value q.2 r);
   }
     where
       numbered : (a p : Pending) → a.number ≡ length u.answers + 1 → record a { marked = true } ≡ p → p.number ≡ length u.answers + 1
       numbered a p n e = ap (λ (p : Pending). p.number) (sym e) ∙ n
-
-      called_reads : (a p : Pending) (rec : ℕ) → record a { marked = true } ≡ p → Reads catalogue p rec → Reads catalogue a rec
-      called_reads a p rec e r = record { txn = r.txn; number = r.number; name = r.name; words = ap (λ (p : Pending). p.call) e ∙ r.words; found = r.found }
 
       called_writes : (a p : Pending) (rec : ℕ) (value : List ℕ) → record a { marked = true } ≡ p → Writes catalogue p rec value → Writes catalogue a rec value
       called_writes a p rec value e r = record { txn = r.txn; number = r.number; name = r.name; words = ap (λ (p : Pending). p.call) e ∙ r.words; found = r.found }
@@ -124,27 +125,23 @@ module _ (catalogue : Catalogue) (x : SiteState) (given : Input) (all : (u : Liv
       unmarked None p e = cc
       unmarked (Some a) p e = (a, refl, cc)
 
-  waits_ok : (u : Live) (p : Pending) (sites : List ℕ) → LiveOk catalogue x.id x.held u → p.number ≡ length u.answers + 1 → ((q : ℕ) → Has sites q → Has u.parts q) → ((rec : ℕ) → Reads catalogue p rec → is_usable_in catalogue x.held rec ≡ true) → ((rec : ℕ) (value : List ℕ) → Writes catalogue p rec value → (is_usable_in catalogue x.held rec ≡ true) × ((q : ℕ) → Has (other_holders_in catalogue x.id x.held rec) q → Has u.parts q)) → LiveOk catalogue x.id x.held (waiting u p sites)
-  waits_ok u p sites h number sub reads writes = record {
+  waits_ok : (u : Live) (p : Pending) (sites : List ℕ) → LiveOk catalogue x.id x.held u → p.number ≡ length u.answers + 1 → ((q : ℕ) → Has sites q → Has u.parts q) → ((rec : ℕ) (value : List ℕ) → Writes catalogue p rec value → (q : ℕ) → Has (other_holders_in catalogue x.id x.held rec) q → Has u.parts q) → LiveOk catalogue x.id x.held (waiting u p sites)
+  waits_ok u p sites h number sub writes = record {
     numbers = h.numbers;
     next = λ a e. let is : record p { missing = sites } ≡ a = cc in ap (λ (p : Pending). p.number) (sym is) ∙ number;
-    usable = h.usable;
     written = h.written;
     remote = h.remote;
     missing = λ a q e k. let is : record p { missing = sites } ≡ a = cc in sub q (rw (ap (λ (p : Pending). p.missing) is) k);
-    reading = λ a rec e r. let is : record p { missing = sites } ≡ a = cc in reads rec (record { txn = r.txn; number = r.number; name = r.name; words = ap (λ (p : Pending). p.call) is ∙ r.words; found = r.found });
     writing = λ a rec value e r. let is : record p { missing = sites } ≡ a = cc in writes rec value (record { txn = r.txn; number = r.number; name = r.name; words = ap (λ (p : Pending). p.call) is ∙ r.words; found = r.found });
   }
 
-  done_ok : (u : Live) (operation : Op) (words : Answer) → LiveOk catalogue x.id x.held u → is_usable_in catalogue x.held (record_of operation) ≡ true → ((rec : ℕ) (value : List ℕ) → operation ≡ op.Write rec value → (q : ℕ) → Has (other_holders_in catalogue x.id x.held rec) q → Has u.parts q) → LiveOk catalogue x.id x.held (done u operation words)
-  done_ok u operation words h usable parts = record {
+  done_ok : (u : Live) (operation : Op) (words : Answer) → LiveOk catalogue x.id x.held u → ((rec : ℕ) (value : List ℕ) → operation ≡ op.Write rec value → (q : ℕ) → Has (other_holders_in catalogue x.id x.held rec) q → Has u.parts q) → LiveOk catalogue x.id x.held (done u operation words)
+  done_ok u operation words h parts = record {
     numbers = longer u.ops operation ∙ ap (λ n. n + 1) h.numbers ∙ sym (longer u.answers words);
     next = λ p e. cc;
-    usable = λ o k. ⊎_elim (λ old. h.usable o old) (λ new. subst (λ (o : Op). is_usable_in catalogue x.held (record_of o) ≡ true) (has_one_is operation o new) usable) (has_cases u.ops (operation ∷ []) o k);
     written = λ rec k q z. ⊎_elim (λ old. h.written rec (k.0, old) q z) (λ new. parts rec k.0 (has_one_is operation (op.Write rec k.0) new) q z) (has_cases u.ops (operation ∷ []) (op.Write rec k.0) k.1);
     remote = h.remote;
     missing = λ p q e k. cc;
-    reading = λ p rec e r. cc;
     writing = λ p rec value e r. cc;
   }
 
@@ -154,26 +151,19 @@ module _ (catalogue : Catalogue) (x : SiteState) (given : Input) (all : (u : Liv
   same_record : (operation : Op) (rec r : ℕ) (value v : List ℕ) → operation ≡ op.Write rec value → operation ≡ op.Write r v → rec ≡ r
   same_record operation rec r value v e f = cc
 
-  usable_read : (operation : Op) (rec : ℕ) (value : List ℕ) → operation ≡ op.Read rec value → is_usable_in catalogue x.held rec ≡ true → is_usable_in catalogue x.held (record_of operation) ≡ true
-  usable_read operation rec value e h = rw e h
-
-  usable_write : (operation : Op) (rec : ℕ) (value : List ℕ) → operation ≡ op.Write rec value → is_usable_in catalogue x.held rec ≡ true → is_usable_in catalogue x.held (record_of operation) ≡ true
-  usable_write operation rec value e h = rw e h
-
   completed_ok : (u : Live) (p : Pending) (operation : Op) (words : Answer) (l : Lent) → LiveOk catalogue x.id x.held u → Completes catalogue x given u p operation words l → LiveOk catalogue x.id x.held (done u operation words)
-  completed_ok u p operation words l h (Completes.own_write rec value next r a v o w e) = done_ok u operation words h (usable_read operation rec value o a) (λ r v f. not_write operation rec r value v o f)
-  completed_ok u p operation words l h (Completes.own_copy rec stored next r a v c f o w e) = done_ok u operation words h (usable_read operation rec stored.value o a) (λ r v f. not_write operation rec r stored.value v o f)
-  completed_ok u p operation words l h (Completes.write_again rec before value next r a v o w e) = done_ok u operation words h (usable_write operation rec value o a)
+  completed_ok u p operation words l h (Completes.own_write rec value next r a v o w e) = done_ok u operation words h (λ r v f. not_write operation rec r value v o f)
+  completed_ok u p operation words l h (Completes.own_copy rec stored next r a v c f o w e) = done_ok u operation words h (λ r v f. not_write operation rec r stored.value v o f)
+  completed_ok u p operation words l h (Completes.write_again rec before value next r a v o w e) = done_ok u operation words h
       (λ r z f q k.
       let b = value_key rec (last_writes u.ops) before v in
       let was = last_written u.ops b.0 b.1 in
       h.written r (was.0, subst (λ (n : ℕ). Has u.ops (op.Write n was.0)) (b.2 ∙ same_record operation rec r value z o f) was.1) q k)
-  completed_ok u p operation words l h (Completes.write_alone rec value next r a v n o w e) = done_ok u operation words h (usable_write operation rec value o a)
+  completed_ok u p operation words l h (Completes.write_alone rec value next r a v n o w e) = done_ok u operation words h
       (λ r v f q k. absurd (empty_not (other_holders_in catalogue x.id x.held r) q (rw (← (same_record operation rec r value v o f)) n) k))
-  completed_ok u p operation words l h (Completes.read_answered from rec value c last r o w e) = done_ok u operation words h (usable_read operation rec value o (h.reading p rec last.pending r)) (λ r v f. not_write operation rec r value v o f)
+  completed_ok u p operation words l h (Completes.read_answered from rec value c last r o w e) = done_ok u operation words h (λ r v f. not_write operation rec r value v o f)
   completed_ok u p operation words l h (Completes.write_answered from rec value c last r o w e) =
-      let q = h.writing p rec value last.pending r in
-      done_ok u operation words h (usable_write operation rec value o q.0) (λ r v f a k. q.1 a (rw (same_record operation rec r value v o f) k))
+      done_ok u operation words h (λ z v f a k. h.writing p rec value last.pending r a (rw (same_record operation rec z value v o f) k))
 
   -- more parts
   wider : (u now : Live) → LiveOk catalogue x.id x.held u → now.ops ≡ u.ops → ((q : ℕ) → Has u.parts q → Has now.parts q) → (rec : ℕ) → HasWritten now rec → (q : ℕ) → Has (other_holders_in catalogue x.id x.held rec) q → Has now.parts q
@@ -183,13 +173,9 @@ module _ (catalogue : Catalogue) (x : SiteState) (given : Input) (all : (u : Liv
   reads_ok u p rec q h a = record {
     numbers = h.numbers;
     next = λ b e. let is : record p { missing = q ∷ [] } ≡ b = cc in ap (λ (p : Pending). p.number) (sym is) ∙ a.next.number;
-    usable = h.usable;
     written = wider u (reading u p rec q) h refl (λ b k. put_keeps q u.parts b k);
     remote = λ r k. ⊎_elim (λ old. put_keeps q u.parts r.0 (h.remote r old)) (λ new. rw (← (ap (λ (r : ℕ × ℕ). r.0) (has_one_is (q, rec) r new))) (put_new nat_eq nat_lt q u.parts)) (has_cases u.remote ((q, rec) ∷ []) r k);
     missing = λ b c e k. let is : record p { missing = q ∷ [] } ≡ b = cc in let m : Has (q ∷ []) c = rw (ap (λ (p : Pending). p.missing) is) k in rw (← (has_one_is q c m)) (put_new nat_eq nat_lt q u.parts);
-    reading = λ b other e r.
-        let is : record p { missing = q ∷ [] } ≡ b = cc in
-        rw (← (reads_same catalogue p rec other a.reads (record { txn = r.txn; number = r.number; name = r.name; words = ap (λ (p : Pending). p.call) is ∙ r.words; found = r.found }))) a.usable;
     writing = λ b other value e r.
         let is : record p { missing = q ∷ [] } ≡ b = cc in
         read_not_write catalogue p rec other value a.reads (record { txn = r.txn; number = r.number; name = r.name; words = ap (λ (p : Pending). p.call) is ∙ r.words; found = r.found });
@@ -199,21 +185,14 @@ module _ (catalogue : Catalogue) (x : SiteState) (given : Input) (all : (u : Liv
   writes_ok u p rec value h a = record {
     numbers = h.numbers;
     next = λ b e. let is : record p { missing = other_holders catalogue x rec } ≡ b = cc in ap (λ (p : Pending). p.number) (sym is) ∙ a.next.number;
-    usable = h.usable;
     written = wider u (writing u p (other_holders catalogue x rec)) h refl (λ b k. put_all_keeps (other_holders catalogue x rec) u.parts b k);
     remote = λ r k. put_all_keeps (other_holders catalogue x rec) u.parts r.0 (h.remote r k);
     missing = λ b c e k. let is : record p { missing = other_holders catalogue x rec } ≡ b = cc in put_all_new (other_holders catalogue x rec) u.parts c (rw (ap (λ (p : Pending). p.missing) is) k);
-    reading = λ b other e r.
-        let is : record p { missing = other_holders catalogue x rec } ≡ b = cc in
-        read_not_write catalogue p other rec value (record { txn = r.txn; number = r.number; name = r.name; words = ap (λ (p : Pending). p.call) is ∙ r.words; found = r.found }) a.writes;
     writing = λ b other v e r.
         let is : record p { missing = other_holders catalogue x rec } ≡ b = cc in
         let same = writes_same catalogue p rec other value v a.writes (record { txn = r.txn; number = r.number; name = r.name; words = ap (λ (p : Pending). p.call) is ∙ r.words; found = r.found }) in
-        (rw (← same) a.usable, (λ q k. put_all_new (other_holders catalogue x rec) u.parts q (rw same k)));
+        (λ q k. put_all_new (other_holders catalogue x rec) u.parts q (rw same k));
   }
-
-  no_commit_reads : {C : Type 0} (p : Pending) (rec : ℕ) → is_commit p.call ≡ true → Reads catalogue p rec → C
-  no_commit_reads p rec c r = let z = ap is_commit r.words in cc
 
   no_commit_writes : {C : Type 0} (p : Pending) (rec : ℕ) (value : List ℕ) → is_commit p.call ≡ true → Writes catalogue p rec value → C
   no_commit_writes p rec value c r = let z = ap is_commit r.words in cc
@@ -222,11 +201,9 @@ module _ (catalogue : Catalogue) (x : SiteState) (given : Input) (all : (u : Liv
   begun_ok txn view = record {
     numbers = refl;
     next = λ p e. cc;
-    usable = λ o k. absurd (has_none o k);
     written = λ rec k q z. absurd (has_none _ k.1);
     remote = λ r k. absurd (has_none r k);
     missing = λ p q e k. cc;
-    reading = λ p rec e r. cc;
     writing = λ p rec value e r. cc;
   }
 
@@ -235,11 +212,11 @@ module _ (catalogue : Catalogue) (x : SiteState) (given : Input) (all : (u : Liv
   live_ok t (LiveNow.marked u h tick e) = subst (LiveOk catalogue x.id x.held) e (marked_ok u (all u h))
   live_ok t (LiveNow.waits u p from h f m l k e) =
       let a = all u h in
-      subst (LiveOk catalogue x.id x.held) e (waits_ok u p (remaining from p) a (a.next p f) (λ q z. a.missing p q f (filter_has (λ (b : ℕ). not (b == from)) p.missing q z).0) (λ rec r. a.reading p rec f r) (λ rec value r. a.writing p rec value f r))
+      subst (LiveOk catalogue x.id x.held) e (waits_ok u p (remaining from p) a (a.next p f) (λ q z. a.missing p q f (filter_has (λ (b : ℕ). not (b == from)) p.missing q z).0) (λ rec value r. a.writing p rec value f r))
   live_ok t (LiveNow.completed u p operation words l h c e) = subst (LiveOk catalogue x.id x.held) e (completed_ok u p operation words l (all u h) c)
   live_ok t (LiveNow.reads u p rec q h a e) = subst (LiveOk catalogue x.id x.held) e (reads_ok u p rec q (all u h) a)
   live_ok t (LiveNow.writes u p rec value h a e) = subst (LiveOk catalogue x.id x.held) e (writes_ok u p rec value (all u h) a)
-  live_ok t (LiveNow.prepares u p h a e) = subst (LiveOk catalogue x.id x.held) e (waits_ok u p u.parts (all u h) a.next.number (λ q z. z) (λ rec r. no_commit_reads p rec a.commit r) (λ rec value r. no_commit_writes p rec value a.commit r))
+  live_ok t (LiveNow.prepares u p h a e) = subst (LiveOk catalogue x.id x.held) e (waits_ok u p u.parts (all u h) a.next.number (λ q z. z) (λ rec value r. no_commit_writes p rec value a.commit r))
   live_ok t (LiveNow.begins view h e) = subst (LiveOk catalogue x.id x.held) e (begun_ok _ view.id)
 
 pub record InvOps (catalogue : Catalogue) (w : Scene) : Type 0 where

@@ -1,13 +1,12 @@
 -- The order of the journal, in every world: by view and then by moment of commit the entries are a serial run on one copy, and what each
 -- live transaction has done goes through after the entries of views up to its own.
 use Rattle.std.proofs.Common.{◌≡◌, ◌≢◌, ◌∙◌, ap, sym, subst, ℕ, true, false, List, [], ◌∷◌, ◌++◌, refl, ⊎_elim}
-use Rattle.std.specs.Prelude.{Option, Some}
+use Rattle.std.specs.Prelude.{Some}
 use Rattle.vp_model.specs.Types.{ViewId, TxnId, View, Commit, Input, Op, Live}
 use Rattle.vp_model.specs.Types.message
 use Rattle.vp_model.specs.Types.op
 use Rattle.vp_model.specs.Catalogue.{Catalogue, holders, accessible, start_values, start_copies}
 use Rattle.vp_model.specs.Durable.{DurableState, empty_durable}
-use Rattle.vp_model.specs.Refresh.{is_usable_in}
 use Rattle.vp_model.specs.OneCopy.{Values, play, serial, order, content}
 use Rattle.vp_model.specs.Site.{SiteState, Stepped}
 use Rattle.vp_model.specs.Step.{start, step}
@@ -20,7 +19,7 @@ use Rattle.vp_laws.proofs.Scenes.{Scene, plain_at, kept_at, acted}
 use Rattle.vp_laws.proofs.Events.{Lasts}
 use Rattle.vp_laws.proofs.Worlds.{NowIs, now_is, QuietIs, quiet_is, started, start_journal, With, Above, with_last}
 use Rattle.vp_laws.proofs.InvShares.{HasRequest}
-use Rattle.vp_laws.proofs.InvOps.{record_of, HasWritten}
+use Rattle.vp_laws.proofs.InvOps.{op_used, record_of, HasWritten}
 use Rattle.vp_laws.proofs.InvAnswers.{HasRead}
 use Rattle.vp_laws.proofs.InvEntered.{Wrote, AgreedAs, written_op}
 use Rattle.vp_laws.proofs.InvUsed.{HasAnswered, Was}
@@ -31,7 +30,7 @@ use Rattle.vp_laws.proofs.Playing.{WritesNone, plays_behind, entry_plays, conten
 use Rattle.vp_laws.proofs.CopyInvariants.{InvCopies, InvRefresh}
 use Rattle.vp_laws.proofs.CopyFacts.{three_ways}
 use Rattle.vp_laws.proofs.NewEntries.{JournalNow, journal_now, Entering, entering, stops}
-use Rattle.vp_laws.proofs.OwnUse.{ops_closed}
+use Rattle.vp_laws.proofs.OwnUse.{used_closed}
 use Rattle.vp_laws.proofs.Conflicts.{UsedAt, apart_used, written_at, read_from, no_conflict}
 use Rattle.vp_laws.proofs.Contents.{plays_above}
 use Rattle.vp_laws.proofs.OrderInvariant.{Plays, InvOrder}
@@ -57,8 +56,8 @@ module _ (catalogue : Catalogue) (w new : Scene) (s : ℕ) (x : SiteState) (give
     above_none : (g : Commit) → Has w.journal g → Precedes e.view g.view → WritesNone e g.ops
     above_none g there above operation did wrote =
         let v = k.led.entry g there in
-        stops catalogue w new s x given o k n d e v.0 (record_of operation) h (subst (Wrote e) (same_record operation) wrote) (subst (Precedes e.view) (sym v.2) above)
-        (refresh.entry g v.0 operation there (v.1, v.2) did)
+        stops catalogue w new s x given o k n d refresh e v.0 (record_of operation) h (subst (Wrote e) (same_record operation) wrote) (subst (Precedes e.view) (sym v.2) above)
+        (refresh.entry g v.0 (record_of operation) there (v.1, v.2) (op_used g.ops operation did))
 
     has_written : (rec : ℕ) → Wrote e rec → HasWritten f.was rec
     has_written rec wrote = let did = written_op e.ops rec wrote in (did.0, rw f.done did.1)
@@ -73,16 +72,13 @@ module _ (catalogue : Catalogue) (w new : Scene) (s : ℕ) (x : SiteState) (give
       agreed : AgreedAs w t.view of.0
       agreed = ((k.views.site j y up).held of.0 of.1, of.2)
 
-      usable : (operation : Op) → Has t.ops operation → accessible catalogue (record_of operation) of.0.members ≡ true
-      usable operation did = subst (λ (held : Option View). is_usable_in catalogue held (record_of operation) ≡ true) of.1 ((k.ops.live j y t up live).usable operation did)
-
       same_view_none : e.view ≡ t.view → WritesNone e t.ops
-      same_view_none same operation did wrote = other (sym (no_conflict catalogue w k copies refresh reading s j x y f.was t d.up f.live up live f.view its_view (f.viewed ∙ same) operation did (has_written (record_of operation) (subst (Wrote e) (same_record operation) wrote))) ∙ f.named)
+      same_view_none same operation did wrote = other (sym (no_conflict catalogue w k copies refresh reading s j x y f.was t d.up f.live up live f.view its_view (f.viewed ∙ same) (record_of operation) (op_used t.ops operation did) (has_written (record_of operation) (subst (Wrote e) (same_record operation) wrote))) ∙ f.named)
 
       higher_none : Precedes e.view t.view → WritesNone e t.ops
       higher_none below operation did wrote =
-          stops catalogue w new s x given o k n d e of.0 (record_of operation) h (subst (Wrote e) (same_record operation) wrote) (subst (Precedes e.view) (sym of.2) below)
-          (ops_closed catalogue w k copies j y t up live refresh of.0 agreed (λ rec value there none. reading.done j y t rec value up live there none) operation did)
+          stops catalogue w new s x given o k n d refresh e of.0 (record_of operation) h (subst (Wrote e) (same_record operation) wrote) (subst (Precedes e.view) (sym of.2) below)
+          (used_closed catalogue w k copies j y t up live refresh of.0 agreed (λ rec value there none. reading.done j y t rec value up live there none) (record_of operation) (op_used t.ops operation did))
 
       plays_grow : Plays (content first (w.journal ++ e ∷ []) t.view) t.ops
       plays_grow = go (inv.live j y t up live)
@@ -121,7 +117,7 @@ module _ (catalogue : Catalogue) (w new : Scene) (s : ℕ) (x : SiteState) (give
 
           none : Wrote e rec → AtMost e.view t.view → ⊥
           none wrote le = ⊎_elim
-              (λ below. stops catalogue w new s x given o k n d e of.0 rec h wrote (subst (Precedes e.view) (sym of.2) below) (refresh.used j q rec false y t of.0 up live (HasAnswered.read r) agreed))
+              (λ below. stops catalogue w new s x given o k n d refresh e of.0 rec h wrote (subst (Precedes e.view) (sym of.2) below) (refresh.used j q rec false y t of.0 up live (HasAnswered.read r) agreed))
               (λ q. ⊎_elim (λ same. equal wrote same) (λ above. not_both t.view e.view above le) q)
               (three_ways e.view t.view)
 

@@ -36,7 +36,7 @@ abbrev pub HasVote : Scene → ℕ → TxnId → Type 0
 HasVote w from txn = (to : ℕ) × Has w.sent (letter from to (message.Vote txn))
 
 -- a prepare was sent to the site, with these writes
-abbrev pub HasPrepare : Scene → ℕ → TxnId → ViewId → List (ℕ × List ℕ) → Type 0
+abbrev pub HasPrepare : Scene → ℕ → TxnId → ViewId → List (ℕ × Change) → Type 0
 HasPrepare w to txn view writes = (from : ℕ) × (number : ℕ) × (reads : List ℕ) × Has w.sent (letter from to (message.Prepare txn view number reads writes))
 
 -- a request for a lock was sent, shared or exclusive
@@ -410,7 +410,7 @@ module _ (catalogue : Catalogue) (w new : Scene) (s : ℕ) (x : SiteState) (give
       not_same : (a b : ℕ) → a ≢ b → not (a == b) ≡ true
       not_same a b n = grind (arith, nat_tests, n)
 
-      decided : (t : Live) → Decides catalogue x given t → (txn : TxnId) (in_view : ViewId) (last : List (ℕ × List ℕ)) → t.txn ≡ txn → t.view ≡ in_view → last_writes t.ops ≡ last → Has w.sent (letter from to (message.Prepare txn view number readings writings)) → (in_view ≡ view) × (writes_held catalogue to last ≡ writings) × HasVote new to txn
+      decided : (t : Live) → Decides catalogue x given t → (txn : TxnId) (in_view : ViewId) (last : List (ℕ × Change)) → t.txn ≡ txn → t.view ≡ in_view → last_writes t.ops ≡ last → Has w.sent (letter from to (message.Prepare txn view number readings writings)) → (in_view ≡ view) × (writes_held catalogue to last ≡ writings) × HasVote new to txn
       decided t (Decides.alone was p here next commit alone same) txn in_view last named viewed wrote old =
           let name : was.txn ≡ txn = ap (λ (t : Live). t.txn) (sym same) ∙ named in
           let q = votes.prepared _ old x was (rw (← name, owned was here ∙ id) up) here name in

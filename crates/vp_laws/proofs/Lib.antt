@@ -72,6 +72,7 @@ pub mod InvEndings
 pub mod InvRepeated
 pub mod InvShares
 pub mod InvOps
+pub mod LiveUses
 pub mod InvAnswers
 pub mod InvEntered
 pub mod InvLived
@@ -94,10 +95,11 @@ pub mod TableCovered
 pub mod Tower
 pub mod NewEntries
 pub mod JournalPlaces
+pub mod UpTo
+pub mod Acts
 pub mod ValuesAfter
 pub mod ValuesGrow
 pub mod Force
-pub mod Acts
 pub mod ForceAt
 -- copies and their refresh, in one induction
 pub mod CopyInvariants
@@ -148,3 +150,10 @@ pub mod Words
 pub mod EntryWords
 pub mod SiteWords
 pub mod Readable
+pub mod Refused
+pub mod CopiesForced
+pub mod Completing
+pub mod InOpening
+pub mod TableReports
+pub mod ReportsFit
+pub mod CutTraces

@@ -1,6 +1,6 @@
 -- What an entry of a step means for others: it is of a live transaction here, each other holder of what it wrote is in doubt about it,
 -- nothing here is in doubt on that or under refresh, and no record that is closed for a higher view was written.
-use Rattle.std.proofs.Common.{◌≡◌, ◌≢◌, ◌⊎◌, ◌∙◌, ap, sym, subst, ℕ, Bool, false, List, [], ◌∷◌, ◌++◌, refl, inl, inr, ⊎_elim, append-nil}
+use Rattle.std.proofs.Common.{true, Option, ◌≡◌, ◌≢◌, ◌⊎◌, ◌∙◌, ap, sym, subst, ℕ, Bool, false, List, [], ◌∷◌, ◌++◌, refl, inl, inr, ⊎_elim, append-nil}
 use Rattle.std.specs.Prelude.{Some}
 use Rattle.vp_model.specs.Types.{Change, TxnId, View, Message, Commit, Input, Part, Live, Refreshing, Doubt}
 use Rattle.vp_model.specs.Types.message
@@ -28,6 +28,10 @@ use Rattle.vp_laws.proofs.Closing.{Open}
 use Rattle.vp_laws.proofs.Stopping.{closed_stops}
 use Rattle.vp_laws.proofs.Worlds.{KeptIs, kept_is}
 use Rattle.vp_laws.proofs.Tower.{Known, Does}
+use Rattle.vp_laws.proofs.CopyInvariants.{InvRefresh}
+use Rattle.vp_model.specs.Refresh.{is_usable_in}
+use Rattle.vp_model.specs.Catalogue.{accessible}
+use Rattle.vp_laws.proofs.InvOps.{written_used}
 
 module _ (catalogue : Catalogue) (w new : Scene) (s : ℕ) (x : SiteState) (given : Input) (o : Stepped) (k : Known catalogue w) (n : Known catalogue new) (d : Does catalogue w new s x given o) where
   -- the journal stays, or has one more entry
@@ -177,19 +181,36 @@ module _ (catalogue : Catalogue) (w new : Scene) (s : ℕ) (x : SiteState) (give
       let same : f.view ≡ low.0 = (let a = f.held in let b = low.1 in cc) in
       not_below_itself u.0.view low.0.id u.3 (sym says.0 ∙ sym f.is ∙ ap (λ (v : View). v.id) same)
 
-  -- it wrote no record that is closed for a higher view
-  pub stops : (e : Commit) (u : View) (rec : ℕ) → Has o.effects.commits e → Wrote e rec → Precedes e.view u.id → Open catalogue w rec u → ⊥
-  stops e u rec h wrote below opened =
-      let f = entering e h in
-      let agreed = entering_agreed e f in
-      closed_stops catalogue w new s x given o d.up d.here.id d.led k.shares n.shares n.entered d.steps d.shares d.st e f.view u rec h (d.st.moved.agreed f.view agreed.0, agreed.1) wrote below opened
-
   -- what an old entry's view was
   pub agreed_was : (e : Commit) (v : View) → Has w.journal e → AgreedAs new e.view v → AgreedAs w e.view v
   agreed_was e v h a =
       let q = k.led.entry e h in
       let same : q.0 ≡ v = n.views.unique q.0 v (d.st.moved.agreed q.0 q.1) a.0 (q.2 ∙ sym a.1) in
       (subst (Has w.agreed) same q.1, a.1)
+
+  -- what it wrote is accessible in its view
+  entering_wrote : (refresh : InvRefresh catalogue w) (e : Commit) (f : Entering e) (v : View) (rec : ℕ) → AgreedAs new e.view v → Wrote e rec → accessible catalogue rec v.members ≡ true
+  entering_wrote refresh e f v rec agreed wrote =
+      let did = written_op e.ops rec wrote in
+      let there = entering_agreed e f in
+      let same : f.view ≡ v = n.views.unique f.view v (d.st.moved.agreed f.view there.0) agreed.0 (f.is ∙ sym agreed.1) in
+      subst (λ (v : View). accessible catalogue rec v.members ≡ true) same
+      (subst (λ (held : Option View). is_usable_in catalogue held rec ≡ true) f.held ((refresh.live s x f.was d.up f.live).usable rec (written_used f.was.ops rec (did.0, rw f.done did.1))))
+
+  -- and so is what an entry wrote that is there now
+  pub wrote_in_force : (refresh : InvRefresh catalogue w) (e : Commit) (v : View) (rec : ℕ) → Has new.journal e → AgreedAs new e.view v → Wrote e rec → accessible catalogue rec v.members ≡ true
+  wrote_in_force refresh e v rec there agreed wrote = ⊎_elim
+      (λ old. (refresh.entry e v rec old (agreed_was e v old agreed) (written_used e.ops rec (written_op e.ops rec wrote))).usable)
+      (λ more. entering_wrote refresh e (entering e more) v rec agreed wrote)
+      (d.st.entered e there)
+
+  -- it wrote no record that is open in a higher view
+  pub stops : (refresh : InvRefresh catalogue w) (e : Commit) (u : View) (rec : ℕ) → Has o.effects.commits e → Wrote e rec → Precedes e.view u.id → Open catalogue w rec u → ⊥
+  stops refresh e u rec h wrote below opened =
+      let f = entering e h in
+      let agreed = entering_agreed e f in
+      let now : AgreedAs new e.view f.view = (d.st.moved.agreed f.view agreed.0, agreed.1) in
+      closed_stops catalogue w new s x given o d.up d.here.id d.led k.shares n.shares n.entered d.steps d.shares d.st e f.view u rec h now wrote (entering_wrote refresh e f f.view rec now wrote) below opened
 
   -- what has become of a doubt: it stays, or its outcome came
   pub doubt_stays : (j : ℕ) (u : Doubt) → Has (kept_at w j).doubts u → Has (kept_at new j).doubts u ⊎ ((j ≡ s) × OutcomeComes given u.txn)
@@ -208,7 +229,7 @@ module _ (catalogue : Catalogue) (w new : Scene) (s : ℕ) (x : SiteState) (give
     pub from : ℕ
     pub part : Part
     pub reads : List ℕ
-    pub writes : List (ℕ × List ℕ)
+    pub writes : List (ℕ × Change)
     pub prepared : Prepared x given from part reads writes
     pub is : (record { txn = part.txn; view = part.view; writes = writes }) ≡ u
 

@@ -17,7 +17,7 @@ use Rattle.vp_laws.proofs.TableCopies.{value_pair}
 use Rattle.vp_laws.proofs.TableUnlisted.{IsUnlisted}
 use Rattle.vp_laws.proofs.Scenes.{Scene, plain_at}
 use Rattle.vp_laws.proofs.TableLocks.{not_copied}
-use Rattle.vp_laws.proofs.InvOps.{record_of, HasWritten}
+use Rattle.vp_laws.proofs.InvOps.{op_used, written_used, HasUsed, record_of, HasWritten}
 use Rattle.vp_laws.proofs.InvAnswers.{HasRead}
 use Rattle.vp_laws.proofs.InvEntered.{AgreedAs, other_holder}
 use Rattle.vp_laws.proofs.InvUsed.{HasAnswered}
@@ -49,13 +49,13 @@ module _ (catalogue : Catalogue) (w : Scene) (k : Known catalogue w) (copies : I
     copied : (rec : ℕ) (stored : Stored) → value_at rec x.copies ≡ Some stored → Has (keys x.copies) rec
     copied rec stored e = mapped_has (λ (p : ℕ × Stored). p.0) x.copies (rec, stored) (value_pair rec x.copies stored e)
 
-    usable_in_view : (operation : Op) → Has t.ops operation → accessible catalogue (record_of operation) v.members ≡ true
-    usable_in_view operation h = subst (λ (held : Option View). is_usable_in catalogue held (record_of operation) ≡ true) (view_is v agreed) ((k.ops.live s x t up live).usable operation h)
+    usable_in_view : (rec : ℕ) → HasUsed t.ops rec → accessible catalogue rec v.members ≡ true
+    usable_in_view rec h = subst (λ (held : Option View). is_usable_in catalogue held rec ≡ true) (view_is v agreed) ((refresh.live s x t up live).usable rec h)
 
     -- it was written elsewhere, where there is no copy here
     elsewhere : (rec : ℕ) → HasWritten t rec → value_at rec x.copies ≡ None → Open catalogue w rec v
     elsewhere rec wrote none =
-        let usable = usable_in_view (op.Write rec wrote.0) wrote.1 in
+        let usable = usable_in_view rec (written_used t.ops rec wrote) in
         let q = in_force_holder catalogue rec v.members usable in
         let other : q.0 ≢ x.id = (λ z. not_copied rec x.copies none (holds_copy catalogue w s x up (k.views.site s x up).kept k.held rec (subst (Has (holders catalogue rec)) (z ∙ (k.views.site s x up).id) q.1))) in
         let holder = subst (λ (held : Option View). Has (other_holders_in catalogue x.id held rec) q.0) (sym (view_is v agreed)) (other_holder catalogue x.id rec q.0 v q.1 q.2 other) in
@@ -66,7 +66,7 @@ module _ (catalogue : Catalogue) (w : Scene) (k : Known catalogue w) (copies : I
       where
         go : (c : Option Stored) → value_at rec x.copies ≡ c → Open catalogue w rec v
         go None e = elsewhere rec wrote e
-        go (Some stored) e = own_closed rec true v stored (((k.guards.site s x up).own t live).wrote rec wrote.0 wrote.1 (copied rec stored e)) (view_is v agreed) e ((k.ops.live s x t up live).usable (op.Write rec wrote.0) wrote.1)
+        go (Some stored) e = own_closed rec true v stored (((k.guards.site s x up).own t live).wrote rec wrote.0 wrote.1 (copied rec stored e)) (view_is v agreed) e ((refresh.live s x t up live).usable rec (written_used t.ops rec wrote))
 
     -- where no read is pending, a done one has been answered, or is of an own write
     pub idle_reads : ((p : Pending) (rec : ℕ) → t.pending ≡ Some p → Reads catalogue p rec → ⊥) → (rec : ℕ) (value : List ℕ) → Has t.ops (op.Read rec value) → value_at rec x.copies ≡ None → HasWritten t rec ⊎ ((q : ℕ) × HasRead w q t.txn rec)
@@ -84,12 +84,15 @@ module _ (catalogue : Catalogue) (w : Scene) (k : Known catalogue w) (copies : I
       read_closed rec value h = go (value_at rec x.copies) refl
         where
           go : (c : Option Stored) → value_at rec x.copies ≡ c → Open catalogue w rec v
-          go (Some stored) e = own_closed rec false v stored (((k.guards.site s x up).own t live).read rec value h (copied rec stored e)) (view_is v agreed) e ((k.ops.live s x t up live).usable (op.Read rec value) h)
+          go (Some stored) e = own_closed rec false v stored (((k.guards.site s x up).own t live).read rec value h (copied rec stored e)) (view_is v agreed) e ((refresh.live s x t up live).usable rec (op_used t.ops (op.Read rec value) h))
           go None e = ⊎_elim
               (λ wrote. written_closed rec wrote)
               (λ (r : (q : ℕ) × HasRead w q t.txn rec). refresh.used s r.0 rec false x t v up live (HasAnswered.read r.1) agreed)
               (reads rec value h e)
 
-      pub ops_closed : (operation : Op) → Has t.ops operation → Open catalogue w (record_of operation) v
-      ops_closed (op.Read rec value) h = read_closed rec value h
-      ops_closed (op.Write rec value) h = written_closed rec (value, h)
+      op_closed : (operation : Op) → Has t.ops operation → Open catalogue w (record_of operation) v
+      op_closed (op.Read rec value) h = read_closed rec value h
+      op_closed (op.Write rec value) h = written_closed rec (value, h)
+
+      pub used_closed : (rec : ℕ) → HasUsed t.ops rec → Open catalogue w rec v
+      used_closed rec h = subst (λ (n : ℕ). Open catalogue w n v) h.2 (op_closed h.0 h.1)

@@ -13,7 +13,8 @@ use Rattle.vp_laws.proofs.Members.{Has, has_first, has_more, has_right, all_of}
 use Rattle.vp_laws.proofs.Order.{Precedes, AtMost-refl, same_site}
 use Rattle.vp_laws.proofs.InvEntered.{Wrote}
 use Rattle.vp_laws.proofs.Journal.{Split, order_has, order_more}
-use Rattle.vp_laws.proofs.ValuesAfter.{overwritten, value_in, upto, value_after, test_above, test_up_to, upto_all, upto_none, upto_append, unwritten_value}
+use Rattle.vp_laws.proofs.ValuesAfter.{overwritten, value_in, value_after, unwritten_value}
+use Rattle.vp_laws.proofs.UpTo.{upto, test_above, test_up_to, upto_all, upto_none, upto_append}
 
 -- the map after a serial run has the value of each record that the entries leave
 

@@ -1,5 +1,5 @@
 -- A step keeps the invariant of answers to a refresh and of closed records.
-use Rattle.std.proofs.Common.{◌≡◌, ◌≢◌, ◌⊎◌, ◌∙◌, ap, sym, subst, ℕ, Bool, true, false, refl, inl, inr, ⊎_elim}
+use Rattle.std.proofs.Common.{List, ◌≡◌, ◌≢◌, ◌⊎◌, ◌∙◌, ap, sym, subst, ℕ, Bool, true, false, refl, inl, inr, ⊎_elim}
 use Rattle.std.specs.Prelude.{Option, Some, is_some, not, ◌||◌, ◌&&◌, ◌==◌}
 use Rattle.vp_model.specs.Types.{ViewId, TxnId, View, Sent, Commit, Input, Op, Stored, Pending, Live}
 use Rattle.vp_model.specs.Types.message
@@ -28,7 +28,7 @@ use Rattle.vp_laws.proofs.TableLeaves.{Uses}
 use Rattle.vp_laws.proofs.TableUnlisted.{IsUnlisted}
 use Rattle.vp_laws.proofs.Scenes.{Scene, plain_at, kept_at}
 use Rattle.vp_laws.proofs.InvShares.{HasRequest}
-use Rattle.vp_laws.proofs.InvOps.{record_of}
+use Rattle.vp_laws.proofs.InvOps.{HasUsed}
 use Rattle.vp_laws.proofs.InvEntered.{Wrote, AgreedAs}
 use Rattle.vp_laws.proofs.InvSettled.{holding}
 use Rattle.vp_laws.proofs.InvUsed.{HasAnswered, Was, Split}
@@ -41,9 +41,12 @@ use Rattle.vp_laws.proofs.NewEntries.{none_entered, journal_same, Entering, ente
 use Rattle.vp_laws.proofs.CopyValues.{value_now}
 use Rattle.vp_laws.proofs.CopyBrought.{doubt_on}
 use Rattle.vp_laws.proofs.CopiesKept.{open_now, from_lasts, unlisted_none}
-use Rattle.vp_laws.proofs.OwnUse.{idle_reads, ops_closed}
+use Rattle.vp_laws.proofs.OwnUse.{idle_reads, used_closed}
 use Rattle.vp_laws.proofs.Refreshes.{certain_from, left_below}
 use Rattle.vp_laws.proofs.Tower.{Known, Does}
+use Rattle.vp_laws.proofs.LiveUses.{LiveUses, live_uses}
+use Rattle.vp_laws.proofs.InvOps.{same_held}
+use Rattle.vp_laws.proofs.Worlds.{NowIs, now_is}
 
 module _ (catalogue : Catalogue) (w new : Scene) (s : ℕ) (x : SiteState) (given : Input) (o : Stepped) (k : Known catalogue w) (n : Known catalogue new) (d : Does catalogue w new s x given o) (copies : InvCopies catalogue w) (refresh : InvRefresh catalogue w) where
   -- an answer that is given now: in the held view, from the copy here, where nothing is in doubt on it
@@ -146,11 +149,11 @@ module _ (catalogue : Catalogue) (w new : Scene) (s : ℕ) (x : SiteState) (give
       from = refresh.from p to rec view stored sent low
 
       below : Precedes e.view stored.date → ⊥
-      below b = let a = closed_above catalogue w k refresh p rec stored.date e.view from (k.dated.sent p to rec view stored sent) b in stops catalogue w new s x given o k n d e a.view rec h wrote a.above a.opened
+      below b = let a = closed_above catalogue w k refresh p rec stored.date e.view from (k.dated.sent p to rec view stored sent) b in stops catalogue w new s x given o k n d refresh e a.view rec h wrote a.above a.opened
 
       equal : FromView catalogue w p rec stored.date → e.view ≡ stored.date → ⊥
       equal (FromView.member v agreed member) same = answer_stops p to rec view stored e v sent low h wrote (subst (λ (i : ViewId). Precedes i view) (sym same) low) (d.st.moved.agreed v agreed.0, agreed.1 ∙ sym same) member
-      equal (FromView.closed v agreed later member opened) same = stops catalogue w new s x given o k n d e v rec h wrote (subst (λ (i : ViewId). Precedes i v.id) (sym same) later) opened
+      equal (FromView.closed v agreed later member opened) same = stops catalogue w new s x given o k n d refresh e v rec h wrote (subst (λ (i : ViewId). Precedes i v.id) (sym same) later) opened
 
   -- what a new entry used is closed for its view
   no_reads : (p : Pending) (rec : ℕ) → is_commit p.call ≡ true → Reads catalogue p rec → ⊥
@@ -168,12 +171,12 @@ module _ (catalogue : Catalogue) (w new : Scene) (s : ℕ) (x : SiteState) (give
           let is : p ≡ a = (let z = sym pending ∙ ap (λ (t : Live). t.pending) (same t there named) ∙ last.pending in cc) in
           no_reads a rec commit (subst (λ (p : Pending). Reads catalogue p rec) is reads)
 
-  entry_new : (e : Commit) (v : View) (operation : Op) → Has o.effects.commits e → AgreedAs new e.view v → Has e.ops operation → Open catalogue new (record_of operation) v
-  entry_new e v operation h agreed did =
+  entry_new : (e : Commit) (v : View) (rec : ℕ) → Has o.effects.commits e → AgreedAs new e.view v → HasUsed e.ops rec → Open catalogue new rec v
+  entry_new e v rec h agreed did =
       let f = entering catalogue w new s x given o k n d e h in
       let same : f.view ≡ v = n.views.unique f.view v (d.st.moved.agreed f.view (d.here.held f.view f.held)) agreed.0 (f.is ∙ sym agreed.1) in
-      open_now catalogue w new s x given o k n d copies refresh (record_of operation) v
-      (ops_closed catalogue w k copies s x f.was d.up f.live refresh v (subst (Has w.agreed) same (d.here.held f.view f.held), agreed.1 ∙ sym f.viewed) (idle_reads catalogue w k copies s x f.was d.up f.live refresh v (subst (Has w.agreed) same (d.here.held f.view f.held), agreed.1 ∙ sym f.viewed) (deciding e h f)) operation (rw f.done did))
+      open_now catalogue w new s x given o k n d copies refresh rec v
+      (used_closed catalogue w k copies s x f.was d.up f.live refresh v (subst (Has w.agreed) same (d.here.held f.view f.held), agreed.1 ∙ sym f.viewed) (idle_reads catalogue w k copies s x f.was d.up f.live refresh v (subst (Has w.agreed) same (d.here.held f.view f.held), agreed.1 ∙ sym f.viewed) (deciding e h f)) rec (subst (λ (ops : List Op). HasUsed ops rec) (sym f.done) did))
 
   -- each record that is asked for is accessible
   usable_in : (u : Live) (r rec : ℕ) (view : ViewId) (v : View) → Has x.live u → is_open catalogue x r ≡ true → r ≡ rec → u.view ≡ view → AgreedAs new view v → accessible catalogue rec v.members ≡ true
@@ -282,6 +285,15 @@ module _ (catalogue : Catalogue) (w new : Scene) (s : ℕ) (x : SiteState) (give
           let viewed : old.u.view ≡ g.view = said_view to number rec t.txn g.view exclusive (request_was to number rec t.txn g.view exclusive g.comes) old.site old.u (at_site old) old.here old.named in
           granted_closed to number rec t.txn exclusive stored g v (agreed.0, agreed.1 ∙ sym old.viewed ∙ viewed)
 
+  live_now : (j : ℕ) (y : SiteState) (t : Live) → Has y.live t → NowIs w s o.site j y → LiveUses catalogue y.held t
+  live_now j y t h (NowIs.other z old) = refresh.live j y t old h
+  live_now j y t h (NowIs.here e same) =
+      let here : Has o.site.live t = subst (λ (y : SiteState). Has y.live t) (sym same) h in
+      let from = d.steps.live t here in
+      let held : x.held ≡ o.site.held = same_held catalogue w new s x given o t k.views n.views d.up d.st.now d.led (n.led.site s o.site d.st.now) d.st.moved.agreed here from in
+      subst (λ (y : SiteState). LiveUses catalogue y.held t) same
+      (subst (λ (v : Option View). LiveUses catalogue v t) held (live_uses catalogue x given (λ u there. refresh.live s x u d.up there) t from))
+
   pub refresh_keep : InvRefresh catalogue new
   refresh_keep = record {
     holder = λ p to rec view stored h. ⊎_elim (λ old. refresh.holder p to rec view stored old) (λ more. replied_holder p rec view stored (sent_now p to rec view stored more)) (d.st.sent _ h);
@@ -300,9 +312,10 @@ module _ (catalogue : Catalogue) (w new : Scene) (s : ℕ) (x : SiteState) (give
     from = λ p to rec view stored h low. ⊎_elim
         (λ old. from_lasts catalogue w new s x given o k n d copies refresh p rec stored.date (refresh.from p to rec view stored old low))
         (λ more. replied_from p rec view stored (sent_now p to rec view stored more)) (d.st.sent _ h);
-    entry = λ e v operation h agreed did. ⊎_elim
-        (λ old. open_now catalogue w new s x given o k n d copies refresh (record_of operation) v (refresh.entry e v operation old (agreed_was catalogue w new s x given o k n d e v old agreed) did))
-        (λ more. entry_new e v operation more agreed did)
+    live = λ j y t up h. live_now j y t h (now_is w new s x o d.st j y up);
+    entry = λ e v rec h agreed did. ⊎_elim
+        (λ old. open_now catalogue w new s x given o k n d copies refresh rec v (refresh.entry e v rec old (agreed_was catalogue w new s x given o k n d e v old agreed) did))
+        (λ more. entry_new e v rec more agreed did)
         (d.st.entered e h);
     used = used_new;
     asked = asked_now;

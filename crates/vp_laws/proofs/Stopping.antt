@@ -3,7 +3,6 @@ use Rattle.std.proofs.Common.{◌≡◌, ◌≢◌, ◌∙◌, ap, sym, subst, �
 use Rattle.std.specs.Prelude.{Some, ◌&&◌}
 use Rattle.vp_model.specs.Types.{Change, ViewId, TxnId, View, Commit, Input, Live}
 use Rattle.vp_model.specs.Types.message
-use Rattle.vp_model.specs.Types.op
 use Rattle.vp_model.specs.Words.{is_empty, has, keys}
 use Rattle.vp_model.specs.Catalogue.{Catalogue, holders, weights_of, accessible}
 use Rattle.vp_model.specs.Transactions.{last_changes, writes_held}
@@ -19,7 +18,7 @@ use Rattle.vp_laws.proofs.TableShares.{Shares}
 use Rattle.vp_laws.proofs.TableLeaves.{Uses}
 use Rattle.vp_laws.proofs.Scenes.{Scene, plain_at, Acted}
 use Rattle.vp_laws.proofs.InvShares.{InDoubt, InvShares}
-use Rattle.vp_laws.proofs.InvEntered.{Wrote, AgreedAs, InvEntered, has_test, written_op}
+use Rattle.vp_laws.proofs.InvEntered.{Wrote, AgreedAs, InvEntered, has_test}
 use Rattle.vp_laws.proofs.InvSettled.{some_not_empty}
 use Rattle.vp_laws.proofs.Closing.{ClosedAt, Open}
 
@@ -84,8 +83,7 @@ module _ (catalogue : Catalogue) (w new : Scene) (s : ℕ) (x : SiteState) (give
           let says = shares_now.entry e (st.enters e h) g.0 q d.0.view g.1 g.2 d.0.writes (subst (λ (t : TxnId). Has new.sent (letter g.0 q (message.Prepare t d.0.view g.1 g.2 d.0.writes))) d.2 (st.moved.sent _ g.3)) in
           c.certain d.0 d.1 (subst (λ (ws : List (ℕ × Change)). Has (keys ws) rec) says.1 writes) (subst (λ (j : ViewId). Precedes j i) says.0 below)
 
-  pub closed_stops : (e : Commit) (v u : View) (rec : ℕ) → Has o.effects.commits e → AgreedAs new e.view v → Wrote e rec → Precedes e.view u.id → Open catalogue w rec u → ⊥
-  closed_stops e v u rec h agreed wrote below opened =
-      let did = written_op e.ops rec wrote in
-      let q = shared_holder catalogue rec v.members u.members (entered_now.accessible e v (op.Write rec did.0) (st.enters e h) agreed did.1) opened.usable in
+  pub closed_stops : (e : Commit) (v u : View) (rec : ℕ) → Has o.effects.commits e → AgreedAs new e.view v → Wrote e rec → accessible catalogue rec v.members ≡ true → Precedes e.view u.id → Open catalogue w rec u → ⊥
+  closed_stops e v u rec h agreed wrote usable below opened =
+      let q = shared_holder catalogue rec v.members u.members usable opened.usable in
       met_stops e v rec q.0 u.id h agreed wrote q.1 q.2 below (opened.closed q.0 q.1 q.3)

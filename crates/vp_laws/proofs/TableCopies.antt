@@ -17,6 +17,7 @@ use Rattle.vp_model.specs.Views.{drop_view, start_inviting, hold}
 use Rattle.vp_model.specs.Calls.{start_txn, take_lock, read_at, write_at, prepare_parts}
 use Rattle.vp_model.specs.Messages.{holds_view, with_answer, accept, on_accept, on_stale, grant, end_here}
 use Rattle.vp_model.specs.Step.{fix, mark_calls, ask_again, resend_one, inquire, step}
+pub use Rattle.vp_laws.specs.Decisions.{dated_at}
 use Rattle.vp_laws.proofs.Members.{Has, has_none, has_one, has_first, has_more, map_has, filter_has, find_has, find_true}
 use Rattle.vp_laws.proofs.Apart.{same_txn-is}
 use Rattle.vp_laws.proofs.Lists.{put_has}
@@ -26,9 +27,6 @@ use Rattle.vp_laws.proofs.Frames.{close-ends, close-commits, decided-ends, decid
 use Rattle.vp_laws.proofs.LocalViews.{Tidy}
 use Rattle.vp_laws.proofs.Table.{Comes, Left, lent_at, Back, Table}
 use Rattle.vp_laws.proofs.Rows.{step-keeps}
-
-abbrev pub dated_at : ViewId → ℕ × List ℕ → ℕ × Stored
-dated_at date w = (w.0, record { value = w.1; date = date })
 
 -- an answer was kept, or comes now in the held view from a site that had not answered
 pub data AnswerNow (catalogue : Catalogue) (x : SiteState) (given : Input) (rec : ℕ) (k : ℕ × Stored) : Type 0 where

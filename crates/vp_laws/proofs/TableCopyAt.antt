@@ -28,9 +28,9 @@ use Rattle.vp_laws.proofs.Frames.{close-ends, close-commits, decided-ends, decid
 use Rattle.vp_laws.proofs.LocalViews.{Tidy}
 use Rattle.vp_laws.proofs.Table.{Comes, Left, lent_at, Back, Table}
 use Rattle.vp_laws.proofs.TableCopies.{AnswerNow, dated_at, replaced_from, value_pair, newest_from}
-use Rattle.vp_laws.proofs.ValuesAfter.{up_to_from}
 use Rattle.vp_laws.proofs.InvEntered.{has_test}
 use Rattle.vp_laws.proofs.Rows.{step-keeps}
+use Rattle.vp_laws.proofs.UpTo.{up_to_from}
 
 -- no doubt on the record has been made a copy, and no entry of this step wrote it here
 pub record Untaken (catalogue : Catalogue) (x : SiteState) (given : Input) (doubts : List Doubt) (commits : List Commit) (rec : ℕ) : Type 0 where

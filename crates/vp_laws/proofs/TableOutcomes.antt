@@ -47,7 +47,7 @@ abbrev is_outcome : LogRecord → Bool
 is_outcome (entry.Outcome txn commit) = true
 is_outcome r = false
 
-find_none : {A : Type 0} (test : A → Bool) (xs : List A) → find test xs ≡ None → (a : A) → Has xs a → test a ≡ false
+pub find_none : {A : Type 0} (test : A → Bool) (xs : List A) → find test xs ≡ None → (a : A) → Has xs a → test a ≡ false
 find_none test [] e a h = absurd (has_none a h)
 find_none {A} test (y ∷ ys) e a h = go (test y) refl e (λ q k. find_none test ys q a k)
   where

@@ -79,7 +79,7 @@ pub record Answered (x : SiteState) (given : Input) (from : ℕ) (txn : TxnId) :
   pub view : ViewId
   pub number : ℕ
   pub reads : List ℕ
-  pub writes : List (ℕ × List ℕ)
+  pub writes : List (ℕ × Change)
   pub comes : Comes given from (message.Prepare txn view number reads writes)
   pub held : holds_view x view ≡ true
   pub going : has_txn x.ended txn ≡ false

@@ -22,6 +22,7 @@ use Rattle.vp_model.specs.Told.{reported, is_early_refusal, told_by}
 use Rattle.vp_one_site.proofs.LockTables.{same_txn-self}
 use Rattle.vp_one_site.proofs.ToldLines.{Report}
 use Rattle.vp_one_site.proofs.KeptTold.{end_unreported, end_late}
+use Rattle.vp_laws.specs.Reports.{is_of_kind}
 use Rattle.vp_laws.proofs.Members.{Has, has_none, has_first, has_more, has_one_is, has_cases, map_has}
 use Rattle.vp_laws.proofs.Lists.{without_first_has}
 use Rattle.vp_laws.proofs.Apart.{Apart, named, change_cases}
@@ -40,6 +41,7 @@ pub record SaysDone (catalogue : Catalogue) (txn : TxnId) (p : Pending) (operati
   pub others : (u : TxnId) → txn ≢ u → reported u words ≡ None
   pub tells : told_by catalogue report p.call ≡ Some operation
   pub late : is_early_refusal words ≡ false
+  pub kind : is_of_kind report p.call ≡ true
 
 same_txn-other : (t u : TxnId) → t ≢ u → same_txn t u ≡ false
 same_txn-other t u n = grind (arith, nat_tests, n)
@@ -53,6 +55,7 @@ read_says catalogue txn p rec value operation words r e f =
       others = λ u n. let other = same_txn-other txn u n in ap (reported u) f ∙ rw other refl;
       tells = rw (r.words, r.found, e) refl;
       late = rw f refl;
+      kind = rw r.words refl;
     }
 
 write_says : (catalogue : Catalogue) (txn : TxnId) (p : Pending) (rec : ℕ) (value : List ℕ) (operation : Op) (words : Answer) → Writes catalogue p rec value → operation ≡ op.Write rec value → words ≡ answer.Written txn p.number → SaysDone catalogue txn p operation words
@@ -64,6 +67,7 @@ write_says catalogue txn p rec value operation words r e f =
       others = λ u n. let other = same_txn-other txn u n in ap (reported u) f ∙ rw other refl;
       tells = rw (r.words, r.found, e) refl;
       late = rw f refl;
+      kind = rw r.words refl;
     }
 
 pub completed_says : (catalogue : Catalogue) (x : SiteState) (given : Input) (t : Live) (p : Pending) (operation : Op) (words : Answer) (l : Lent) → Completes catalogue x given t p operation words l → SaysDone catalogue t.txn p operation words
@@ -102,7 +106,7 @@ pub record ToldNow (catalogue : Catalogue) (x : SiteState) (given : Input) (c : 
   pub others : (u : TxnId) → NotLive x.live u → Repeats x u rs
   pub entered : (e : Commit) → Has cs e → Repeats x e.txn rs
 
-plain_unreported : (u : TxnId) (a : Answer) → is_plain a ≡ true → reported u a ≡ None
+pub plain_unreported : (u : TxnId) (a : Answer) → is_plain a ≡ true → reported u a ≡ None
 plain_unreported u (answer.Value txn number value) e = cc
 plain_unreported u (answer.Written txn number) e = cc
 plain_unreported u _ e = refl
@@ -127,7 +131,7 @@ module _ (catalogue : Catalogue) (x : SiteState) (given : Input) where
   repeats_more : (u : TxnId) (rs more : List Reply) → IsSilent more → Repeats x u rs → Repeats x u (rs ++ more)
   repeats_more u rs more s h r k = ⊎_elim (λ old. h r old) (λ new. inl (s.reports u r new)) (has_cases rs more r k)
 
-  late_more : (rs more : List Reply) → IsSilent more → AreLate rs → AreLate (rs ++ more)
+  pub late_more : (rs more : List Reply) → IsSilent more → AreLate rs → AreLate (rs ++ more)
   late_more rs more s h r k = ⊎_elim (λ old. h r old) (λ new. s.late r new) (has_cases rs more r k)
 
   live_more : (rs more : List Reply) (t : Live) → IsSilent more → LiveTold catalogue x given rs t → LiveTold catalogue x given (rs ++ more) t
@@ -136,7 +140,7 @@ module _ (catalogue : Catalogue) (x : SiteState) (given : Input) where
   live_more rs more t s (LiveTold.completed u p operation words l h d c is e g) = LiveTold.completed u p operation words l h d c is (told_more u.txn rs more (s.reports u.txn) ∙ e) (late_more rs more s g)
   live_more rs more t s (LiveTold.begins port view c is e) = LiveTold.begins port view c is (repeats_more t.txn rs more s e)
 
-  last_silent : (t : Live) (why : Ending) → IsSilent (last_reply t why)
+  pub last_silent : (t : Live) (why : Ending) → IsSilent (last_reply t why)
   last_silent t why = record { reports = λ u r h. rw (← (last t.pending r h).1) (end_unreported u t.txn (last t.pending r h).0 why); late = λ r h. rw (← (last t.pending r h).1) (end_late t.txn (last t.pending r h).0 why) }
     where
       last : (q : Option Pending) (r : Reply) → Has (option_to_list (option_map (λ p. told_to p.port (answer_of t.txn p.number why)) q)) r → (number : ℕ) × (answer_of t.txn number why ≡ r.answer)

@@ -24,8 +24,8 @@ use Rattle.vp_laws.proofs.Table.{Comes, Left, Table}
 use Rattle.vp_laws.proofs.TableCopies.{AnswerNow, value_pair}
 use Rattle.vp_laws.proofs.TableCopyAt.{CopiesAt, newest_each, replaced_not}
 use Rattle.vp_laws.proofs.TableCopyAt.{table as copies_table, starts as copies_start}
-use Rattle.vp_laws.proofs.ValuesAfter.{up_to_from}
 use Rattle.vp_laws.proofs.Rows.{step-keeps}
+use Rattle.vp_laws.proofs.UpTo.{up_to_from}
 
 -- none of the records under refresh is this one
 abbrev pub IsUnlisted : List Refreshing → ℕ → Type 0

@@ -8,7 +8,7 @@ use Rattle.vp_model.specs.Types.input
 use Rattle.vp_model.specs.Words.{same_txn, value_at, put_at, for_each}
 use Rattle.vp_model.specs.Catalogue.{Catalogue}
 use Rattle.vp_model.specs.Durable.{DurableState}
-use Rattle.vp_model.specs.Site.{SiteState, Stepped}
+use Rattle.vp_model.specs.Site.{SiteState, Lent, Stepped}
 use Rattle.vp_model.specs.Transactions.{answer_of}
 use Rattle.vp_model.specs.Step.{step}
 use Rattle.vp_model.specs.World.{WorldState, Moment}
@@ -19,7 +19,7 @@ use Rattle.vp_one_site.proofs.KeptTold.{end_unreported}
 use Rattle.vp_laws.proofs.Members.{Has, has_none, has_cases, has_one_is, map_has}
 use Rattle.vp_laws.proofs.Lists.{mapped_has}
 use Rattle.vp_laws.proofs.Apart.{same_txn-is, same_txn-not, Apart, apart_unique}
-use Rattle.vp_laws.proofs.Table.{next_name}
+use Rattle.vp_laws.proofs.Table.{next_name, Completes}
 use Rattle.vp_laws.proofs.TableLed.{Led}
 use Rattle.vp_laws.proofs.TableEndings.{NotLive, Settled}
 use Rattle.vp_laws.proofs.TableFinished.{EndsNow}
@@ -62,7 +62,7 @@ not_next a j e h = omega arith
 more_by_one : (a b : ℕ) → a ≡ b → a ≡ b + 1 → ⊥
 more_by_one a b e f = omega arith
 
-same_or_not : (a b : TxnId) → (a ≡ b) ⊎ (a ≢ b)
+pub same_or_not : (a b : TxnId) → (a ≡ b) ⊎ (a ≢ b)
 same_or_not a b = go (same_txn a b) refl
   where
     go : (c : Bool) → same_txn a b ≡ c → (a ≡ b) ⊎ (a ≢ b)
@@ -198,6 +198,17 @@ module _ (catalogue : Catalogue) (world : WorldState) (lines : List Line) (m0 : 
       takes_now u.txn (length u.answers + 1) line p.call (call_here u p at) (subst (λ (n : ℕ). is_call u.txn n p.call ≡ true) at.next.number at.called.own) (rw is.shown refl)
       (λ a h. let q = map_has (λ (r : Reply). r.answer) o.effects.replies a (rw answered at h) in rw (← q.2) (late q.0 q.1))
 
+  -- an operation that is done has the next number, which its call has taken
+  pub done_number : (u : Live) (p : Pending) → Has x.live u → IsDone x given u p → p.number ≡ length u.answers + 1
+  done_number u p h (IsDone.at_once at) = at.next.number
+  done_number u p h (IsDone.at_last wait) = (k.ops.live s x u up h).next p wait.pending
+
+  pub done_call : (u : Live) (p : Pending) → Has x.live u → IsDone x given u p → AreLate o.effects.replies → taken_call more u.txn (length u.answers + 1) ≡ Some p.call
+  done_call u p h (IsDone.at_once at) late =
+      let before = subst (λ (o : Option Pending). TellsCall catalogue lines u.txn (length u.answers) o u.ops) (none_of u.pending at.next.idle) (told.live s x u up h) in
+      taken_now lines line u.txn (length u.answers + 1) p.call (before.untaken (length u.answers + 1) (omega arith)) (takes_next u p at late) (call_here u p at)
+  done_call u p h (IsDone.at_last wait) late = taken_on lines line u.txn (length u.answers + 1) p.call ((told.live s x u up h).taken p wait.pending)
+
   -- live transactions
   live_told : (a : Live) → Has o.site.live a → LiveTold catalogue x given o.effects.replies a → TellsCall catalogue more a.txn (length a.answers) a.pending a.ops
   live_told a now (LiveTold.was u h named did same pending repeats) =
@@ -211,31 +222,21 @@ module _ (catalogue : Catalogue) (world : WorldState) (lines : List Line) (m0 : 
       moved_tells catalogue more a.pending u.txn a.txn u.ops a.ops u.answers a.answers named did same (as_pending catalogue more u.txn (length u.answers) u.ops (Some p) a.pending (SameCall.same p q refl pending alike) on)
   live_told a now (LiveTold.completed u p operation words l h how c made one late) =
       let says = completed_says catalogue x given u p operation words l c in
-      let number : p.number ≡ length u.answers + 1 = its_number how in
+      let number : p.number ≡ length u.answers + 1 = done_number u p h how in
       let before = told.live s x u up h in
       let on = done_next catalogue lines line u.txn (length u.answers) u.pending u.ops operation before (record {
         report = says.report;
         words = p.call;
         reports = reports_now u.txn ∙ ap (λ (z : List Report). for_each z put_first (reports lines u.txn)) (one ∙ single says number);
-        taken = its_call how;
+        taken = done_call u p h how late;
         untaken = λ j above. untaken_on lines line u.txn j (its_rest how j above) (untaken_beyond u h j above);
         tells = says.tells;
       }) in
       subst (λ (a : Live). TellsCall catalogue more a.txn (length a.answers) a.pending a.ops) made
       (subst (λ (n : ℕ). TellsCall catalogue more u.txn n None (u.ops ++ operation ∷ [])) (sym (length-append u.answers (words ∷ []))) on)
     where
-      its_number : IsDone x given u p → p.number ≡ length u.answers + 1
-      its_number (IsDone.at_once at) = at.next.number
-      its_number (IsDone.at_last wait) = (k.ops.live s x u up h).next p wait.pending
-
       single : (says : SaysDone catalogue u.txn p operation words) → p.number ≡ length u.answers + 1 → told_of u.txn (told_to p.port words ∷ []) ≡ (length u.answers + 1, says.report) ∷ []
       single says number = rw (says.reports, number) refl
-
-      its_call : IsDone x given u p → taken_call more u.txn (length u.answers + 1) ≡ Some p.call
-      its_call (IsDone.at_once at) =
-          let before = subst (λ (o : Option Pending). TellsCall catalogue lines u.txn (length u.answers) o u.ops) (none_of u.pending at.next.idle) (told.live s x u up h) in
-          taken_now lines line u.txn (length u.answers + 1) p.call (before.untaken (length u.answers + 1) (omega arith)) (takes_next u p at late) (call_here u p at)
-      its_call (IsDone.at_last wait) = taken_on lines line u.txn (length u.answers + 1) p.call ((told.live s x u up h).taken p wait.pending)
 
       its_rest : IsDone x given u p → (j : ℕ) → length u.answers + 1 < j → find (takes u.txn j) lines ≡ None
       its_rest how j above = (told.live s x u up h).untaken j (within u.pending j above)
@@ -326,32 +327,37 @@ module _ (catalogue : Catalogue) (world : WorldState) (lines : List Line) (m0 : 
           let now : reports more u.txn ≡ put_first v (reports lines u.txn) = reports_now u.txn ∙ ap (λ (z : List Report). for_each z put_first (reports lines u.txn)) (one ∙ one_report) in
           rw now (put_there v (reports lines u.txn))
 
-  live_kept : (v : Live) → LiveTold catalogue x given o.effects.replies v → (a : Answer) → Has v.answers a → IsReported more a
-  live_kept v (LiveTold.was u h named did same pending repeats) a there = old_kept a (IsKept.live u h (rw same there))
-  live_kept v (LiveTold.goes u p q at named did same pending alike repeats late) a there = old_kept a (IsKept.live u at.live (rw same there))
-  live_kept v (LiveTold.completed u p operation words l h how c made one late) a there = ⊎_elim
-      (λ old. old_kept a (IsKept.live u h old))
-      (λ added. subst (IsReported more) (has_one_is words a added) (done_kept u p operation words (completed_says catalogue x given u p operation words l c) one))
-      (has_cases u.answers (words ∷ []) a (rw (← ap (λ (t : Live). t.answers) made) at there))
-  live_kept v (LiveTold.begins port view c made repeats) a there = absurd (has_none a (rw (← ap (λ (t : Live). t.answers) made) at there))
+  -- what holds of the answers that were kept, of what tells of no operation and of an operation that is done now, holds of all that are kept
+  module _ (R : Answer → Type 0) (old : (a : Answer) → IsKept x a → R a) (none : (a : Answer) → ((u : TxnId) → reported u a ≡ None) → R a) (doing : (u : Live) (p : Pending) (operation : Op) (words : Answer) (l : Lent) → Has x.live u → IsDone x given u p → Completes catalogue x given u p operation words l → told_of u.txn o.effects.replies ≡ told_of u.txn (told_to p.port words ∷ []) → AreLate o.effects.replies → R words) where
+    live_kept : (v : Live) → LiveTold catalogue x given o.effects.replies v → (a : Answer) → Has v.answers a → R a
+    live_kept v (LiveTold.was u h named did same pending repeats) a there = old a (IsKept.live u h (rw same there))
+    live_kept v (LiveTold.goes u p q at named did same pending alike repeats late) a there = old a (IsKept.live u at.live (rw same there))
+    live_kept v (LiveTold.completed u p operation words l h how c made one late) a there = ⊎_elim
+        (λ before. old a (IsKept.live u h before))
+        (λ added. subst R (has_one_is words a added) (doing u p operation words l h how c one late))
+        (has_cases u.answers (words ∷ []) a (rw (← ap (λ (t : Live). t.answers) made) at there))
+    live_kept v (LiveTold.begins port view c made repeats) a there = absurd (has_none a (rw (← ap (λ (t : Live). t.answers) made) at there))
 
-  ended_kept : (f : Finished) → EndsNow x f → (a : Answer) → Has f.answers a → IsReported more a
-  ended_kept f e a there = ⊎_elim
-      (λ old. old_kept a (IsKept.live e.live.was e.live.live (subst (λ (answers : List Answer). Has answers a) (ap (λ (t : Live). t.answers) e.live.same) old)))
-      (λ added. of_pending e.handled.pending added)
-      (has_cases e.handled.answers (option_to_list (option_map (λ (p : Pending). answer_of e.handled.txn p.number e.why) e.handled.pending)) a (subst (λ (answers : List Answer). Has answers a) (ap (λ (f : Finished). f.answers) (sym e.is)) there))
-    where
-      of_pending : (p : Option Pending) → Has (option_to_list (option_map (λ (p : Pending). answer_of e.handled.txn p.number e.why) p)) a → IsReported more a
-      of_pending None h = absurd (has_none a h)
-      of_pending (Some p) h = subst (IsReported more) (has_one_is _ a h) (unreported (answer_of e.handled.txn p.number e.why) (λ u. end_unreported u e.handled.txn p.number e.why))
+    ended_kept : (f : Finished) → EndsNow x f → (a : Answer) → Has f.answers a → R a
+    ended_kept f e a there = ⊎_elim
+        (λ before. old a (IsKept.live e.live.was e.live.live (subst (λ (answers : List Answer). Has answers a) (ap (λ (t : Live). t.answers) e.live.same) before)))
+        (λ added. of_pending e.handled.pending added)
+        (has_cases e.handled.answers (option_to_list (option_map (λ (p : Pending). answer_of e.handled.txn p.number e.why) e.handled.pending)) a (subst (λ (answers : List Answer). Has answers a) (ap (λ (f : Finished). f.answers) (sym e.is)) there))
+      where
+        of_pending : (p : Option Pending) → Has (option_to_list (option_map (λ (p : Pending). answer_of e.handled.txn p.number e.why) p)) a → R a
+        of_pending None h = absurd (has_none a h)
+        of_pending (Some p) h = subst R (has_one_is _ a h) (none (answer_of e.handled.txn p.number e.why) (λ u. end_unreported u e.handled.txn p.number e.why))
 
-  kept_here : (a : Answer) → IsKept o.site a → IsReported more a
-  kept_here a (IsKept.live v h there) = live_kept v (t.live v h) a there
-  kept_here a (IsKept.finished f h there) = ⊎_elim (λ old. old_kept a (IsKept.finished f old there)) (λ now. ended_kept f now a there) (d.finished f h)
+    pub kept_here : (a : Answer) → IsKept o.site a → R a
+    kept_here a (IsKept.live v h there) = live_kept v (t.live v h) a there
+    kept_here a (IsKept.finished f h there) = ⊎_elim (λ before. old a (IsKept.finished f before there)) (λ now. ended_kept f now a there) (d.finished f h)
+
+  reported_here : (a : Answer) → IsKept o.site a → IsReported more a
+  reported_here = kept_here (IsReported more) old_kept unreported (λ u p operation words l h how c one late. done_kept u p operation words (completed_says catalogue x given u p operation words l c) one)
 
   kept_now : (j : ℕ) (y : SiteState) (a : Answer) → IsKept y a → NowIs w s o.site j y → IsReported more a
   kept_now j y a h (NowIs.other away old) = reported_lasts lines line a (told.kept j y a old h)
-  kept_now j y a h (NowIs.here here same) = kept_here a (subst (λ (y : SiteState). IsKept y a) (sym same) h)
+  kept_now j y a h (NowIs.here here same) = reported_here a (subst (λ (y : SiteState). IsKept y a) (sym same) h)
 
   pub step_told : ToldAt catalogue new more
   step_told = record {

@@ -5,12 +5,12 @@ use Rattle.std.specs.Prelude.{Some, All}
 use Rattle.std.proofs.lemmas.List.Elements.{All-from_recursion}
 use Rattle.vp_model.specs.Types.{TxnId, Answer, Commit, Event, Input, Line, Reply, Live}
 use Rattle.vp_model.specs.Catalogue.{Catalogue, sites_of, start_copies}
-use Rattle.vp_model.specs.Durable.{empty_durable}
+use Rattle.vp_model.specs.Durable.{DurableState, empty_durable}
 use Rattle.vp_model.specs.Site.{SiteState}
 use Rattle.vp_model.specs.Step.{start, step}
 use Rattle.vp_model.specs.Told.{is_step, reports, told}
 use Rattle.vp_model.specs.Headline.{IsOneCopy}
-use Rattle.vp_model.specs.World.{WorldState, Moved, Moment, Run, Schedule, moment, next, one_step, site_of, site_step, start_world, lines_of, journal_of}
+use Rattle.vp_model.specs.World.{WorldState, Moved, Run, Schedule, moment, next, one_step, site_of, site_step, start_world, lines_of, journal_of}
 use Rattle.vp_one_site.proofs.ToldLines.{reports-silent, reported_lasts, IsReported, tells_on, IsUnheard, unheard_on}
 use Rattle.vp_one_site.proofs.Invariant.{lines_in}
 use Rattle.vp_one_site.proofs.Called.{lines_last}
@@ -31,6 +31,11 @@ use Rattle.vp_laws.proofs.TableTold.{IsKept}
 use Rattle.vp_laws.proofs.ToldCalls.{TellsCall, call_on}
 use Rattle.vp_laws.proofs.ToldAt.{ToldAt, unstepped}
 use Rattle.vp_laws.proofs.ToldMoves.{step_told}
+
+-- a site that starts keeps no answer
+pub starts_none : (catalogue : Catalogue) (s : ℕ) (d : DurableState) (a : Answer) → IsKept (start catalogue s d) a → ⊥
+starts_none catalogue s d a (IsKept.live t h there) = none_live catalogue s d t h
+starts_none catalogue s d a (IsKept.finished f h there) = none_finished catalogue s d f h
 
 -- a line that shows no step
 module _ (catalogue : Catalogue) (w new : Scene) (lines : List Line) (l : Line) (none : is_step l.shown ≡ false) (told_so_far : ToldAt catalogue w lines) where
@@ -75,38 +80,33 @@ module _ (catalogue : Catalogue) (w new : Scene) (lines : List Line) (l : Line) 
       live_at j y t h (QuietIs.other n old) = still_told j y t old h
       live_at j y t h (QuietIs.here e same) = absurd (none_live catalogue s (kept_at w s) t (subst (λ (y : SiteState). Has y.live t) (sym same) h))
 
-      starts_none : (a : Answer) → IsKept (start catalogue s (kept_at w s)) a → IsReported more a
-      starts_none a (IsKept.live t h there) = absurd (none_live catalogue s (kept_at w s) t h)
-      starts_none a (IsKept.finished f h there) = absurd (none_finished catalogue s (kept_at w s) f h)
-
       kept_at_site : (j : ℕ) (y : SiteState) (a : Answer) → IsKept y a → QuietIs catalogue w s j y → IsReported more a
       kept_at_site j y a h (QuietIs.other n old) = still_kept j y a old h
-      kept_at_site j y a h (QuietIs.here e same) = starts_none a (subst (λ (y : SiteState). IsKept y a) (sym same) h)
+      kept_at_site j y a h (QuietIs.here e same) = absurd (starts_none catalogue s (kept_at w s) a (subst (λ (y : SiteState). IsKept y a) (sym same) h))
 
 -- the moment of a step
-stepped : (catalogue : Catalogue) (lines : List Line) (number : ℕ) (e : Event) (w v : WorldState) (s : ℕ) (x : SiteState) (given : Input) → scene_of v ≡ scene_of w → site_of w s ≡ Some x → Arrives (scene_of w) s given → Gives e w s given → ToldAt catalogue (scene_of w) lines → ToldAt catalogue (scene_of (site_step catalogue s x given v).world) (lines ++ (moment number w e (site_step catalogue s x given v)).line ∷ [])
+pub is_step_of : (catalogue : Catalogue) (lines : List Line) (number : ℕ) (e : Event) (w v : WorldState) (s : ℕ) (x : SiteState) (given : Input) → scene_of v ≡ scene_of w → site_of w s ≡ Some x → Arrives (scene_of w) s given → Gives e w s given → ToldAt catalogue (scene_of w) lines → IsStep (moment number w e (site_step catalogue s x given v)) w s x given (step catalogue x given)
 unfolding site_step
-stepped catalogue lines number e w v s x given same up arrives gives told_so_far =
-    subst (λ (z : Scene). ToldAt catalogue (acted z s x (step catalogue x given)) (lines ++ m0.line ∷ [])) (sym same) (step_told catalogue w lines m0 s x given up arrives is told_so_far)
+is_step_of catalogue lines number e w v s x given same up arrives gives told_so_far = record {
+  before = refl;
+  first = _;
+  shown = refl;
+  gives = gives;
+  up = up;
+  after = subst (λ (z : Scene). plain_at (acted z s x (step catalogue x given)) s ≡ Some (step catalogue x given).site) (sym same) d.st.now;
+}
   where
-    m0 : Moment
-    m0 = moment number w e (site_step catalogue s x given v)
-
     base : Seventeenth catalogue (acted (scene_of w) s x (step catalogue x given))
     base = (listed_last catalogue).acts (scene_of w) s x given up arrives told_so_far.base
 
     d : Does catalogue (scene_of w) (acted (scene_of w) s x (step catalogue x given)) s x given (step catalogue x given)
     d = does catalogue (scene_of w) s x given up arrives (known catalogue (scene_of w) told_so_far.base) (known catalogue (acted (scene_of w) s x (step catalogue x given)) base)
 
-    is : IsStep m0 w s x given (step catalogue x given)
-    is = record {
-      before = refl;
-      first = _;
-      shown = refl;
-      gives = gives;
-      up = up;
-      after = subst (λ (z : Scene). plain_at (acted z s x (step catalogue x given)) s ≡ Some (step catalogue x given).site) (sym same) d.st.now;
-    }
+stepped : (catalogue : Catalogue) (lines : List Line) (number : ℕ) (e : Event) (w v : WorldState) (s : ℕ) (x : SiteState) (given : Input) → scene_of v ≡ scene_of w → site_of w s ≡ Some x → Arrives (scene_of w) s given → Gives e w s given → ToldAt catalogue (scene_of w) lines → ToldAt catalogue (scene_of (site_step catalogue s x given v).world) (lines ++ (moment number w e (site_step catalogue s x given v)).line ∷ [])
+unfolding site_step
+stepped catalogue lines number e w v s x given same up arrives gives told_so_far =
+    let m0 = moment number w e (site_step catalogue s x given v) in
+    subst (λ (z : Scene). ToldAt catalogue (acted z s x (step catalogue x given)) (lines ++ m0.line ∷ [])) (sym same) (step_told catalogue w lines m0 s x given up arrives (is_step_of catalogue lines number e w v s x given same up arrives gives told_so_far) told_so_far)
 
 occurred : (catalogue : Catalogue) (lines : List Line) (number : ℕ) (e : Event) (w : WorldState) (m : Moved) → ToldAt catalogue (scene_of w) lines → Occurs catalogue e w m → ToldAt catalogue (scene_of m.world) (lines ++ (moment number w e m).line ∷ [])
 occurred catalogue lines number e w m told_so_far (Occurs.stands same none) =
@@ -119,27 +119,23 @@ occurred catalogue lines number e w m told_so_far (Occurs.acts s x given v same 
     subst (λ (m : Moved). ToldAt catalogue (scene_of m.world) (lines ++ (moment number w e m).line ∷ [])) (sym is) (stepped catalogue lines number e w v s x given same up arrives gives told_so_far)
 
 -- of a run so far
-abbrev RunTold : Catalogue → Run → Type 0
+abbrev pub RunTold : Catalogue → Run → Type 0
 RunTold catalogue run = ToldAt catalogue (scene_of run.world) (lines_in run.moments)
 
-one_step-told : (catalogue : Catalogue) (number : ℕ) (e : Event) (run : Run) → RunTold catalogue run → RunTold catalogue (one_step catalogue number e run)
+pub one_step-told : (catalogue : Catalogue) (number : ℕ) (e : Event) (run : Run) → RunTold catalogue run → RunTold catalogue (one_step catalogue number e run)
 unfolding one_step
 one_step-told catalogue number e run h =
     let moved = next catalogue e run.world in
     let m0 = moment number run.world e moved in
     subst (ToldAt catalogue (scene_of moved.world)) (sym (lines_last run.moments m0)) (occurred catalogue (lines_in run.moments) number e run.world moved h (occurs catalogue e run.world))
 
-starts_none : (catalogue : Catalogue) (s : ℕ) (a : Answer) → IsKept (start catalogue s (empty_durable (start_copies catalogue s))) a → ⊥
-starts_none catalogue s a (IsKept.live t h there) = none_live catalogue s (empty_durable (start_copies catalogue s)) t h
-starts_none catalogue s a (IsKept.finished f h there) = none_finished catalogue s (empty_durable (start_copies catalogue s)) f h
-
-start_told : (catalogue : Catalogue) → ToldAt catalogue (scene_of (start_world catalogue)) []
+pub start_told : (catalogue : Catalogue) → ToldAt catalogue (scene_of (start_world catalogue)) []
 start_told catalogue = record {
   base = (listed_last catalogue).starts;
   live = λ s x t h k. absurd (none_live catalogue s (empty_durable (start_copies catalogue s)) t (subst (λ (x : SiteState). Has x.live t) (sym (started catalogue s x h)) k));
   entries = λ e h. absurd (start_entered catalogue e h);
   fresh = λ u unused. record { unreported = refl; untaken = λ k. refl };
-  kept = λ s x a h k. absurd (starts_none catalogue s a (subst (λ (x : SiteState). IsKept x a) (sym (started catalogue s x h)) k));
+  kept = λ s x a h k. absurd (starts_none catalogue s (empty_durable (start_copies catalogue s)) a (subst (λ (x : SiteState). IsKept x a) (sym (started catalogue s x h)) k));
 }
 
 pub operations_told : (s : Schedule) → All (λ (commit : Commit). commit.ops ≡ told s.catalogue (lines_of s) commit.txn) (journal_of s)

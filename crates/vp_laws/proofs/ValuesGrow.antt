@@ -4,24 +4,20 @@ use Rattle.std.specs.Prelude.{Option, Some, None, option_map, slice_get, ◌&&�
 use Rattle.std.specs.List.{list_any}
 use Rattle.std.proofs.lemmas.Option.{slice_get-map}
 use Rattle.vp_model.specs.Types.{ViewId, Commit, Doubt}
-use Rattle.vp_model.specs.Words.{has, keys, same_view, view_before}
+use Rattle.vp_model.specs.Words.{has, keys, same_view}
 use Rattle.vp_model.specs.Catalogue.{Catalogue, RecordEntry, holders, start_values}
 use Rattle.vp_laws.proofs.Members.{Has, has_none, any_true, any_false, both_true, has_from_test}
-use Rattle.vp_laws.proofs.Order.{AtMost, from_before, same_is, same_from}
+use Rattle.vp_laws.proofs.Order.{AtMost, same_is, same_from}
 use Rattle.vp_laws.proofs.InvEntered.{Wrote, has_test}
-use Rattle.vp_laws.proofs.ValuesAfter.{value_up_to, value_after, up_to_from, value_beyond, value_other}
+use Rattle.vp_laws.proofs.ValuesAfter.{value_up_to, value_after, value_more}
 
 -- an entry of a view above, or one that has not written the record, leaves its value
 pub after_more : (catalogue : Catalogue) (journal : List Commit) (e : Commit) (date : ViewId) (rec : ℕ) → (Wrote e rec → AtMost e.view date → ⊥) → value_after catalogue (journal ++ e ∷ []) date rec ≡ value_after catalogue journal date rec
 after_more catalogue journal e date rec none = go (slice_get (start_values catalogue) rec)
   where
-    more : (start : List ℕ) (b : Bool) → view_before date e.view ≡ b → value_up_to rec start (journal ++ e ∷ []) date ≡ value_up_to rec start journal date
-    more start true q = value_beyond rec start journal e date (from_before date e.view q)
-    more start false q = value_other rec start journal e date (λ wrote. none wrote (up_to_from date e.view q))
-
     go : (o : Option (List ℕ)) → option_map (λ start. value_up_to rec start (journal ++ e ∷ []) date) o ≡ option_map (λ start. value_up_to rec start journal date) o
     go None = refl
-    go (Some start) = ap (λ (v : List ℕ). Some v) (more start (view_before date e.view) refl)
+    go (Some start) = ap (λ (v : List ℕ). Some v) (value_more rec start journal e date none)
 
 -- a record that has a holder has a value
 pub after_is : (catalogue : Catalogue) (journal : List Commit) (date : ViewId) (rec q : ℕ) (value : List ℕ) → Has (holders catalogue rec) q → ((start : List ℕ) → value_up_to rec start journal date ≡ value) → value_after catalogue journal date rec ≡ Some value

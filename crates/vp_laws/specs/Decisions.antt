@@ -1,10 +1,12 @@
--- How a site that is in doubt about a transaction ends the doubt.
+-- How a site that is in doubt about a transaction ends the doubt, and where its copies come from.
 use Rattle.std.specs.Prelude.{◌≡◌, ◌⊎◌, ℕ, Bool, true, false, Some, List}
 use Rattle.std.specs.List.{Contains}
-use Rattle.vp_model.specs.Types.{TxnId, Commit, Input, Doubt}
+use Rattle.vp_model.specs.Types.{TxnId, ViewId, Commit, Input, Doubt, Stored, Refreshing}
 use Rattle.vp_model.specs.Types.entry
 use Rattle.vp_model.specs.Types.input
+use Rattle.vp_model.specs.Types.message
 use Rattle.vp_model.specs.Catalogue.{Catalogue}
+use Rattle.vp_model.specs.Transactions.{last_changes}
 use Rattle.vp_model.specs.Site.{SiteState}
 use Rattle.vp_model.specs.Step.{step}
 use Rattle.vp_model.specs.World.{WorldState, site_of}
@@ -19,6 +21,18 @@ MayCome w site given = Unit {0}
 abbrev pub Forces : Catalogue → SiteState → Input → TxnId → Bool → Type 0
 Forces catalogue x given txn commit = Contains (step catalogue x given).effects.records (entry.Outcome txn commit)
 
+-- the copy that a write of a transaction of the view makes
+abbrev pub dated_at : ViewId → ℕ × List ℕ → ℕ × Stored
+dated_at view write = (write.0, record { value = write.1; date = view })
+
+-- where a copy after the step comes from: it was there; it is a write of a doubt whose commit the step forces; it is a write of an
+-- entry that the step makes; or it is an answer to the refresh of the record here, which was kept or comes now
+pub data CopyComes (catalogue : Catalogue) (x : SiteState) (given : Input) (copy : ℕ × Stored) : Type 0 where
+  kept : Contains x.copies copy → CopyComes catalogue x given copy
+  doubted : (d : Doubt) (write : ℕ × List ℕ) → Contains x.doubts d → Forces catalogue x given d.txn true → Contains d.writes write → copy ≡ dated_at d.view write → CopyComes catalogue x given copy
+  entered : (e : Commit) (write : ℕ × List ℕ) → Contains (step catalogue x given).effects.commits e → Contains (last_changes e) write → copy ≡ dated_at e.view write → CopyComes catalogue x given copy
+  refreshed : (r : Refreshing) (from : ℕ) → Contains x.refresh r → r.rec ≡ copy.0 → Contains r.answers (from, copy.1) ⊎ ((view : ViewId) × (given ≡ input.Message from (message.RefreshAnswer view copy.0 copy.1))) → CopyComes catalogue x given copy
+
 -- by: the journal before the step; last: the journal in the end
 pub record EndsByJournal (catalogue : Catalogue) (by last : List Commit) (x : SiteState) (given : Input) : Type 0 where
   -- a doubt is there after the step, or ends by an outcome
@@ -27,6 +41,8 @@ pub record EndsByJournal (catalogue : Catalogue) (by last : List Commit) (x : Si
   pub commits : (txn : TxnId) → Forces catalogue x given txn true → has_entry by txn ≡ true
   -- by an abort, which drops it, only where the transaction never has one
   pub aborts : (txn : TxnId) → Forces catalogue x given txn false → has_entry last txn ≡ false
+  -- no doubt becomes a copy in any other way
+  pub copies : (copy : ℕ × Stored) → Contains (step catalogue x given).site.copies copy → CopyComes catalogue x given copy
 
 -- whatever comes next to a site, it ends its doubts as the journal says
 abbrev pub DecisionsAgree : Catalogue → List Commit → WorldState → Type 0

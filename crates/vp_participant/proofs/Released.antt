@@ -14,7 +14,7 @@ abbrev pub release_part : List Doubt → Part → List Lock → List Lock
 release_part doubts part locks = if has_doubt part.txn doubts then locks else without_owner (owner.Txn part.txn) locks
 
 abbrev pub release_doubt : Doubt → List Lock → List Lock
-release_doubt d locks = without_shared (owner.Txn d.0) locks
+release_doubt d locks = without_shared (owner.Txn d.txn) locks
 
 -- two filters that together are a third
 filter_twice : {A : Type 0} (p q r : A → Bool) → ((x : A) → r x ≡ (p x && q x)) → (xs : List A) → filter q (filter p xs) ≡ filter r xs
@@ -61,15 +61,15 @@ parts_released doubts (part ∷ parts) locks =
     ∙ filter_twice (λ lock. has_doubt part.txn doubts || not (same_owner lock.owner (owner.Txn part.txn))) (λ lock. not (is_undecided parts doubts lock.owner)) (λ lock. not (is_undecided (part ∷ parts) doubts lock.owner)) (λ lock. part_step doubts part parts lock.owner) locks
 
 -- with one more transaction in doubt, its shared locks go too
-doubt_step : (d : Doubt) (doubts : List Doubt) (exclusive : Bool) (who : Owner) → (exclusive || not (is_doubted (d ∷ doubts) who)) ≡ ((exclusive || not (same_owner who (owner.Txn d.0))) && (exclusive || not (is_doubted doubts who)))
+doubt_step : (d : Doubt) (doubts : List Doubt) (exclusive : Bool) (who : Owner) → (exclusive || not (is_doubted (d ∷ doubts) who)) ≡ ((exclusive || not (same_owner who (owner.Txn d.txn))) && (exclusive || not (is_doubted doubts who)))
 doubt_step d doubts exclusive owner.Refresh = grind (arith, nat_tests)
-doubt_step d doubts exclusive (owner.Txn txn) = let other = same_txn_sym d.0 txn in grind (arith, nat_tests, other)
+doubt_step d doubts exclusive (owner.Txn txn) = let other = same_txn_sym d.txn txn in grind (arith, nat_tests, other)
 
 pub doubts_released : (doubts : List Doubt) (locks : List Lock) → for_each doubts release_doubt locks ≡ filter (λ lock. lock.exclusive || not (is_doubted doubts lock.owner)) locks
 doubts_released [] locks = filter_all (λ lock. lock.exclusive || not (is_doubted [] lock.owner)) (λ lock. none_doubted lock.exclusive lock.owner) locks
 doubts_released (d ∷ doubts) locks =
     doubts_released doubts (release_doubt d locks)
-    ∙ filter_twice (λ lock. lock.exclusive || not (same_owner lock.owner (owner.Txn d.0))) (λ lock. lock.exclusive || not (is_doubted doubts lock.owner)) (λ lock. lock.exclusive || not (is_doubted (d ∷ doubts) lock.owner)) (λ lock. doubt_step d doubts lock.exclusive lock.owner) locks
+    ∙ filter_twice (λ lock. lock.exclusive || not (same_owner lock.owner (owner.Txn d.txn))) (λ lock. lock.exclusive || not (is_doubted doubts lock.owner)) (λ lock. lock.exclusive || not (is_doubted (d ∷ doubts) lock.owner)) (λ lock. doubt_step d doubts lock.exclusive lock.owner) locks
 
 both_step : (p : ParticipantState) (exclusive : Bool) (who : Owner) → stays_for p exclusive who ≡ (not (is_undecided p.parts p.doubts who) && (exclusive || not (is_doubted p.doubts who)))
 both_step p exclusive owner.Refresh = grind (arith, nat_tests)

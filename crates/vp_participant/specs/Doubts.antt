@@ -9,7 +9,7 @@ use Rattle.vp_model.specs.Locks.{with_lock}
 
 -- some transaction in doubt writes the record
 abbrev pub is_written : List Doubt → ℕ → Bool
-is_written doubts rec = list_any (λ (d : Doubt). has (keys d.2) rec) doubts
+is_written doubts rec = list_any (λ (d : Doubt). has (keys d.writes) rec) doubts
 
 -- the transaction has the exclusive lock on each of the records, whoever else has one
 abbrev pub with_locks_on : TxnId → List ℕ → List Lock → List Lock
@@ -17,8 +17,8 @@ with_locks_on txn recs locks = for_each recs (λ rec. with_lock rec true (owner.
 
 -- each transaction in doubt has the exclusive locks on what it writes
 abbrev pub with_locks_of : List Doubt → List Lock → List Lock
-with_locks_of doubts locks = for_each doubts (λ (d : Doubt). with_locks_on d.0 (keys d.2)) locks
+with_locks_of doubts locks = for_each doubts (λ (d : Doubt). with_locks_on d.txn (keys d.writes)) locks
 
 -- the view and the writes of the transaction, where it is in doubt
 abbrev pub doubt_ended : TxnId → List Doubt → Option (ViewId × List (ℕ × List ℕ))
-doubt_ended txn doubts = option_map (λ (d : Doubt). (d.1, d.2)) (doubt_of txn doubts)
+doubt_ended txn doubts = option_map (λ (d : Doubt). (d.view, d.writes)) (doubt_of txn doubts)

@@ -9,17 +9,14 @@ ghost use Rattle.vp_model.specs.Locks.{holds};
 ghost use Rattle.vp_model.specs.Views.{has_doubt};
 ghost use Rattle.vp_participant.specs.Doubts.{is_written, with_locks_on, with_locks_of};
 
-use vp_base::{CopyOf, NoMemory, Part, RecId, TxnId, Value, ViewId, Writes};
+use vp_base::{CopyOf, Doubt, NoMemory, Part, RecId, TxnId, Value, Writes};
 use vp_lists::{is_same_txn, put, take_txn};
 use vp_locks::Locks;
-
-/// A transaction that this site voted yes on, with the view of the vote and what the transaction writes here.
-pub type Doubt = (TxnId, ViewId, Writes);
 
 pub fn is_in_doubt(doubts: &[Doubt], txn: &TxnId) -> bool
     ensures { result ≡ has_doubt txn.now doubts.now }
 {
-    doubts.iter().any(|doubt| is_same_txn(&doubt.0, txn))
+    doubts.iter().any(|doubt| is_same_txn(&doubt.txn, txn))
 }
 
 fn has_write(writes: &[(RecId, Value)], rec: RecId) -> bool
@@ -34,14 +31,21 @@ pub fn is_written(doubts: &[Doubt], rec: RecId) -> bool
 {
     doubts
         .iter()
-        .any(|doubt| has_write(doubt.2.as_slice(), rec))
+        .any(|doubt| has_write(doubt.writes.as_slice(), rec))
 }
 
 /// The transaction of the part is in doubt.
 pub fn add_doubt(doubts: &mut Vec<Doubt>, part: &Part, writes: &Writes) -> Result<(), NoMemory>
-    ensures { OnOk result (doubts.new.items ≡ put_doubt (part.now.txn, part.now.view, writes.now) doubts.old.items) }
+    ensures { OnOk result (doubts.new.items ≡ put_doubt (record { txn = part.now.txn; view = part.now.view; writes = writes.now }) doubts.old.items) }
 {
-    put(doubts, (part.txn, part.view, writes.copy_of()?))
+    put(
+        doubts,
+        Doubt {
+            txn: part.txn,
+            view: part.view,
+            writes: writes.copy_of()?,
+        },
+    )
 }
 
 /// Takes the transaction out of the doubts.
@@ -50,7 +54,7 @@ pub fn take_doubt(doubts: &mut Vec<Doubt>, txn: &TxnId) -> Option<Doubt>
     ensures rest { doubts.new.items ≡ without_doubt txn.now doubts.old.items }
 {
     let doubt = take_txn(doubts, txn);
-    doubts.retain(|other| !is_same_txn(&other.0, txn));
+    doubts.retain(|other| !is_same_txn(&other.txn, txn));
     doubt
 }
 
@@ -69,17 +73,17 @@ pub fn lock_doubts(locks: &mut Locks, doubts: &[Doubt]) -> Result<(), NoMemory>
     ensures { OnOk result (locks.new ≡ with_locks_of doubts.now locks.old) }
 {
     for doubt in doubts {
-        lock_writes(locks, &doubt.0, doubt.2.as_slice())?;
+        lock_writes(locks, &doubt.txn, doubt.writes.as_slice())?;
     }
     Ok(())
 }
 
 /// The transactions in doubt join the others, which keep their order.
 pub fn add_doubted(txns: &mut Vec<TxnId>, doubts: &[Doubt]) -> Result<(), NoMemory>
-    ensures { OnOk result (txns.new.items ≡ for_each doubts.now (λ d. put_txn d.0) txns.old.items) }
+    ensures { OnOk result (txns.new.items ≡ for_each doubts.now (λ d. put_txn d.txn) txns.old.items) }
 {
     for doubt in doubts {
-        put(txns, doubt.0)?;
+        put(txns, doubt.txn)?;
     }
     Ok(())
 }

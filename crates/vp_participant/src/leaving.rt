@@ -3,8 +3,8 @@
 ghost use Rattle.std.specs.Prelude.{◌≡◌, ◌||◌, filter, not};
 ghost use Rattle.vp_participant.specs.Leaving.{is_doubted, is_undecided};
 
-use crate::doubts::{Doubt, is_in_doubt};
-use vp_base::Part;
+use crate::doubts::is_in_doubt;
+use vp_base::{Doubt, Part};
 use vp_locks::Locks;
 
 /// All locks of the parts go. A transaction in doubt keeps what it has.
@@ -23,6 +23,6 @@ pub fn release_shared(locks: &mut Locks, doubts: &[Doubt])
     ensures { locks.new ≡ filter (λ lock. lock.exclusive || not (is_doubted doubts.now lock.owner)) locks.old }
 {
     for doubt in doubts {
-        locks.release_shared(doubt.0);
+        locks.release_shared(doubt.txn);
     }
 }

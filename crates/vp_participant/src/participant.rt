@@ -15,9 +15,7 @@ ghost use Rattle.vp_participant.specs.Doubts.{doubt_ended, is_written, with_lock
 ghost use Rattle.vp_participant.specs.Ballots.{ballot, ballot_of, first_ballot};
 ghost use Rattle.vp_participant.specs.Leaving.{stays};
 
-use crate::doubts::{
-    Doubt, add_doubt, add_doubted, is_in_doubt, is_written, lock_doubts, take_doubt,
-};
+use crate::doubts::{add_doubt, add_doubted, is_in_doubt, is_written, lock_doubts, take_doubt};
 use crate::fault::{PartFault, PrepareFault};
 use crate::held::{id_of, is_held};
 use crate::leaving::{release_parts, release_shared};
@@ -25,8 +23,8 @@ use crate::parts::{drop_part, has_part, mark_voted, part_of, txns_of};
 use std::alloc::Global;
 use std::marker::Model;
 use vp_base::{
-    CopyOf, InDoubt, LogRecord, NoMemory, Part, RecId, Recs, TxnId, Txns, Value, View, ViewId,
-    Writes,
+    CopyOf, Doubt, InDoubt, LogRecord, NoMemory, Part, RecId, Recs, TxnId, Txns, Value, View,
+    ViewId, Writes,
 };
 use vp_lists::{copy_all, is_same_txn, put};
 use vp_locks::{LockFault, Locks};
@@ -278,7 +276,7 @@ impl Participant {
         drop_part(&mut self.parts, &txn);
         locks.release(txn);
         Ok(Settled {
-            doubt: take_doubt(&mut self.doubts, &txn).map(|doubt| (doubt.1, doubt.2)),
+            doubt: take_doubt(&mut self.doubts, &txn).map(|doubt| (doubt.view, doubt.writes)),
         })
     }
 

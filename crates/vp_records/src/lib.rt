@@ -19,6 +19,7 @@ mod read_records;
 #[cfg(test)]
 mod tests;
 
+pub use decisions::acknowledge;
 pub use decoding::decode_batch;
 pub use durable::Durable;
 pub use encoding::encode_batch;

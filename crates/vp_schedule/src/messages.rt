@@ -10,7 +10,7 @@ use crate::fields::{
     print_call_name, print_count, print_held, print_owner, print_record, print_record_behind,
     print_sites, print_value, print_word,
 };
-use vp_base::{CallNo, Message, NoMemory, Obstacle, RecId, SiteId, TxnId, Value, ViewId};
+use vp_base::{CallNo, Message, NoMemory, Obstacle, RecId, SiteId, Stored, TxnId, Value, ViewId};
 use vp_catalog::Catalog;
 
 fn print_view(out: &mut Vec<u8>, word: &[u8], view: &ViewId) -> Result<(), NoMemory>
@@ -211,15 +211,14 @@ fn print_copy(
     out: &mut Vec<u8>,
     catalog: &Catalog,
     rec: RecId,
-    value: &Value,
-    date: &ViewId,
+    stored: &Stored,
 ) -> Result<(), NoMemory>
-    ensures { OnOk result (out.new.items ≡ out.old.items ++ 32 ∷ (name_of catalog.now rec ++ 32 ∷ (value.now ++ 32 ∷ view_text date.now))) }
+    ensures { OnOk result (out.new.items ≡ out.old.items ++ 32 ∷ (name_of catalog.now rec ++ 32 ∷ (stored.now.value ++ 32 ∷ view_text stored.now.date))) }
 {
     print_record_behind(out, catalog, rec)?;
-    print_value(out, value)?;
+    print_value(out, &stored.value)?;
     out.push(b' ')?;
-    date.print(out)
+    stored.date.print(out)
 }
 
 fn print_refresh_answer(
@@ -227,14 +226,13 @@ fn print_refresh_answer(
     catalog: &Catalog,
     view: &ViewId,
     rec: RecId,
-    value: &Value,
-    date: &ViewId,
+    stored: &Stored,
 ) -> Result<(), NoMemory>
     ensures { OnOk result (out.new.items ≡ out.old.items
-        ++ (codes "refresh-answer " ++ (view_text view.now ++ 32 ∷ (name_of catalog.now rec ++ 32 ∷ (value.now ++ 32 ∷ view_text date.now))))) }
+        ++ (codes "refresh-answer " ++ (view_text view.now ++ 32 ∷ (name_of catalog.now rec ++ 32 ∷ (stored.now.value ++ 32 ∷ view_text stored.now.date))))) }
 {
     print_view(out, b"refresh-answer ", view)?;
-    print_copy(out, catalog, rec, value, date)
+    print_copy(out, catalog, rec, stored)
 }
 
 fn print_prepare(
@@ -303,12 +301,9 @@ pub fn print_message(
         Message::Ack { txn } => print_txn(out, b"ack ", txn),
         Message::Inquire { txn } => print_txn(out, b"inquire ", txn),
         Message::RefreshRequest { view, rec } => print_refresh_request(out, catalog, view, *rec),
-        Message::RefreshAnswer {
-            view,
-            rec,
-            value,
-            date,
-        } => print_refresh_answer(out, catalog, view, *rec, value, date),
+        Message::RefreshAnswer { view, rec, stored } => {
+            print_refresh_answer(out, catalog, view, *rec, stored)
+        }
         Message::Probe { view } => print_view(out, b"probe ", view),
     }
 }

@@ -1,6 +1,6 @@
 -- Texts that are put down part by part: where a part fails, a beginning of the whole stands there.
-use Rattle.std.proofs.Common.{◌≡◌, ℕ, Bool, true, ◌&&◌, nat_eq, List, [], ◌∷◌, ◌++◌, length, drop, refl, sym, ap, ◌∙◌, append_assoc}
-use Rattle.std.specs.List.{starts_with}
+use Rattle.std.proofs.Common.{◌≡◌, ℕ, Bool, true, ◌&&◌, nat_eq, List, [], ◌∷◌, ◌++◌, length, get_or, take, drop, zero, suc, ◌<◌, refl, sym, ap, subst, ◌∙◌, append_assoc, arith}
+use Rattle.std.specs.List.{starts_with, flat_map}
 use Rattle.std.proofs.lemmas.List.{append-nil, append_cancel_left}
 use Rattle.std.proofs.lemmas.Bool.{and_from, and_parts}
 use Rattle.std.proofs.lemmas.Bool.Decides.{Decides-eqb}
@@ -63,5 +63,18 @@ begun_then old first more new h =
 -- its first byte, and a beginning of what follows
 pub begun_byte : (old : List ℕ) (byte : ℕ) (more new : List ℕ) → is_begun (old ++ byte ∷ []) more new ≡ true → is_begun old (byte ∷ more) new ≡ true
 begun_byte old byte more new h = begun_then old (byte ∷ []) more new h
+
+-- the texts of some items of a list, and a beginning of the text of the next
+items_at : {X : Type 0} (f : X → List ℕ) (xs : List X) (i : ℕ) (x : X) → i < length xs → x ≡ get_or xs i x → flat_map f xs ≡ flat_map f (take i xs) ++ (f x ++ flat_map f (drop (suc i) xs))
+items_at f [] i x lt e = absurd (omega (arith, lt))
+items_at f (y ∷ ys) zero x lt e = ap (λ z. f z ++ flat_map f ys) (sym e)
+items_at f (y ∷ ys) (suc i) x lt e =
+    ap (λ (r : List ℕ). f y ++ r) (items_at f ys i x (omega (arith, lt)) e) ∙ sym (append_assoc (f y) (flat_map f (take i ys)) (f x ++ flat_map f (drop (suc i) ys)))
+
+pub begun_item : {X : Type 0} (f : X → List ℕ) (xs : List X) (i : ℕ) (x : X) (old mid new : List ℕ) → i < length xs → x ≡ get_or xs i x → mid ≡ old ++ flat_map f (take i xs) → is_begun mid (f x) new ≡ true → is_begun old (flat_map f xs) new ≡ true
+begun_item f xs i x old mid new lt at e h =
+    let front = flat_map f (take i xs) in
+    let rest = flat_map f (drop (suc i) xs) in
+    subst (λ (t : List ℕ). is_begun old t new ≡ true) (sym (items_at f xs i x lt at)) (begun_then old front (f x ++ rest) new (begun_first (old ++ front) (f x) rest new (subst (λ (m : List ℕ). is_begun m (f x) new ≡ true) e h)))
 
 pub ruleset printing = (append_assoc, begun_none, begun_whole, begun_first, begun_then, begun_byte)

@@ -46,7 +46,7 @@ impl OnlySite {
             },
             here: Here {
                 locks: Locks::new(alloc),
-                copies: catalog.copies(alloc, id)?,
+                copies: catalog.copies(id)?,
             },
             coordinator: Coordinator::start(alloc, id, 1),
         })

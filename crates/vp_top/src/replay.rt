@@ -107,8 +107,8 @@ fn print_end(
         ++ history_lines (map (λ entry. entry.name) catalog.now.records) (start_values catalog.now) (order journal.now)) }
 {
     let history = History {
-        names: catalog.names(alloc)?,
-        start: Map::from_vec(catalog.start_values(alloc)?),
+        names: catalog.names()?,
+        start: Map::from_vec(catalog.start_values()?),
         commits: order(alloc, journal)?,
     };
     print_history(&history, out)

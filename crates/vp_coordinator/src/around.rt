@@ -1,4 +1,4 @@
-//! Which sites a row turns to, by the catalogue and the view.
+//! What a row reads of its site, and the sites that it turns to.
 
 ghost use Rattle.std.specs.Prelude.{◌≡◌, ◌==◌, ◌&&◌, [], not, OnOk, IfOk, filter, option_copied};
 ghost use Rattle.std.specs.Option.{option_map_or};
@@ -12,9 +12,9 @@ use vp_base::{NoMemory, RecId, SiteId, Sites, View, ViewId};
 use vp_catalog::Catalog;
 use vp_lists::put_in;
 
-/// What the rows are told of their site, and do not change.
+/// What the rows read of their site, and do not change.
 #[derive(Clone, Copy)]
-pub struct At<'a> {
+pub struct Around<'a> {
     pub catalog: &'a Catalog,
     pub held: Option<&'a View>,
     pub id: SiteId,
@@ -40,7 +40,7 @@ fn members_of<'a>(held: Option<&'a View>, none: &'a Sites) -> &'a Sites
 }
 
 /// Whether the record may be used in the held view.
-pub fn is_usable(alloc: Global, at: &At<'_>, rec: RecId) -> bool
+pub fn is_usable(alloc: Global, at: &Around<'_>, rec: RecId) -> bool
     ensures { result ≡ is_usable_in at.now.catalog.now (option_copied at.now.held) rec }
 {
     let none = Sites::new(alloc);
@@ -48,7 +48,7 @@ pub fn is_usable(alloc: Global, at: &At<'_>, rec: RecId) -> bool
 }
 
 /// The weight of the record's copies in the held view.
-pub fn weight_inside(alloc: Global, at: &At<'_>, rec: RecId) -> u32
+pub fn weight_inside(alloc: Global, at: &Around<'_>, rec: RecId) -> u32
     ensures { result ≡ inside at.now.catalog.now rec (members_in (option_copied at.now.held)) }
 {
     let none = Sites::new(alloc);
@@ -98,7 +98,7 @@ fn others_in(
 }
 
 /// The other holders of the record in the held view.
-pub fn other_holders(alloc: Global, at: &At<'_>, rec: RecId) -> Result<Sites, NoMemory>
+pub fn other_holders(alloc: Global, at: &Around<'_>, rec: RecId) -> Result<Sites, NoMemory>
     ensures { IfOk result (λ others. others ≡ other_holders_in at.now.catalog.now at.now.id (option_copied at.now.held) rec) }
 {
     let none = Sites::new(alloc);

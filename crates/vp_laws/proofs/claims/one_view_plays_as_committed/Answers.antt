@@ -1,0 +1,5 @@
+use Rattle.vp_laws.proofs.InOpening.{plays_as_committed}
+use Rattle.vp_laws.proofs.claims.one_view_plays_as_committed.Goals as goal
+
+pub returns : goal.returns
+returns c = plays_as_committed

@@ -1,0 +1,5 @@
+use Rattle.vp_laws.proofs.CutTraces.{limits_cut_traces}
+use Rattle.vp_laws.proofs.limits.limits_cut_traces.Goals as goal
+
+pub returns : goal.returns
+returns c = limits_cut_traces

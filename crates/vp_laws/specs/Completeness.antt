@@ -1,0 +1,40 @@
+-- What a site does not leave undone: a transaction whose last vote comes commits, and a copy that may be read is read.
+use Rattle.std.specs.Prelude.{◌≡◌, ℕ, ◌+◌, ◌<◌, true, List, [], ◌∷◌, length, Some, None}
+use Rattle.std.specs.List.{Contains}
+use Rattle.vp_model.specs.Types.{Pending, Live, Stored}
+use Rattle.vp_model.specs.Types.answer
+use Rattle.vp_model.specs.Types.call
+use Rattle.vp_model.specs.Types.input
+use Rattle.vp_model.specs.Types.message
+use Rattle.vp_model.specs.Words.{value_at}
+use Rattle.vp_model.specs.Catalogue.{Catalogue, find_record}
+use Rattle.vp_model.specs.Site.{SiteState}
+use Rattle.vp_model.specs.Step.{step}
+use Rattle.vp_model.specs.World.{WorldState, site_of}
+use Rattle.vp_model.specs.Headline.{is_readable}
+use Rattle.vp_laws.specs.Votes.{is_commit}
+
+-- the pending call waits for this site alone
+abbrev pub WaitsForOne : Pending → ℕ → Type 0
+WaitsForOne p from = Contains p.missing from × ((q : ℕ) → Contains p.missing q → q ≡ from)
+
+-- the vote of the last missing site gives the entry, and the commit is answered
+abbrev pub LastVotesCommit : Catalogue → WorldState → Type 0
+LastVotesCommit catalogue w =
+    (site from : ℕ) (x : SiteState) (t : Live) (p : Pending) → site_of w site ≡ Some x → Contains x.live t → t.pending ≡ Some p → is_commit p.call ≡ true → WaitsForOne p from →
+    ((step catalogue x (input.Message from (message.Vote t.txn))).effects.commits ≡ (record { txn = t.txn; view = t.view; ops = t.ops }) ∷ [])
+    × ((step catalogue x (input.Message from (message.Vote t.txn))).effects.replies ≡ (record { to = p.port; answer = answer.Committed t.txn p.number }) ∷ [])
+
+-- an operation of this number on this name is the transaction's next call, none is pending, the catalogue has the record at this place,
+-- and fewer than 64 operations are done
+pub record IsNextOperation (catalogue : Catalogue) (t : Live) (number : ℕ) (name : List ℕ) (rec : ℕ) : Type 0 where
+  pub idle : t.pending ≡ None
+  pub next : number ≡ length t.answers + 1
+  pub found : find_record catalogue name ≡ Some rec
+  pub few : length t.ops < 64
+
+-- a read whose record is accessible, with a copy here that has no refresh lock and no exclusive lock on it, gives the copy's value
+abbrev pub ReadableCopiesAreRead : Catalogue → WorldState → Type 0
+ReadableCopiesAreRead catalogue w =
+    (site port number rec : ℕ) (name : List ℕ) (x : SiteState) (t : Live) (copy : Stored) → site_of w site ≡ Some x → Contains x.live t → IsNextOperation catalogue t number name rec → value_at rec x.copies ≡ Some copy → is_readable catalogue x rec ≡ true →
+    (step catalogue x (input.Call port (call.Read t.txn number name))).effects.replies ≡ (record { to = port; answer = answer.Value t.txn number copy.value }) ∷ []

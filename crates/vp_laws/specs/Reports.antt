@@ -1,0 +1,20 @@
+-- What a client is told of its operations fits its calls.
+use Rattle.std.specs.Prelude.{◌≡◌, ℕ, Bool, true, false, List, Option, Some, None}
+use Rattle.std.specs.List.{Contains}
+use Rattle.vp_model.specs.Types.{TxnId, Call, Answer}
+use Rattle.vp_model.specs.Types.call
+use Rattle.vp_model.specs.World.{Schedule, Moment, moments_of, lines_of}
+use Rattle.vp_model.specs.Told.{answers_in, reported, taken_call}
+
+-- a value is of a read, and `written` of a write
+abbrev pub is_of_kind : Option (List ℕ) → Call → Bool
+is_of_kind (Some value) (call.Read txn number name) = true
+is_of_kind None (call.Write txn number name value) = true
+is_of_kind report words = false
+
+-- each value and each `written` that is replied is under a number whose first call, of those that were not refused early, is a read or a
+-- write accordingly
+abbrev pub RepliesFitCalls : Schedule → Type 0
+RepliesFitCalls s =
+    (m : Moment) (a : Answer) (txn : TxnId) (number : ℕ) (report : Option (List ℕ)) → Contains (moments_of s) m → Contains (answers_in m.line) a → reported txn a ≡ Some (number, report) →
+    (words : Call) × (taken_call (lines_of s) txn number ≡ Some words) × (is_of_kind report words ≡ true)
