@@ -1,6 +1,10 @@
 //! Readers and writers of the standard library as sources and sinks.
 
-ghost use Rattle.std.specs.Prelude.{◌≡◌};
+ghost use Rattle.std.specs.Prelude.{◌≡◌, IsErrOf};
+ghost use Rattle.std.specs.Io.{WritesAtMost};
+ghost use Rattle.std.specs.Io.KnownBytes.{WriteAppends};
+ghost use Rattle.vp_outside.specs.Output.{TakesSome, HasOutCause};
+ghost use Rattle.vp_outside.specs.declared.sink.OutFault.TheVariants.{NoMemory as OutOfMemory};
 
 use crate::sink::{OutFault, Sink};
 use crate::source::{Failed, Source};
@@ -85,7 +89,14 @@ impl<W: Write> Sink for Writing<W> {
         self.faults
     }
 
-    fn put(&mut self, piece: &[u8]) -> Result<usize, OutFault> {
+    /// It never answers want of memory.
+    fn put(&mut self, piece: &[u8]) -> Result<usize, OutFault>
+        ensures bound { WritesAtMost result piece.now }
+        ensures some { TakesSome result piece.now }
+        ensures bytes { WriteAppends (W.contents self.old.inner) (W.contents self.new.inner) result piece.now }
+        ensures cause { HasOutCause self.old.faults self.new.faults result }
+        ensures no_memory { IsErrOf result OutOfMemory → ⊥ }
+    {
         match self.inner.write(piece) {
             Ok(count) if count > 0 || piece.is_empty() => Ok(count),
             _ => {
