@@ -38,6 +38,16 @@ impl Model for Catalog {
     ghost invariant = { λ c. (c.sites ≡ keys c.ports.items) × (length c.records.items ≤ 256) };
 }
 
+impl CopyOf for Catalog {
+    fn copy_of(&self) -> Result<Catalog, NoMemory> {
+        Ok(Catalog {
+            sites: self.sites.copy_of()?,
+            ports: Vec::from_slice(*self.ports.allocator(), &self.ports)?,
+            records: copy_records(*self.records.allocator(), &self.records)?,
+        })
+    }
+}
+
 impl Catalog {
     /// A catalogue without sites and records, which takes no memory.
     pub fn new(alloc: Global) -> Catalog
@@ -324,6 +334,16 @@ fn others_in(
         .filter(|site| is_other_member(members, id, *site))
         .collect(alloc)?;
     Ok(Sites::from_vec(others))
+}
+
+fn copy_records(alloc: Global, records: &[Placed]) -> Result<Vec<Placed>, NoMemory>
+    ensures { IfOk result (λ copies. copies.items ≡ records.now) }
+{
+    let mut copies = Vec::new(alloc);
+    for placed in records {
+        copies.push(placed.copy_of()?)?;
+    }
+    Ok(copies)
 }
 
 fn names_of(alloc: Global, records: &[Placed]) -> Result<Vec<Name>, NoMemory>

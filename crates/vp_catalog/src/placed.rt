@@ -7,7 +7,7 @@ ghost use Rattle.vp_model.specs.Catalogue.{weight_inside};
 
 use std::alloc::Global;
 use std::marker::Model;
-use vp_base::{Name, NoMemory, SiteId, Sites, Value};
+use vp_base::{CopyOf, Name, NoMemory, SiteId, Sites, Value};
 
 /// A record: its name, the value that each copy starts with, and the weights of the copies, ascending by holder.
 #[derive(Drop)]
@@ -28,6 +28,17 @@ impl Model for Placed {
     ghost view = { λ p. record { name = p.name; start = p.start; weights = p.weights.items } };
 
     ghost invariant = { λ p. (p.holders ≡ keys p.weights.items) × (length p.weights.items ≤ 16) };
+}
+
+impl CopyOf for Placed {
+    fn copy_of(&self) -> Result<Placed, NoMemory> {
+        Ok(Placed {
+            name: self.name.copy_of()?,
+            start: self.start.copy_of()?,
+            holders: self.holders.copy_of()?,
+            weights: Vec::from_slice(*self.weights.allocator(), &self.weights)?,
+        })
+    }
 }
 
 impl Placed {

@@ -91,3 +91,13 @@ impl History {
         }
     }
 }
+
+impl CopyOf for History {
+    fn copy_of(&self) -> Result<History, NoMemory> {
+        Ok(History {
+            names: self.names.copy_of()?,
+            start: self.start.copy_of()?,
+            commits: self.commits.copy_of()?,
+        })
+    }
+}
