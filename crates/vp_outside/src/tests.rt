@@ -9,32 +9,46 @@ use vp_base::Word;
 
 const TEXT: &[u8] = b"abcdefgh";
 
+/// A source that gives three bytes a call.
+fn text_source(alloc: Global, failing: Vec<u64>) -> Result<TextSource, AllocError> {
+    let mut source = TextSource::new(TEXT.to_vec(alloc)?, failing);
+    source.most = 3;
+    Ok(source)
+}
+
+/// Whether the source gives the text and then its end.
+fn gives_text<S: Source>(alloc: Global, source: &mut S, limit: usize) -> Result<bool, InputFault> {
+    let bytes = read_to_end(alloc, source, limit)?;
+    Ok(bytes.as_slice() == TEXT)
+}
+
 #[test]
 fn a_text_is_read_in_pieces(rt: HostRuntime) -> Result<(), Fail> {
-    let alloc = rt.alloc();
-    let mut source = TextSource::new(TEXT.to_vec(alloc)?, Vec::new(alloc));
-    source.most = 3;
-    let bytes = read_to_end(alloc, &mut source, 100)?;
-    assert_eq!(rt; bytes.as_slice(), TEXT);
+    let mut source = text_source(rt.alloc(), Vec::new(rt.alloc()))?;
+    assert_eq!(rt; gives_text(rt.alloc(), &mut source, 100), Ok(true));
     assert_eq!(rt; source.faults(), 0);
     assert_eq!(rt; source.plan.calls, 4, "three pieces and the end");
     Ok(())
 }
 
+/// What a call of the source answers, and what it leaves in five bytes.
+fn taken(source: &mut TextSource) -> (Result<usize, Failed>, [u8; 5]) {
+    let mut buf = [0; 5];
+    let answer = source.take(&mut buf);
+    (answer, buf)
+}
+
 #[test]
 fn a_planned_call_of_a_source_fails_and_is_counted(rt: HostRuntime) -> Result<(), Fail> {
     let alloc = rt.alloc();
-    let mut source = TextSource::new(TEXT.to_vec(alloc)?, vec![in alloc; 2, 4]?);
-    source.most = 3;
+    let mut source = text_source(alloc, vec![in alloc; 2, 4]?)?;
     assert_eq!(rt;
-        read_to_end(alloc, &mut source, 100).err(),
-        Some(InputFault::Failed)
+        gives_text(alloc, &mut source, 100),
+        Err(InputFault::Failed)
     );
     assert_eq!(rt; source.faults(), 1);
-    let mut buf = [0; 5];
-    assert_eq!(rt; source.take(&mut buf), Ok(3));
-    assert_eq!(rt; buf, *b"def\0\0");
-    assert_eq!(rt; source.take(&mut buf), Err(Failed));
+    assert!(rt; taken(&mut source) == (Ok(3), *b"def\0\0"));
+    assert!(rt; taken(&mut source) == (Err(Failed), [0; 5]));
     assert_eq!(rt; source.faults(), 2);
     Ok(())
 }
@@ -43,55 +57,63 @@ fn a_planned_call_of_a_source_fails_and_is_counted(rt: HostRuntime) -> Result<()
 fn a_text_that_is_longer_than_the_limit_is_refused(rt: HostRuntime) -> Result<(), Fail> {
     let alloc = rt.alloc();
     let mut longer = SureSource::new(TEXT.to_vec(alloc)?);
-    assert_eq!(rt;
-        read_to_end(alloc, &mut longer, 7).err(),
-        Some(InputFault::TooLong)
-    );
+    assert_eq!(rt; gives_text(alloc, &mut longer, 7), Err(InputFault::TooLong));
     let mut fits = SureSource::new(TEXT.to_vec(alloc)?);
-    let bytes = read_to_end(alloc, &mut fits, 8)?;
-    assert_eq!(rt; bytes.as_slice(), TEXT);
+    assert_eq!(rt; gives_text(alloc, &mut fits, 8), Ok(true));
     assert_eq!(rt; fits.faults(), 0);
     Ok(())
 }
 
+/// A sink that takes three bytes a call.
+fn text_sink(alloc: Global, failing: Vec<u64>) -> TextSink {
+    let mut sink = TextSink::new(alloc, failing);
+    sink.most = 3;
+    sink
+}
+
+/// Writes the text.
+fn write_text<K: Sink>(sink: &mut K) -> Result<(), OutFault> {
+    write_all(sink, TEXT)
+}
+
 #[test]
 fn a_sink_gets_all_the_bytes(rt: HostRuntime) -> Result<(), Fail> {
-    let alloc = rt.alloc();
-    let mut sink = TextSink::new(alloc, Vec::new(alloc));
-    sink.most = 3;
-    write_all(&mut sink, TEXT)?;
+    let mut sink = text_sink(rt.alloc(), Vec::new(rt.alloc()));
+    write_text(&mut sink)?;
     write_all(&mut sink, b"")?;
     assert_eq!(rt; sink.bytes(), TEXT);
     assert_eq!(rt; sink.plan.calls, 3);
-    let mut sure = SureSink::new(alloc);
-    write_all(&mut sure, TEXT)?;
-    assert_eq!(rt; sure.bytes(), TEXT);
-    assert_eq!(rt; sure.faults(), 0);
+    Ok(())
+}
+
+#[test]
+fn a_sink_that_is_sure_gets_all_the_bytes(rt: HostRuntime) -> Result<(), Fail> {
+    let mut sink = SureSink::new(rt.alloc());
+    write_text(&mut sink)?;
+    assert_eq!(rt; sink.bytes(), TEXT);
+    assert_eq!(rt; sink.faults(), 0);
     Ok(())
 }
 
 #[test]
 fn a_planned_call_of_a_sink_fails_and_is_counted(rt: HostRuntime) -> Result<(), Fail> {
     let alloc = rt.alloc();
-    let mut sink = TextSink::new(alloc, vec![in alloc; 3]?);
-    sink.most = 2;
-    assert_eq!(rt; write_all(&mut sink, TEXT), Err(OutFault::Failed));
-    assert_eq!(rt; sink.bytes(), b"abcd".as_slice());
+    let mut sink = text_sink(alloc, vec![in alloc; 3]?);
+    assert_eq!(rt; write_text(&mut sink), Err(OutFault::Failed));
+    assert_eq!(rt; sink.bytes(), b"abcdef".as_slice());
     assert_eq!(rt; sink.faults(), 1);
-    assert_eq!(rt; sink.put(b"xyz"), Ok(2));
-    assert_eq!(rt; sink.bytes(), b"abcdxy".as_slice());
+    assert_eq!(rt; sink.put(b"wxyz"), Ok(3));
+    assert_eq!(rt; sink.bytes(), b"abcdefwxy".as_slice());
     Ok(())
 }
 
 #[test]
 fn readers_and_writers_are_sources_and_sinks(rt: HostRuntime) -> Result<(), Fail> {
-    let alloc = rt.alloc();
     let mut source = Reading::new(TEXT);
-    let bytes = read_to_end(alloc, &mut source, 8)?;
-    assert_eq!(rt; bytes.as_slice(), TEXT);
+    assert_eq!(rt; gives_text(rt.alloc(), &mut source, 8), Ok(true));
     assert_eq!(rt; source.faults(), 0);
-    let mut sink = Writing::new(Vec::<u8>::new(alloc));
-    write_all(&mut sink, TEXT)?;
+    let mut sink = Writing::new(Vec::<u8>::new(rt.alloc()));
+    write_text(&mut sink)?;
     assert_eq!(rt; sink.faults(), 0);
     Ok(())
 }
@@ -145,22 +167,28 @@ impl Write for Full {
 }
 
 #[test]
-fn an_error_of_a_device_is_counted(rt: HostRuntime) -> Result<(), Fail> {
-    let alloc = rt.alloc();
+fn an_error_of_a_reader_is_counted(rt: HostRuntime) {
     let mut source = Reading::new(Broken { calls: 0 });
     assert_eq!(rt;
-        read_to_end(alloc, &mut source, 8).err(),
-        Some(InputFault::Failed)
+        gives_text(rt.alloc(), &mut source, 8),
+        Err(InputFault::Failed)
     );
     assert_eq!(rt; source.faults(), 1);
+}
+
+#[test]
+fn an_error_of_a_writer_is_counted(rt: HostRuntime) {
     let mut sink = Writing::new(Broken { calls: 0 });
-    assert_eq!(rt; write_all(&mut sink, TEXT), Err(OutFault::Failed));
+    assert_eq!(rt; write_text(&mut sink), Err(OutFault::Failed));
     assert_eq!(rt; sink.faults(), 1);
+}
+
+#[test]
+fn a_writer_that_takes_nothing_fails(rt: HostRuntime) {
     let mut full = Writing::new(Full);
     assert_eq!(rt; full.put(b""), Ok(0));
     assert_eq!(rt; full.put(TEXT), Err(OutFault::Failed));
     assert_eq!(rt; full.faults(), 1);
-    Ok(())
 }
 
 fn word(alloc: Global, text: &[u8]) -> Result<Word, AllocError> {
