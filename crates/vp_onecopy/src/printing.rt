@@ -1,6 +1,8 @@
 //! The text of a history.
 
-ghost use Rattle.std.specs.Prelude.{◌≡◌, ◌++◌, ◌∷◌, OnOk, flat_map, slice_index_or, []};
+ghost use Rattle.std.specs.Prelude.{◌++◌, ◌∷◌, codes, flat_map, slice_index_or, []};
+ghost use Rattle.std.specs.Fmt.{decimal};
+ghost use Rattle.vp_text.specs.Printing.{Appends};
 ghost use Rattle.vp_model.specs.Texts.History.{op_text, commit_text, start_text, starts_text, history_lines};
 ghost use Rattle.vp_onecopy.specs.Passing.{IsReadBack};
 ghost use Rattle.vp_onecopy.specs.Whole.{IsWhole};
@@ -9,8 +11,9 @@ use crate::map::History;
 use vp_base::{Commit, Name, NoMemory, Op, RecId, Value};
 use vp_text::print_number;
 
+#[tactic(auto, using(vp_text::proofs::Printing::printing))]
 fn print_start(name: &Name, value: &Value, out: &mut Vec<u8>) -> Result<(), NoMemory>
-    ensures { OnOk result (out.new.items ≡ out.old.items ++ start_text name.now value.now) }
+    ensures { Appends result out.old.items (start_text name.now value.now) out.new.items }
 {
     out.extend_from_slice(b"start ")?;
     name.print(out)?;
@@ -20,8 +23,9 @@ fn print_start(name: &Name, value: &Value, out: &mut Vec<u8>) -> Result<(), NoMe
     Ok(())
 }
 
+#[tactic(auto, using(vp_text::proofs::Printing::printing))]
 fn print_starts(names: &[Name], values: &[Value], out: &mut Vec<u8>) -> Result<(), NoMemory>
-    ensures { OnOk result (out.new.items ≡ out.old.items ++ starts_text names.now values.now) }
+    ensures { Appends result out.old.items (starts_text names.now values.now) out.new.items }
 {
     for (name, value) in names.iter().zip(values.iter()) {
         print_start(name, value, out)?;
@@ -30,8 +34,9 @@ fn print_starts(names: &[Name], values: &[Value], out: &mut Vec<u8>) -> Result<(
 }
 
 /// Appends the name of a record, and nothing where there is no name at its place.
+#[tactic(auto, using(vp_text::proofs::Printing::printing))]
 fn print_name(names: &[Name], rec: RecId, out: &mut Vec<u8>) -> Result<(), NoMemory>
-    ensures { OnOk result (out.new.items ≡ out.old.items ++ slice_index_or names.now rec []) }
+    ensures { Appends result out.old.items (slice_index_or names.now rec []) out.new.items }
 {
     match names.get(usize::from(rec.get())) {
         Some(name) => name.print(out),
@@ -39,6 +44,7 @@ fn print_name(names: &[Name], rec: RecId, out: &mut Vec<u8>) -> Result<(), NoMem
     }
 }
 
+#[tactic(auto, using(vp_text::proofs::Printing::printing))]
 fn print_access(
     key: &[u8],
     names: &[Name],
@@ -46,16 +52,18 @@ fn print_access(
     value: &Value,
     out: &mut Vec<u8>,
 ) -> Result<(), NoMemory>
-    ensures { OnOk result (out.new.items ≡ out.old.items ++ (key.now ++ (slice_index_or names.now rec [] ++ 32 ∷ value.now))) }
+    ensures { Appends result out.old.items (key.now ++ (slice_index_or names.now rec [] ++ 32 ∷ value.now)) out.new.items }
 {
     out.extend_from_slice(key)?;
     print_name(names, rec, out)?;
     out.push(b' ')?;
-    value.print(out)
+    value.print(out)?;
+    Ok(())
 }
 
+#[tactic(auto, using(vp_text::proofs::Printing::printing))]
 fn print_op(names: &[Name], op: &Op, out: &mut Vec<u8>) -> Result<(), NoMemory>
-    ensures { OnOk result (out.new.items ≡ out.old.items ++ op_text names.now op.now) }
+    ensures { Appends result out.old.items (op_text names.now op.now) out.new.items }
 {
     match op {
         Op::Read { rec, value } => print_access(b" r ", names, *rec, value, out),
@@ -63,8 +71,9 @@ fn print_op(names: &[Name], op: &Op, out: &mut Vec<u8>) -> Result<(), NoMemory>
     }
 }
 
+#[tactic(auto, using(vp_text::proofs::Printing::printing))]
 fn print_ops(names: &[Name], ops: &[Op], out: &mut Vec<u8>) -> Result<(), NoMemory>
-    ensures { OnOk result (out.new.items ≡ out.old.items ++ flat_map (op_text names.now) ops.now) }
+    ensures { Appends result out.old.items (flat_map (op_text names.now) ops.now) out.new.items }
 {
     for op in ops {
         print_op(names, op, out)?;
@@ -72,8 +81,9 @@ fn print_ops(names: &[Name], ops: &[Op], out: &mut Vec<u8>) -> Result<(), NoMemo
     Ok(())
 }
 
+#[tactic(auto, using(vp_text::proofs::Printing::printing))]
 fn print_commit(names: &[Name], commit: &Commit, out: &mut Vec<u8>) -> Result<(), NoMemory>
-    ensures { OnOk result (out.new.items ≡ out.old.items ++ commit_text names.now commit.now) }
+    ensures { Appends result out.old.items (commit_text names.now commit.now) out.new.items }
 {
     out.extend_from_slice(b"commit ")?;
     commit.txn.print(out)?;
@@ -84,8 +94,9 @@ fn print_commit(names: &[Name], commit: &Commit, out: &mut Vec<u8>) -> Result<()
     Ok(())
 }
 
+#[tactic(auto, using(vp_text::proofs::Printing::printing))]
 fn print_commits(names: &[Name], commits: &[Commit], out: &mut Vec<u8>) -> Result<(), NoMemory>
-    ensures { OnOk result (out.new.items ≡ out.old.items ++ flat_map (commit_text names.now) commits.now) }
+    ensures { Appends result out.old.items (flat_map (commit_text names.now) commits.now) out.new.items }
 {
     for commit in commits {
         print_commit(names, commit, out)?;
@@ -93,19 +104,27 @@ fn print_commits(names: &[Name], commits: &[Commit], out: &mut Vec<u8>) -> Resul
     Ok(())
 }
 
-/// Appends the line `history` and the lines of the history. Without memory a beginning of them may have been appended.
-#[tactic(auto, using(crate::proofs::Whole::read_back))]
+#[tactic(auto, using(vp_text::proofs::Printing::printing))]
+fn print_end(commits: u64, out: &mut Vec<u8>) -> Result<(), NoMemory>
+    ensures { Appends result out.old.items (codes "end " ++ (decimal commits ++ 10 ∷ [])) out.new.items }
+{
+    out.extend_from_slice(b"end ")?;
+    print_number(out, commits)?;
+    out.push(b'\n')?;
+    Ok(())
+}
+
+/// Appends the line `history` and the lines of the history. Without memory only a beginning of them may stand there.
+#[tactic(auto, using(crate::proofs::Whole::read_back, vp_text::proofs::Printing::printing))]
 pub fn print_history(history: &History, out: &mut Vec<u8>) -> Result<(), NoMemory>
     ensures read_back { IsWhole history.now → IsReadBack history.now }
-    ensures text { OnOk result (out.new.items ≡ out.old.items ++ history_lines history.now.names history.now.start history.now.commits) }
+    ensures text { Appends result out.old.items (history_lines history.now.names history.now.start history.now.commits) out.new.items }
 {
     let names = history.names.as_slice();
     let commits = history.commits.as_slice();
     out.extend_from_slice(b"history\n")?;
     print_starts(names, history.start.as_slice(), out)?;
     print_commits(names, commits, out)?;
-    out.extend_from_slice(b"end ")?;
-    print_number(out, commits.len() as u64)?;
-    out.push(b'\n')?;
+    print_end(commits.len() as u64, out)?;
     Ok(())
 }
