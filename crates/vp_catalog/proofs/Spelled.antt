@@ -86,5 +86,5 @@ more_records sites seen (x ∷ xs) text s a d few =
 pub spelled : (c : Catalogue) → IsCatalogue c → Spelled c (catalogue_text c)
 spelled c w =
     let start : Spelled (with_sites []) [] = record { lines = []; lines_are = refl; says = refl } in
-    let sites = more_sites [] c.sites [] start w.sites_are w.ports_differ in
-    more_records c.sites [] c.records (flat_map site_line c.sites) sites w.records_are w.names_differ w.few
+    let sites = more_sites [] c.sites [] start w.so_far.sites_are w.so_far.ports_differ in
+    more_records c.sites [] c.records (flat_map site_line c.sites) sites w.so_far.records_are w.so_far.names_differ w.so_far.few

@@ -7,7 +7,7 @@ use Rattle.std.proofs.lemmas.Bool.{false≢true, leb-false, leb-true, ltb-false,
 use Rattle.std.proofs.lemmas.List.{length-append, append-nil, nil_from_length}
 use Rattle.std.proofs.lemmas.List.Concat.{flat_map-cons}
 use Rattle.vp_text.specs.Documents.{reached, LinesText, IsFaultyLine}
-use Rattle.vp_text.proofs.Lists.{Readable, SoFar, so_far_start, so_far_shorter, so_far_more, so_far_bad, so_far_faulty, fault_no_line, longest_in_line}
+use Rattle.vp_text.proofs.Lists.{Readable, SoFar, so_far_start, so_far_exact, so_far_shorter, so_far_more, so_far_bad, so_far_faulty, fault_no_line, longest_in_line}
 use Rattle.vp_text.proofs.Whole.{fault_longest}
 use Rattle.vp_model.specs.Words.{keys}
 use Rattle.vp_model.specs.Catalogue.{Catalogue, RecordEntry, sites_of}
@@ -17,10 +17,10 @@ use Rattle.vp_catalog.specs.declared.entry.Entry.TheVariants as kind
 use Rattle.vp_catalog.specs.declared.fault.CatalogFault.{CatalogFault}
 use Rattle.vp_catalog.specs.declared.fault.CatalogFault.TheVariants as faults
 use Rattle.vp_catalog.specs.Sites.{AllSites}
-use Rattle.vp_catalog.specs.Entries.{IsSite, IsRecord, last_from, EntryText, nothing, after, Onward, Repeats, Overfills}
+use Rattle.vp_catalog.specs.Entries.{IsSite, IsRecord, last_from, last_site, has_port, has_name, EntryText, nothing, after, Onward, Repeats, Overfills}
 use Rattle.vp_catalog.specs.EntryReading.{entry_at}
-use Rattle.vp_catalog.specs.Adding.{Adds}
-use Rattle.vp_catalog.specs.Document.{AreSites, IsCatalogue, IsBadEntry, Answered, NextEntry, is_owed}
+use Rattle.vp_catalog.specs.Adding.{IsAllowed, Adds}
+use Rattle.vp_catalog.specs.Document.{AreSites, IsCatalogueSoFar, IsBadEntry, Answered, NextEntry, is_owed}
 use Rattle.vp_catalog.proofs.EntriesExact.{IsBegun, held_at, entry_exact}
 use Rattle.vp_catalog.proofs.Newlines.{entry_is_line}
 
@@ -67,42 +67,36 @@ distinct_push {X = X} {K = K} key same (y ∷ xs) x h e =
 
 -- ---- what the lines so far say
 
--- all of a catalogue, but that it may have no site yet
-pub record IsPart (c : Catalogue) : Type 0 where
-  pub sites_are : AreSites 0 c.sites
-  pub ports_differ : IsDistinct nat_eq (map (λ s. s.1) c.sites)
-  pub records_are : AllByRecursion (IsRecord (sites_of c)) c.records
-  pub names_differ : IsDistinct bytes_eq (map (λ entry. entry.name) c.records)
-  pub few : length c.records ≤ 256
-
 no_records : (sites : List ℕ) (records : List RecordEntry) → length records ≡ 0 → AllByRecursion (IsRecord sites) records
 no_records sites [] e = tt
 no_records sites (r ∷ records) e = absurd (omega arith)
 
-pub part : (es : List Entry) (t : List ℕ) → Lines es t → IsPart (all_said es)
+pub empty : IsCatalogueSoFar nothing
 unfolding IsDistinct
-part [] t h = record { sites_are = tt; ports_differ = tt; records_are = tt; names_differ = tt; few = omega arith }
-part (kind.Site site port ∷ es) t h =
-    let c = all_said es in
-    let p = part es h.0 h.2 in
-    record {
-      sites_are = sites_push 0 c.sites (site, port) p.sites_are h.3.site_is;
-      ports_differ = distinct_push (λ (s : ℕ × ℕ). s.1) nat_eq c.sites (site, port) p.ports_differ h.4;
-      records_are = no_records (keys (c.sites ++ (site, port) ∷ [])) c.records h.3.first;
-      names_differ = p.names_differ;
-      few = p.few;
-    }
-part (kind.Record entry ∷ es) t h =
-    let c = all_said es in
-    let p = part es h.0 h.2 in
-    let room = leb-false 256 (length c.records) h.4.0 in
-    record {
-      sites_are = p.sites_are;
-      ports_differ = p.ports_differ;
-      records_are = all_push (IsRecord (sites_of c)) c.records entry p.records_are h.3.record_is;
-      names_differ = distinct_push (λ (e : RecordEntry). e.name) bytes_eq c.records entry p.names_differ h.4.1;
-      few = omega (arith, room, length-append c.records (entry ∷ []));
-    }
+empty = record { sites_are = tt; ports_differ = tt; records_are = tt; names_differ = tt; few = omega arith }
+
+pub site_added : (c : Catalogue) (site : ℕ × ℕ) → IsCatalogueSoFar c → length c.records ≡ 0 → IsSite (last_site c) site → has_port c site.1 ≡ false → IsCatalogueSoFar (record { sites = c.sites ++ site ∷ []; records = c.records })
+site_added c site p first is fresh = record {
+  sites_are = sites_push 0 c.sites site p.sites_are is;
+  ports_differ = distinct_push (λ (s : ℕ × ℕ). s.1) nat_eq c.sites site p.ports_differ fresh;
+  records_are = no_records (keys (c.sites ++ site ∷ [])) c.records first;
+  names_differ = p.names_differ;
+  few = p.few;
+}
+
+pub record_added : (c : Catalogue) (entry : RecordEntry) → IsCatalogueSoFar c → IsRecord (sites_of c) entry → length c.records < 256 → has_name c entry.name ≡ false → IsCatalogueSoFar (record { sites = c.sites; records = c.records ++ entry ∷ [] })
+record_added c entry p is room fresh = record {
+  sites_are = p.sites_are;
+  ports_differ = p.ports_differ;
+  records_are = all_push (IsRecord (sites_of c)) c.records entry p.records_are is;
+  names_differ = distinct_push (λ (e : RecordEntry). e.name) bytes_eq c.records entry p.names_differ fresh;
+  few = omega (arith, room, length-append c.records (entry ∷ []));
+}
+
+pub part : (es : List Entry) (t : List ℕ) → Lines es t → IsCatalogueSoFar (all_said es)
+part [] t h = empty
+part (kind.Site site port ∷ es) t h = site_added (all_said es) (site, port) (part es h.0 h.2) h.3.first h.3.site_is h.4
+part (kind.Record entry ∷ es) t h = record_added (all_said es) entry (part es h.0 h.2) h.3.record_is (leb-false 256 (length (all_said es).records) h.4.0) h.4.1
 
 all_sites : (above : ℕ) (sites : List (ℕ × ℕ)) → AreSites above sites → AllSites (keys sites)
 all_sites above [] h = tt
@@ -112,7 +106,7 @@ some_held : (sites : List (ℕ × ℕ)) (records : List RecordEntry) → AllByRe
 some_held sites [] h some = absurd (omega arith)
 some_held sites (r ∷ records) h some = held_at sites r.weights h.0.held h.0.weights_are
 
-pub begun : (c : Catalogue) → IsPart c → IsBegun c
+pub begun : (c : Catalogue) → IsCatalogueSoFar c → IsBegun c
 begun c p = record { sites_are = all_sites 0 c.sites p.sites_are; site_first = some_held c.sites c.records p.records_are }
 
 pub readable : (most : ℕ) → Readable nothing after EntryText Onward entry_at most
@@ -154,6 +148,11 @@ stands_bound text rest c line s = s.bound
 
 pub stands_room : (text rest : List ℕ) (c : Catalogue) (line : ℕ) → Stands text rest c line → (left : ℕ) → entry_at c rest ≡ Err left → left ≤ length rest
 stands_room text rest c line s left read = (so_far_bad nothing after EntryText Onward entry_at text rest c line left (readable (length text)) s read).0
+
+pub stands_allowed : (text rest new : List ℕ) (c : Catalogue) (line : ℕ) (e : Entry) → Stands text rest c line → entry_at c rest ≡ Ok (e, new) → IsAllowed c e
+stands_allowed text rest new c line e s read =
+    let p = (so_far_exact nothing after EntryText Onward entry_at text rest c line (readable (length text)) s).ok rest e new read in
+    (p.text, p.spelled)
 
 pub stands_shorter : (text rest new : List ℕ) (c : Catalogue) (line : ℕ) (e : Entry) → Stands text rest c line → entry_at c rest ≡ Ok (e, new) → length new < length rest
 stands_shorter text rest new c line e s read = so_far_shorter nothing after EntryText Onward entry_at text rest new c line e (readable (length text)) s read
@@ -217,14 +216,11 @@ answered_add text rest new c d e line (faults.TooMany l limit) s read n =
     (n.2, subst (IsFaultyLine nothing after EntryText Onward Overfills text) (sym n.1) (so_far_faulty nothing after EntryText Onward entry_at Overfills text rest new c line e (readable (length text)) s read n.3))
 answered_add text rest new c d e line faults.NoMemory s read n = tt
 
-whole : (c : Catalogue) → IsPart c → 0 < length c.sites → IsCatalogue c
-whole c p some = record { some = some; sites_are = p.sites_are; ports_differ = p.ports_differ; records_are = p.records_are; names_differ = p.names_differ; few = p.few }
-
 pub answered_end : (text rest : List ℕ) (c : Catalogue) (line : ℕ) → Stands text rest c line → is_owed rest c ≡ false → Answered text (Ok c)
 answered_end text rest c line s off =
     let both = or_none (ltb 0 (length rest)) (leb (length c.sites) 0) off in
     let none : rest ≡ [] = nil_from_length rest (let le = ltb-false 0 (length rest) both.0 in omega (arith, le)) in
     let some : 0 < length c.sites = leb-false (length c.sites) 0 both.1 in
-    let p = subst IsPart s.state_is (part s.lines s.front s.lines_are) in
+    let p = subst IsCatalogueSoFar s.state_is (part s.lines s.front s.lines_are) in
     let text_is : text ≡ s.front = s.parts ∙ ap (λ (x : List ℕ). s.front ++ x) none ∙ append-nil s.front in
-    (whole c p some, sym (text_is ∙ said_text s.lines s.front s.lines_are ∙ ap catalogue_text s.state_is))
+    (record { some = some; so_far = p }, sym (text_is ∙ said_text s.lines s.front s.lines_are ∙ ap catalogue_text s.state_is))

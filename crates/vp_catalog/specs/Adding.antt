@@ -1,10 +1,14 @@
 -- What comes of adding a line to a catalogue.
-use Rattle.std.specs.Prelude.{◌≡◌, ⊤, ℕ, Result, Ok, Err}
+use Rattle.std.specs.Prelude.{◌≡◌, ⊤, ℕ, List, Result, Ok, Err}
 use Rattle.vp_model.specs.Catalogue.{Catalogue}
 use Rattle.vp_catalog.specs.declared.entry.Entry.{Entry}
 use Rattle.vp_catalog.specs.declared.fault.CatalogFault.{CatalogFault}
 use Rattle.vp_catalog.specs.declared.fault.CatalogFault.TheVariants as faults
-use Rattle.vp_catalog.specs.Entries.{after, Onward, Repeats, Overfills}
+use Rattle.vp_catalog.specs.Entries.{EntryText, after, Onward, Repeats, Overfills}
+
+-- The line is allowed where the lines before it say so much.
+abbrev pub IsAllowed : Catalogue → Entry → Type 0
+IsAllowed c entry = (text : List ℕ) × EntryText c entry text
 
 -- The line of this number was added, or the catalogue is as it was.
 abbrev pub Adds : Catalogue → Entry → ℕ → Catalogue → Result ⊤ CatalogFault → Type 0

@@ -16,14 +16,18 @@ abbrev pub AreSites : ℕ → List (ℕ × ℕ) → Type 0
 AreSites above [] = ⊤
 AreSites above (s ∷ ss) = IsSite above s × AreSites s.0 ss
 
--- One or more sites, and at most 256 records with copies at them; no port and no name stands twice.
-pub record IsCatalogue (c : Catalogue) : Type 0 where
-  pub some : 0 < length c.sites
+-- What lines of a catalogue say so far: sites, maybe none, and at most 256 records with copies at them; no port and no name stands twice.
+pub record IsCatalogueSoFar (c : Catalogue) : Type 0 where
   pub sites_are : AreSites 0 c.sites
   pub ports_differ : IsDistinct nat_eq (map (λ s. s.1) c.sites)
   pub records_are : AllByRecursion (IsRecord (sites_of c)) c.records
   pub names_differ : IsDistinct bytes_eq (map (λ entry. entry.name) c.records)
   pub few : length c.records ≤ 256
+
+-- That, with one or more sites.
+pub record IsCatalogue (c : Catalogue) : Type 0 where
+  pub some : 0 < length c.sites
+  pub so_far : IsCatalogueSoFar c
 
 -- ---- what is answered of a text
 

@@ -1,12 +1,13 @@
 //! The catalogue and its look-ups.
 
-ghost use Rattle.std.specs.Prelude.{◌≡◌, ◌≤◌, ◌<◌, ◌++◌, ◌∷◌, [], length, map, slice_get, option_map, option_copied, if◌then◌else◌, is_ok, nat_lt, ◌==◌, ◌&&◌, not, filter, Some, None, OnOk, IfOk, IfSome};
+ghost use Rattle.std.specs.Prelude.{◌≡◌, ◌≤◌, ◌<◌, ◌++◌, ◌∷◌, [], length, map, slice_get, option_map, option_copied, if◌then◌else◌, is_ok, nat_lt, ◌==◌, ◌&&◌, not, false, filter, Some, None, OnOk, IfOk, IfSome};
 ghost use Rattle.std.specs.List.{position_from};
 ghost use Rattle.std.specs.Str.{bytes_eq};
 ghost use Rattle.vp_model.specs.Words.{keys, value_at, has};
 ghost use Rattle.vp_model.specs.Refresh.{members_in, other_holders_in};
-ghost use Rattle.vp_catalog.specs.Entries.{last_site, has_port, has_name};
-ghost use Rattle.vp_catalog.specs.Adding.{Adds};
+ghost use Rattle.vp_catalog.specs.Entries.{IsSite, IsRecord, last_site, has_port, has_name};
+ghost use Rattle.vp_catalog.specs.Adding.{IsAllowed, Adds};
+ghost use Rattle.vp_catalog.specs.Document.{IsCatalogueSoFar};
 ghost use Rattle.vp_model.specs.Catalogue.{sites_of, find_record, weights_of, holders, inside, total, accessible, weight, start_values, start_copies, copies_from};
 
 use crate::entry::Entry;
@@ -27,15 +28,16 @@ pub struct Catalog {
 }
 
 impl Model for Catalog {
-    ghost use Rattle.std.specs.Prelude.{◌≡◌, ◌≤◌, length};
+    ghost use Rattle.std.specs.Prelude.{◌≡◌};
     ghost use Rattle.vp_model.specs.Catalogue.{Catalogue};
     ghost use Rattle.vp_model.specs.Words.{keys};
+    ghost use Rattle.vp_catalog.specs.Document.{IsCatalogueSoFar};
 
     ghost Value = { Catalogue };
 
     ghost view = { λ c. record { sites = c.ports.items; records = c.records.items } };
 
-    ghost invariant = { λ c. (c.sites ≡ keys c.ports.items) × (length c.records.items ≤ 256) };
+    ghost invariant = { λ c. (c.sites ≡ keys c.ports.items) × IsCatalogueSoFar (record { sites = c.ports.items; records = c.records.items }) };
 }
 
 impl CopyOf for Catalog {
@@ -62,6 +64,9 @@ impl Catalog {
 
     /// Puts a site behind the last one. Without memory the catalogue is as it was.
     fn add_site(&mut self, site: SiteId, port: u16) -> Result<(), NoMemory>
+        requires first { length self.old.records ≡ 0 }
+        requires allowed { IsSite (last_site self.old) (site, port) }
+        requires fresh { has_port self.old port ≡ false }
         ensures { self.new ≡ (if is_ok result then record self.old { sites = self.old.sites ++ (site, port) ∷ [] } else self.old) }
     {
         self.ports.reserve(1)?;
@@ -72,7 +77,9 @@ impl Catalog {
 
     /// Puts a record behind the last one. Without memory the catalogue is as it was.
     fn add_record(&mut self, placed: Placed) -> Result<(), NoMemory>
-        requires { length self.old.records < 256 }
+        requires room { length self.old.records < 256 }
+        requires allowed { IsRecord (sites_of self.old) placed }
+        requires fresh { has_name self.old placed.name ≡ false }
         ensures { self.new ≡ (if is_ok result then record self.old { records = self.old.records ++ placed ∷ [] } else self.old) }
     {
         self.records.push(placed)?;
@@ -82,6 +89,7 @@ impl Catalog {
     /// Adds what the line of this number says. A record line behind 256 records is too many, and a port or a name that stands
     /// already is there twice. After an `Err` the catalogue is as it was.
     pub fn add(&mut self, entry: Entry, line: usize) -> Result<(), CatalogFault>
+        requires { IsAllowed self.old entry }
         ensures { Adds self.old entry line self.new result }
     {
         match entry {
@@ -121,7 +129,8 @@ impl Catalog {
 
     /// The sites, ascending.
     pub fn sites(&self) -> &Sites
-        ensures { result.now ≡ sites_of self.now }
+        ensures sites { result.now ≡ sites_of self.now }
+        ensures so_far { IsCatalogueSoFar self.now }
     {
         &self.sites
     }

@@ -17,6 +17,7 @@ pub mod LocalViews
 pub mod TableViews
 pub mod TableDurable
 pub mod ShapeLists
+pub mod Catalogues
 pub mod ShapeNumbers
 pub mod ShapeDoubts
 pub mod ShapeCatalogue

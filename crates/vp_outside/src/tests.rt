@@ -1,7 +1,7 @@
-ghost use Rattle.std.specs.Prelude.{◌≡◌, IfOk, IsTrue};
+ghost use Rattle.std.specs.Prelude.{◌≤◌, IsTrue};
 
 use super::*;
-use std::alloc::AllocError;
+use std::alloc::{AllocError, Global};
 use std::io;
 use std::io::{Read, Write};
 use std::test::Fail;
@@ -9,32 +9,46 @@ use vp_base::Word;
 
 const TEXT: &[u8] = b"abcdefgh";
 
+/// A source that gives three bytes a call.
+fn text_source(alloc: Global, failing: Vec<u64>) -> Result<TextSource, AllocError> {
+    let mut source = TextSource::new(TEXT.to_vec(alloc)?, failing);
+    source.most = 3;
+    Ok(source)
+}
+
+/// Whether the source gives the text and then its end.
+fn gives_text<S: Source>(alloc: Global, source: &mut S, limit: usize) -> Result<bool, InputFault> {
+    let bytes = read_to_end(alloc, source, limit)?;
+    Ok(bytes.as_slice() == TEXT)
+}
+
 #[test]
 fn a_text_is_read_in_pieces(rt: HostRuntime) -> Result<(), Fail> {
-    let alloc = rt.alloc();
-    let mut source = TextSource::new(TEXT.to_vec(alloc)?, Vec::new(alloc));
-    source.most = 3;
-    let bytes = read_to_end(alloc, &mut source, 100)?;
-    assert_eq!(rt; bytes.as_slice(), TEXT);
+    let mut source = text_source(rt.alloc(), Vec::new(rt.alloc()))?;
+    assert_eq!(rt; gives_text(rt.alloc(), &mut source, 100), Ok(true));
     assert_eq!(rt; source.faults(), 0);
     assert_eq!(rt; source.plan.calls, 4, "three pieces and the end");
     Ok(())
 }
 
+/// What a call of the source answers, and what it leaves in five bytes.
+fn taken(source: &mut TextSource) -> (Result<usize, Failed>, [u8; 5]) {
+    let mut buf = [0; 5];
+    let answer = source.take(&mut buf);
+    (answer, buf)
+}
+
 #[test]
 fn a_planned_call_of_a_source_fails_and_is_counted(rt: HostRuntime) -> Result<(), Fail> {
     let alloc = rt.alloc();
-    let mut source = TextSource::new(TEXT.to_vec(alloc)?, vec![in alloc; 2, 4]?);
-    source.most = 3;
+    let mut source = text_source(alloc, vec![in alloc; 2, 4]?)?;
     assert_eq!(rt;
-        read_to_end(alloc, &mut source, 100).err(),
-        Some(InputFault::Failed)
+        gives_text(alloc, &mut source, 100),
+        Err(InputFault::Failed)
     );
     assert_eq!(rt; source.faults(), 1);
-    let mut buf = [0; 5];
-    assert_eq!(rt; source.take(&mut buf), Ok(3));
-    assert_eq!(rt; buf, *b"def\0\0");
-    assert_eq!(rt; source.take(&mut buf), Err(Failed));
+    assert!(rt; taken(&mut source) == (Ok(3), *b"def\0\0"));
+    assert!(rt; taken(&mut source) == (Err(Failed), [0; 5]));
     assert_eq!(rt; source.faults(), 2);
     Ok(())
 }
@@ -43,55 +57,63 @@ fn a_planned_call_of_a_source_fails_and_is_counted(rt: HostRuntime) -> Result<()
 fn a_text_that_is_longer_than_the_limit_is_refused(rt: HostRuntime) -> Result<(), Fail> {
     let alloc = rt.alloc();
     let mut longer = SureSource::new(TEXT.to_vec(alloc)?);
-    assert_eq!(rt;
-        read_to_end(alloc, &mut longer, 7).err(),
-        Some(InputFault::TooLong)
-    );
+    assert_eq!(rt; gives_text(alloc, &mut longer, 7), Err(InputFault::TooLong));
     let mut fits = SureSource::new(TEXT.to_vec(alloc)?);
-    let bytes = read_to_end(alloc, &mut fits, 8)?;
-    assert_eq!(rt; bytes.as_slice(), TEXT);
+    assert_eq!(rt; gives_text(alloc, &mut fits, 8), Ok(true));
     assert_eq!(rt; fits.faults(), 0);
     Ok(())
 }
 
+/// A sink that takes three bytes a call.
+fn text_sink(alloc: Global, failing: Vec<u64>) -> TextSink {
+    let mut sink = TextSink::new(alloc, failing);
+    sink.most = 3;
+    sink
+}
+
+/// Writes the text.
+fn write_text<K: Sink>(sink: &mut K) -> Result<(), OutFault> {
+    write_all(sink, TEXT)
+}
+
 #[test]
 fn a_sink_gets_all_the_bytes(rt: HostRuntime) -> Result<(), Fail> {
-    let alloc = rt.alloc();
-    let mut sink = TextSink::new(alloc, Vec::new(alloc));
-    sink.most = 3;
-    write_all(&mut sink, TEXT)?;
+    let mut sink = text_sink(rt.alloc(), Vec::new(rt.alloc()));
+    write_text(&mut sink)?;
     write_all(&mut sink, b"")?;
     assert_eq!(rt; sink.bytes(), TEXT);
     assert_eq!(rt; sink.plan.calls, 3);
-    let mut sure = SureSink::new(alloc);
-    write_all(&mut sure, TEXT)?;
-    assert_eq!(rt; sure.bytes(), TEXT);
-    assert_eq!(rt; sure.faults(), 0);
+    Ok(())
+}
+
+#[test]
+fn a_sink_that_is_sure_gets_all_the_bytes(rt: HostRuntime) -> Result<(), Fail> {
+    let mut sink = SureSink::new(rt.alloc());
+    write_text(&mut sink)?;
+    assert_eq!(rt; sink.bytes(), TEXT);
+    assert_eq!(rt; sink.faults(), 0);
     Ok(())
 }
 
 #[test]
 fn a_planned_call_of_a_sink_fails_and_is_counted(rt: HostRuntime) -> Result<(), Fail> {
     let alloc = rt.alloc();
-    let mut sink = TextSink::new(alloc, vec![in alloc; 3]?);
-    sink.most = 2;
-    assert_eq!(rt; write_all(&mut sink, TEXT), Err(OutFault::Failed));
-    assert_eq!(rt; sink.bytes(), b"abcd".as_slice());
+    let mut sink = text_sink(alloc, vec![in alloc; 3]?);
+    assert_eq!(rt; write_text(&mut sink), Err(OutFault::Failed));
+    assert_eq!(rt; sink.bytes(), b"abcdef".as_slice());
     assert_eq!(rt; sink.faults(), 1);
-    assert_eq!(rt; sink.put(b"xyz"), Ok(2));
-    assert_eq!(rt; sink.bytes(), b"abcdxy".as_slice());
+    assert_eq!(rt; sink.put(b"wxyz"), Ok(3));
+    assert_eq!(rt; sink.bytes(), b"abcdefwxy".as_slice());
     Ok(())
 }
 
 #[test]
 fn readers_and_writers_are_sources_and_sinks(rt: HostRuntime) -> Result<(), Fail> {
-    let alloc = rt.alloc();
     let mut source = Reading::new(TEXT);
-    let bytes = read_to_end(alloc, &mut source, 8)?;
-    assert_eq!(rt; bytes.as_slice(), TEXT);
+    assert_eq!(rt; gives_text(rt.alloc(), &mut source, 8), Ok(true));
     assert_eq!(rt; source.faults(), 0);
-    let mut sink = Writing::new(Vec::<u8>::new(alloc));
-    write_all(&mut sink, TEXT)?;
+    let mut sink = Writing::new(Vec::<u8>::new(rt.alloc()));
+    write_text(&mut sink)?;
     assert_eq!(rt; sink.faults(), 0);
     Ok(())
 }
@@ -145,28 +167,32 @@ impl Write for Full {
 }
 
 #[test]
-fn an_error_of_a_device_is_counted(rt: HostRuntime) -> Result<(), Fail> {
-    let alloc = rt.alloc();
+fn an_error_of_a_reader_is_counted(rt: HostRuntime) {
     let mut source = Reading::new(Broken { calls: 0 });
     assert_eq!(rt;
-        read_to_end(alloc, &mut source, 8).err(),
-        Some(InputFault::Failed)
+        gives_text(rt.alloc(), &mut source, 8),
+        Err(InputFault::Failed)
     );
     assert_eq!(rt; source.faults(), 1);
+}
+
+#[test]
+fn an_error_of_a_writer_is_counted(rt: HostRuntime) {
     let mut sink = Writing::new(Broken { calls: 0 });
-    assert_eq!(rt; write_all(&mut sink, TEXT), Err(OutFault::Failed));
+    assert_eq!(rt; write_text(&mut sink), Err(OutFault::Failed));
     assert_eq!(rt; sink.faults(), 1);
+}
+
+#[test]
+fn a_writer_that_takes_nothing_fails(rt: HostRuntime) {
     let mut full = Writing::new(Full);
     assert_eq!(rt; full.put(b""), Ok(0));
     assert_eq!(rt; full.put(TEXT), Err(OutFault::Failed));
     assert_eq!(rt; full.faults(), 1);
-    Ok(())
 }
 
-fn word(rt: &HostRuntime, text: &[u8]) -> Result<Word, AllocError>
-    ensures { IfOk result (λ word. word ≡ text.now) }
-{
-    Ok(Word::from_vec(text.to_vec(rt.alloc())?))
+fn word(alloc: Global, text: &[u8]) -> Result<Word, AllocError> {
+    Ok(Word::from_vec(text.to_vec(alloc)?))
 }
 
 /// The length of half 0 and how many of its bytes were read, through the trait.
@@ -178,122 +204,227 @@ fn measure<D: Disk>(disk: &mut D, buf: &mut [u8]) -> Result<(u64, usize), Failed
     Ok((length, count))
 }
 
-/// A change of half 1.
-#[derive(Clone, Copy, Drop)]
-enum Step {
-    Write(u64, &'static [u8]),
-    Cut(u64),
+/// Rows of changes of half 1: w for a write or c for a cut, the place or the length, the count and the bytes of the piece, and the count and
+/// the bytes of what stands after it.
+const CHANGES: &[u8] = b"\
+    w\0\x03abc\x03abc\
+    w\x01\x01X\x03aXc\
+    w\x02\x02YZ\x04aXYZ\
+    w\x06\x01p\x07aXYZ\0\0p\
+    w\x09\0\x09aXYZ\0\0p\0\0\
+    c\x14\0\x09aXYZ\0\0p\0\0\
+    c\x03\0\x03aXY\
+    w\x03\x03end\x06aXYend\
+    c\0\0\0\
+    w\0\0\0";
+
+/// What stands behind a count, and the rest.
+fn counted(bytes: &[u8]) -> (&[u8], &[u8]) {
+    match bytes {
+        [] => (bytes, bytes),
+        [count, behind @ ..] => behind.split_at(usize::from(*count).min(behind.len())),
+    }
+}
+
+fn change(disk: &mut SureDisk, kind: u8, at: u8, piece: &[u8]) -> Result<(), OutFault> {
+    if kind == b'w' {
+        disk.write_at(1, u64::from(at), piece)
+    } else {
+        disk.cut(1, u64::from(at))
+    }
+}
+
+/// Whether half 1 has these bytes and half 0 has none.
+fn has(disk: &mut SureDisk, bytes: &[u8]) -> bool {
+    let length = bytes.len() as u64;
+    disk.half(1) == bytes && disk.length(1) == Ok(length) && disk.length(0) == Ok(0)
+}
+
+/// How many changes leave the bytes of their rows, and a sync behind each of them too, up to the first that doesn't.
+fn changes_done(disk: &mut SureDisk, rows: &[u8]) -> Result<usize, OutFault> {
+    let mut rest = rows;
+    for row in 0..rows.len() {
+        let [kind, at, behind @ ..] = rest else {
+            return Ok(row);
+        };
+        let (piece, behind) = counted(behind);
+        let (bytes, others) = counted(behind);
+        change(disk, *kind, *at, piece)?;
+        let changed = has(disk, bytes);
+        disk.sync()?;
+        if !changed || !has(disk, bytes) {
+            return Ok(row);
+        }
+        rest = others;
+    }
+    Ok(rows.len())
 }
 
 #[test]
 fn a_disk_reads_what_was_written_and_not_cut(rt: HostRuntime) -> Result<(), Fail> {
-    let steps = [
-        (Step::Write(0, b"abc"), b"abc".as_slice()),
-        (Step::Write(1, b"X"), b"aXc"),
-        (Step::Write(2, b"YZ"), b"aXYZ"),
-        (Step::Write(6, b"p"), b"aXYZ\0\0p"),
-        (Step::Write(9, b""), b"aXYZ\0\0p\0\0"),
-        (Step::Cut(20), b"aXYZ\0\0p\0\0"),
-        (Step::Cut(3), b"aXY"),
-        (Step::Write(3, b"end"), b"aXYend"),
-        (Step::Cut(0), b""),
-        (Step::Write(0, b""), b""),
-    ];
     let mut disk = SureDisk::new(rt.alloc());
-    for (step, bytes) in steps {
-        match step {
-            Step::Write(at, piece) => disk.write_at(1, at, piece)?,
-            Step::Cut(length) => disk.cut(1, length)?,
-        }
-        assert_eq!(rt; disk.half(1), bytes);
-        assert_eq!(rt; disk.length(1), Ok(bytes.len() as u64));
-        assert_eq!(rt; disk.length(0), Ok(0), "the other half");
-        disk.sync()?;
-        assert_eq!(rt; disk.half(1), bytes, "a sync changes nothing");
-    }
+    assert_eq!(rt; changes_done(&mut disk, CHANGES)?, 10);
     Ok(())
+}
+
+/// Whether a read into five bytes answers this count and leaves these there.
+fn reads(disk: &mut SureDisk, half: u8, at: u64, count: usize, bytes: &[u8]) -> bool
+    requires { half ≤ 1 }
+{
+    let mut buf = [b'-'; 5];
+    disk.read(half, at, &mut buf) == Ok(count) && buf.as_slice() == bytes
 }
 
 #[test]
 fn a_disk_is_read_in_pieces(rt: HostRuntime) -> Result<(), Fail> {
     let alloc = rt.alloc();
     let mut disk = SureDisk::holding(alloc, TEXT.to_vec(alloc)?, b"xyz".to_vec(alloc)?)?;
-    let mut buf = [b'-'; 5];
-    assert_eq!(rt; disk.read(0, 0, &mut buf), Ok(5));
-    assert_eq!(rt; buf, *b"abcde");
-    assert_eq!(rt; disk.read(0, 5, &mut buf), Ok(3));
-    assert_eq!(rt; buf, *b"fghde");
-    assert_eq!(rt; disk.read(0, 8, &mut buf), Ok(0), "the end");
-    assert_eq!(rt; disk.read(1, 2, &mut buf), Ok(1));
-    assert_eq!(rt; buf, *b"zghde");
-    assert_eq!(rt; disk.read(1, u64::MAX, &mut buf), Ok(0));
-    assert_eq!(rt; measure(&mut disk, &mut buf), Ok((8, 5)));
+    assert!(rt; reads(&mut disk, 0, 0, 5, b"abcde"));
+    assert!(rt; reads(&mut disk, 0, 5, 3, b"fgh--"));
+    assert!(rt; reads(&mut disk, 0, 8, 0, b"-----"), "the end");
+    assert!(rt; reads(&mut disk, 1, 2, 1, b"z----"));
+    assert!(rt; reads(&mut disk, 1, u64::MAX, 0, b"-----"));
+    Ok(())
+}
+
+#[test]
+fn a_disk_is_measured(rt: HostRuntime) -> Result<(), Fail> {
+    let alloc = rt.alloc();
+    let mut disk = SureDisk::holding(alloc, TEXT.to_vec(alloc)?, Vec::new(alloc))?;
+    assert_eq!(rt; measure(&mut disk, &mut [0; 5]), Ok((8, 5)));
     assert_eq!(rt; disk.faults(), 0);
     Ok(())
+}
+
+/// Writes a piece at the front of a half of the log of that name.
+fn write_to(disk: &mut MemDisk, name: &Word, half: u8, piece: &[u8]) -> Result<(), OutFault>
+    requires { half ≤ 1 }
+{
+    disk.attach(name)?;
+    disk.write_at(half, 0, piece)
+}
+
+/// Cuts half 0 of the log of that name to one byte.
+fn cut_short(disk: &mut MemDisk, name: &Word) -> Result<(), OutFault> {
+    disk.attach(name)?;
+    disk.cut(0, 1)?;
+    disk.sync()
+}
+
+/// Whether the log of that name has these halves.
+fn keeps(disk: &mut MemDisk, name: &Word, first: &[u8], second: &[u8]) -> Result<bool, OutFault> {
+    disk.attach(name)?;
+    Ok(disk.half(0) == first && disk.half(1) == second)
+}
+
+/// What is measured of the log of that name.
+fn measured(disk: &mut MemDisk, name: &Word) -> Result<(u64, usize), OutFault> {
+    disk.attach(name)?;
+    Ok(measure(disk, &mut [0; 8])?)
 }
 
 #[test]
 fn each_log_keeps_its_bytes_while_another_is_attached(rt: HostRuntime) -> Result<(), Fail> {
     let alloc = rt.alloc();
-    let one = word(&rt, b"one")?;
-    let two = word(&rt, b"two")?;
+    let one = word(alloc, b"one")?;
+    let two = word(alloc, b"two")?;
     let mut disk = MemDisk::new(alloc, Vec::new(alloc));
-    disk.attach(&one)?;
-    disk.write_at(0, 0, b"first")?;
-    disk.attach(&two)?;
-    assert_eq!(rt; disk.half(0), b"".as_slice());
-    disk.write_at(0, 0, b"other")?;
-    disk.write_at(1, 0, b"half")?;
-    disk.attach(&one)?;
-    assert_eq!(rt; disk.half(0), b"first".as_slice());
-    assert_eq!(rt; disk.half(1), b"".as_slice());
-    disk.cut(0, 1)?;
-    disk.sync()?;
-    disk.attach(&two)?;
-    assert_eq!(rt; disk.half(0), b"other".as_slice());
-    assert_eq!(rt; disk.half(1), b"half".as_slice());
-    assert_eq!(rt; measure(&mut disk, &mut [0; 8]), Ok((5, 5)));
-    assert_eq!(rt; disk.plan.calls, 11);
+    write_to(&mut disk, &one, 0, b"first")?;
+    assert!(rt; keeps(&mut disk, &two, b"", b"")?);
+    write_to(&mut disk, &two, 0, b"other")?;
+    write_to(&mut disk, &two, 1, b"half")?;
+    assert!(rt; keeps(&mut disk, &one, b"first", b"")?);
+    cut_short(&mut disk, &one)?;
+    assert!(rt; keeps(&mut disk, &two, b"other", b"half")?);
+    assert!(rt; keeps(&mut disk, &one, b"f", b"")?);
+    assert_eq!(rt; disk.plan.calls, 13);
+    Ok(())
+}
+
+#[test]
+fn a_log_of_a_name_is_measured(rt: HostRuntime) -> Result<(), Fail> {
+    let name = word(rt.alloc(), b"two")?;
+    let mut disk = MemDisk::new(rt.alloc(), Vec::new(rt.alloc()));
+    write_to(&mut disk, &name, 0, b"other")?;
+    assert!(rt; measured(&mut disk, &name)? == (5, 5));
+    assert_eq!(rt; disk.plan.calls, 5);
     assert_eq!(rt; disk.faults(), 0);
     Ok(())
+}
+
+/// Whether each call that reads the log of that name fails, and leaves the buffer as it was.
+fn fails_to_read(disk: &mut MemDisk, name: &Word) -> Result<bool, OutFault> {
+    disk.attach(name)?;
+    let mut buf = [b'-'; 3];
+    let length = disk.length(0);
+    let read = disk.read(0, 0, &mut buf);
+    Ok(length == Err(Failed) && read == Err(Failed) && buf == *b"---")
+}
+
+/// Whether each call that changes the log of that name fails.
+fn fails_to_change(disk: &mut MemDisk, name: &Word) -> Result<bool, OutFault> {
+    disk.attach(name)?;
+    let written = disk.write_at(0, 0, b"X");
+    let cut = disk.cut(0, 1);
+    let synced = disk.sync();
+    let failed = Err(OutFault::Failed);
+    Ok(written == failed && cut == failed && synced == failed)
 }
 
 #[test]
 fn a_planned_call_of_a_disk_fails_and_changes_nothing(rt: HostRuntime) -> Result<(), Fail> {
     let alloc = rt.alloc();
-    let name = word(&rt, b"one")?;
-    let mut disk = MemDisk::new(alloc, vec![in alloc; 1, 3, 4, 5, 6, 7]?);
+    let name = word(alloc, b"one")?;
+    let mut disk = MemDisk::new(alloc, vec![in alloc; 1, 3, 4, 6, 7, 8]?);
     disk.lay(&name, TEXT.to_vec(alloc)?, Vec::new(alloc))?;
     assert_eq!(rt; disk.attach(&name), Err(OutFault::Failed));
-    disk.attach(&name)?;
+    assert!(rt; fails_to_read(&mut disk, &name)?);
+    assert!(rt; fails_to_change(&mut disk, &name)?);
+    assert!(rt; disk.faults() == 6 && disk.plan.calls == 8);
+    assert!(rt; keeps(&mut disk, &name, TEXT, b"")?);
+    Ok(())
+}
+
+/// What a read of half 0 of the log of that name leaves in three bytes.
+fn three(disk: &mut MemDisk, name: &Word, at: u64) -> Result<([u8; 3], usize), OutFault> {
+    disk.attach(name)?;
     let mut buf = [b'-'; 3];
-    assert_eq!(rt; disk.length(0), Err(Failed));
-    assert_eq!(rt; disk.read(0, 0, &mut buf), Err(Failed));
-    assert_eq!(rt; buf, *b"---");
-    assert_eq!(rt; disk.write_at(0, 0, b"X"), Err(OutFault::Failed));
-    assert_eq!(rt; disk.cut(0, 1), Err(OutFault::Failed));
-    assert_eq!(rt; disk.sync(), Err(OutFault::Failed));
-    assert_eq!(rt; disk.faults(), 6);
-    assert_eq!(rt; disk.plan.calls, 7);
-    assert_eq!(rt; disk.half(0), TEXT);
-    assert_eq!(rt; disk.read(0, 6, &mut buf), Ok(2));
-    assert_eq!(rt; buf, *b"gh-");
+    let count = disk.read(0, at, &mut buf)?;
+    Ok((buf, count))
+}
+
+#[test]
+fn a_log_that_is_laid_is_read(rt: HostRuntime) -> Result<(), Fail> {
+    let alloc = rt.alloc();
+    let name = word(alloc, b"one")?;
+    let mut disk = MemDisk::new(alloc, Vec::new(alloc));
+    disk.lay(&name, TEXT.to_vec(alloc)?, Vec::new(alloc))?;
+    assert!(rt; three(&mut disk, &name, 6)? == (*b"gh-", 2));
     Ok(())
 }
 
 #[test]
-fn a_piece_that_ends_behind_the_longest_half_is_refused(rt: HostRuntime) -> Result<(), Fail> {
-    let alloc = rt.alloc();
-    let name = word(&rt, b"one")?;
-    let mut sure = SureDisk::new(alloc);
-    let mut planned = MemDisk::new(alloc, Vec::new(alloc));
-    planned.attach(&name)?;
+fn a_sure_disk_has_no_memory_for_what_ends_behind_the_longest_half(rt: HostRuntime) {
+    let mut disk = SureDisk::new(rt.alloc());
     for at in [1 << 62, u64::MAX] {
-        assert_eq!(rt; sure.write_at(0, at, b"x"), Err(OutFault::NoMemory));
+        assert_eq!(rt; disk.write_at(0, at, b"x"), Err(OutFault::NoMemory));
     }
-    assert_eq!(rt; planned.write_at(0, 1 << 62, b"x"), Err(OutFault::Failed));
-    assert_eq!(rt; planned.write_at(0, u64::MAX, b"x"), Err(OutFault::Failed));
-    assert_eq!(rt; planned.faults(), 2);
-    assert_eq!(rt; planned.half(0), b"".as_slice());
+}
+
+/// What the write of a byte to the log of that name answers.
+fn written(disk: &mut MemDisk, name: &Word, at: u64) -> Result<(), OutFault> {
+    disk.attach(name)?;
+    disk.write_at(0, at, b"x")
+}
+
+#[test]
+fn a_piece_that_ends_behind_the_longest_half_is_refused(rt: HostRuntime) -> Result<(), Fail> {
+    let name = word(rt.alloc(), b"one")?;
+    let mut disk = MemDisk::new(rt.alloc(), Vec::new(rt.alloc()));
+    for at in [1 << 62, u64::MAX] {
+        assert_eq!(rt; written(&mut disk, &name, at), Err(OutFault::Failed));
+    }
+    assert_eq!(rt; disk.faults(), 2);
+    assert!(rt; keeps(&mut disk, &name, b"", b"")?);
     Ok(())
 }

@@ -80,37 +80,67 @@ fn counts(durable: &Durable) -> (usize, usize) {
     )
 }
 
+/// With the copy of the record set, where it has one.
+fn set_copy(rt: &HostRuntime, durable: &mut Durable, rec: u8) -> Result<(), NameFault> {
+    let entry = LogRecord::Copy {
+        rec: RecId::new(rec),
+        stored: stored(rt, b"11", 3)?,
+    };
+    durable.apply(&entry)?;
+    Ok(())
+}
+
 #[test]
-fn lives_promises_and_copies_are_set(rt: HostRuntime) -> Result<(), NameFault> {
+fn lives_and_promises_are_set(rt: HostRuntime) -> Result<(), NameFault> {
     let mut durable = durable(&rt)?;
     durable.apply(&LogRecord::Start { life: 3 })?;
     durable.apply(&LogRecord::Promise { view: view(4) })?;
-    for rec in 0..2u8 {
-        let entry = LogRecord::Copy {
-            rec: RecId::new(rec),
-            stored: stored(&rt, b"11", 3)?,
-        };
-        durable.apply(&entry)?;
-    }
     assert!(rt; durable.life() == 3 && durable.promise() == view(4));
+    Ok(())
+}
+
+#[test]
+fn a_copy_is_set_where_one_was(rt: HostRuntime) -> Result<(), NameFault> {
+    let mut durable = durable(&rt)?;
+    set_copy(&rt, &mut durable, 0)?;
+    set_copy(&rt, &mut durable, 1)?;
     assert!(rt; has(&durable, 0, b"11", 3) && has(&durable, 2, b"30", 0));
     assert!(rt; durable.stored(RecId::new(1)).is_none());
     Ok(())
 }
 
+/// Transaction 5 is in doubt, by two votes of which the second stands.
+fn in_doubt(rt: &HostRuntime) -> Result<Durable, NameFault> {
+    let mut durable = durable(rt)?;
+    durable.apply(&yes(rt, 5, 1, b"11")?)?;
+    durable.apply(&yes(rt, 5, 2, b"12")?)?;
+    Ok(durable)
+}
+
+fn after_outcome(rt: &HostRuntime, seq: u32, commit: bool) -> Result<Durable, NameFault> {
+    let mut durable = in_doubt(rt)?;
+    durable.apply(&outcome(seq, commit))?;
+    Ok(durable)
+}
+
 #[test]
-fn a_doubt_ends_by_its_outcome(rt: HostRuntime) -> Result<(), NameFault> {
-    let cases: [(bool, &[u8], u64); 2] = [(false, b"10", 0), (true, b"12", 2)];
-    for (commit, text, date) in cases {
-        let mut durable = durable(&rt)?;
-        durable.apply(&yes(&rt, 5, 1, b"11")?)?;
-        durable.apply(&yes(&rt, 5, 2, b"12")?)?;
-        assert!(rt; counts(&durable) == (1, 0));
-        durable.apply(&outcome(4, commit))?;
-        assert!(rt; counts(&durable) == (1, 0) && has(&durable, 0, b"10", 0));
-        durable.apply(&outcome(5, commit))?;
-        assert!(rt; counts(&durable) == (0, 0) && has(&durable, 0, text, date));
-    }
+fn an_outcome_of_another_leaves_the_doubt(rt: HostRuntime) -> Result<(), NameFault> {
+    let durable = after_outcome(&rt, 4, true)?;
+    assert!(rt; counts(&durable) == (1, 0) && has(&durable, 0, b"10", 0));
+    Ok(())
+}
+
+#[test]
+fn an_abort_ends_the_doubt(rt: HostRuntime) -> Result<(), NameFault> {
+    let durable = after_outcome(&rt, 5, false)?;
+    assert!(rt; counts(&durable) == (0, 0) && has(&durable, 0, b"10", 0));
+    Ok(())
+}
+
+#[test]
+fn a_commit_ends_the_doubt_by_its_writes(rt: HostRuntime) -> Result<(), NameFault> {
+    let durable = after_outcome(&rt, 5, true)?;
+    assert!(rt; counts(&durable) == (0, 0) && has(&durable, 0, b"12", 2));
     Ok(())
 }
 
@@ -123,41 +153,71 @@ fn committed(rt: &HostRuntime, seq: u32, waiting: Sites) -> Result<LogRecord, Na
     })
 }
 
+fn two_sites(rt: &HostRuntime) -> Result<Sites, NameFault> {
+    let mut sites = Sites::new(rt.alloc());
+    sites.push(SiteId::of(2))?;
+    sites.push(SiteId::of(3))?;
+    Ok(sites)
+}
+
+/// Transaction 1 waits for two sites, and transaction 2 for none.
+fn decided(rt: &HostRuntime) -> Result<Durable, NameFault> {
+    let mut durable = durable(rt)?;
+    durable.apply(&committed(rt, 1, two_sites(rt)?)?)?;
+    durable.apply(&committed(rt, 2, Sites::new(rt.alloc()))?)?;
+    Ok(durable)
+}
+
+/// How many decisions wait after the site has acknowledged transaction 1.
+fn left_after(durable: &mut Durable, site: u8) -> Result<usize, NameFault> {
+    durable.apply(&acked(1, site))?;
+    Ok(durable.decisions().as_slice().len())
+}
+
 #[test]
-fn a_decision_goes_with_its_last_site(rt: HostRuntime) -> Result<(), NameFault> {
-    let mut durable = durable(&rt)?;
-    let mut waiting = Sites::new(rt.alloc());
-    waiting.push(SiteId::of(2))?;
-    waiting.push(SiteId::of(3))?;
-    durable.apply(&committed(&rt, 1, waiting)?)?;
-    durable.apply(&committed(&rt, 2, Sites::new(rt.alloc()))?)?;
+fn a_commit_writes_and_waits_for_sites(rt: HostRuntime) -> Result<(), NameFault> {
+    let durable = decided(&rt)?;
     assert!(rt; counts(&durable) == (0, 1) && has(&durable, 2, b"31", 1));
-    let cases: [(u8, usize); 3] = [(2, 1), (2, 1), (3, 0)];
-    for (site, left) in cases {
-        durable.apply(&acked(1, site))?;
-        assert!(rt; counts(&durable) == (0, left));
-    }
     Ok(())
 }
 
 #[test]
-fn a_checkpoint_sets_all_but_the_other_copies(rt: HostRuntime) -> Result<(), NameFault> {
-    let mut durable = durable(&rt)?;
-    durable.apply(&yes(&rt, 5, 1, b"11")?)?;
-    let other = durable.copy_of()?;
+fn a_decision_goes_with_its_last_site(rt: HostRuntime) -> Result<(), NameFault> {
+    let mut durable = decided(&rt)?;
+    assert_eq!(rt; left_after(&mut durable, 2)?, 1);
+    assert_eq!(rt; left_after(&mut durable, 2)?, 1);
+    assert_eq!(rt; left_after(&mut durable, 3)?, 0);
+    Ok(())
+}
+
+/// A checkpoint with a copy of record 2 alone.
+fn checkpoint(rt: &HostRuntime) -> Result<LogRecord, NameFault> {
     let mut copies = Copies::new(rt.alloc());
-    copies.push((RecId::new(2), stored(&rt, b"31", 1)?))?;
-    let entry = LogRecord::Checkpoint {
+    copies.push((RecId::new(2), stored(rt, b"31", 1)?))?;
+    Ok(LogRecord::Checkpoint {
         generation: 1,
         life: 2,
         promise: view(2),
         copies,
         doubts: InDoubt::new(rt.alloc()),
         decisions: Decisions::new(rt.alloc()),
-    };
-    durable.apply(&entry)?;
+    })
+}
+
+#[test]
+fn a_checkpoint_sets_all_but_the_other_copies(rt: HostRuntime) -> Result<(), NameFault> {
+    let mut durable = in_doubt(&rt)?;
+    durable.apply(&checkpoint(&rt)?)?;
     assert!(rt; durable.life() == 2 && counts(&durable) == (0, 0));
     assert!(rt; has(&durable, 0, b"10", 0) && has(&durable, 2, b"31", 1));
-    assert!(rt; other.life() == 0 && counts(&other) == (1, 0));
+    Ok(())
+}
+
+#[test]
+fn a_copy_stays_as_it_was(rt: HostRuntime) -> Result<(), NameFault> {
+    let mut durable = in_doubt(&rt)?;
+    let copy = durable.copy_of()?;
+    durable.apply(&outcome(5, true))?;
+    assert!(rt; counts(&durable) == (0, 0) && counts(&copy) == (1, 0));
     Ok(())
 }

@@ -68,7 +68,4 @@ entries_sites es t h some =
 
 pub entries_whole : (es : List Entry) (t : List ℕ) → Lines es t → 0 < length (all_said es).sites → IsCatalogue (all_said es) × (catalogue_text (all_said es) ≡ t)
 entries_whole es t h some =
-    let p = part es t h in (
-      record { some = some; sites_are = p.sites_are; ports_differ = p.ports_differ; records_are = p.records_are; names_differ = p.names_differ; few = p.few },
-      sym (said_text es t h),
-    )
+    (record { some = some; so_far = part es t h }, sym (said_text es t h))

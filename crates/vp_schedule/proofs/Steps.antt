@@ -4,7 +4,7 @@ use Rattle.std.specs.Prelude.{codes}
 use Rattle.std.proofs.lemmas.Bool.{false≢true}
 use Rattle.vp_text.specs.Documents.{reached, LinesText}
 use Rattle.vp_text.proofs.Exact.{Exact}
-use Rattle.vp_text.proofs.Lists.{IsLine, Readable, SoFar, so_far_start, so_far_shorter, so_far_bad}
+use Rattle.vp_text.proofs.Lists.{IsLine, Readable, SoFar, so_far_start, so_far_exact, so_far_shorter, so_far_bad}
 use Rattle.vp_model.specs.Catalogue.{Catalogue, sites_of}
 use Rattle.vp_catalog.specs.declared.entry.Entry.{Entry}
 use Rattle.vp_catalog.specs.Entries as entries
@@ -12,7 +12,7 @@ use Rattle.vp_catalog.specs.EntryReading.{entry_at}
 use Rattle.vp_schedule.specs.declared.line.Line.{Line}
 use Rattle.vp_schedule.specs.declared.line.Line.TheVariants as kind
 use Rattle.vp_schedule.specs.declared.draft.Draft.{Draft}
-use Rattle.vp_schedule.specs.Drafts.{sites_said, LineText, blank, after, Onward}
+use Rattle.vp_schedule.specs.Drafts.{sites_said, LineText, IsAllowed, blank, after, Onward}
 use Rattle.vp_schedule.specs.LineReading.{line_at}
 use Rattle.vp_catalog.proofs.Steps as catalogue
 use Rattle.vp_schedule.proofs.Catalogues.{entries_exact, entries_line, entries_sites, entries_few}
@@ -121,6 +121,11 @@ stands_bound text rest d line s = s.bound
 
 pub stands_room : (text rest : List ℕ) (d : Draft) (line : ℕ) → Stands text rest d line → (left : ℕ) → line_at d rest ≡ Err left → left ≤ length rest
 stands_room text rest d line s left read = (so_far_bad blank after LineText Onward line_at text rest d line left (readable (length text)) s read).0
+
+pub stands_allowed : (text rest new : List ℕ) (d : Draft) (line : ℕ) (e : Line) → Stands text rest d line → line_at d rest ≡ Ok (e, new) → IsAllowed d e
+stands_allowed text rest new d line e s read =
+    let p = (so_far_exact blank after LineText Onward line_at text rest d line (readable (length text)) s).ok rest e new read in
+    (p.text, p.spelled)
 
 pub stands_shorter : (text rest new : List ℕ) (d : Draft) (line : ℕ) (e : Line) → Stands text rest d line → line_at d rest ≡ Ok (e, new) → length new < length rest
 stands_shorter text rest new d line e s read = so_far_shorter blank after LineText Onward line_at text rest new d line e (readable (length text)) s read

@@ -23,6 +23,10 @@ LineText d (kind.Entry entry) text = (d.opened ≡ false) × entries.EntryText d
 LineText d kind.Events text = (d.opened ≡ false) × (0 < length d.schedule.catalogue.sites) × (text ≡ codes "events\n")
 LineText d (kind.Event event) text = (d.opened ≡ true) × IsEvent (sites_said d) event × (text ≡ event_line event)
 
+-- The line is allowed where the lines before it say so much.
+abbrev pub IsAllowed : Draft → Line → Type 0
+IsAllowed d line = (text : List ℕ) × LineText d line text
+
 -- ---- from line to line
 
 abbrev pub blank : Draft

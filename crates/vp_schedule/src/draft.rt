@@ -1,7 +1,7 @@
 //! What the lines of a schedule say so far.
 
 ghost use Rattle.std.specs.Prelude.{◌≡◌};
-ghost use Rattle.vp_schedule.specs.Drafts.{blank, Adds};
+ghost use Rattle.vp_schedule.specs.Drafts.{blank, IsAllowed, Adds};
 
 use crate::fault::ScheduleFault;
 use crate::line::Line;
@@ -36,6 +36,7 @@ impl Draft {
 
     /// Adds what the line of this number says. After an `Err` nothing is added.
     pub fn add(&mut self, line: Line, number: usize) -> Result<(), ScheduleFault>
+        requires { IsAllowed self.old line }
         ensures { Adds self.old line number self.new result }
     {
         match line {

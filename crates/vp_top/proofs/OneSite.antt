@@ -48,7 +48,7 @@ only_at site (entry ∷ records) h =
 pub alone : (site : ℕ) (s : Schedule) → IsSchedule s → IsServedAt site s → All (IsOnlyAt site) s.catalogue.records
 alone site s h served =
     All-from_recursion (IsOnlyAt site) s.catalogue.records
-    (only_at site s.catalogue.records (subst (λ (sites : List ℕ). AllByRecursion (IsRecord sites) s.catalogue.records) (ap keys served.sites) h.catalogue_is.records_are))
+    (only_at site s.catalogue.records (subst (λ (sites : List ℕ). AllByRecursion (IsRecord sites) s.catalogue.records) (ap keys served.sites) h.catalogue_is.so_far.records_are))
 
 -- the first events are a schedule of one site too
 pub first_served : (id : ℕ) (catalogue : Catalogue) (events : List Event) (n : ℕ) → IsServedAt id (schedule_with catalogue events) → IsServedAt id (schedule_with catalogue (take n events))

@@ -1,6 +1,6 @@
-//! Frames, and why bytes are none.
+//! Frames, which are the datagrams of sites and clients.
 
-use vp_base::{Answer, Call, Message};
+use vp_base::{Answer, Call, CopyOf, Message, NoMemory};
 
 /// A datagram. A message goes from site to site, each a number from 1 to 16. A reply goes from a site to 0, and everything else
 /// from 0 to a site.
@@ -19,4 +19,27 @@ pub enum Body {
     Tick,
     ProbeNow,
     Stop,
+}
+
+impl CopyOf for Frame {
+    fn copy_of(&self) -> Result<Frame, NoMemory> {
+        Ok(Frame {
+            from: self.from,
+            to: self.to,
+            body: self.body.copy_of()?,
+        })
+    }
+}
+
+impl CopyOf for Body {
+    fn copy_of(&self) -> Result<Body, NoMemory> {
+        Ok(match self {
+            Body::Message(message) => Body::Message(message.copy_of()?),
+            Body::Call(call) => Body::Call(call.copy_of()?),
+            Body::Reply(answer) => Body::Reply(answer.copy_of()?),
+            Body::Tick => Body::Tick,
+            Body::ProbeNow => Body::ProbeNow,
+            Body::Stop => Body::Stop,
+        })
+    }
 }

@@ -1,7 +1,7 @@
 use Rattle.std.proofs.Common.{Ok, Err, sym, ◌∙◌}
 use Rattle.std.proofs.lemmas.Result.{err_from_is_err_and}
 use Rattle.vp_schedule.specs.Document.{Answered}
-use Rattle.vp_schedule.proofs.Steps.{stands_few, stands_room, stands_shorter}
+use Rattle.vp_schedule.proofs.Steps.{stands_few, stands_room, stands_allowed, stands_shorter}
 use Rattle.vp_schedule.proofs.Answering.{answered_next, answered_add, answered_end, stands_more}
 use Rattle.vp_schedule.proofs.Only.{only, taken}
 use Rattle.vp_schedule.proofs.document.read.Goals as goal
@@ -12,6 +12,9 @@ next_line-requires-clause-few c = stands_few c.args.text.now c.loop-cursor.curso
 
 pub next_line-requires-clause-room : goal.next_line-requires-clause-room
 next_line-requires-clause-room c = stands_room c.args.text.now c.loop-cursor.cursor c.loop-cursor.draft c.loop-cursor.line c.loop-cursor.invariant
+
+pub add-requires : goal.add-requires
+add-requires c = stands_allowed c.args.text.now c.loop-cursor.cursor c.next_line.new.cursor c.loop-cursor.draft c.loop-cursor.line c.in_ok-next.next c.loop-cursor.invariant c.in_ok-next.ensures
 
 answer_next : (c : After-drop-draft-in_err-next-3) → Answered c.args.text.now (Err c.in_err-next.field-0.0)
 answer_next c = answered_next c.args.text.now c.loop-cursor.cursor c.next_line.new.cursor c.loop-cursor.draft c.loop-cursor.line c.in_err-next.field-0.0 c.loop-cursor.invariant (sym c.owes_line.ensures ∙ c.loop-cursor-test.true) c.in_err-next.ensures

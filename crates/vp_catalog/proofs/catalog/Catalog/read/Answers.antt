@@ -1,6 +1,6 @@
 use Rattle.std.proofs.Common.{Ok, sym}
 use Rattle.std.proofs.lemmas.Result.{err_from_is_err_and}
-use Rattle.vp_catalog.proofs.Steps.{stands_room, stands_shorter, stands_more, answered_next, answered_add, answered_end}
+use Rattle.vp_catalog.proofs.Steps.{stands_room, stands_allowed, stands_shorter, stands_more, answered_next, answered_add, answered_end}
 use Rattle.vp_catalog.proofs.Only.{only}
 use Rattle.vp_catalog.proofs.catalog.Catalog.read.Goals as goal
 
@@ -34,3 +34,6 @@ returns-clause-answer c = answered_end c.args.text.now c.loop-cursor.cursor c.lo
 
 pub returns-clause-only : goal.returns-clause-only
 returns-clause-only c = only c.args.text.now (Ok c.loop-cursor.catalog) (returns-clause-answer c)
+
+pub add-requires : goal.add-requires
+add-requires c = stands_allowed c.args.text.now c.loop-cursor.cursor c.next_entry.new.cursor c.loop-cursor.catalog c.loop-cursor.line c.in_ok-entry.entry c.loop-cursor.invariant c.in_ok-entry.ensures
