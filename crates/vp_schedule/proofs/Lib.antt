@@ -1,6 +1,7 @@
 mod Exact
 mod KindWords
 mod OtherSites
+mod Printed
 mod EventTexts
 mod Newlines
 mod LineTexts

@@ -1,30 +1,33 @@
 //! What a client is told.
 
-ghost use Rattle.std.specs.Prelude.{◌≡◌, ◌++◌, ◌∷◌, [], OnOk, codes};
+ghost use Rattle.std.specs.Prelude.{◌++◌, ◌∷◌, [], codes};
+ghost use Rattle.vp_text.specs.Printing.{Appends};
 ghost use Rattle.std.specs.Fmt.{decimal};
 ghost use Rattle.vp_model.specs.Texts.Answers.{answer_text, numbered_text};
 ghost use Rattle.vp_model.specs.Texts.Fields.{view_text, held_text, txn_text, owner_text};
 
 use crate::fields::{
-    print_call_name, print_count, print_held, print_owner, print_site, print_value, print_word,
+    print_call_name, print_count, print_held, print_owner, print_value, print_word,
 };
 use vp_base::{Answer, CallNo, Name, NoMemory, Owner, SiteId, TxnId, Value, ViewId};
 use vp_text::print_number;
 
+#[tactic(auto, using(vp_text::proofs::Printing::printing))]
 fn print_numbered(
     out: &mut Vec<u8>,
     word: &[u8],
     txn: &TxnId,
     number: CallNo,
 ) -> Result<(), NoMemory>
-    ensures { OnOk result (out.new.items ≡ out.old.items ++ numbered_text word.now txn.now number) }
+    ensures { Appends result out.old.items (numbered_text word.now txn.now number) out.new.items }
 {
     print_word(out, word)?;
     print_call_name(out, txn, number)
 }
 
+#[tactic(auto, using(vp_text::proofs::Printing::printing))]
 fn print_begun(out: &mut Vec<u8>, txn: &TxnId, view: &ViewId) -> Result<(), NoMemory>
-    ensures { OnOk result (out.new.items ≡ out.old.items ++ (codes "begun " ++ (txn_text txn.now ++ 32 ∷ view_text view.now))) }
+    ensures { Appends result out.old.items (codes "begun " ++ (txn_text txn.now ++ 32 ∷ view_text view.now)) out.new.items }
 {
     print_word(out, b"begun ")?;
     txn.print(out)?;
@@ -32,15 +35,17 @@ fn print_begun(out: &mut Vec<u8>, txn: &TxnId, view: &ViewId) -> Result<(), NoMe
     view.print(out)
 }
 
+#[tactic(auto, using(vp_text::proofs::Printing::printing))]
 fn print_view(out: &mut Vec<u8>, word: &[u8], view: &ViewId) -> Result<(), NoMemory>
-    ensures { OnOk result (out.new.items ≡ out.old.items ++ (word.now ++ view_text view.now)) }
+    ensures { Appends result out.old.items (word.now ++ view_text view.now) out.new.items }
 {
     print_word(out, word)?;
     view.print(out)
 }
 
+#[tactic(auto, using(vp_text::proofs::Printing::printing))]
 fn print_weights(out: &mut Vec<u8>, name: &Name, inside: u32, total: u32) -> Result<(), NoMemory>
-    ensures { OnOk result (out.new.items ≡ out.old.items ++ 32 ∷ (name.now ++ 32 ∷ (decimal inside ++ (codes " of " ++ decimal total)))) }
+    ensures { Appends result out.old.items (32 ∷ (name.now ++ 32 ∷ (decimal inside ++ (codes " of " ++ decimal total)))) out.new.items }
 {
     out.push(b' ')?;
     name.print(out)?;
@@ -51,6 +56,7 @@ fn print_weights(out: &mut Vec<u8>, name: &Name, inside: u32, total: u32) -> Res
 }
 
 /// Appends the weights of a record that may not be used.
+#[tactic(auto, using(vp_text::proofs::Printing::printing))]
 fn print_inaccessible(
     out: &mut Vec<u8>,
     txn: &TxnId,
@@ -59,14 +65,14 @@ fn print_inaccessible(
     inside: u32,
     total: u32,
 ) -> Result<(), NoMemory>
-    ensures { OnOk result (out.new.items ≡ out.old.items
-        ++ (numbered_text (codes "inaccessible ") txn.now number ++ 32 ∷ (name.now ++ 32 ∷ (decimal inside ++ (codes " of " ++ decimal total))))) }
+    ensures { Appends result out.old.items (numbered_text (codes "inaccessible ") txn.now number ++ 32 ∷ (name.now ++ 32 ∷ (decimal inside ++ (codes " of " ++ decimal total)))) out.new.items }
 {
     print_numbered(out, b"inaccessible ", txn, number)?;
     print_weights(out, name, inside, total)
 }
 
 /// Appends who has the lock, and where.
+#[tactic(auto, using(vp_text::proofs::Printing::printing))]
 fn print_lock_held(
     out: &mut Vec<u8>,
     txn: &TxnId,
@@ -75,29 +81,28 @@ fn print_lock_held(
     at: SiteId,
     owner: &Owner,
 ) -> Result<(), NoMemory>
-    ensures { OnOk result (out.new.items ≡ out.old.items
-        ++ (numbered_text (codes "lockheld ") txn.now number ++ 32 ∷ (name.now ++ (codes " at " ++ (decimal at ++ (codes " by " ++ owner_text owner.now)))))) }
+    ensures { Appends result out.old.items (numbered_text (codes "lockheld ") txn.now number ++ 32 ∷ (name.now ++ (codes " at " ++ (decimal at ++ (codes " by " ++ owner_text owner.now))))) out.new.items }
 {
     print_numbered(out, b"lockheld ", txn, number)?;
     out.push(b' ')?;
     name.print(out)?;
     print_word(out, b" at ")?;
-    print_site(out, at)?;
+    at.print(out)?;
     print_word(out, b" by ")?;
     print_owner(out, owner)
 }
 
+#[tactic(auto, using(vp_text::proofs::Printing::printing))]
 fn print_change(
     out: &mut Vec<u8>,
     at: SiteId,
     held: &ViewId,
     now: &Option<ViewId>,
 ) -> Result<(), NoMemory>
-    ensures { OnOk result (out.new.items ≡ out.old.items
-        ++ (codes " at " ++ (decimal at ++ (codes " held " ++ (view_text held.now ++ (codes " now " ++ held_text now.now)))))) }
+    ensures { Appends result out.old.items (codes " at " ++ (decimal at ++ (codes " held " ++ (view_text held.now ++ (codes " now " ++ held_text now.now))))) out.new.items }
 {
     print_word(out, b" at ")?;
-    print_site(out, at)?;
+    at.print(out)?;
     print_word(out, b" held ")?;
     held.print(out)?;
     print_word(out, b" now ")?;
@@ -105,6 +110,7 @@ fn print_change(
 }
 
 /// Appends which view a site held in place of the transaction's.
+#[tactic(auto, using(vp_text::proofs::Printing::printing))]
 fn print_view_changed(
     out: &mut Vec<u8>,
     txn: &TxnId,
@@ -113,50 +119,54 @@ fn print_view_changed(
     held: &ViewId,
     now: &Option<ViewId>,
 ) -> Result<(), NoMemory>
-    ensures { OnOk result (out.new.items ≡ out.old.items
-        ++ (numbered_text (codes "viewchanged ") txn.now number ++ (codes " at " ++ (decimal at ++ (codes " held " ++ (view_text held.now ++ (codes " now " ++ held_text now.now))))))) }
+    ensures { Appends result out.old.items (numbered_text (codes "viewchanged ") txn.now number ++ (codes " at " ++ (decimal at ++ (codes " held " ++ (view_text held.now ++ (codes " now " ++ held_text now.now)))))) out.new.items }
 {
     print_numbered(out, b"viewchanged ", txn, number)?;
     print_change(out, at, held, now)
 }
 
+#[tactic(auto, using(vp_text::proofs::Printing::printing))]
 fn print_timed_out(
     out: &mut Vec<u8>,
     txn: &TxnId,
     number: CallNo,
     at: SiteId,
 ) -> Result<(), NoMemory>
-    ensures { OnOk result (out.new.items ≡ out.old.items ++ (numbered_text (codes "timedout ") txn.now number ++ (codes " at " ++ decimal at))) }
+    ensures { Appends result out.old.items (numbered_text (codes "timedout ") txn.now number ++ (codes " at " ++ decimal at)) out.new.items }
 {
     print_numbered(out, b"timedout ", txn, number)?;
     print_word(out, b" at ")?;
-    print_site(out, at)
+    at.print(out)
 }
 
+#[tactic(auto, using(vp_text::proofs::Printing::printing))]
 fn print_read(out: &mut Vec<u8>, txn: &TxnId, number: CallNo, value: &Value) -> Result<(), NoMemory>
-    ensures { OnOk result (out.new.items ≡ out.old.items ++ (numbered_text (codes "value ") txn.now number ++ 32 ∷ value.now)) }
+    ensures { Appends result out.old.items (numbered_text (codes "value ") txn.now number ++ 32 ∷ value.now) out.new.items }
 {
     print_numbered(out, b"value ", txn, number)?;
     print_value(out, value)
 }
 
+#[tactic(auto, using(vp_text::proofs::Printing::printing))]
 fn print_unknown(out: &mut Vec<u8>, txn: &TxnId) -> Result<(), NoMemory>
-    ensures { OnOk result (out.new.items ≡ out.old.items ++ (codes "unknown " ++ txn_text txn.now)) }
+    ensures { Appends result out.old.items (codes "unknown " ++ txn_text txn.now) out.new.items }
 {
     print_word(out, b"unknown ")?;
     txn.print(out)
 }
 
+#[tactic(auto, using(vp_text::proofs::Printing::printing))]
 fn print_spent(out: &mut Vec<u8>, number: u64) -> Result<(), NoMemory>
-    ensures { OnOk result (out.new.items ≡ out.old.items ++ (codes "spent " ++ decimal number)) }
+    ensures { Appends result out.old.items (codes "spent " ++ decimal number) out.new.items }
 {
     print_word(out, b"spent ")?;
     print_number(out, number)?;
     Ok(())
 }
 
+#[tactic(auto, using(vp_text::proofs::Printing::printing))]
 fn print_skipped(out: &mut Vec<u8>, txn: &TxnId, expected: CallNo) -> Result<(), NoMemory>
-    ensures { OnOk result (out.new.items ≡ out.old.items ++ (codes "skipped " ++ (txn_text txn.now ++ (codes " expected " ++ decimal expected)))) }
+    ensures { Appends result out.old.items (codes "skipped " ++ (txn_text txn.now ++ (codes " expected " ++ decimal expected))) out.new.items }
 {
     print_word(out, b"skipped ")?;
     txn.print(out)?;
@@ -164,9 +174,10 @@ fn print_skipped(out: &mut Vec<u8>, txn: &TxnId, expected: CallNo) -> Result<(),
     print_count(out, expected.get())
 }
 
-/// Appends an answer's text. Without memory a prefix of it may have been appended.
+/// Appends an answer's text. Without memory only a beginning of it may stand there.
+#[tactic(auto, using(vp_text::proofs::Printing::printing))]
 pub fn print_answer(answer: &Answer, out: &mut Vec<u8>) -> Result<(), NoMemory>
-    ensures { OnOk result (out.new.items ≡ out.old.items ++ answer_text answer.now) }
+    ensures { Appends result out.old.items (answer_text answer.now) out.new.items }
 {
     match answer {
         Answer::Begun { txn, view } => print_begun(out, txn, view),

@@ -1,36 +1,29 @@
 //! Calls and events, as a schedule writes them.
 
-ghost use Rattle.std.specs.Prelude.{◌≡◌, ◌++◌, ◌∷◌, [], OnOk, codes};
+ghost use Rattle.std.specs.Prelude.{◌++◌, ◌∷◌, [], codes};
+ghost use Rattle.vp_text.specs.Printing.{Appends};
 ghost use Rattle.std.specs.Fmt.{decimal};
 ghost use Rattle.vp_model.specs.Texts.Calls.{call_text, event_text, pair_text};
+ghost use Rattle.vp_model.specs.Texts.Fields.{call_name_text};
 
-use crate::fields::{print_call_name, print_count, print_site, print_word};
-use vp_base::{Call, Event, NoMemory, SiteId};
+use crate::fields::{print_call_name, print_count, print_word};
+use vp_base::{Call, CallNo, Event, Name, NoMemory, SiteId, TxnId, Value};
 
-/// Appends a call as it stands behind the site. Without memory a prefix of it may have been appended.
+/// Appends a call as it stands behind the site. Without memory only a beginning of it may stand there.
+#[tactic(auto, using(vp_text::proofs::Printing::printing))]
 pub fn print_call(call: &Call, out: &mut Vec<u8>) -> Result<(), NoMemory>
-    ensures { OnOk result (out.new.items ≡ out.old.items ++ call_text call.now) }
+    ensures { Appends result out.old.items (call_text call.now) out.new.items }
 {
     match call {
         Call::Begin => print_word(out, b"begin"),
         Call::Regroup => print_word(out, b"regroup"),
-        Call::Read { txn, number, name } => {
-            print_call_name(out, txn, *number)?;
-            print_word(out, b" read ")?;
-            name.print(out)
-        }
+        Call::Read { txn, number, name } => print_read(out, txn, *number, name),
         Call::Write {
             txn,
             number,
             name,
             value,
-        } => {
-            print_call_name(out, txn, *number)?;
-            print_word(out, b" write ")?;
-            name.print(out)?;
-            out.push(b' ')?;
-            value.print(out)
-        }
+        } => print_write(out, txn, *number, name, value),
         Call::Commit { txn, number } => {
             print_call_name(out, txn, *number)?;
             print_word(out, b" commit")
@@ -42,31 +35,61 @@ pub fn print_call(call: &Call, out: &mut Vec<u8>) -> Result<(), NoMemory>
     }
 }
 
-fn print_at(out: &mut Vec<u8>, word: &[u8], site: SiteId) -> Result<(), NoMemory>
-    ensures { OnOk result (out.new.items ≡ out.old.items ++ (word.now ++ decimal site)) }
+#[tactic(auto, using(vp_text::proofs::Printing::printing))]
+fn print_read(out: &mut Vec<u8>, txn: &TxnId, number: CallNo, name: &Name) -> Result<(), NoMemory>
+    ensures { Appends result out.old.items (call_name_text txn.now number ++ (codes " read " ++ name.now)) out.new.items }
 {
-    print_word(out, word)?;
-    print_site(out, site)
+    print_call_name(out, txn, number)?;
+    print_word(out, b" read ")?;
+    name.print(out)
 }
 
-fn print_pair(out: &mut Vec<u8>, word: &[u8], a: SiteId, b: SiteId) -> Result<(), NoMemory>
-    ensures { OnOk result (out.new.items ≡ out.old.items ++ pair_text word.now a b) }
+#[tactic(auto, using(vp_text::proofs::Printing::printing))]
+fn print_write(
+    out: &mut Vec<u8>,
+    txn: &TxnId,
+    number: CallNo,
+    name: &Name,
+    value: &Value,
+) -> Result<(), NoMemory>
+    ensures { Appends result out.old.items (call_name_text txn.now number ++ (codes " write " ++ (name.now ++ 32 ∷ value.now))) out.new.items }
 {
-    print_word(out, word)?;
-    print_site(out, a)?;
+    print_call_name(out, txn, number)?;
+    print_word(out, b" write ")?;
+    name.print(out)?;
     out.push(b' ')?;
-    print_site(out, b)
+    value.print(out)
 }
 
+#[tactic(auto, using(vp_text::proofs::Printing::printing))]
+fn print_at(out: &mut Vec<u8>, word: &[u8], site: SiteId) -> Result<(), NoMemory>
+    ensures { Appends result out.old.items (word.now ++ decimal site) out.new.items }
+{
+    print_word(out, word)?;
+    site.print(out)
+}
+
+#[tactic(auto, using(vp_text::proofs::Printing::printing))]
+fn print_pair(out: &mut Vec<u8>, word: &[u8], a: SiteId, b: SiteId) -> Result<(), NoMemory>
+    ensures { Appends result out.old.items (pair_text word.now a b) out.new.items }
+{
+    print_word(out, word)?;
+    a.print(out)?;
+    out.push(b' ')?;
+    b.print(out)
+}
+
+#[tactic(auto, using(vp_text::proofs::Printing::printing))]
 fn print_counted(out: &mut Vec<u8>, word: &[u8], count: u32) -> Result<(), NoMemory>
-    ensures { OnOk result (out.new.items ≡ out.old.items ++ (word.now ++ decimal count)) }
+    ensures { Appends result out.old.items (word.now ++ decimal count) out.new.items }
 {
     print_word(out, word)?;
     print_count(out, count)
 }
 
+#[tactic(auto, using(vp_text::proofs::Printing::printing))]
 fn print_called(out: &mut Vec<u8>, site: SiteId, call: &Call) -> Result<(), NoMemory>
-    ensures { OnOk result (out.new.items ≡ out.old.items ++ (codes "call " ++ (decimal site ++ 32 ∷ call_text call.now))) }
+    ensures { Appends result out.old.items (codes "call " ++ (decimal site ++ 32 ∷ call_text call.now)) out.new.items }
 {
     print_at(out, b"call ", site)?;
     out.push(b' ')?;
@@ -74,8 +97,9 @@ fn print_called(out: &mut Vec<u8>, site: SiteId, call: &Call) -> Result<(), NoMe
 }
 
 /// Appends an event as a schedule writes it, without the end of its line.
+#[tactic(auto, using(vp_text::proofs::Printing::printing))]
 pub fn print_event(event: &Event, out: &mut Vec<u8>) -> Result<(), NoMemory>
-    ensures { OnOk result (out.new.items ≡ out.old.items ++ event_text event.now) }
+    ensures { Appends result out.old.items (event_text event.now) out.new.items }
 {
     match event {
         Event::Call { site, call } => print_called(out, *site, call),

@@ -1,6 +1,7 @@
 //! Single fields of a line.
 
-ghost use Rattle.std.specs.Prelude.{◌≡◌, ◌++◌, ◌∷◌, [], OnOk, codes, flat_map};
+ghost use Rattle.std.specs.Prelude.{◌≡◌, ◌++◌, ◌∷◌, [], OnOk, OnErr, codes, flat_map};
+ghost use Rattle.vp_text.specs.Printing.{Appends};
 ghost use Rattle.std.specs.Fmt.{decimal};
 ghost use Rattle.vp_model.specs.Catalogue.{name_of};
 ghost use Rattle.vp_model.specs.Texts.Fields.{held_text, owner_text, call_name_text, sites_text, later_site_text};
@@ -9,31 +10,28 @@ use vp_base::{CallNo, NoMemory, Owner, RecId, SiteId, TxnId, Value, ViewId};
 use vp_catalog::Catalog;
 use vp_text::print_number;
 
-/// Appends given bytes.
+/// Appends given bytes. Without memory none of them.
 pub fn print_word(out: &mut Vec<u8>, word: &[u8]) -> Result<(), NoMemory>
-    ensures { OnOk result (out.new.items ≡ out.old.items ++ word.now) }
+    ensures ok { OnOk result (out.new.items ≡ out.old.items ++ word.now) }
+    ensures err { OnErr result (out.new.items ≡ out.old.items) }
 {
     out.extend_from_slice(word)?;
     Ok(())
 }
 
+/// Appends a number. Without memory nothing of it.
 pub fn print_count(out: &mut Vec<u8>, number: u32) -> Result<(), NoMemory>
-    ensures { OnOk result (out.new.items ≡ out.old.items ++ decimal number) }
+    ensures ok { OnOk result (out.new.items ≡ out.old.items ++ decimal number) }
+    ensures err { OnErr result (out.new.items ≡ out.old.items) }
 {
     print_number(out, u64::from(number))?;
     Ok(())
 }
 
-pub fn print_site(out: &mut Vec<u8>, site: SiteId) -> Result<(), NoMemory>
-    ensures { OnOk result (out.new.items ≡ out.old.items ++ decimal site) }
-{
-    print_number(out, u64::from(site.get()))?;
-    Ok(())
-}
-
 /// Appends the view that a site holds, or that it holds none.
+#[tactic(auto, using(vp_text::proofs::Printing::printing))]
 pub fn print_held(out: &mut Vec<u8>, held: &Option<ViewId>) -> Result<(), NoMemory>
-    ensures { OnOk result (out.new.items ≡ out.old.items ++ held_text held.now) }
+    ensures { Appends result out.old.items (held_text held.now) out.new.items }
 {
     match held {
         None => print_word(out, b"none"),
@@ -41,8 +39,9 @@ pub fn print_held(out: &mut Vec<u8>, held: &Option<ViewId>) -> Result<(), NoMemo
     }
 }
 
+#[tactic(auto, using(vp_text::proofs::Printing::printing))]
 pub fn print_owner(out: &mut Vec<u8>, owner: &Owner) -> Result<(), NoMemory>
-    ensures { OnOk result (out.new.items ≡ out.old.items ++ owner_text owner.now) }
+    ensures { Appends result out.old.items (owner_text owner.now) out.new.items }
 {
     match owner {
         Owner::Txn(txn) => txn.print(out),
@@ -51,8 +50,9 @@ pub fn print_owner(out: &mut Vec<u8>, owner: &Owner) -> Result<(), NoMemory>
 }
 
 /// Appends a transaction and the number of one of its calls.
+#[tactic(auto, using(vp_text::proofs::Printing::printing))]
 pub fn print_call_name(out: &mut Vec<u8>, txn: &TxnId, number: CallNo) -> Result<(), NoMemory>
-    ensures { OnOk result (out.new.items ≡ out.old.items ++ call_name_text txn.now number) }
+    ensures { Appends result out.old.items (call_name_text txn.now number) out.new.items }
 {
     txn.print(out)?;
     out.push(b' ')?;
@@ -60,47 +60,52 @@ pub fn print_call_name(out: &mut Vec<u8>, txn: &TxnId, number: CallNo) -> Result
 }
 
 /// Appends the sites with commas between them.
+#[tactic(auto, using(vp_text::proofs::Printing::printing))]
 pub fn print_sites(out: &mut Vec<u8>, sites: &[SiteId]) -> Result<(), NoMemory>
-    ensures { OnOk result (out.new.items ≡ out.old.items ++ sites_text sites.now) }
+    ensures { Appends result out.old.items (sites_text sites.now) out.new.items }
 {
     match sites.split_first() {
         None => Ok(()),
         Some((first, others)) => {
-            print_site(out, *first)?;
+            first.print(out)?;
             print_later_sites(out, others)
         }
     }
 }
 
+#[tactic(auto, using(vp_text::proofs::Printing::printing))]
 fn print_later_sites(out: &mut Vec<u8>, sites: &[SiteId]) -> Result<(), NoMemory>
-    ensures { OnOk result (out.new.items ≡ out.old.items ++ flat_map later_site_text sites.now) }
+    ensures { Appends result out.old.items (flat_map later_site_text sites.now) out.new.items }
 {
     for site in sites {
         out.push(b',')?;
-        print_site(out, *site)?;
+        site.print(out)?;
     }
     Ok(())
 }
 
 /// Appends a blank and a value.
+#[tactic(auto, using(vp_text::proofs::Printing::printing))]
 pub fn print_value(out: &mut Vec<u8>, value: &Value) -> Result<(), NoMemory>
-    ensures { OnOk result (out.new.items ≡ out.old.items ++ 32 ∷ value.now) }
+    ensures { Appends result out.old.items (32 ∷ value.now) out.new.items }
 {
     out.push(b' ')?;
     value.print(out)
 }
 
 /// Appends a blank and the name of a record; the blank alone where the catalogue has no record at that place.
+#[tactic(auto, using(vp_text::proofs::Printing::printing))]
 pub fn print_record_behind(out: &mut Vec<u8>, catalog: &Catalog, rec: RecId) -> Result<(), NoMemory>
-    ensures { OnOk result (out.new.items ≡ out.old.items ++ 32 ∷ name_of catalog.now rec) }
+    ensures { Appends result out.old.items (32 ∷ name_of catalog.now rec) out.new.items }
 {
     out.push(b' ')?;
     print_record(out, catalog, rec)
 }
 
 /// Appends the name of a record; nothing where the catalogue has no record at that place.
+#[tactic(auto, using(vp_text::proofs::Printing::printing))]
 pub fn print_record(out: &mut Vec<u8>, catalog: &Catalog, rec: RecId) -> Result<(), NoMemory>
-    ensures { OnOk result (out.new.items ≡ out.old.items ++ name_of catalog.now rec) }
+    ensures { Appends result out.old.items (name_of catalog.now rec) out.new.items }
 {
     match catalog.name(rec) {
         None => Ok(()),

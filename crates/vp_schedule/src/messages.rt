@@ -1,6 +1,7 @@
 //! Messages, as a trace shows them.
 
-ghost use Rattle.std.specs.Prelude.{◌≡◌, ◌++◌, ◌∷◌, [], OnOk, codes, flat_map};
+ghost use Rattle.std.specs.Prelude.{◌++◌, ◌∷◌, [], codes, flat_map};
+ghost use Rattle.vp_text.specs.Printing.{Appends};
 ghost use Rattle.std.specs.Fmt.{decimal};
 ghost use Rattle.vp_model.specs.Catalogue.{name_of};
 ghost use Rattle.vp_model.specs.Texts.Fields.{view_text, txn_text, call_name_text, sites_text};
@@ -13,48 +14,54 @@ use crate::fields::{
 use vp_base::{CallNo, Message, NoMemory, Obstacle, RecId, SiteId, Stored, TxnId, Value, ViewId};
 use vp_catalog::Catalog;
 
+#[tactic(auto, using(vp_text::proofs::Printing::printing))]
 fn print_view(out: &mut Vec<u8>, word: &[u8], view: &ViewId) -> Result<(), NoMemory>
-    ensures { OnOk result (out.new.items ≡ out.old.items ++ (word.now ++ view_text view.now)) }
+    ensures { Appends result out.old.items (word.now ++ view_text view.now) out.new.items }
 {
     print_word(out, word)?;
     view.print(out)
 }
 
+#[tactic(auto, using(vp_text::proofs::Printing::printing))]
 fn print_two_views(out: &mut Vec<u8>, word: &[u8], a: &ViewId, b: &ViewId) -> Result<(), NoMemory>
-    ensures { OnOk result (out.new.items ≡ out.old.items ++ (word.now ++ (view_text a.now ++ 32 ∷ view_text b.now))) }
+    ensures { Appends result out.old.items (word.now ++ (view_text a.now ++ 32 ∷ view_text b.now)) out.new.items }
 {
     print_view(out, word, a)?;
     out.push(b' ')?;
     b.print(out)
 }
 
+#[tactic(auto, using(vp_text::proofs::Printing::printing))]
 fn print_members(out: &mut Vec<u8>, id: &ViewId, members: &[SiteId]) -> Result<(), NoMemory>
-    ensures { OnOk result (out.new.items ≡ out.old.items ++ (codes "view " ++ (view_text id.now ++ 32 ∷ sites_text members.now))) }
+    ensures { Appends result out.old.items (codes "view " ++ (view_text id.now ++ 32 ∷ sites_text members.now)) out.new.items }
 {
     print_view(out, b"view ", id)?;
     out.push(b' ')?;
     print_sites(out, members)
 }
 
+#[tactic(auto, using(vp_text::proofs::Printing::printing))]
 fn print_txn(out: &mut Vec<u8>, word: &[u8], txn: &TxnId) -> Result<(), NoMemory>
-    ensures { OnOk result (out.new.items ≡ out.old.items ++ (word.now ++ txn_text txn.now)) }
+    ensures { Appends result out.old.items (word.now ++ txn_text txn.now) out.new.items }
 {
     print_word(out, word)?;
     txn.print(out)
 }
 
+#[tactic(auto, using(vp_text::proofs::Printing::printing))]
 fn print_numbered(
     out: &mut Vec<u8>,
     word: &[u8],
     txn: &TxnId,
     number: CallNo,
 ) -> Result<(), NoMemory>
-    ensures { OnOk result (out.new.items ≡ out.old.items ++ (word.now ++ call_name_text txn.now number)) }
+    ensures { Appends result out.old.items (word.now ++ call_name_text txn.now number) out.new.items }
 {
     print_word(out, word)?;
     print_call_name(out, txn, number)
 }
 
+#[tactic(auto, using(vp_text::proofs::Printing::printing))]
 fn print_request(
     out: &mut Vec<u8>,
     word: &[u8],
@@ -62,15 +69,17 @@ fn print_request(
     view: &ViewId,
     number: CallNo,
 ) -> Result<(), NoMemory>
-    ensures { OnOk result (out.new.items ≡ out.old.items ++ request_text word.now txn.now view.now number) }
+    ensures { Appends result out.old.items (request_text word.now txn.now view.now number) out.new.items }
 {
-    print_txn(out, word, txn)?;
+    print_word(out, word)?;
+    txn.print(out)?;
     out.push(b' ')?;
     view.print(out)?;
     out.push(b' ')?;
     print_count(out, number.get())
 }
 
+#[tactic(auto, using(vp_text::proofs::Printing::printing))]
 fn print_read_request(
     out: &mut Vec<u8>,
     catalog: &Catalog,
@@ -79,11 +88,12 @@ fn print_read_request(
     number: CallNo,
     rec: RecId,
 ) -> Result<(), NoMemory>
-    ensures { OnOk result (out.new.items ≡ out.old.items ++ (request_text (codes "read-request ") txn.now view.now number ++ 32 ∷ name_of catalog.now rec)) }
+    ensures { Appends result out.old.items (request_text (codes "read-request ") txn.now view.now number ++ 32 ∷ name_of catalog.now rec) out.new.items }
 {
     print_lock_request(out, catalog, b"read-request ", txn, view, number, rec)
 }
 
+#[tactic(auto, using(vp_text::proofs::Printing::printing))]
 fn print_write_request(
     out: &mut Vec<u8>,
     catalog: &Catalog,
@@ -92,11 +102,12 @@ fn print_write_request(
     number: CallNo,
     rec: RecId,
 ) -> Result<(), NoMemory>
-    ensures { OnOk result (out.new.items ≡ out.old.items ++ (request_text (codes "write-request ") txn.now view.now number ++ 32 ∷ name_of catalog.now rec)) }
+    ensures { Appends result out.old.items (request_text (codes "write-request ") txn.now view.now number ++ 32 ∷ name_of catalog.now rec) out.new.items }
 {
     print_lock_request(out, catalog, b"write-request ", txn, view, number, rec)
 }
 
+#[tactic(auto, using(vp_text::proofs::Printing::printing))]
 fn print_lock_request(
     out: &mut Vec<u8>,
     catalog: &Catalog,
@@ -106,26 +117,28 @@ fn print_lock_request(
     number: CallNo,
     rec: RecId,
 ) -> Result<(), NoMemory>
-    ensures { OnOk result (out.new.items ≡ out.old.items ++ (request_text word.now txn.now view.now number ++ 32 ∷ name_of catalog.now rec)) }
+    ensures { Appends result out.old.items (request_text word.now txn.now view.now number ++ 32 ∷ name_of catalog.now rec) out.new.items }
 {
     print_request(out, word, txn, view, number)?;
     print_record_behind(out, catalog, rec)
 }
 
+#[tactic(auto, using(vp_text::proofs::Printing::printing))]
 fn print_read_answer(
     out: &mut Vec<u8>,
     txn: &TxnId,
     number: CallNo,
     value: &Value,
 ) -> Result<(), NoMemory>
-    ensures { OnOk result (out.new.items ≡ out.old.items ++ (codes "read-answer " ++ (call_name_text txn.now number ++ 32 ∷ value.now))) }
+    ensures { Appends result out.old.items (codes "read-answer " ++ (call_name_text txn.now number ++ 32 ∷ value.now)) out.new.items }
 {
     print_numbered(out, b"read-answer ", txn, number)?;
     print_value(out, value)
 }
 
+#[tactic(auto, using(vp_text::proofs::Printing::printing))]
 fn print_obstacle(out: &mut Vec<u8>, why: &Obstacle) -> Result<(), NoMemory>
-    ensures { OnOk result (out.new.items ≡ out.old.items ++ obstacle_text why.now) }
+    ensures { Appends result out.old.items (obstacle_text why.now) out.new.items }
 {
     match why {
         Obstacle::Held { owner } => {
@@ -139,21 +152,23 @@ fn print_obstacle(out: &mut Vec<u8>, why: &Obstacle) -> Result<(), NoMemory>
     }
 }
 
+#[tactic(auto, using(vp_text::proofs::Printing::printing))]
 fn print_refuse(
     out: &mut Vec<u8>,
     txn: &TxnId,
     number: CallNo,
     why: &Obstacle,
 ) -> Result<(), NoMemory>
-    ensures { OnOk result (out.new.items ≡ out.old.items ++ (codes "refuse " ++ (call_name_text txn.now number ++ 32 ∷ obstacle_text why.now))) }
+    ensures { Appends result out.old.items (codes "refuse " ++ (call_name_text txn.now number ++ 32 ∷ obstacle_text why.now)) out.new.items }
 {
     print_numbered(out, b"refuse ", txn, number)?;
     out.push(b' ')?;
     print_obstacle(out, why)
 }
 
+#[tactic(auto, using(vp_text::proofs::Printing::printing))]
 fn print_reads(out: &mut Vec<u8>, catalog: &Catalog, reads: &[RecId]) -> Result<(), NoMemory>
-    ensures { OnOk result (out.new.items ≡ out.old.items ++ flat_map (read_text catalog.now) reads.now) }
+    ensures { Appends result out.old.items (flat_map (read_text catalog.now) reads.now) out.new.items }
 {
     for rec in reads {
         print_word(out, b" r ")?;
@@ -162,12 +177,13 @@ fn print_reads(out: &mut Vec<u8>, catalog: &Catalog, reads: &[RecId]) -> Result<
     Ok(())
 }
 
+#[tactic(auto, using(vp_text::proofs::Printing::printing))]
 fn print_writes(
     out: &mut Vec<u8>,
     catalog: &Catalog,
     writes: &[(RecId, Value)],
 ) -> Result<(), NoMemory>
-    ensures { OnOk result (out.new.items ≡ out.old.items ++ flat_map (write_text catalog.now) writes.now) }
+    ensures { Appends result out.old.items (flat_map (write_text catalog.now) writes.now) out.new.items }
 {
     for write in writes {
         print_word(out, b" w ")?;
@@ -177,10 +193,18 @@ fn print_writes(
     Ok(())
 }
 
+#[tactic(auto, using(vp_text::proofs::Printing::printing))]
 fn print_outcome(out: &mut Vec<u8>, txn: &TxnId, commit: bool) -> Result<(), NoMemory>
-    ensures { OnOk result (out.new.items ≡ out.old.items ++ (codes "outcome " ++ (txn_text txn.now ++ outcome_text commit))) }
+    ensures { Appends result out.old.items (codes "outcome " ++ (txn_text txn.now ++ outcome_text commit)) out.new.items }
 {
     print_txn(out, b"outcome ", txn)?;
+    print_decided(out, commit)
+}
+
+#[tactic(auto, using(vp_text::proofs::Printing::printing))]
+fn print_decided(out: &mut Vec<u8>, commit: bool) -> Result<(), NoMemory>
+    ensures { Appends result out.old.items (outcome_text commit) out.new.items }
+{
     if commit {
         print_word(out, b" commit")
     } else {
@@ -188,32 +212,35 @@ fn print_outcome(out: &mut Vec<u8>, txn: &TxnId, commit: bool) -> Result<(), NoM
     }
 }
 
+#[tactic(auto, using(vp_text::proofs::Printing::printing))]
 fn print_refresh_key(out: &mut Vec<u8>) -> Result<(), NoMemory>
-    ensures { OnOk result (out.new.items ≡ out.old.items ++ codes "refresh-request ") }
+    ensures { Appends result out.old.items (codes "refresh-request ") out.new.items }
 {
     print_word(out, b"refresh-request ")
 }
 
+#[tactic(auto, using(vp_text::proofs::Printing::printing))]
 fn print_refresh_request(
     out: &mut Vec<u8>,
     catalog: &Catalog,
     view: &ViewId,
     rec: RecId,
 ) -> Result<(), NoMemory>
-    ensures { OnOk result (out.new.items ≡ out.old.items ++ (codes "refresh-request " ++ (view_text view.now ++ 32 ∷ name_of catalog.now rec))) }
+    ensures { Appends result out.old.items (codes "refresh-request " ++ (view_text view.now ++ 32 ∷ name_of catalog.now rec)) out.new.items }
 {
     print_refresh_key(out)?;
     view.print(out)?;
     print_record_behind(out, catalog, rec)
 }
 
+#[tactic(auto, using(vp_text::proofs::Printing::printing))]
 fn print_copy(
     out: &mut Vec<u8>,
     catalog: &Catalog,
     rec: RecId,
     stored: &Stored,
 ) -> Result<(), NoMemory>
-    ensures { OnOk result (out.new.items ≡ out.old.items ++ 32 ∷ (name_of catalog.now rec ++ 32 ∷ (stored.now.value ++ 32 ∷ view_text stored.now.date))) }
+    ensures { Appends result out.old.items (32 ∷ (name_of catalog.now rec ++ 32 ∷ (stored.now.value ++ 32 ∷ view_text stored.now.date))) out.new.items }
 {
     print_record_behind(out, catalog, rec)?;
     print_value(out, &stored.value)?;
@@ -221,6 +248,7 @@ fn print_copy(
     stored.date.print(out)
 }
 
+#[tactic(auto, using(vp_text::proofs::Printing::printing))]
 fn print_refresh_answer(
     out: &mut Vec<u8>,
     catalog: &Catalog,
@@ -228,13 +256,13 @@ fn print_refresh_answer(
     rec: RecId,
     stored: &Stored,
 ) -> Result<(), NoMemory>
-    ensures { OnOk result (out.new.items ≡ out.old.items
-        ++ (codes "refresh-answer " ++ (view_text view.now ++ 32 ∷ (name_of catalog.now rec ++ 32 ∷ (stored.now.value ++ 32 ∷ view_text stored.now.date))))) }
+    ensures { Appends result out.old.items (codes "refresh-answer " ++ (view_text view.now ++ 32 ∷ (name_of catalog.now rec ++ 32 ∷ (stored.now.value ++ 32 ∷ view_text stored.now.date)))) out.new.items }
 {
     print_view(out, b"refresh-answer ", view)?;
     print_copy(out, catalog, rec, stored)
 }
 
+#[tactic(auto, using(vp_text::proofs::Printing::printing))]
 fn print_prepare(
     out: &mut Vec<u8>,
     catalog: &Catalog,
@@ -244,22 +272,21 @@ fn print_prepare(
     reads: &[RecId],
     writes: &[(RecId, Value)],
 ) -> Result<(), NoMemory>
-    ensures { OnOk result (out.new.items ≡ out.old.items
-        ++ (request_text (codes "prepare ") txn.now view.now number
-        ++ (flat_map (read_text catalog.now) reads.now ++ flat_map (write_text catalog.now) writes.now))) }
+    ensures { Appends result out.old.items (request_text (codes "prepare ") txn.now view.now number ++ (flat_map (read_text catalog.now) reads.now ++ flat_map (write_text catalog.now) writes.now)) out.new.items }
 {
     print_request(out, b"prepare ", txn, view, number)?;
     print_reads(out, catalog, reads)?;
     print_writes(out, catalog, writes)
 }
 
-/// Appends a message as a trace shows it, with its records by name. Without memory a prefix of it may have been appended.
+/// Appends a message as a trace shows it, with its records by name. Without memory only a beginning of it may stand there.
+#[tactic(auto, using(vp_text::proofs::Printing::printing))]
 pub fn print_message(
     catalog: &Catalog,
     message: &Message,
     out: &mut Vec<u8>,
 ) -> Result<(), NoMemory>
-    ensures { OnOk result (out.new.items ≡ out.old.items ++ message_text catalog.now message.now) }
+    ensures { Appends result out.old.items (message_text catalog.now message.now) out.new.items }
 {
     match message {
         Message::Invite { id } => print_view(out, b"invite ", id),

@@ -1,6 +1,7 @@
 //! The text of a schedule.
 
-ghost use Rattle.std.specs.Prelude.{◌≡◌, ◌++◌, flat_map, OnOk};
+ghost use Rattle.std.specs.Prelude.{◌++◌, flat_map};
+ghost use Rattle.vp_text.specs.Printing.{Appends};
 ghost use Rattle.vp_model.specs.Texts.Schedule.{event_line, schedule_text};
 
 use crate::calls::print_event;
@@ -8,16 +9,18 @@ use crate::fields::print_word;
 use crate::schedule::Schedule;
 use vp_base::{Event, NoMemory};
 
+#[tactic(auto, using(vp_text::proofs::Printing::printing))]
 fn print_event_line(event: &Event, out: &mut Vec<u8>) -> Result<(), NoMemory>
-    ensures { OnOk result (out.new.items ≡ out.old.items ++ event_line event.now) }
+    ensures { Appends result out.old.items (event_line event.now) out.new.items }
 {
     print_event(event, out)?;
     out.push(b'\n')?;
     Ok(())
 }
 
+#[tactic(auto, using(vp_text::proofs::Printing::printing))]
 fn print_event_lines(events: &[Event], out: &mut Vec<u8>) -> Result<(), NoMemory>
-    ensures { OnOk result (out.new.items ≡ out.old.items ++ flat_map event_line events.now) }
+    ensures { Appends result out.old.items (flat_map event_line events.now) out.new.items }
 {
     for event in events {
         print_event_line(event, out)?;
@@ -25,9 +28,10 @@ fn print_event_lines(events: &[Event], out: &mut Vec<u8>) -> Result<(), NoMemory
     Ok(())
 }
 
-/// Appends the lines of the schedule. Without memory a beginning of them may have been appended.
+/// Appends the lines of the schedule. Without memory only a beginning of them may stand there.
+#[tactic(auto, using(vp_text::proofs::Printing::printing))]
 pub fn print(schedule: &Schedule, out: &mut Vec<u8>) -> Result<(), NoMemory>
-    ensures { OnOk result (out.new.items ≡ out.old.items ++ schedule_text schedule.now) }
+    ensures { Appends result out.old.items (schedule_text schedule.now) out.new.items }
 {
     schedule.catalog.print(out)?;
     print_word(out, b"events\n")?;

@@ -1,7 +1,7 @@
 //! A schedule: a catalogue and the events of a run over it.
 
 use std::marker::Model;
-use vp_base::Events;
+use vp_base::{CopyOf, Events, NoMemory};
 use vp_catalog::Catalog;
 
 /// What a run is given. A contract sees it as the definitions' schedule.
@@ -17,4 +17,13 @@ impl Model for Schedule {
     ghost Value = { Schedule };
 
     ghost view = { λ s. record { catalogue = s.catalog; events = s.events } };
+}
+
+impl CopyOf for Schedule {
+    fn copy_of(&self) -> Result<Schedule, NoMemory> {
+        Ok(Schedule {
+            catalog: self.catalog.copy_of()?,
+            events: self.events.copy_of()?,
+        })
+    }
 }

@@ -1,19 +1,22 @@
 //! The lines of a trace.
 
-ghost use Rattle.std.specs.Prelude.{◌≡◌, ◌≤◌, ◌+◌, ◌<◌, ◌^◌, ◌++◌, ◌∷◌, [], OnOk, codes, flat_map, length};
+ghost use Rattle.std.specs.Prelude.{◌≤◌, ◌+◌, ◌<◌, ◌^◌, ◌++◌, ◌∷◌, [], codes, flat_map, length};
+ghost use Rattle.vp_text.specs.Printing.{Appends};
 ghost use Rattle.std.specs.Fmt.{decimal};
+ghost use Rattle.vp_model.specs.Texts.Messages.{message_text};
 ghost use Rattle.vp_model.specs.Texts.Trace.{commit_line, sent_line, sent_lines, reply_line, told_line, shown_text, line_text};
 
 use crate::answers::print_answer;
 use crate::calls::print_event;
-use crate::fields::{print_count, print_site, print_word};
+use crate::fields::{print_count, print_word};
 use crate::messages::print_message;
 use vp_base::{Commit, Line, NoMemory, Reply, Sent, Shown, SiteId};
 use vp_catalog::Catalog;
 use vp_text::print_number;
 
+#[tactic(auto, using(vp_text::proofs::Printing::printing))]
 fn print_commit(commit: &Commit, out: &mut Vec<u8>) -> Result<(), NoMemory>
-    ensures { OnOk result (out.new.items ≡ out.old.items ++ commit_line commit.now) }
+    ensures { Appends result out.old.items (commit_line commit.now) out.new.items }
 {
     print_word(out, b" commit ")?;
     commit.txn.print(out)?;
@@ -23,8 +26,9 @@ fn print_commit(commit: &Commit, out: &mut Vec<u8>) -> Result<(), NoMemory>
     Ok(())
 }
 
+#[tactic(auto, using(vp_text::proofs::Printing::printing))]
 fn print_commits(commits: &[Commit], out: &mut Vec<u8>) -> Result<(), NoMemory>
-    ensures { OnOk result (out.new.items ≡ out.old.items ++ flat_map commit_line commits.now) }
+    ensures { Appends result out.old.items (flat_map commit_line commits.now) out.new.items }
 {
     for commit in commits {
         print_commit(commit, out)?;
@@ -32,28 +36,34 @@ fn print_commits(commits: &[Commit], out: &mut Vec<u8>) -> Result<(), NoMemory>
     Ok(())
 }
 
-fn print_route(out: &mut Vec<u8>, k: u64, from: SiteId, to: SiteId) -> Result<(), NoMemory>
-    ensures { OnOk result (out.new.items ≡ out.old.items ++ (decimal k ++ 32 ∷ (decimal from ++ 62 ∷ decimal to))) }
+#[tactic(auto, using(vp_text::proofs::Printing::printing))]
+fn print_routed(catalog: &Catalog, sent: &Sent, out: &mut Vec<u8>) -> Result<(), NoMemory>
+    ensures { Appends result out.old.items
+        (decimal sent.now.from ++ 62 ∷ (decimal sent.now.to ++ 32 ∷ (message_text catalog.now sent.now.message ++ 10 ∷ [])))
+        out.new.items }
 {
-    print_number(out, k)?;
-    out.push(b' ')?;
-    print_site(out, from)?;
+    sent.from.print(out)?;
     out.push(b'>')?;
-    print_site(out, to)
-}
-
-fn print_sent(catalog: &Catalog, k: u64, sent: &Sent, out: &mut Vec<u8>) -> Result<(), NoMemory>
-    ensures { OnOk result (out.new.items ≡ out.old.items ++ sent_line catalog.now k sent.now) }
-{
-    print_word(out, b" sent ")?;
-    print_route(out, k, sent.from, sent.to)?;
+    sent.to.print(out)?;
     out.push(b' ')?;
     print_message(catalog, &sent.message, out)?;
     out.push(b'\n')?;
     Ok(())
 }
 
+#[tactic(auto, using(vp_text::proofs::Printing::printing))]
+fn print_sent(catalog: &Catalog, k: u64, sent: &Sent, out: &mut Vec<u8>) -> Result<(), NoMemory>
+    ensures { Appends result out.old.items (sent_line catalog.now k sent.now) out.new.items }
+{
+    print_word(out, b" sent ")?;
+    print_number(out, k)?;
+    out.push(b' ')?;
+    print_routed(catalog, sent, out)?;
+    Ok(())
+}
+
 /// The messages are numbered, the first of them by `first`.
+#[tactic(auto, using(vp_text::proofs::Printing::printing))]
 fn print_messages(
     catalog: &Catalog,
     first: u64,
@@ -61,7 +71,7 @@ fn print_messages(
     out: &mut Vec<u8>,
 ) -> Result<(), NoMemory>
     requires { first + length messages.now < 2 ^ 64 }
-    ensures { OnOk result (out.new.items ≡ out.old.items ++ sent_lines catalog.now first messages.now) }
+    ensures { Appends result out.old.items (sent_lines catalog.now first messages.now) out.new.items }
 {
     let mut k = first;
     for sent in messages {
@@ -71,8 +81,9 @@ fn print_messages(
     Ok(())
 }
 
+#[tactic(auto, using(vp_text::proofs::Printing::printing))]
 fn print_reply(reply: &Reply, out: &mut Vec<u8>) -> Result<(), NoMemory>
-    ensures { OnOk result (out.new.items ≡ out.old.items ++ reply_line reply.now) }
+    ensures { Appends result out.old.items (reply_line reply.now) out.new.items }
 {
     print_word(out, b" reply ")?;
     print_answer(&reply.answer, out)?;
@@ -80,8 +91,9 @@ fn print_reply(reply: &Reply, out: &mut Vec<u8>) -> Result<(), NoMemory>
     Ok(())
 }
 
+#[tactic(auto, using(vp_text::proofs::Printing::printing))]
 fn print_replies(replies: &[Reply], out: &mut Vec<u8>) -> Result<(), NoMemory>
-    ensures { OnOk result (out.new.items ≡ out.old.items ++ flat_map reply_line replies.now) }
+    ensures { Appends result out.old.items (flat_map reply_line replies.now) out.new.items }
 {
     for reply in replies {
         print_reply(reply, out)?;
@@ -89,8 +101,9 @@ fn print_replies(replies: &[Reply], out: &mut Vec<u8>) -> Result<(), NoMemory>
     Ok(())
 }
 
+#[tactic(auto, using(vp_text::proofs::Printing::printing))]
 fn print_told(out: &mut Vec<u8>, word: &[u8], number: u32) -> Result<(), NoMemory>
-    ensures { OnOk result (out.new.items ≡ out.old.items ++ told_line word.now number) }
+    ensures { Appends result out.old.items (told_line word.now number) out.new.items }
 {
     print_word(out, word)?;
     print_count(out, number)?;
@@ -98,19 +111,21 @@ fn print_told(out: &mut Vec<u8>, word: &[u8], number: u32) -> Result<(), NoMemor
     Ok(())
 }
 
+#[tactic(auto, using(vp_text::proofs::Printing::printing))]
 fn print_parted(out: &mut Vec<u8>, from: SiteId, to: SiteId) -> Result<(), NoMemory>
-    ensures { OnOk result (out.new.items ≡ out.old.items ++ (codes " cut " ++ (decimal from ++ 32 ∷ (decimal to ++ 10 ∷ [])))) }
+    ensures { Appends result out.old.items (codes " cut " ++ (decimal from ++ 32 ∷ (decimal to ++ 10 ∷ []))) out.new.items }
 {
     print_word(out, b" cut ")?;
-    print_site(out, from)?;
+    from.print(out)?;
     out.push(b' ')?;
-    print_site(out, to)?;
+    to.print(out)?;
     out.push(b'\n')?;
     Ok(())
 }
 
+#[tactic(auto, using(vp_text::proofs::Printing::printing))]
 fn print_shown(catalog: &Catalog, shown: &Shown, out: &mut Vec<u8>) -> Result<(), NoMemory>
-    ensures { OnOk result (out.new.items ≡ out.old.items ++ shown_text catalog.now shown.now) }
+    ensures { Appends result out.old.items (shown_text catalog.now shown.now) out.new.items }
 {
     match shown {
         Shown::Step {
@@ -133,14 +148,15 @@ fn print_shown(catalog: &Catalog, shown: &Shown, out: &mut Vec<u8>) -> Result<()
     }
 }
 
-/// Appends the line `number EVENT` and the lines of what it gave. Without memory a prefix of it may have been appended.
+/// Appends the line `number EVENT` and the lines of what it gave. Without memory only a beginning of it may stand there.
+#[tactic(auto, using(vp_text::proofs::Printing::printing))]
 pub fn print_line(
     number: u32,
     line: &Line,
     catalog: &Catalog,
     out: &mut Vec<u8>,
 ) -> Result<(), NoMemory>
-    ensures { OnOk result (out.new.items ≡ out.old.items ++ line_text catalog.now (number, line.now)) }
+    ensures { Appends result out.old.items (line_text catalog.now (number, line.now)) out.new.items }
 {
     print_count(out, number)?;
     out.push(b' ')?;
