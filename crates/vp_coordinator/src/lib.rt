@@ -12,6 +12,8 @@ mod endings;
 mod here;
 mod lent;
 mod operations;
+#[cfg(test)]
+mod tests;
 mod transactions;
 mod writes;
 
