@@ -18,6 +18,8 @@ mod schedule;
 #[cfg(test)]
 mod tests;
 mod trace;
+#[cfg(test)]
+mod trace_tests;
 
 pub use answers::print_answer;
 pub use calls::{print_call, print_event};
