@@ -34,91 +34,110 @@ fn half_of_the_weight_is_not_enough(rt: HostRuntime) -> Result<(), Fail> {
     Ok(())
 }
 
+/// The site that is taken of these two where it has to be above a number, and how many bytes are left: 0 where none is taken.
+fn taken(first: u8, second: u8, above: u8, text: &[u8]) -> Result<(u8, usize), Fail> {
+    let mut cursor = Cursor::new(text);
+    let sites = [site(first)?, site(second)?];
+    Ok(match take_site(&mut cursor, &sites, above) {
+        Ok(site) => (site.get(), cursor.left()),
+        Err(fault) => (0, fault.left),
+    })
+}
+
 #[test]
-fn the_number_of_a_site_is_at_fault_where_no_site_goes_on(rt: HostRuntime) -> Result<(), Fail> {
-    let cases: [(&[u8], [u8; 2], u8, u8, usize); 8] = [
-        (b"12:", [1, 12], 0, 12, 1),
-        (b"13:", [1, 12], 0, 1, 2),
-        (b"1", [1, 12], 0, 1, 0),
-        (b"2:", [1, 12], 0, 0, 2),
-        (b"13:", [2, 12], 0, 0, 2),
-        (b"1:", [1, 12], 1, 0, 1),
-        (b"01:", [1, 12], 0, 0, 3),
-        (b"3:", [3, 5], 3, 0, 2),
-    ];
-    for (text, numbers, above, taken, left) in cases {
-        let mut cursor = Cursor::new(text);
-        let sites = [site(numbers[0])?, site(numbers[1])?];
-        match take_site(&mut cursor, &sites, above) {
-            Ok(site) => {
-                assert_eq!(rt; site.get(), taken);
-                assert_eq!(rt; cursor.left(), left);
-            }
-            Err(fault) => {
-                assert_eq!(rt; 0, taken);
-                assert_eq!(rt; fault.left, left);
-            }
-        }
-    }
+fn the_number_of_a_site_is_taken_as_far_as_it_goes(rt: HostRuntime) -> Result<(), Fail> {
+    assert!(rt; taken(1, 12, 0, b"12:")? == (12, 1));
+    assert!(rt; taken(1, 12, 0, b"13:")? == (1, 2));
+    assert!(rt; taken(1, 12, 0, b"1")? == (1, 0));
     Ok(())
 }
 
-fn fault(rt: &HostRuntime, text: &[u8]) -> Option<CatalogFault> {
-    Catalog::read(rt.alloc(), text).err()
+#[test]
+fn the_number_of_a_site_is_at_fault_where_no_site_goes_on(rt: HostRuntime) -> Result<(), Fail> {
+    assert!(rt; taken(1, 12, 0, b"2:")? == (0, 2));
+    assert!(rt; taken(2, 12, 0, b"13:")? == (0, 2));
+    assert!(rt; taken(1, 12, 1, b"1:")? == (0, 1));
+    assert!(rt; taken(1, 12, 0, b"01:")? == (0, 3));
+    assert!(rt; taken(3, 5, 3, b"3:")? == (0, 2));
+    Ok(())
 }
 
-fn bad(line: usize, at: usize) -> Option<CatalogFault> {
-    Some(CatalogFault::BadLine { line, at })
+/// Appends how the text is answered.
+fn tell(alloc: Global, text: &[u8], out: &mut Vec<u8>) -> Result<(), Fail> {
+    let (word, line, at) = match Catalog::read(alloc, text) {
+        Ok(_) => (b'a', 0, 0),
+        Err(CatalogFault::BadLine { line, at }) => (b'b', line, at),
+        Err(CatalogFault::Twice { line }) => (b't', line, 0),
+        Err(CatalogFault::TooMany { line, .. }) => (b'm', line, 0),
+        Err(CatalogFault::NoMemory) => (b'n', 0, 0),
+    };
+    out.push(word)?;
+    print_number(out, line as u64)?;
+    out.push(b'.')?;
+    print_number(out, at as u64)?;
+    Ok(out.push(b' ')?)
 }
 
-fn twice(line: usize) -> Option<CatalogFault> {
-    Some(CatalogFault::Twice { line })
+/// How each of the texts, which end with a bar, is answered behind these lines: a catalogue (a), a bad line (b), a line twice (t), a
+/// line too many (m), with the line and the place.
+fn told(alloc: Global, lines: &[u8], texts: &[u8]) -> Result<Vec<u8>, Fail> {
+    let mut out = Vec::new(alloc);
+    let mut text = Vec::from_slice(alloc, lines)?;
+    for byte in texts {
+        if *byte == b'|' {
+            tell(alloc, &text, &mut out)?;
+            text = Vec::from_slice(alloc, lines)?;
+        } else {
+            text.push(*byte)?;
+        }
+    }
+    Ok(out)
 }
+
+const SITES: &[u8] = b"|\
+    site 1 7001|\
+    site 1 7001\n|\
+    site 17 7001\n|\
+    site 0 7001\n|\
+    site 1 0\n|\
+    site 1 65536\n|\
+    site 2 7002\nsite 1 7001\n|\
+    site 7 7002\nsite 5 7001\n|\
+    site 16 1\nsite 16 2\n|\
+    record x 1 1:1\n|\
+    site 1 7001\nsite 2 7001\n|\
+    site 1 7001\n\n|";
 
 #[test]
-fn sites_are_refused_at_their_places(rt: HostRuntime) {
-    let cases: [(&[u8], Option<CatalogFault>); 13] = [
-        (b"", bad(1, 1)),
-        (b"site 1 7001", bad(1, 12)),
-        (b"site 1 7001\n", None),
-        (b"site 17 7001\n", bad(1, 7)),
-        (b"site 0 7001\n", bad(1, 6)),
-        (b"site 1 0\n", bad(1, 8)),
-        (b"site 1 65536\n", bad(1, 12)),
-        (b"site 2 7002\nsite 1 7001\n", bad(2, 7)),
-        (b"site 7 7002\nsite 5 7001\n", bad(2, 6)),
-        (b"site 16 1\nsite 16 2\n", bad(2, 1)),
-        (b"record x 1 1:1\n", bad(1, 1)),
-        (b"site 1 7001\nsite 2 7001\n", twice(2)),
-        (b"site 1 7001\n\n", bad(2, 1)),
-    ];
-    for (text, wanted) in cases {
-        assert_eq!(rt; fault(&rt, text), wanted);
-    }
+fn sites_are_refused_at_their_places(rt: HostRuntime) -> Result<(), Fail> {
+    let wanted = b"b1.1 b1.12 a0.0 b1.7 b1.6 b1.8 b1.12 b2.7 b2.6 b2.1 b1.1 t2.0 b2.1 ";
+    assert_eq!(rt; told(rt.alloc(), b"", SITES)?.as_slice(), wanted.as_slice());
+    Ok(())
 }
+
+const RECORDS: &[u8] = b"\
+    record x 1 1:1 12:65535\n|\
+    record x 1\n|\
+    record x 1 2:1\n|\
+    record x 1 12:1 1:1\n|\
+    record x 1 1:1 1:1\n|\
+    record x 1 1:0\n|\
+    record x 1 1:1|\
+    record X 1 1:1\n|\
+    record aaaaaaaaaaaaaaaaa 1 1:1\n|\
+    record x 1 1:1\nsite 13 7003\n|\
+    record x 1 1:1\nrecord x 2 1:1\n|\
+    record x 1 1:1\nrecord x 2 1:1|\
+    record x 1 1:1\nevents\n|";
 
 #[test]
 fn records_are_refused_at_their_places(rt: HostRuntime) -> Result<(), Fail> {
-    let cases: [(&[u8], Option<CatalogFault>); 13] = [
-        (b"record x 1 1:1 12:65535\n", None),
-        (b"record x 1\n", bad(3, 11)),
-        (b"record x 1 2:1\n", bad(3, 12)),
-        (b"record x 1 12:1 1:1\n", bad(3, 16)),
-        (b"record x 1 1:1 1:1\n", bad(3, 17)),
-        (b"record x 1 1:0\n", bad(3, 14)),
-        (b"record x 1 1:1", bad(3, 15)),
-        (b"record X 1 1:1\n", bad(3, 8)),
-        (b"record aaaaaaaaaaaaaaaaa 1 1:1\n", bad(3, 24)),
-        (b"record x 1 1:1\nsite 13 7003\n", bad(4, 1)),
-        (b"record x 1 1:1\nrecord x 2 1:1\n", twice(4)),
-        (b"record x 1 1:1\nrecord x 2 1:1", bad(4, 15)),
-        (b"record x 1 1:1\nevents\n", bad(4, 1)),
-    ];
-    for (text, wanted) in cases {
-        let mut whole = Vec::from_slice(rt.alloc(), b"site 1 7001\nsite 12 7012\n")?;
-        whole.extend_from_slice(text)?;
-        assert_eq!(rt; fault(&rt, &whole), wanted);
-    }
+    let sites = b"site 1 7001\nsite 12 7012\n";
+    let wanted = b"a0.0 b3.11 b3.12 b3.16 b3.17 b3.14 b3.15 b3.8 b3.24 b4.1 t4.0 b4.15 b4.1 ";
+    assert_eq!(rt;
+        told(rt.alloc(), sites, RECORDS)?.as_slice(),
+        wanted.as_slice()
+    );
     Ok(())
 }
 
@@ -136,15 +155,12 @@ fn many(alloc: Global, count: u64) -> Result<Vec<u8>, Fail> {
 #[test]
 fn the_record_behind_256_is_too_many(rt: HostRuntime) -> Result<(), Fail> {
     let most = many(rt.alloc(), 256)?;
-    assert_eq!(rt; catalog(rt.alloc(), &most)?.count(), 256);
-    let limit = Some(CatalogFault::TooMany {
-        line: 258,
-        limit: 256,
-    });
-    assert_eq!(rt; fault(&rt, &many(rt.alloc(), 257)?), limit);
-    let mut again = most;
-    again.extend_from_slice(b"record r0 1 1:1\n")?;
-    assert_eq!(rt; fault(&rt, &again), limit);
+    let told = told(
+        rt.alloc(),
+        &most,
+        b"|record r256 1 1:1\n|record r0 1 1:1\n|",
+    )?;
+    assert_eq!(rt; told.as_slice(), b"a0.0 m258.0 m258.0 ".as_slice());
     Ok(())
 }
 
