@@ -37,5 +37,5 @@ pub use message::{Message, Obstacle, Sent};
 pub use numbers::only_its_own_bytes_read_as_a_number;
 pub use places::{place, take_place};
 pub use seq::{CopyOf, Seq};
-pub use site::{Ending, Finished, Live, Lock, Part, Pending, Refreshing};
+pub use site::{Ending, Finished, Live, Lock, Newest, Part, Pending, Refreshing};
 pub use text::{Name, Value};

@@ -53,6 +53,15 @@ pub struct Live {
     pub pending: Option<Pending>,
 }
 
+/// What a client of a site would call next: its newest live transaction, the number of the next call, from 1, and whether a
+/// call is not answered yet.
+#[derive(Clone, Copy, Drop, PartialEq, Eq)]
+pub struct Newest {
+    pub txn: TxnId,
+    pub next: usize,
+    pub pending: bool,
+}
+
 /// What committed or aborted a transaction.
 #[derive(Drop)]
 pub enum Ending {

@@ -1,9 +1,9 @@
 -- Printers that end with a call: what it leaves, behind what stands before it.
 use Rattle.std.proofs.Common.{◌≡◌, ℕ, true, List, [], ◌++◌, refl, sym, ap, subst, ◌∙◌, append_assoc}
 use Rattle.std.specs.Prelude.{⊤, Result, Ok, Err, OnOk, OnErr}
-use Rattle.std.proofs.lemmas.List.{append-nil, append_cancel_left}
+use Rattle.std.proofs.lemmas.List.{append-nil}
 use Rattle.vp_text.specs.Printing.{is_begun, Appends}
-use Rattle.vp_text.proofs.Printing.{begun_parts, begun_from, begun_none, begun_whole, begun_then}
+use Rattle.vp_text.proofs.Printing.{begun_none, begun_whole, begun_then}
 
 -- all of the text, or after an error none of it
 pub all_or_none : {E : Type 0} (result : Result ⊤ E) (old text new : List ℕ) → OnOk result (new ≡ old ++ text) → OnErr result (new ≡ old) → Appends result old text new
@@ -18,17 +18,3 @@ pub behind : {E : Type 0} (result : Result ⊤ E) (old first more mid new : List
 behind (Ok x) old first more mid new e a =
     record { whole = a.whole ∙ ap (λ (t : List ℕ). t ++ more) e ∙ append_assoc old first more; begun = begun_then old first more new (subst (λ (t : List ℕ). is_begun t more new ≡ true) e a.begun) }
 behind (Err x) old first more mid new e a = record { whole = a.whole; begun = begun_then old first more new (subst (λ (t : List ℕ). is_begun t more new ≡ true) e a.begun) }
-
--- a beginning of the text, and then a beginning of the rest of it
-pub begun_on : (old text mid rest new : List ℕ) → mid ++ rest ≡ old ++ text → is_begun old text mid ≡ true → is_begun mid rest new ≡ true → is_begun old text new ≡ true
-begun_on old text mid rest new all before h =
-    let b = begun_parts old text mid before in
-    let m = begun_parts mid rest new h in
-    let same : rest ≡ b.rest =
-    append_cancel_left mid rest b.rest (all ∙ ap (λ (x : List ℕ). old ++ x) b.parts ∙ sym (append_assoc old b.front b.rest) ∙ ap (λ (x : List ℕ). x ++ b.rest) (sym b.is)) in
-    begun_from old text new (record {
-      front = b.front ++ m.front;
-      rest = m.rest;
-      is = m.is ∙ ap (λ (x : List ℕ). x ++ m.front) b.is ∙ append_assoc old b.front m.front;
-      parts = b.parts ∙ ap (λ (x : List ℕ). b.front ++ x) (sym same ∙ m.parts) ∙ sym (append_assoc b.front m.front m.rest);
-    })

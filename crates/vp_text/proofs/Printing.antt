@@ -77,4 +77,18 @@ begun_item f xs i x old mid new lt at e h =
     let rest = flat_map f (drop (suc i) xs) in
     subst (λ (t : List ℕ). is_begun old t new ≡ true) (sym (items_at f xs i x lt at)) (begun_then old front (f x ++ rest) new (begun_first (old ++ front) (f x) rest new (subst (λ (m : List ℕ). is_begun m (f x) new ≡ true) e h)))
 
+-- a beginning of the text, and then a beginning of the rest of it
+pub begun_on : (old text mid rest new : List ℕ) → mid ++ rest ≡ old ++ text → is_begun old text mid ≡ true → is_begun mid rest new ≡ true → is_begun old text new ≡ true
+begun_on old text mid rest new all before h =
+    let b = begun_parts old text mid before in
+    let m = begun_parts mid rest new h in
+    let same : rest ≡ b.rest =
+    append_cancel_left mid rest b.rest (all ∙ ap (λ (x : List ℕ). old ++ x) b.parts ∙ sym (append_assoc old b.front b.rest) ∙ ap (λ (x : List ℕ). x ++ b.rest) (sym b.is)) in
+    begun_from old text new (record {
+      front = b.front ++ m.front;
+      rest = m.rest;
+      is = m.is ∙ ap (λ (x : List ℕ). x ++ m.front) b.is ∙ append_assoc old b.front m.front;
+      parts = b.parts ∙ ap (λ (x : List ℕ). b.front ++ x) (sym same ∙ m.parts) ∙ sym (append_assoc b.front m.front m.rest);
+    })
+
 pub ruleset printing = (append_assoc, begun_none, begun_whole, begun_first, begun_then, begun_byte)

@@ -2,9 +2,9 @@ use Rattle.std.proofs.Common.{◌≡◌, sym, ap, subst, ◌∙◌, ◌++◌, ap
 use Rattle.std.proofs.lemmas.Grind.{common_steps}
 use Rattle.std.proofs.lemmas.List.{append-nil}
 use Rattle.vp_text.specs.Printing.{is_begun}
-use Rattle.vp_text.proofs.Printing.{begun_first, begun_whole}
+use Rattle.vp_text.proofs.Printing.{begun_first, begun_on, begun_whole}
 use Rattle.vp_model.specs.Texts.History.{start_text, starts_text}
-use Rattle.vp_onecopy.proofs.Starts.{starts_end, begun_on}
+use Rattle.vp_onecopy.proofs.Starts.{starts_end}
 use Rattle.vp_onecopy.proofs.printing.print_starts.Goals as goal
 
 pub loop-name-preserved : goal.loop-name-preserved

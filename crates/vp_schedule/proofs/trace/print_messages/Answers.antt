@@ -1,9 +1,8 @@
 use Rattle.std.proofs.Common.{◌≡◌, ◌++◌, ◌+◌, drop, sym, subst, List, ℕ, true, rules, arith}
 use Rattle.std.proofs.lemmas.Grind.{common_steps}
 use Rattle.vp_text.specs.Printing.{is_begun}
-use Rattle.vp_text.proofs.Printing.{begun_first, begun_whole}
+use Rattle.vp_text.proofs.Printing.{begun_first, begun_on, begun_whole}
 use Rattle.vp_model.specs.Texts.Trace.{sent_line, sent_lines}
-use Rattle.vp_schedule.proofs.Printed.{begun_on}
 use Rattle.vp_schedule.proofs.trace.print_messages.Goals as goal
 
 pub loop-sent-preserved : goal.loop-sent-preserved
