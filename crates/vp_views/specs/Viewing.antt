@@ -7,7 +7,7 @@ use Rattle.vp_model.specs.Types.message
 use Rattle.vp_model.specs.Words.{has, is_view, opening, put_number, view_before}
 use Rattle.vp_model.specs.Catalogue.{Catalogue, sites_of}
 use Rattle.vp_model.specs.Site.{ViewState, with_entry, with_message, with_messages}
-use Rattle.vp_model.specs.Views.{highest, is_spent, with_invitation, with_view}
+use Rattle.vp_model.specs.Views.{highest, is_spent, other_sites, with_invitation, with_view}
 use Rattle.vp_model.specs.Messages.{with_wait, with_heard}
 use Rattle.vp_model.specs.Step.{with_monitor, is_odd}
 use Rattle.vp_views.specs.declared.fault.Spent.{Spent}
@@ -16,10 +16,9 @@ use Rattle.vp_views.specs.declared.fault.InviteFault.TheVariants as fault
 use Rattle.vp_views.specs.declared.standing.Standing.{Standing}
 use Rattle.vp_views.specs.declared.standing.Standing.TheVariants as standing
 
--- the site, the other sites of its catalogue, and what it knows of views
+-- the site, and what it knows of views
 pub record Viewing : Type 0 where
   pub id : ℕ
-  pub others : List ℕ
   pub views : ViewState
   pub open views use *
 
@@ -114,15 +113,17 @@ next_view v = record { number = highest v.views + 1; site = v.id }
 abbrev pub invitable : Viewing → Result ViewId Spent
 invitable v = if is_spent v.views then Err (record { number = highest v.views }) else Ok (next_view v)
 
-abbrev pub inviting_to : ViewId → Viewed → Viewed
-inviting_to id o =
-    viewed (change (with_invitation id o.at.id) o.at) (with_messages o.at.id (message.Invite id) o.at.others (with_entry (entry.Promise id) o.effects))
+abbrev pub inviting_to : Catalogue → ViewId → Viewed → Viewed
+inviting_to catalogue id o =
+    viewed
+    (change (with_invitation id o.at.id) o.at)
+    (with_messages o.at.id (message.Invite id) (other_sites catalogue o.at.id) (with_entry (entry.Promise id) o.effects))
 
 -- an invitation is made, unless the numbers are spent
-abbrev pub Invites : Result ViewId InviteFault → Viewed → Viewed → Type 0
-Invites (Ok id) old new = (is_spent old.at.views ≡ false) × (id ≡ next_view old.at) × (new ≡ inviting_to id old)
-Invites (Err (fault.Spent number)) old new = (is_spent old.at.views ≡ true) × (number ≡ highest old.at.views) × (new ≡ old)
-Invites (Err fault.NoMemory) old new = Unit {0}
+abbrev pub Invites : Catalogue → Result ViewId InviteFault → Viewed → Viewed → Type 0
+Invites catalogue (Ok id) old new = (is_spent old.at.views ≡ false) × (id ≡ next_view old.at) × (new ≡ inviting_to catalogue id old)
+Invites catalogue (Err (fault.Spent number)) old new = (is_spent old.at.views ≡ true) × (number ≡ highest old.at.views) × (new ≡ old)
+Invites catalogue (Err fault.NoMemory) old new = Unit {0}
 
 abbrev pub accepting : ℕ → ViewId → Viewed → Viewed
 accepting from id o =
@@ -161,9 +162,9 @@ hearing from v = if is_some v.held then change (with_heard from) v else v
 abbrev pub wants : Viewing → Bool
 wants v = option_map_or (λ view. option_map_or (is_odd v.id view.members) v.monitor false) v.held false
 
-abbrev pub probing : Viewed → Viewed
-probing o =
+abbrev pub probing : Catalogue → Viewed → Viewed
+probing catalogue o =
     option_map_or
-    (λ view. viewed (change with_monitor o.at) (with_messages o.at.id (message.Probe view.id) o.at.others o.effects))
+    (λ view. viewed (change with_monitor o.at) (with_messages o.at.id (message.Probe view.id) (other_sites catalogue o.at.id) o.effects))
     o.at.held
     o

@@ -7,12 +7,7 @@ ghost use Rattle.vp_model.specs.Step.{is_odd};
 
 use std::alloc::Global;
 use vp_base::{NoMemory, SiteId, Sites};
-
-pub fn has_site(sites: &[SiteId], site: SiteId) -> bool
-    ensures { result ≡ has sites.now site }
-{
-    sites.iter().any(|other| *other == site)
-}
+use vp_catalog::has_site;
 
 /// The list of this site alone.
 pub fn only(alloc: Global, site: SiteId) -> Result<Sites, NoMemory>
@@ -24,14 +19,15 @@ pub fn only(alloc: Global, site: SiteId) -> Result<Sites, NoMemory>
 }
 
 /// The sites but this one.
-pub fn others_of(alloc: Global, sites: &[SiteId], id: SiteId) -> Result<Sites, NoMemory>
+pub fn others_of(sites: &Sites, id: SiteId) -> Result<Sites, NoMemory>
     ensures { IfOk result (λ others. others ≡ filter (λ q. not (q == id)) sites.now) }
 {
     let others = sites
+        .as_slice()
         .iter()
         .copied()
         .filter(|site| *site != id)
-        .collect(alloc)?;
+        .collect(sites.allocator())?;
     Ok(Sites::from_vec(others))
 }
 

@@ -12,13 +12,15 @@ const FIRST: ViewId = ViewId { number: 1, site: 1 };
 
 const HIGH: ViewId = ViewId { number: 7, site: 3 };
 
-/// A site of three, in the opening view or in none.
-fn views(alloc: Global, site: SiteId, is_opening: bool) -> Result<Views, Fail> {
+/// A catalogue of three sites.
+fn catalog(alloc: Global) -> Result<Catalog, Fail> {
     let text = b"site 1 7001\nsite 2 7002\nsite 3 7003\nrecord x 10 1:1 2:1 3:1\n";
-    match Catalog::read(alloc, text) {
-        Ok(catalog) => Ok(Views::start(alloc, &catalog, site, OPENING, is_opening)?),
-        Err(_) => Err(Fail::from("no catalogue")),
-    }
+    Catalog::read(alloc, text).map_err(|_| Fail::from("no catalogue"))
+}
+
+/// A site of three in the opening view.
+fn views(alloc: Global, site: SiteId) -> Result<Views, Fail> {
+    Ok(Views::start(&catalog(alloc)?, site, OPENING, true)?)
 }
 
 /// The view 1@1 of the sites 1 and 2.
@@ -31,10 +33,10 @@ fn first_view(alloc: Global) -> Result<View, Fail> {
 
 /// How many messages site 1 sends when it invites and site 2 accepts.
 fn agreed(alloc: Global) -> Result<usize, Fail> {
-    let mut site = views(alloc, SiteId::of(1), true)?;
+    let mut site = views(alloc, SiteId::of(1))?;
     site.leave();
     let mut effects = Effects::none(alloc);
-    let id = site.invite(&mut effects)?;
+    let id = site.invite(&catalog(alloc)?, &mut effects)?;
     site.on_accept(SiteId::of(2), id)?;
     site.fix(&mut effects)?;
     Ok(effects.messages.as_slice().len())
@@ -42,7 +44,7 @@ fn agreed(alloc: Global) -> Result<usize, Fail> {
 
 /// Whether site 2 joins the view 1@1 that it was invited to.
 fn joined(alloc: Global, effects: &mut Effects) -> Result<bool, Fail> {
-    let mut site = views(alloc, SiteId::of(2), true)?;
+    let mut site = views(alloc, SiteId::of(2))?;
     site.leave();
     site.on_invite(SiteId::of(1), FIRST, effects)?;
     Ok(site.on_commit(&first_view(alloc)?)?)
@@ -50,8 +52,8 @@ fn joined(alloc: Global, effects: &mut Effects) -> Result<bool, Fail> {
 
 /// Whether site 1 wants another view after probes, having heard these sites.
 fn wants_view(alloc: Global, heard: &[u8]) -> Result<bool, Fail> {
-    let mut site = views(alloc, SiteId::of(1), true)?;
-    site.probe(&mut Effects::none(alloc))?;
+    let mut site = views(alloc, SiteId::of(1))?;
+    site.probe(&catalog(alloc)?, &mut Effects::none(alloc))?;
     for number in heard {
         match SiteId::new(*number) {
             Some(other) => site.heard(other)?,
@@ -63,7 +65,7 @@ fn wants_view(alloc: Global, heard: &[u8]) -> Result<bool, Fail> {
 
 /// A site that waits for a view and stops waiting.
 fn waited(alloc: Global) -> Result<Views, Fail> {
-    let mut site = views(alloc, SiteId::of(2), true)?;
+    let mut site = views(alloc, SiteId::of(2))?;
     site.leave();
     site.on_invite(SiteId::of(3), HIGH, &mut Effects::none(alloc))?;
     site.stop_waiting();

@@ -3,25 +3,24 @@
 ghost use Rattle.std.specs.Prelude.{◌≡◌, ◌&&◌, ◌==◌, not, true, false, OnOk, IfOk, IfSome, IsTrue, IsSome, if◌then◌else◌, is_some, option_copied, option_map, filter, None};
 ghost use Rattle.vp_model.specs.Words.{has, view_before, opening};
 ghost use Rattle.vp_model.specs.Catalogue.{sites_of};
+ghost use Rattle.vp_model.specs.Site.{with_messages};
 ghost use Rattle.vp_model.specs.Views.{other_sites, without_view, with_view};
 ghost use Rattle.vp_model.specs.Messages.{with_accepted, with_seen};
 ghost use Rattle.vp_model.specs.Step.{without_wait};
 ghost use Rattle.vp_views.specs.Viewing.{Viewing, viewed, change, started, invitable, Invites, IsApart, invited, joins, fixed, fixing, hearing, wants, probing};
 
 use crate::fault::{InviteFault, Spent};
-use crate::sites::{has_site, is_odd, only, others_of};
+use crate::sites::{is_odd, only, others_of};
 use crate::standing::Standing;
-use std::alloc::Global;
 use std::marker::Model;
 use vp_base::{CopyOf, Effects, LogRecord, Message, NoMemory, SiteId, Sites, View, ViewId};
-use vp_catalog::Catalog;
+use vp_catalog::{Catalog, has_site};
 use vp_lists::view_comes_before;
 
 /// What a site knows of views. After want of memory it may only be dropped, and so may the effects.
 #[derive(Drop)]
 pub struct Views {
     id: SiteId,
-    others: Sites,
     promise: ViewId,
     seen: u64,
     standing: Standing,
@@ -32,7 +31,7 @@ impl Model for Views {
 
     ghost Value = { Viewing };
 
-    ghost view = { λ v. record { id = v.id; others = v.others; views = state v.promise v.seen v.standing } };
+    ghost view = { λ v. record { id = v.id; views = state v.promise v.seen v.standing } };
 
     ghost invariant = { λ v. IsPromised v.promise v.standing };
 }
@@ -41,7 +40,6 @@ impl CopyOf for Views {
     fn copy_of(&self) -> Result<Views, NoMemory> {
         Ok(Views {
             id: self.id,
-            others: self.others.copy_of()?,
             promise: self.promise,
             seen: self.seen,
             standing: self.standing.copy_of()?,
@@ -52,16 +50,14 @@ impl CopyOf for Views {
 impl Views {
     /// A site that starts with this promise: in the opening view, whose members are all sites, or in no view.
     pub fn start(
-        alloc: Global,
         catalog: &Catalog,
         id: SiteId,
         promise: ViewId,
         is_opening: bool,
     ) -> Result<Views, NoMemory>
         requires { IsTrue is_opening → promise ≡ opening }
-        ensures { IfOk result (λ v. v ≡ record { id = id; others = other_sites catalog.now id; views = started catalog.now promise is_opening }) }
+        ensures { IfOk result (λ v. v ≡ record { id = id; views = started catalog.now promise is_opening }) }
     {
-        let others = others_of(alloc, catalog.sites().as_slice(), id)?;
         let standing = if is_opening {
             Standing::Holding {
                 view: View {
@@ -75,7 +71,6 @@ impl Views {
         };
         Ok(Views {
             id,
-            others,
             promise,
             seen: 0,
             standing,
@@ -138,15 +133,19 @@ impl Views {
         })
     }
 
-    /// Invites every other site to a new view.
-    pub fn invite(&mut self, effects: &mut Effects) -> Result<ViewId, InviteFault>
+    /// Invites every other site of the catalogue to a new view.
+    pub fn invite(
+        &mut self,
+        catalog: &Catalog,
+        effects: &mut Effects,
+    ) -> Result<ViewId, InviteFault>
         requires { IsApart self.old.views }
-        ensures { Invites result (viewed self.old effects.old) (viewed self.new effects.new) }
+        ensures { Invites catalog.now result (viewed self.old effects.old) (viewed self.new effects.new) }
     {
         let id = self.invitable()?;
-        let accepted = only(self.others.allocator(), self.id)?;
+        let accepted = only(catalog.sites().allocator(), self.id)?;
         effects.force(LogRecord::Promise { view: id })?;
-        effects.send_all(self.id, self.others.as_slice(), &Message::Invite { id })?;
+        self.tell_others(catalog, &Message::Invite { id }, effects)?;
         self.promise = id;
         self.standing = Standing::Inviting { accepted };
         Ok(id)
@@ -219,7 +218,7 @@ impl Views {
         requires { self.old.monitor ≡ None }
         ensures { OnOk result (viewed self.new effects.new ≡ fixing (self.old.promise, members) (viewed self.old effects.old)) }
     {
-        let others = others_of(members.allocator(), members.as_slice(), self.id)?;
+        let others = others_of(&members, self.id)?;
         let message = Message::ViewCommit {
             id: self.promise,
             members: members.copy_of()?,
@@ -317,17 +316,26 @@ impl Views {
         }
     }
 
-    /// Probes every other site for the held view, where there is one; who answers is heard from here on.
-    pub fn probe(&mut self, effects: &mut Effects) -> Result<(), NoMemory>
-        ensures { OnOk result (viewed self.new effects.new ≡ probing (viewed self.old effects.old)) }
+    /// Probes every other site of the catalogue for the held view, where there is one; who answers is heard from here on.
+    pub fn probe(&mut self, catalog: &Catalog, effects: &mut Effects) -> Result<(), NoMemory>
+        ensures { OnOk result (viewed self.new effects.new ≡ probing catalog.now (viewed self.old effects.old)) }
     {
-        if let Some(id) = self.standing.listen() {
-            effects.send_all(
-                self.id,
-                self.others.as_slice(),
-                &Message::Probe { view: id },
-            )?;
+        match self.standing.listen() {
+            None => Ok(()),
+            Some(view) => self.tell_others(catalog, &Message::Probe { view }, effects),
         }
-        Ok(())
+    }
+
+    /// Every other site of the catalogue gets the message.
+    fn tell_others(
+        &self,
+        catalog: &Catalog,
+        message: &Message,
+        effects: &mut Effects,
+    ) -> Result<(), NoMemory>
+        ensures { OnOk result (effects.new ≡ with_messages self.now.id message.now (other_sites catalog.now self.now.id) effects.old) }
+    {
+        let others = others_of(catalog.sites(), self.id)?;
+        effects.send_all(self.id, others.as_slice(), message)
     }
 }
