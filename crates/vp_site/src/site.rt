@@ -5,13 +5,19 @@ ghost use Rattle.vp_model.specs.Step.{step, durable_of};
 ghost use Rattle.vp_site.specs.Starting.{Starts};
 
 use crate::fault::StartFault;
+use crate::stepped::Stepped;
 use std::marker::Model;
-use vp_base::{Effects, Input, LogRecord, NoMemory, SiteId};
+use vp_base::{CopyOf, Effects, Input, LogRecord, NoMemory, SiteId, ViewId};
 use vp_catalog::Catalog;
 use vp_coordinator::{Coordinator, Here};
+use vp_locks::Locks;
 use vp_participant::Participant;
 use vp_records::Durable;
+use vp_refresh::Refresh;
 use vp_views::Views;
+
+/// The identifier of the view that all sites begin in.
+const OPENING: ViewId = ViewId { number: 0, site: 0 };
 
 /// A site that is up.
 #[derive(Drop)]
@@ -19,11 +25,12 @@ pub struct Site {
     pub(crate) views: Views,
     pub(crate) here: Here,
     pub(crate) participant: Participant,
+    pub(crate) refresh: Refresh,
     pub(crate) coordinator: Coordinator,
 }
 
 impl Model for Site {
-    ghost use Rattle.std.specs.Prelude.{◌≡◌, []};
+    ghost use Rattle.std.specs.Prelude.{◌≡◌};
     ghost use Rattle.vp_model.specs.Site.{SiteState};
 
     ghost Value = { SiteState };
@@ -34,7 +41,7 @@ impl Model for Site {
         views = s.views.views;
         here = s.here;
         participant = s.participant;
-        refresh = [];
+        refresh = s.refresh;
         coordinator = s.coordinator.coordinator;
     } };
 
@@ -51,23 +58,45 @@ impl Site {
     ) -> Result<(Site, LogRecord), StartFault>
         ensures { Starts catalog.now id durable result }
     {
-        if durable.life() == u32::MAX {
+        let alloc = catalog.sites().allocator();
+        let Some(life) = durable.life().checked_add(1) else {
             return Err(StartFault::LivesSpent { life: u32::MAX });
-        }
-        Err(StartFault::NoMemory)
+        };
+        let is_opening = durable.life() == 0 && durable.promise() == OPENING;
+        let mut locks = Locks::new(alloc);
+        let site = Site {
+            views: Views::start(catalog, id, durable.promise(), is_opening)?,
+            participant: Participant::restore(alloc, &durable, &mut locks)?,
+            refresh: Refresh::none(alloc),
+            coordinator: Coordinator::restore(alloc, id, life, &durable)?,
+            here: Here {
+                locks,
+                copies: durable.into_copies(),
+            },
+        };
+        Ok((site, LogRecord::Start { life }))
     }
 
     /// What the input does to the site. Without memory the site is gone, as in a crash.
+    #[tactic(auto, unfolding(vp_model::specs::Step::step))]
     pub fn step(self, catalog: &Catalog, input: &Input) -> Result<(Site, Effects), NoMemory>
         ensures { IfOk result (λ r. record { site = r.0; effects = r.1 } ≡ step catalog.now self input.now) }
     {
-        Err(NoMemory)
+        let mut stepped = Stepped::begin(catalog.sites().allocator(), self);
+        stepped.on_input(catalog, input)?;
+        Ok((stepped.site, stepped.effects))
     }
 
     /// What the site has after a crash at this moment, once its records are forced.
     pub fn durable(&self) -> Result<Durable, NoMemory>
         ensures { IfOk result (λ d. d ≡ durable_of self.now) }
     {
-        Err(NoMemory)
+        Ok(Durable::new(
+            self.views.promise(),
+            self.coordinator.life(),
+            self.here.copies.copy_of()?,
+            self.participant.in_doubt()?,
+            self.coordinator.decisions()?,
+        ))
     }
 }
