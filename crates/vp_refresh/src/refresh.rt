@@ -102,6 +102,13 @@ impl Refresh {
         }
     }
 
+    /// No copy is under refresh any more.
+    pub fn clear(&mut self)
+        ensures { self.new ≡ [] }
+    {
+        self.listed.clear();
+    }
+
     /// The record's copy is no longer under refresh.
     pub fn unlist(&mut self, rec: RecId)
         ensures { self.new ≡ filter (λ r. not (r.rec == rec)) self.old }
