@@ -6,6 +6,7 @@ ghost use Rattle.vp_model.specs.Calls.{answer_read, answer_write};
 ghost use Rattle.vp_model.specs.Answers.{count_in, read_answered, on_read_answer, write_answered, on_write_answer, on_refuse, voted, on_vote, on_ack, on_inquire, on_answer};
 ghost use Rattle.vp_model.specs.Transactions.{decide};
 ghost use Rattle.vp_coordinator.specs.Lent.{in_place};
+ghost use Rattle.vp_coordinator.specs.Waiting.{waits};
 ghost use Rattle.vp_coordinator.specs.Answered.{wanted_read, wanted_write, is_commit, refused_end, refusal, refusal_at};
 
 use crate::around::Around;
@@ -135,6 +136,7 @@ impl Lent {
         number: CallNo,
         value: &Value,
     ) -> Result<(), NoMemory>
+        requires { waits handled.live ≡ true }
         ensures { OnOk result (self.new ≡
             read_answered at.now.catalog.now from number value.now handled.live handled.pending handled.pending.call
             (in_place handled.live self.old)) }
@@ -195,6 +197,7 @@ impl Lent {
         handled: Handled,
         number: CallNo,
     ) -> Result<(), NoMemory>
+        requires { waits handled.live ≡ true }
         ensures { OnOk result (self.new ≡
             write_answered at.now.catalog.now from number handled.live handled.pending handled.pending.call
             (in_place handled.live self.old)) }
@@ -233,6 +236,7 @@ impl Lent {
         number: CallNo,
         why: &Obstacle,
     ) -> Result<(), NoMemory>
+        requires { waits handled.live ≡ true }
         ensures { OnOk result (self.new ≡ refusal_at at.now.id from number why.now handled.live handled.pending (in_place handled.live self.old)) }
     {
         match refusal(from, number, why, &handled)? {

@@ -1,9 +1,11 @@
 //! How a transaction goes on after an operation, and how it ends.
 
-ghost use Rattle.std.specs.Prelude.{◌≡◌, ◌++◌, ◌∷◌, [], OnOk, Some, None};
+ghost use Rattle.std.specs.Prelude.{◌≡◌, ◌++◌, ◌∷◌, [], OnOk, Some, None, true, false};
+ghost use Rattle.vp_model.specs.Words.{is_empty};
 ghost use Rattle.vp_model.specs.Site.{lent_reply};
 ghost use Rattle.vp_model.specs.Transactions.{last_writes, complete, wait_for, close, keep_writes, decided, decide};
 ghost use Rattle.vp_coordinator.specs.Lent.{in_place};
+ghost use Rattle.vp_coordinator.specs.Waiting.{waits};
 
 use crate::around::Around;
 use crate::lent::{Handled, Lent};
@@ -18,6 +20,7 @@ use vp_lists::write_copies;
 impl Lent {
     /// The call gets this answer, which is not kept.
     pub fn refuse(&mut self, handled: Handled, answer: Answer) -> Result<(), NoMemory>
+        requires { waits handled.live ≡ true }
         ensures { OnOk result (self.new ≡ lent_reply answer handled.pending.port (in_place handled.live self.old)) }
     {
         self.coordinator.put_live(handled.live);
@@ -44,6 +47,7 @@ impl Lent {
 
     /// The call waits for these sites.
     pub fn wait_for(&mut self, handled: Handled, sites: Sites)
+        requires { is_empty sites ≡ false }
         ensures { self.new ≡ wait_for handled.live handled.pending sites self.old }
     {
         let mut t = handled.live;

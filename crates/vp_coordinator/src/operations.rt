@@ -5,13 +5,14 @@ ghost use Rattle.std.specs.Option.{option_map_or};
 ghost use Rattle.vp_base.specs.declared.answer.Answer.TheVariants as answer;
 ghost use Rattle.vp_base.specs.declared.site.Ending.TheVariants as ending;
 ghost use Rattle.vp_model.specs.Site.{with_each_message};
-ghost use Rattle.vp_model.specs.Words.{first, for_some, value_at};
+ghost use Rattle.vp_model.specs.Words.{first, for_some, value_at, is_empty};
 ghost use Rattle.vp_model.specs.Refresh.{other_holders_in};
 ghost use Rattle.vp_model.specs.Transactions.{last_writes, close};
 ghost use Rattle.vp_model.specs.Calls.{handling, with_record, lock_here, answer_read, read_at, read, answer_write, write_at, write_elsewhere, write, prepare_for, prepare_parts, commit};
 ghost use Rattle.vp_coordinator.specs.Lent.{in_place, usable_as, usable_record};
+ghost use Rattle.vp_coordinator.specs.Waiting.{waits};
 
-use crate::around::{Around, first_of, is_usable, other_holders, put_all, weight_inside};
+use crate::around::{Around, first_of, is_usable, put_all, weight_inside};
 use crate::here::copy_here;
 use crate::lent::{Handled, Lent};
 use crate::writes::{last_writes, own_write, prepare_for};
@@ -144,10 +145,11 @@ impl Lent {
 
     /// The least holder in the view is asked.
     fn read_there(&mut self, at: &Around<'_>, handled: Handled, rec: RecId) -> Result<(), NoMemory>
+        requires { waits handled.live ≡ true }
         ensures { OnOk result (self.new ≡
             for_some (first (other_holders_in at.now.catalog.now at.now.id (option_copied at.now.held) rec)) (read_at at.now.id handled.live handled.pending rec) (in_place handled.live self.old)) }
     {
-        let asked = other_holders(handled.live.parts.allocator(), at, rec)?;
+        let asked = at.catalog.other_holders(at.id, at.held, rec)?;
         match first_of(asked.as_slice()) {
             None => {
                 self.coordinator.put_live(handled.live);
@@ -185,6 +187,7 @@ impl Lent {
         name: &Name,
         rec: RecId,
     ) -> Result<(), NoMemory>
+        requires { waits handled.live ≡ true }
         ensures { OnOk result (self.new ≡
             read at.now.catalog.now at.now.id (option_copied at.now.held) handled.live handled.pending name.now rec (in_place handled.live self.old)) }
     {
@@ -205,6 +208,7 @@ impl Lent {
         handled: Handled,
         name: &Name,
     ) -> Result<(), NoMemory>
+        requires { waits handled.live ≡ true }
         ensures { OnOk result (self.new ≡
             with_record at.now.catalog.now (option_copied at.now.held) handled.live handled.pending name.now
             (read at.now.catalog.now at.now.id (option_copied at.now.held) handled.live handled.pending name.now) (in_place handled.live self.old)) }
@@ -223,6 +227,7 @@ impl Lent {
         rec: RecId,
         sites: Sites,
     ) -> Result<(), NoMemory>
+        requires { is_empty sites ≡ false }
         ensures { OnOk result (self.new ≡ write_at id handled.live handled.pending rec sites (in_place handled.live self.old)) }
     {
         let mut live = handled.live;
@@ -250,7 +255,7 @@ impl Lent {
         ensures { OnOk result (self.new ≡
             write_elsewhere at.now.catalog.now at.now.id (option_copied at.now.held) handled.live handled.pending rec value.now (in_place handled.live self.old)) }
     {
-        let asked = other_holders(handled.live.parts.allocator(), at, rec)?;
+        let asked = at.catalog.other_holders(at.id, at.held, rec)?;
         if asked.as_slice().is_empty() {
             self.answer_write(handled, rec, value.copy_of()?)
         } else {
@@ -308,6 +313,7 @@ impl Lent {
         name: &Name,
         value: &Value,
     ) -> Result<(), NoMemory>
+        requires { waits handled.live ≡ true }
         ensures { OnOk result (self.new ≡
             with_record at.now.catalog.now (option_copied at.now.held) handled.live handled.pending name.now
             (write at.now.catalog.now at.now.id (option_copied at.now.held) handled.live handled.pending name.now value.now) (in_place handled.live self.old)) }
@@ -320,6 +326,7 @@ impl Lent {
 
     #[tactic(auto, unfolding(vp_model::specs::Calls::prepare_parts), using(crate::proofs::Rows::in_places))]
     fn prepare_parts(&mut self, at: &Around<'_>, handled: Handled) -> Result<(), NoMemory>
+        requires { is_empty handled.live.parts ≡ false }
         ensures { OnOk result (self.new ≡ prepare_parts at.now.catalog.now at.now.id handled.live handled.pending (in_place handled.live self.old)) }
     {
         ask_parts(at, &handled, &mut self.effects)?;
