@@ -1,13 +1,14 @@
 //! A site that is up.
 
 ghost use Rattle.std.specs.Prelude.{◌≡◌, IfOk};
+ghost use Rattle.vp_model.specs.Generated.{newest};
 ghost use Rattle.vp_model.specs.Step.{step, durable_of};
 ghost use Rattle.vp_site.specs.Starting.{Starts};
 
 use crate::fault::StartFault;
 use crate::stepped::Stepped;
 use std::marker::Model;
-use vp_base::{CopyOf, Effects, Input, LogRecord, NoMemory, SiteId, ViewId};
+use vp_base::{CopyOf, Effects, Input, LogRecord, Newest, NoMemory, SiteId, ViewId};
 use vp_catalog::Catalog;
 use vp_coordinator::{Coordinator, Here};
 use vp_locks::Locks;
@@ -98,5 +99,12 @@ impl Site {
             self.participant.in_doubt()?,
             self.coordinator.decisions()?,
         ))
+    }
+
+    /// The newest live transaction, where there is one.
+    pub fn newest(&self) -> Option<Newest>
+        ensures { result ≡ newest self.now.live }
+    {
+        self.coordinator.newest()
     }
 }

@@ -39,7 +39,8 @@ impl Stepped {
     fn time_out_calls(&mut self) -> Result<(), NoMemory>
         ensures { OnOk result (self.new ≡ by_coordinator (λ at. time_out_calls at.id) self.old) }
     {
-        Err(NoMemory)
+        let site = &mut self.site;
+        site.coordinator.tick(&mut site.here, &mut self.effects)
     }
 
     /// The other holders that have not answered are asked again for their copies.
@@ -82,7 +83,7 @@ impl Stepped {
     fn resend_decisions(&mut self) -> Result<(), NoMemory>
         ensures { OnOk result (self.new ≡ resend_decisions self.old) }
     {
-        Err(NoMemory)
+        self.site.coordinator.resend(&mut self.effects)
     }
 
     /// The coordinators of the transactions with a part here or in doubt here are asked how they ended.

@@ -20,7 +20,8 @@ impl Stepped {
     fn abandon(&mut self) -> Result<(), NoMemory>
         ensures { OnOk result (self.new ≡ by_coordinator (λ at. abandon at.id) self.old) }
     {
-        Err(NoMemory)
+        let site = &mut self.site;
+        site.coordinator.leave(&mut site.here, &mut self.effects)
     }
 
     /// Nothing of the view stays but the transactions in doubt, with their exclusive locks.
