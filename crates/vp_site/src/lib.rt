@@ -7,6 +7,7 @@
 mod fault;
 mod site;
 mod stepped;
+mod told;
 
 pub use fault::StartFault;
 pub use site::Site;
