@@ -1,5 +1,5 @@
 -- What a contract sees of a world.
-use Rattle.std.specs.Prelude.{ℕ, List}
+use Rattle.std.specs.Prelude.{ℕ, ◌-◌, ◌==◌, if◌then◌else◌, List, ◌++◌, slice_get, Option, None}
 use Rattle.vp_model.specs.Types.{Sent}
 use Rattle.vp_model.specs.Catalogue.{Catalogue}
 use Rattle.vp_model.specs.World.{WorldState}
@@ -14,3 +14,11 @@ pub record Known : Type 0 where
 pub record Posted : Type 0 where
   pub sent : List Sent
   pub delivered : List ℕ
+
+-- these are sent
+abbrev pub posted : List Sent → Posted → Posted
+posted messages m = record m { sent = m.sent ++ messages }
+
+-- message K, from 1
+abbrev pub message_in : ℕ → List Sent → Option Sent
+message_in k sent = if k == 0 then None else slice_get sent (k - 1)

@@ -1,9 +1,8 @@
 -- The limits of a world, and which answers they give.
-use Rattle.std.specs.Prelude.{◌≡◌, ℕ, nat_lt, if◌then◌else◌, length, Option, Some, None, Result, Ok, Err}
-use Rattle.vp_model.specs.Types.{Counted}
+use Rattle.std.specs.Prelude.{◌≡◌, ℕ, nat_lt, if◌then◌else◌, List, length, Option, Some, None, Result, Ok, Err}
+use Rattle.vp_model.specs.Types.{Counted, Sent, Shown}
 use Rattle.vp_model.specs.Types.counted
-use Rattle.vp_model.specs.Limits.{Limits, world_limits}
-use Rattle.vp_model.specs.World.{WorldState}
+use Rattle.vp_model.specs.World.{WorldState, Moved, shows}
 use Rattle.vp_world.specs.declared.end.WorldEnd.{WorldEnd}
 use Rattle.vp_world.specs.declared.end.WorldEnd.TheVariants as end
 
@@ -22,5 +21,11 @@ Ends exceeded (Err end.NoMemory) = Unit {0}
 abbrev pub too_many_steps : ℕ → Option Counted
 too_many_steps steps = if nat_lt 100000 steps then Some counted.Steps else None
 
-abbrev pub too_many_messages : WorldState → Option Counted
-too_many_messages w = if nat_lt 2000000 (length w.sent) then Some counted.Messages else None
+abbrev pub too_many : List Sent → Option Counted
+too_many sent = if nat_lt 2000000 (length sent) then Some counted.Messages else None
+
+-- a move is done exactly so, or it would send too many messages
+abbrev pub Does : Moved → WorldState → Result Shown WorldEnd → Type 0
+Does m new (Ok line) = (shows new line ≡ m) × (too_many m.world.sent ≡ None)
+Does m new (Err (end.Limit what limit)) = (too_many m.world.sent ≡ Some what) × (limit ≡ limit_of what)
+Does m new (Err end.NoMemory) = Unit {0}

@@ -30,6 +30,10 @@ site_in id places = option_and_then (λ place. place.up) (place_of id places)
 abbrev pub stepped_place : Catalogue → Input → Place → Place
 stepped_place catalogue given place = option_map_or (λ site. after_step (step catalogue site given) place) place.up place
 
+-- a place whose site goes down
+abbrev pub crashed_place : Place → Place
+crashed_place place = record place { up = None }
+
 -- the world with what a step of a site gives
 abbrev pub takes_in : Taken → WorldState → Moved
 takes_in t w =
@@ -53,6 +57,10 @@ BeginsLife catalogue old new (Err fault.NoMemory) = Unit {0}
 -- the site is down and has a life left
 abbrev pub restarts : Place → Bool
 restarts place = not (is_some place.up) && not (place.durable.life == 2 ^ 32 - 1)
+
+-- a place that is told to start again
+abbrev pub restarted_place : Catalogue → Place → Place
+restarted_place catalogue place = if restarts place then restart_place catalogue place else place
 
 -- the line under its restart
 abbrev pub restart_line : Place → Shown

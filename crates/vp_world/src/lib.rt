@@ -6,11 +6,9 @@
 
 mod cuts;
 mod end;
-
+mod mail;
 mod place;
-
-
-
+mod places;
+mod state;
 
 pub use end::WorldEnd;
-

@@ -4,8 +4,8 @@ ghost use Rattle.std.specs.Prelude.{◌≡◌, ◌==◌, ◌-◌, ◌^◌, ◌&&
 ghost use Rattle.std.specs.Option.{option_map_or};
 ghost use Rattle.vp_model.specs.Durable.{apply_all};
 ghost use Rattle.vp_model.specs.Step.{step};
-ghost use Rattle.vp_model.specs.World.{start_place, restart_place, after_step};
-ghost use Rattle.vp_world.specs.Steps.{newly_agreed, taken, stepped_place, BeginsLife, restarts, restart_line};
+ghost use Rattle.vp_model.specs.World.{start_place, after_step};
+ghost use Rattle.vp_world.specs.Steps.{newly_agreed, taken, stepped_place, BeginsLife, crashed_place, restarted_place, restart_line};
 
 use std::marker::Model;
 use vp_base::{CopyOf, Effects, Input, LogRecord, NoMemory, Shown, SiteId, View, ViewId};
@@ -91,7 +91,7 @@ impl Place {
 
     /// The site goes down.
     pub fn crash(&mut self)
-        ensures { self.new ≡ record self.old { up = None } }
+        ensures { self.new ≡ crashed_place self.old }
     {
         self.up = None;
     }
@@ -109,7 +109,7 @@ impl Place {
     /// The site starts again, where it is down and a life is left. Without memory the place may only be dropped.
     #[tactic(auto, unfolding(vp_model::specs::Durable::apply))]
     pub fn restart(&mut self, catalog: &Catalog) -> Result<Shown, NoMemory>
-        ensures place { OnOk result (self.new ≡ (if restarts self.old then restart_place catalog.now self.old else self.old)) }
+        ensures place { OnOk result (self.new ≡ restarted_place catalog.now self.old) }
         ensures shown { IfOk result (λ shown. shown ≡ restart_line self.old) }
     {
         if self.is_up() {
