@@ -1,5 +1,5 @@
 -- The moves of the definitions, as the code makes them.
-use Rattle.std.proofs.Common.{◌≡◌, ◌≤◌, ◌==◌, ◌+◌, ◌-◌, ◌^◌, ◌++◌, ℕ, Bool, true, false, if◌then◌else◌, is_some, List, [], ◌∷◌, length, find, Option, Some, None, option_map, option_and_then, option_to_list, Result, Ok, Err, refl, sym, ap, subst, ◌∙◌, arith}
+use Rattle.std.proofs.Common.{◌≡◌, ◌≤◌, ◌==◌, ◌+◌, ◌-◌, ◌^◌, ◌++◌, ℕ, Bool, true, false, if◌then◌else◌, is_some, List, [], ◌∷◌, length, find, Option, Some, None, option_map, option_and_then, option_to_list, Result, Ok, Err, OnOk, IfOk, refl, sym, ap, subst, ◌∙◌, arith}
 use Rattle.std.specs.Option.{option_map_or}
 use Rattle.std.proofs.lemmas.Bool.Decides.{nat_tests}
 use Rattle.std.specs.List.{list_any}
@@ -168,3 +168,8 @@ does_along m n new r e h = subst (λ (x : Moved). Does x new r) (sym e) h
 
 pub does_shown : (m : Moved) (new : WorldState) (line : Shown) → length new.sent ≤ 2000000 → m ≡ shows new line → Does m new (Ok line)
 does_shown m new line few e = does_along m (shows new line) new (Ok line) e (refl, few_is_within new.sent few)
+
+-- two clauses of a result that is Ok
+pub both_ok : {T E A : Type 0} (r : Result T E) (B P : T → Type 0) → ((x : T) → A → B x → P x) → OnOk r A → IfOk r B → IfOk r P
+both_ok (Ok x) B P f a b = f x a b
+both_ok (Err e) B P f a b = tt

@@ -10,5 +10,7 @@ mod mail;
 mod place;
 mod places;
 mod state;
+mod world;
 
 pub use end::WorldEnd;
+pub use world::World;

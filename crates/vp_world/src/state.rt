@@ -5,7 +5,7 @@ ghost use Rattle.vp_base.specs.declared.event.Event.TheVariants as event;
 ghost use Rattle.vp_base.specs.declared.event.Input.TheVariants as input;
 ghost use Rattle.vp_base.specs.declared.event.Shown.TheVariants as shown;
 ghost use Rattle.vp_model.specs.Catalogue.{Catalogue};
-ghost use Rattle.vp_model.specs.World.{start_world, message_at, is_cut, shows, at_site, deliver, crash, cut, heal, restart, happens};
+ghost use Rattle.vp_model.specs.World.{start_world, is_flowing, flowing, message_at, is_cut, shows, at_site, deliver, crash, cut, heal, restart, happens};
 ghost use Rattle.vp_world.specs.Limits.{Ends, Does, too_many, too_many_steps};
 ghost use Rattle.vp_world.specs.Known.{message_in};
 ghost use Rattle.vp_world.specs.Steps.{takes_in};
@@ -18,7 +18,7 @@ use crate::places::Places;
 use std::alloc::Global;
 use std::marker::Model;
 use vp_base::{
-    Commit, Commits, CopyOf, Counted, Effects, Event, Input, NoMemory, Sent, Shown, SiteId, View,
+    Call, Commit, Commits, CopyOf, Counted, Effects, Event, Input, NoMemory, Sent, Shown, SiteId, View,
     ViewId,
 };
 use vp_catalog::Catalog;
@@ -127,6 +127,28 @@ impl State {
         &self.journal
     }
 
+    /// Whether the message of this number may be delivered now, and never was.
+    fn is_flowing(&self, k: u32, sent: &Sent) -> bool
+        ensures { result ≡ is_flowing self.now k sent.now }
+    {
+        self.places.is_up(sent.to)
+            && !self.cuts.has(sent.from, sent.to)
+            && !self.mail.was_delivered(k)
+    }
+
+    /// The lowest message that may be delivered now and never was.
+    pub fn flowing(&self) -> Option<u32>
+        ensures { result ≡ flowing self.now }
+    {
+        for (i, sent) in self.mail.sent().iter().enumerate() {
+            let k = i as u32 + 1;
+            if self.is_flowing(k, sent) {
+                return Some(k);
+            }
+        }
+        None
+    }
+
     /// One more step is done, where there are not too many.
     pub fn count_step(&mut self) -> Result<(), WorldEnd>
         requires { self.old.steps ≤ 100000 }
@@ -201,7 +223,8 @@ impl State {
     }
 
     fn crash(&mut self, id: SiteId) -> Shown
-        ensures { shows self.new result ≡ crash id self.old }
+        ensures shown { shows self.new result ≡ crash id self.old }
+        ensures sent { self.new.sent ≡ self.old.sent }
     {
         if self.places.is_up(id) {
             self.places.crash(id);
@@ -212,8 +235,42 @@ impl State {
     }
 
     fn restart(&mut self, catalog: &Catalog, id: SiteId) -> Result<Shown, NoMemory>
-        ensures { IfOk result (λ line. shows self.new line ≡ restart catalog.now id self.old) }
+        ensures shown { IfOk result (λ line. shows self.new line ≡ restart catalog.now id self.old) }
+        ensures sent { OnOk result (self.new.sent ≡ self.old.sent) }
     {
         self.places.restart(catalog, id)
+    }
+
+    fn call(&mut self, catalog: &Catalog, site: SiteId, call: &Call) -> Result<Shown, WorldEnd>
+        requires { length self.old.sent ≤ 2000000 }
+        ensures { Does (at_site catalog.now site (input.Call 0 call.now) self.old) self.new result }
+    {
+        let call = call.copy_of()?;
+        self.at_site(catalog, site, &Input::Call { from: 0, call })
+    }
+
+    /// Does the event. Where the messages are too many, or without memory, the state may only be dropped.
+    #[tactic(auto, unfolding(vp_model::specs::World::happens))]
+    pub fn happen(&mut self, catalog: &Catalog, event: &Event) -> Result<Shown, WorldEnd>
+        requires { length self.old.sent ≤ 2000000 }
+        ensures { Does (happens catalog.now event.now self.old) self.new result }
+    {
+        match event {
+            Event::Call { site, call } => self.call(catalog, *site, call),
+            Event::Deliver { k } => self.deliver(catalog, *k),
+            Event::Flow { .. } => Ok(Shown::Nothing),
+            Event::Tick { site } => self.at_site(catalog, *site, &Input::Tick),
+            Event::Probe { site } => self.at_site(catalog, *site, &Input::Probe),
+            Event::Cut { a, b } => {
+                self.cuts.cut(*a, *b)?;
+                Ok(Shown::Nothing)
+            }
+            Event::Heal { a, b } => {
+                self.cuts.heal(*a, *b);
+                Ok(Shown::Nothing)
+            }
+            Event::Crash { site } => Ok(self.crash(*site)),
+            Event::Restart { site } => Ok(self.restart(catalog, *site)?),
+        }
     }
 }
