@@ -1,5 +1,5 @@
 -- The moves of the definitions, as the code makes them.
-use Rattle.std.proofs.Common.{◌≡◌, ◌≤◌, ◌==◌, ◌+◌, ◌-◌, ◌^◌, ◌++◌, ℕ, Bool, true, false, if◌then◌else◌, is_some, List, [], ◌∷◌, length, find, Option, Some, None, option_map, option_and_then, option_to_list, Result, Ok, Err, OnOk, IfOk, refl, sym, ap, subst, ◌∙◌, arith}
+use Rattle.std.proofs.Common.{◌≡◌, ◌≤◌, ◌==◌, ◌-◌, ◌^◌, ◌++◌, ℕ, Bool, true, false, if◌then◌else◌, is_some, List, [], ◌∷◌, length, find, Option, Some, None, option_map, option_and_then, option_to_list, Result, Ok, Err, OnOk, IfOk, refl, sym, ap, subst, ◌∙◌, arith}
 use Rattle.std.specs.Option.{option_map_or}
 use Rattle.std.proofs.lemmas.Bool.Decides.{nat_tests}
 use Rattle.std.specs.List.{list_any}
@@ -16,7 +16,7 @@ use Rattle.vp_world.specs.declared.place.Taken.{Taken}
 use Rattle.vp_world.specs.declared.end.WorldEnd.{WorldEnd}
 use Rattle.vp_world.specs.Known.{Posted}
 use Rattle.vp_world.specs.Limits.{Does, too_many}
-use Rattle.vp_world.specs.Steps.{newly_agreed, taken, site_in, stepped_place, crashed_place, restarted_place, restarts, restart_line, takes_in}
+use Rattle.vp_world.specs.Steps.{newly_agreed, taken, site_in, stepped_place, crashed_place, restarted_place, restart_line, takes_in}
 
 -- changes of the first item that passes a test
 

@@ -1,13 +1,13 @@
 -- What a step of a site gives the world, and how a site starts again.
 use Rattle.std.specs.Prelude.{ℕ, ◌≡◌, ◌<◌, Bool, Result, Ok, Err, ◌+◌, ◌-◌, ◌^◌, ◌==◌, ◌&&◌, not, if◌then◌else◌, is_some, List, ◌++◌, length, Option, Some, None, option_map, option_and_then, option_to_list}
 use Rattle.std.specs.Option.{option_map_or}
-use Rattle.vp_model.specs.Types.{ViewId, View, Sent, Input, Shown}
+use Rattle.vp_model.specs.Types.{ViewId, View, Input, Shown}
 use Rattle.vp_model.specs.Types.shown
 use Rattle.vp_model.specs.Words.{same_view}
 use Rattle.vp_model.specs.Catalogue.{Catalogue}
 use Rattle.vp_model.specs.Site.{SiteState, Stepped}
 use Rattle.vp_model.specs.Step.{step}
-use Rattle.vp_model.specs.World.{Place, WorldState, Moved, place_of, change_place, after_step, restart_place}
+use Rattle.vp_model.specs.World.{Place, WorldState, Moved, place_of, after_step, restart_place}
 use Rattle.vp_site.specs.declared.fault.StartFault.{StartFault}
 use Rattle.vp_site.specs.declared.fault.StartFault.TheVariants as fault
 use Rattle.vp_world.specs.declared.place.Taken.{Taken}

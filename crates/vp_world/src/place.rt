@@ -136,12 +136,7 @@ impl Place {
     }
 
     /// An input comes to this site, which is up.
-    fn step_up(
-        &mut self,
-        site: Site,
-        catalog: &Catalog,
-        input: &Input,
-    ) -> Result<Taken, NoMemory>
+    fn step_up(&mut self, site: Site, catalog: &Catalog, input: &Input) -> Result<Taken, NoMemory>
         ensures taken { IfOk result (λ t. t ≡ taken site (step catalog.now site input.now)) }
         ensures place { OnOk result (self.new ≡ after_step (step catalog.now site input.now) self.old) }
     {

@@ -91,11 +91,7 @@ fn crash_at(places: &mut [Place], id: SiteId)
 
 /// The site starts again, where it is down and a life is left.
 #[tactic(auto, using(vp_lists::proofs::Found::first_changes, vp_lists::proofs::Found::first_places))]
-fn restart_at(
-    places: &mut [Place],
-    catalog: &Catalog,
-    id: SiteId,
-) -> Result<Shown, NoMemory>
+fn restart_at(places: &mut [Place], catalog: &Catalog, id: SiteId) -> Result<Shown, NoMemory>
     ensures places { OnOk result (places.new ≡ change_place id (restarted_place catalog.now) places.old) }
     ensures shown { IfOk result (λ s. s ≡ option_map_or restart_line (place_of id places.old) shown.Nothing) }
 {

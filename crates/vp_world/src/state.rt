@@ -5,9 +5,10 @@ ghost use Rattle.vp_base.specs.declared.event.Event.TheVariants as event;
 ghost use Rattle.vp_base.specs.declared.event.Input.TheVariants as input;
 ghost use Rattle.vp_base.specs.declared.event.Shown.TheVariants as shown;
 ghost use Rattle.vp_model.specs.Catalogue.{Catalogue};
-ghost use Rattle.vp_model.specs.World.{start_world, is_flowing, flowing, message_at, is_cut, shows, at_site, deliver, crash, cut, heal, restart, happens};
+ghost use Rattle.vp_model.specs.World.{start_world, is_flowing, flowing, message_at, is_cut, shows, at_site, deliver, crash, cut, heal, restart, happens, next};
+ghost use Rattle.vp_model.specs.Limits.{world_limits, refused};
 ghost use Rattle.vp_world.specs.Limits.{Ends, Does, too_many, too_many_steps};
-ghost use Rattle.vp_world.specs.Known.{message_in};
+ghost use Rattle.vp_world.specs.Known.{message_in, IsWithinLimits};
 ghost use Rattle.vp_world.specs.Steps.{takes_in};
 
 use crate::cuts::Cuts;
@@ -18,8 +19,8 @@ use crate::places::Places;
 use std::alloc::Global;
 use std::marker::Model;
 use vp_base::{
-    Call, Commit, Commits, CopyOf, Counted, Effects, Event, Input, NoMemory, Sent, Shown, SiteId, View,
-    ViewId,
+    Call, Commit, Commits, CopyOf, Counted, Effects, Event, Input, NoMemory, Sent, Shown, SiteId,
+    View, ViewId,
 };
 use vp_catalog::Catalog;
 
@@ -43,13 +44,13 @@ impl Model for State {
     ghost Value = { WorldState };
 
     ghost view = { λ s. record {
-        places = s.places;
-        agreed = s.agreed.items;
-        sent = s.mail.sent;
-        delivered = s.mail.delivered;
-        cuts = s.cuts;
-        journal = s.journal;
-        steps = s.steps;
+      places = s.places;
+      agreed = s.agreed.items;
+      sent = s.mail.sent;
+      delivered = s.mail.delivered;
+      cuts = s.cuts;
+      journal = s.journal;
+      steps = s.steps;
     } };
 }
 
@@ -178,12 +179,7 @@ impl State {
 
     /// An input comes to a site, where it is up. Where the messages are too many, or without memory, the state may only be dropped,
     /// as after each call below.
-    fn at_site(
-        &mut self,
-        catalog: &Catalog,
-        id: SiteId,
-        input: &Input,
-    ) -> Result<Shown, WorldEnd>
+    fn at_site(&mut self, catalog: &Catalog, id: SiteId, input: &Input) -> Result<Shown, WorldEnd>
         requires { length self.old.sent ≤ 2000000 }
         ensures { Does (at_site catalog.now id input.now self.old) self.new result }
     {
@@ -249,9 +245,8 @@ impl State {
         self.at_site(catalog, site, &Input::Call { from: 0, call })
     }
 
-    /// Does the event. Where the messages are too many, or without memory, the state may only be dropped.
     #[tactic(auto, unfolding(vp_model::specs::World::happens))]
-    pub fn happen(&mut self, catalog: &Catalog, event: &Event) -> Result<Shown, WorldEnd>
+    fn happen(&mut self, catalog: &Catalog, event: &Event) -> Result<Shown, WorldEnd>
         requires { length self.old.sent ≤ 2000000 }
         ensures { Does (happens catalog.now event.now self.old) self.new result }
     {
@@ -272,5 +267,16 @@ impl State {
             Event::Crash { site } => Ok(self.crash(*site)),
             Event::Restart { site } => Ok(self.restart(catalog, *site)?),
         }
+    }
+
+    /// Does the event as one more step. After an error the state may only be dropped.
+    pub fn next(&mut self, catalog: &Catalog, event: &Event) -> Result<Shown, WorldEnd>
+        requires { IsWithinLimits self.old }
+        ensures shown { IfOk result (λ line. shows self.new line ≡ next catalog.now event.now self.old) }
+        ensures within { OnOk result (IsWithinLimits self.new) }
+        ensures end { Ends (refused world_limits catalog.now event.now self.old) result }
+    {
+        self.count_step()?;
+        self.happen(catalog, event)
     }
 }

@@ -30,6 +30,7 @@ impl Model for World {
 
 impl World {
     /// Each site of the catalogue is up in its first life.
+    #[tactic(auto, unfolding(vp_model::specs::World::start_world))]
     pub fn new(catalog: Catalog) -> Result<World, NoMemory>
         ensures { IfOk result (λ w. w ≡ record { catalogue = catalog; world = start_world catalog }) }
     {
@@ -45,8 +46,7 @@ impl World {
         ensures end { Ends (refused world_limits self.catalogue event.now self.world) result }
     {
         let World { catalog, mut state } = self;
-        state.count_step()?;
-        let shown = state.happen(&catalog, event)?;
+        let shown = state.next(&catalog, event)?;
         let line = Line {
             event: event.copy_of()?,
             shown,

@@ -1,6 +1,6 @@
-use Rattle.std.proofs.Common.{◌≡◌, ◌≤◌, length, refl, sym, subst}
+use Rattle.std.proofs.Common.{◌≤◌, length, refl, sym, subst}
 use Rattle.vp_model.specs.Types.shown
-use Rattle.vp_model.specs.World.{WorldState, shows, at_site}
+use Rattle.vp_model.specs.World.{WorldState, at_site}
 use Rattle.vp_world.specs.Steps.{takes_in}
 use Rattle.vp_world.specs.contracts.state.State.{the_view}
 use Rattle.vp_world.proofs.Moves.{at_site_takes, at_site_down, does_along, does_shown}

@@ -1,7 +1,7 @@
-use Rattle.std.proofs.Common.{◌≡◌, ◌≤◌, ◌∙◌, length, Some, None, refl, sym, subst}
+use Rattle.std.proofs.Common.{◌≡◌, ◌≤◌, ◌∙◌, length, Some, None, sym, subst}
 use Rattle.vp_model.specs.Types.shown
 use Rattle.vp_model.specs.Types.event
-use Rattle.vp_model.specs.World.{WorldState, shows, message_at, deliver, happens}
+use Rattle.vp_model.specs.World.{WorldState, message_at, deliver, happens}
 use Rattle.vp_world.specs.contracts.state.State.{the_view}
 use Rattle.vp_world.proofs.Moves.{no_message, some_message, does_along, does_shown}
 use Rattle.vp_world.proofs.state.State.deliver.Goals as goal

@@ -1,7 +1,7 @@
-use Rattle.std.proofs.Common.{◌≡◌, ◌≤◌, length, refl, sym, subst}
+use Rattle.std.proofs.Common.{◌≤◌, length, refl, sym, subst}
 use Rattle.vp_model.specs.Types.shown
 use Rattle.vp_model.specs.Types.input
-use Rattle.vp_model.specs.World.{WorldState, shows, at_site, deliver}
+use Rattle.vp_model.specs.World.{WorldState, at_site, deliver}
 use Rattle.vp_world.specs.contracts.state.State.{the_view}
 use Rattle.vp_world.proofs.Moves.{deliver_down, deliver_parted, deliver_comes, does_along, does_shown}
 use Rattle.vp_world.proofs.state.State.hand_over.Goals as goal
