@@ -1,5 +1,6 @@
 -- A row on what a part of a site keeps, at a whole site: all else stays.
 use Rattle.std.specs.Prelude.{ℕ}
+use Rattle.vp_model.specs.Types.{Effects}
 use Rattle.vp_model.specs.Site.{SiteState, Stepped}
 use Rattle.vp_views.specs.Viewing.{Viewing, Viewed, viewed}
 
@@ -11,3 +12,6 @@ with_viewed o v = record { site = record o.site { views = v.at.views }; effects 
 
 abbrev pub by_views : (Viewed → Viewed) → Stepped → Stepped
 by_views row o = with_viewed o (row (viewed (viewing o.site) o.effects))
+
+abbrev pub stepped : SiteState → Effects → Stepped
+stepped site effects = record { site = site; effects = effects }

@@ -1,13 +1,13 @@
 //! What a site does for the transactions of other sites.
 
-ghost use Rattle.std.specs.Prelude.{◌≡◌, OnOk, IfOk, IfSome, if◌then◌else◌};
+ghost use Rattle.std.specs.Prelude.{◌≡◌, OnOk, IfOk, IfSome, is_some, if◌then◌else◌};
 ghost use Rattle.vp_base.specs.declared.entry.Owner.TheVariants as owner;
 ghost use Rattle.vp_base.specs.declared.message.Message.TheVariants as message;
 ghost use Rattle.vp_model.specs.Words.{◌|>◌, keys};
 ghost use Rattle.vp_model.specs.Durable.{doubt_of};
-ghost use Rattle.vp_model.specs.Locks.{with_lock};
+ghost use Rattle.vp_model.specs.Locks.{with_lock, without_owner};
 ghost use Rattle.vp_model.specs.Site.{send, change_locks, change_participant};
-ghost use Rattle.vp_model.specs.Messages.{holds_view, with_part, refuse_view, on_read_request, on_write_request, on_prepare, end_doubt, end_here, on_outcome};
+ghost use Rattle.vp_model.specs.Messages.{holds_view, with_part, refuse_view, on_read_request, on_write_request, on_prepare, end_doubt, with_ended, acknowledge, on_outcome};
 ghost use Rattle.vp_participant.specs.Doubts.{doubt_ended};
 ghost use Rattle.vp_participant.specs.Refusals.{lock_refusal, lock_refused};
 ghost use Rattle.vp_site.specs.Requests.{asked};
@@ -165,7 +165,7 @@ impl Stepped {
     }
 
     /// A transaction asks for the vote of its part here.
-    #[tactic(auto, unfolding(vp_model::specs::Messages::on_prepare, vp_model::specs::Messages::first_vote, vp_participant::specs::Ballots::ballot, vp_participant::specs::Ballots::first_ballot))]
+    #[tactic(auto, unfolding(vp_model::specs::Messages::on_prepare), using(crate::proofs::Voting::prepare_row))]
     pub fn on_prepare(&mut self, from: SiteId, asked: &Prepare<'_>) -> Result<(), NoMemory>
         ensures { OnOk result (self.new ≡ on_prepare from asked.now.txn asked.now.view asked.now.number asked.now.reads.now asked.now.writes.now self.old) }
     {
@@ -191,6 +191,17 @@ impl Stepped {
         }
     }
 
+    /// The part of the transaction ends, with its locks.
+    fn end_here(&mut self, txn: TxnId, commit: bool) -> Result<Settled, NoMemory>
+        ensures part { OnOk result (self.new ≡ self.old |> change_participant (with_ended (is_some self.old.site.held) txn) |> change_locks (without_owner (owner.Txn txn))) }
+        ensures doubt { IfOk result (λ settled. settled.doubt ≡ doubt_ended txn self.old.site.doubts) }
+    {
+        let site = &mut self.site;
+        let held = site.views.held();
+        site.participant
+            .outcome(&mut site.here.locks, held, txn, commit)
+    }
+
     /// What the transaction was in doubt of ends: a commit makes its writes copies.
     fn end_doubt(
         &mut self,
@@ -210,28 +221,19 @@ impl Stepped {
         self.force(LogRecord::Outcome { txn, commit })
     }
 
-    /// The part of the transaction ends here, and what it was in doubt of.
-    #[tactic(auto, unfolding(vp_model::specs::Messages::end_here))]
-    fn end_here(&mut self, from: SiteId, txn: TxnId, commit: bool) -> Result<Settled, NoMemory>
-        ensures row { OnOk result (self.new ≡ end_here from txn commit (doubt_of txn self.old.site.doubts) self.old) }
-        ensures doubt { IfOk result (λ settled. settled.doubt ≡ doubt_ended txn self.old.site.doubts) }
+    /// A commit is acknowledged to the site that decided it.
+    fn acknowledge(&mut self, from: SiteId, txn: TxnId, commit: bool) -> Result<(), NoMemory>
+        ensures { OnOk result (self.new ≡ acknowledge from txn commit self.old) }
     {
-        let site = &mut self.site;
-        let held = site.views.held();
-        let settled = site
-            .participant
-            .outcome(&mut site.here.locks, held, txn, commit)?;
-        if let Some(doubt) = &settled.doubt {
-            self.end_doubt(txn, commit, doubt)?;
-        }
         if commit {
-            self.send(from, Message::Ack { txn })?;
+            self.send(from, Message::Ack { txn })
+        } else {
+            Ok(())
         }
-        Ok(settled)
     }
 
     /// The outcome of a transaction comes: the records that it was in doubt of may end their refresh.
-    #[tactic(auto, unfolding(vp_model::specs::Messages::on_outcome, vp_model::specs::Messages::end_part))]
+    #[tactic(auto, unfolding(vp_model::specs::Messages::on_outcome, vp_model::specs::Messages::end_part, vp_model::specs::Messages::end_here))]
     pub fn on_outcome(
         &mut self,
         catalog: &Catalog,
@@ -241,9 +243,13 @@ impl Stepped {
     ) -> Result<(), NoMemory>
         ensures { OnOk result (self.new ≡ on_outcome catalog.now from txn commit self.old) }
     {
-        match self.end_here(from, txn, commit)?.doubt {
-            None => Ok(()),
-            Some((_, writes)) => self.settle_all(catalog, &recs_of(&writes)?),
+        match self.end_here(txn, commit)?.doubt {
+            None => self.acknowledge(from, txn, commit),
+            Some(doubt) => {
+                self.end_doubt(txn, commit, &doubt)?;
+                self.acknowledge(from, txn, commit)?;
+                self.settle_all(catalog, &recs_of(&doubt.1)?)
+            }
         }
     }
 }

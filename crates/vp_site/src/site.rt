@@ -1,6 +1,6 @@
 //! A site that is up.
 
-ghost use Rattle.std.specs.Prelude.{◌≡◌, ◌<◌, ◌-◌, ◌^◌, IfOk};
+ghost use Rattle.std.specs.Prelude.{◌≡◌, ◌<◌, ◌-◌, ◌^◌, IfOk, option_copied, option_map};
 ghost use Rattle.vp_model.specs.Generated.{newest};
 ghost use Rattle.vp_model.specs.Step.{start, step, durable_of};
 ghost use Rattle.vp_site.specs.Starting.{Starts};
@@ -8,7 +8,7 @@ ghost use Rattle.vp_site.specs.Starting.{Starts};
 use crate::fault::StartFault;
 use crate::stepped::Stepped;
 use std::marker::Model;
-use vp_base::{CopyOf, Effects, Input, LogRecord, Newest, NoMemory, SiteId, ViewId};
+use vp_base::{CopyOf, Effects, Input, LogRecord, Newest, NoMemory, SiteId, View, ViewId};
 use vp_catalog::Catalog;
 use vp_coordinator::{Coordinator, Here};
 use vp_locks::Locks;
@@ -109,6 +109,20 @@ impl Site {
             self.participant.in_doubt()?,
             self.coordinator.decisions()?,
         ))
+    }
+
+    /// The view that the site holds.
+    pub fn held(&self) -> Option<&View>
+        ensures { option_copied result ≡ self.now.held }
+    {
+        self.views.held()
+    }
+
+    /// The identifier that the site invites to.
+    pub fn inviting(&self) -> Option<ViewId>
+        ensures { result ≡ option_map (λ inviting. inviting.0) self.now.inviting }
+    {
+        self.views.inviting()
     }
 
     /// The newest live transaction, where there is one.

@@ -52,7 +52,8 @@ impl Stepped {
     pub fn send(&mut self, to: SiteId, message: Message) -> Result<(), NoMemory>
         ensures { OnOk result (self.new ≡ send message to self.old) }
     {
-        self.effects.send(self.id(), to, message)
+        let id = self.id();
+        self.effects.send(id, to, message)
     }
 
     /// Answers the client at the port.

@@ -3,6 +3,7 @@
 ghost use Rattle.std.specs.Prelude.{◌≡◌, OnOk, IfOk};
 ghost use Rattle.std.specs.Option.{option_map_or};
 ghost use Rattle.vp_model.specs.Site.{by_coordinator};
+ghost use Rattle.vp_site.specs.Lifted.{stepped};
 ghost use Rattle.vp_model.specs.Step.{fix_view, time_out_calls, ask_again, ask_again_all, time_out, tick_view, resend_decisions, inquire, inquire_all, on_tick, on_probe};
 
 use crate::site::Site;
@@ -43,22 +44,13 @@ impl Stepped {
         site.coordinator.tick(&mut site.here, &mut self.effects)
     }
 
-    /// The other holders that have not answered are asked again for their copies.
-    fn ask_again_all(&mut self, catalog: &Catalog, view: ViewId) -> Result<(), NoMemory>
-        ensures { OnOk result (self.new ≡ ask_again_all catalog.now view self.old.site.refresh self.old) }
-    {
-        for asked in self.site.refresh.as_slice() {
-            ask_again(&self.site, catalog, view, asked, &mut self.effects)?;
-        }
-        Ok(())
-    }
-
     #[tactic(auto, unfolding(vp_model::specs::Step::time_out))]
     fn time_out(&mut self, catalog: &Catalog, view: &View) -> Result<(), NoMemory>
         ensures { OnOk result (self.new ≡ time_out catalog.now view.now self.old) }
     {
         self.time_out_calls()?;
-        self.ask_again_all(catalog, view.id)
+        self.site
+            .ask_again_all(catalog, view.id, &mut self.effects)
     }
 
     /// The part of a tick that depends on where the site stands among views.
@@ -127,22 +119,38 @@ impl Stepped {
     }
 }
 
-/// The other holders of the copy that have not answered are asked again.
-#[tactic(auto, unfolding(vp_model::specs::Step::ask_again))]
-fn ask_again(
-    site: &Site,
-    catalog: &Catalog,
-    view: ViewId,
-    asked: &Asked,
-    effects: &mut Effects,
-) -> Result<(), NoMemory>
-    ensures { OnOk result (record { site = site.now; effects = effects.new } ≡ ask_again catalog.now view asked.now (record { site = site.now; effects = effects.old })) }
-{
-    let id = site.coordinator.id();
-    let missing = asked.missing(catalog, id, site.views.held())?;
-    let request = Message::RefreshRequest {
-        view,
-        rec: asked.rec(),
-    };
-    effects.send_all(id, missing.as_slice(), &request)
+impl Site {
+    /// The other holders that have not answered are asked again for their copies.
+    fn ask_again_all(
+        &self,
+        catalog: &Catalog,
+        view: ViewId,
+        effects: &mut Effects,
+    ) -> Result<(), NoMemory>
+        ensures { OnOk result (stepped self.now effects.new ≡ ask_again_all catalog.now view self.now.refresh (stepped self.now effects.old)) }
+    {
+        for asked in self.refresh.as_slice() {
+            self.ask_again(catalog, view, asked, effects)?;
+        }
+        Ok(())
+    }
+
+    #[tactic(auto, unfolding(vp_model::specs::Step::ask_again))]
+    fn ask_again(
+        &self,
+        catalog: &Catalog,
+        view: ViewId,
+        asked: &Asked,
+        effects: &mut Effects,
+    ) -> Result<(), NoMemory>
+        ensures { OnOk result (stepped self.now effects.new ≡ ask_again catalog.now view asked.now (stepped self.now effects.old)) }
+    {
+        let id = self.coordinator.id();
+        let missing = asked.missing(catalog, id, self.views.held())?;
+        let request = Message::RefreshRequest {
+            view,
+            rec: asked.rec(),
+        };
+        effects.send_all(id, missing.as_slice(), &request)
+    }
 }

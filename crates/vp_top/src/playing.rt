@@ -1,6 +1,6 @@
 //! Playing the events of a schedule in a world, with the lines of their steps.
 
-ghost use Rattle.std.specs.Prelude.{◌≡◌, ◌++◌};
+ghost use Rattle.std.specs.Prelude.{◌≡◌, ◌++◌, ◌≤◌, OnOk, length};
 ghost use Rattle.vp_model.specs.World.{one_step, flow, one_event};
 ghost use Rattle.vp_model.specs.Texts.Trace.{own_line};
 ghost use Rattle.vp_top.specs.Played.{Prints, Plays, run_in, lines_text};

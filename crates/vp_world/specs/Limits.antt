@@ -1,0 +1,31 @@
+-- The limits of a world, and which answers they give.
+use Rattle.std.specs.Prelude.{◌≡◌, ℕ, nat_lt, if◌then◌else◌, List, length, Option, Some, None, Result, Ok, Err}
+use Rattle.vp_model.specs.Types.{Counted, Sent, Shown}
+use Rattle.vp_model.specs.Types.counted
+use Rattle.vp_model.specs.World.{WorldState, Moved, shows}
+use Rattle.vp_world.specs.declared.end.WorldEnd.{WorldEnd}
+use Rattle.vp_world.specs.declared.end.WorldEnd.TheVariants as end
+
+-- how many of them a world may have
+abbrev pub limit_of : Counted → ℕ
+limit_of counted.Steps = 100000
+limit_of counted.Messages = 2000000
+
+-- a limit is told exactly where one is exceeded
+abbrev pub Ends : {A : Type 0} → Option Counted → Result A WorldEnd → Type 0
+Ends exceeded (Ok a) = exceeded ≡ None
+Ends exceeded (Err (end.Limit what limit)) = (exceeded ≡ Some what) × (limit ≡ limit_of what)
+Ends exceeded (Err end.NoMemory) = Unit {0}
+
+-- the limits one by one
+abbrev pub too_many_steps : ℕ → Option Counted
+too_many_steps steps = if nat_lt 100000 steps then Some counted.Steps else None
+
+abbrev pub too_many : List Sent → Option Counted
+too_many sent = if nat_lt 2000000 (length sent) then Some counted.Messages else None
+
+-- a move is done exactly so, or it would send too many messages
+abbrev pub Does : Moved → WorldState → Result Shown WorldEnd → Type 0
+Does m new (Ok line) = (shows new line ≡ m) × (too_many m.world.sent ≡ None)
+Does m new (Err (end.Limit what limit)) = (too_many m.world.sent ≡ Some what) × (limit ≡ limit_of what)
+Does m new (Err end.NoMemory) = Unit {0}

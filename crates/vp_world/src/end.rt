@@ -1,0 +1,31 @@
+//! How a world ends.
+
+ghost use Rattle.std.specs.Prelude.{◌≡◌};
+ghost use Rattle.vp_base.specs.declared.event.Counted.TheVariants as counted;
+ghost use Rattle.vp_world.specs.Limits.{limit_of};
+
+use vp_base::{Counted, NoMemory};
+
+/// How many steps a world may have.
+pub const STEPS: u32 = 100_000;
+
+/// How many messages a world may have.
+pub const MESSAGES: u32 = 2_000_000;
+
+/// Why an event is not done. The world is then gone.
+#[derive(Clone, Copy, Debug, Drop, PartialEq, Eq)]
+pub enum WorldEnd {
+    /// With the event there would be more than `limit` of them.
+    Limit { what: Counted, limit: u32 },
+    NoMemory,
+}
+
+impl From<NoMemory> for WorldEnd {
+    ghost use Rattle.vp_world.specs.declared.end.WorldEnd.TheVariants as end;
+
+    ghost from_gives = { λ _ e. e ≡ end.NoMemory };
+
+    fn from(_e: NoMemory) -> WorldEnd {
+        WorldEnd::NoMemory
+    }
+}

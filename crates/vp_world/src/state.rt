@@ -1,0 +1,282 @@
+//! What the world keeps, and what an event does to it.
+
+ghost use Rattle.std.specs.Prelude.{◌≡◌, ◌≤◌, ◌+◌, ◌++◌, ◌∷◌, [], OnOk, IfOk, IsSome, Some, None, is_some, if◌then◌else◌, length, map, option_to_list};
+ghost use Rattle.vp_base.specs.declared.event.Event.TheVariants as event;
+ghost use Rattle.vp_base.specs.declared.event.Input.TheVariants as input;
+ghost use Rattle.vp_base.specs.declared.event.Shown.TheVariants as shown;
+ghost use Rattle.vp_model.specs.Catalogue.{Catalogue};
+ghost use Rattle.vp_model.specs.World.{start_world, is_flowing, flowing, message_at, is_cut, shows, at_site, deliver, crash, cut, heal, restart, happens, next};
+ghost use Rattle.vp_model.specs.Limits.{world_limits, refused};
+ghost use Rattle.vp_world.specs.Limits.{Ends, Does, too_many, too_many_steps};
+ghost use Rattle.vp_world.specs.Known.{message_in, IsWithinLimits};
+ghost use Rattle.vp_world.specs.Steps.{takes_in};
+
+use crate::cuts::Cuts;
+use crate::end::{STEPS, WorldEnd};
+use crate::mail::Mail;
+use crate::place::Taken;
+use crate::places::Places;
+use std::alloc::Global;
+use std::marker::Model;
+use vp_base::{
+    Call, Commit, Commits, CopyOf, Counted, Effects, Event, Input, NoMemory, Sent, Shown, SiteId,
+    View, ViewId,
+};
+use vp_catalog::Catalog;
+
+/// The opening view.
+const OPENING: ViewId = ViewId { number: 0, site: 0 };
+
+/// The sites with their messages, and what they have agreed on and committed.
+#[derive(Drop)]
+pub struct State {
+    places: Places,
+    agreed: Vec<View>,
+    mail: Mail,
+    cuts: Cuts,
+    journal: Commits,
+    steps: u32,
+}
+
+impl Model for State {
+    ghost use Rattle.vp_model.specs.World.{WorldState};
+
+    ghost Value = { WorldState };
+
+    ghost view = { λ s. record {
+      places = s.places;
+      agreed = s.agreed.items;
+      sent = s.mail.sent;
+      delivered = s.mail.delivered;
+      cuts = s.cuts;
+      journal = s.journal;
+      steps = s.steps;
+    } };
+}
+
+/// The opening view of all sites.
+#[tactic(auto, unfolding(vp_model::specs::World::start_world))]
+fn opening_views(alloc: Global, catalog: &Catalog) -> Result<Vec<View>, NoMemory>
+    ensures { IfOk result (λ views. views.items ≡ (start_world catalog.now).agreed) }
+{
+    let mut views = Vec::new(alloc);
+    views.push(View {
+        id: OPENING,
+        members: catalog.sites().copy_of()?,
+    })?;
+    Ok(views)
+}
+
+fn put_view(agreed: &mut Vec<View>, view: Option<View>) -> Result<(), NoMemory>
+    ensures { OnOk result (agreed.new.items ≡ agreed.old.items ++ option_to_list view) }
+{
+    match view {
+        None => Ok(()),
+        Some(view) => {
+            agreed.push(view)?;
+            Ok(())
+        }
+    }
+}
+
+fn put_commits(journal: &mut Commits, commits: &[Commit]) -> Result<(), NoMemory>
+    ensures { OnOk result (journal.new ≡ journal.old ++ commits.now) }
+{
+    for commit in commits {
+        journal.push(commit.copy_of()?)?;
+    }
+    Ok(())
+}
+
+/// The line of a step whose first message has this number.
+fn step_line(effects: Effects, first: u32) -> Shown
+    ensures { result ≡ shown.Step effects.commits first effects.messages effects.replies }
+{
+    let Effects {
+        records: _,
+        commits,
+        messages,
+        replies,
+    } = effects;
+    Shown::Step {
+        commits,
+        first,
+        messages,
+        replies,
+    }
+}
+
+impl State {
+    /// Each site is up in its first life.
+    #[tactic(auto, unfolding(vp_model::specs::World::start_world))]
+    pub fn start(alloc: Global, catalog: &Catalog) -> Result<State, NoMemory>
+        ensures { IfOk result (λ state. state ≡ start_world catalog.now) }
+    {
+        Ok(State {
+            places: Places::start(alloc, catalog)?,
+            agreed: opening_views(alloc, catalog)?,
+            mail: Mail::none(alloc),
+            cuts: Cuts::none(alloc),
+            journal: Commits::new(alloc),
+            steps: 0,
+        })
+    }
+
+    pub fn journal(&self) -> &Commits
+        ensures { result.now ≡ self.now.journal }
+    {
+        &self.journal
+    }
+
+    /// Whether the message of this number may be delivered now, and never was.
+    fn is_flowing(&self, k: u32, sent: &Sent) -> bool
+        ensures { result ≡ is_flowing self.now k sent.now }
+    {
+        self.places.is_up(sent.to)
+            && !self.cuts.has(sent.from, sent.to)
+            && !self.mail.was_delivered(k)
+    }
+
+    /// The lowest message that may be delivered now and never was.
+    pub fn flowing(&self) -> Option<u32>
+        ensures { result ≡ flowing self.now }
+    {
+        for (i, sent) in self.mail.sent().iter().enumerate() {
+            let k = i as u32 + 1;
+            if self.is_flowing(k, sent) {
+                return Some(k);
+            }
+        }
+        None
+    }
+
+    /// One more step is done, where there are not too many.
+    pub fn count_step(&mut self) -> Result<(), WorldEnd>
+        requires { self.old.steps ≤ 100000 }
+        ensures counted { OnOk result (self.new ≡ record self.old { steps = self.old.steps + 1 }) }
+        ensures end { Ends (too_many_steps (self.old.steps + 1)) result }
+    {
+        if self.steps == STEPS {
+            return Err(WorldEnd::Limit {
+                what: Counted::Steps,
+                limit: STEPS,
+            });
+        }
+        self.steps += 1;
+        Ok(())
+    }
+
+    /// What a step of a site gives. Where the messages are too many, or without memory, the state may only be dropped.
+    fn take_in(&mut self, taken: Taken) -> Result<Shown, WorldEnd>
+        ensures { Does (takes_in taken self.old) self.new result }
+    {
+        let Taken { effects, agreed } = taken;
+        let first = self.mail.send_all(effects.messages.as_slice())?;
+        put_view(&mut self.agreed, agreed)?;
+        put_commits(&mut self.journal, effects.commits.as_slice())?;
+        Ok(step_line(effects, first))
+    }
+
+    /// An input comes to a site, where it is up. Where the messages are too many, or without memory, the state may only be dropped,
+    /// as after each call below.
+    fn at_site(&mut self, catalog: &Catalog, id: SiteId, input: &Input) -> Result<Shown, WorldEnd>
+        requires { length self.old.sent ≤ 2000000 }
+        ensures { Does (at_site catalog.now id input.now self.old) self.new result }
+    {
+        match self.places.step(catalog, id, input)? {
+            None => Ok(Shown::Down { site: id }),
+            Some(taken) => self.take_in(taken),
+        }
+    }
+
+    /// Message `k` comes, which is this one, where its receiver is up and its pair is not cut.
+    fn hand_over(&mut self, catalog: &Catalog, k: u32, sent: Sent) -> Result<Shown, WorldEnd>
+        requires few { length self.old.sent ≤ 2000000 }
+        requires numbered { message_at self.old k ≡ Some sent }
+        ensures { Does (deliver catalog.now k sent self.old) self.new result }
+    {
+        let from = sent.from;
+        let to = sent.to;
+        if !self.places.is_up(to) {
+            return Ok(Shown::Down { site: to });
+        }
+        if self.cuts.has(from, to) {
+            return Ok(Shown::Parted { from, to });
+        }
+        self.mail.deliver(k)?;
+        let message = sent.message;
+        self.at_site(catalog, to, &Input::Message { from, message })
+    }
+
+    fn deliver(&mut self, catalog: &Catalog, k: u32) -> Result<Shown, WorldEnd>
+        requires { length self.old.sent ≤ 2000000 }
+        ensures { Does (happens catalog.now (event.Deliver k) self.old) self.new result }
+    {
+        match self.mail.message(k)? {
+            None => Ok(Shown::NoMessage),
+            Some(sent) => self.hand_over(catalog, k, sent),
+        }
+    }
+
+    fn crash(&mut self, id: SiteId) -> Shown
+        ensures shown { shows self.new result ≡ crash id self.old }
+        ensures sent { self.new.sent ≡ self.old.sent }
+    {
+        if self.places.is_up(id) {
+            self.places.crash(id);
+            Shown::Nothing
+        } else {
+            Shown::Down { site: id }
+        }
+    }
+
+    fn restart(&mut self, catalog: &Catalog, id: SiteId) -> Result<Shown, NoMemory>
+        ensures shown { IfOk result (λ line. shows self.new line ≡ restart catalog.now id self.old) }
+        ensures sent { OnOk result (self.new.sent ≡ self.old.sent) }
+    {
+        self.places.restart(catalog, id)
+    }
+
+    fn call(&mut self, catalog: &Catalog, site: SiteId, call: &Call) -> Result<Shown, WorldEnd>
+        requires { length self.old.sent ≤ 2000000 }
+        ensures { Does (at_site catalog.now site (input.Call 0 call.now) self.old) self.new result }
+    {
+        let call = call.copy_of()?;
+        self.at_site(catalog, site, &Input::Call { from: 0, call })
+    }
+
+    #[tactic(auto, unfolding(vp_model::specs::World::happens))]
+    fn happen(&mut self, catalog: &Catalog, event: &Event) -> Result<Shown, WorldEnd>
+        requires { length self.old.sent ≤ 2000000 }
+        ensures { Does (happens catalog.now event.now self.old) self.new result }
+    {
+        match event {
+            Event::Call { site, call } => self.call(catalog, *site, call),
+            Event::Deliver { k } => self.deliver(catalog, *k),
+            Event::Flow { .. } => Ok(Shown::Nothing),
+            Event::Tick { site } => self.at_site(catalog, *site, &Input::Tick),
+            Event::Probe { site } => self.at_site(catalog, *site, &Input::Probe),
+            Event::Cut { a, b } => {
+                self.cuts.cut(*a, *b)?;
+                Ok(Shown::Nothing)
+            }
+            Event::Heal { a, b } => {
+                self.cuts.heal(*a, *b);
+                Ok(Shown::Nothing)
+            }
+            Event::Crash { site } => Ok(self.crash(*site)),
+            Event::Restart { site } => Ok(self.restart(catalog, *site)?),
+        }
+    }
+
+    /// Does the event as one more step. After an error the state may only be dropped.
+    pub fn next(&mut self, catalog: &Catalog, event: &Event) -> Result<Shown, WorldEnd>
+        requires { IsWithinLimits self.old }
+        ensures shown { IfOk result (λ line. shows self.new line ≡ next catalog.now event.now self.old) }
+        ensures within { OnOk result (IsWithinLimits self.new) }
+        ensures end { Ends (refused world_limits catalog.now event.now self.old) result }
+    {
+        self.count_step()?;
+        self.happen(catalog, event)
+    }
+}

@@ -1,0 +1,76 @@
+//! The world of a schedule.
+
+ghost use Rattle.std.specs.Prelude.{◌≡◌, IfOk};
+ghost use Rattle.vp_model.specs.Limits.{world_limits, refused};
+ghost use Rattle.vp_model.specs.World.{start_world, next, flowing};
+ghost use Rattle.vp_world.specs.Limits.{Ends};
+
+use crate::end::WorldEnd;
+use crate::state::State;
+use std::marker::Model;
+use vp_base::{Commits, CopyOf, Event, Line, NoMemory};
+use vp_catalog::Catalog;
+
+/// The sites of a catalogue, with their messages.
+#[derive(Drop)]
+pub struct World {
+    catalog: Catalog,
+    state: State,
+}
+
+impl Model for World {
+    ghost use Rattle.vp_world.specs.Known.{Known, IsWithinLimits};
+
+    ghost Value = { Known };
+
+    ghost view = { λ w. record { catalogue = w.catalog; world = w.state } };
+
+    ghost invariant = { λ w. IsWithinLimits w.state };
+}
+
+impl World {
+    /// Each site of the catalogue is up in its first life.
+    #[tactic(auto, unfolding(vp_model::specs::World::start_world))]
+    pub fn new(catalog: Catalog) -> Result<World, NoMemory>
+        ensures { IfOk result (λ w. w ≡ record { catalogue = catalog; world = start_world catalog }) }
+    {
+        let state = State::start(catalog.sites().allocator(), &catalog)?;
+        Ok(World { catalog, state })
+    }
+
+    /// Does the event, and answers the line that the trace shows for it. A flow does nothing here: its messages are delivered one
+    /// after the other, each as `flowing` names it. After an error the world is gone.
+    pub fn next(self, event: &Event) -> Result<(World, Line), WorldEnd>
+        ensures world { IfOk result (λ r. r.0 ≡ record { catalogue = self.catalogue; world = (next self.catalogue event.now self.world).world }) }
+        ensures line { IfOk result (λ r. r.1 ≡ record { event = event.now; shown = (next self.catalogue event.now self.world).shown }) }
+        ensures end { Ends (refused world_limits self.catalogue event.now self.world) result }
+    {
+        let World { catalog, mut state } = self;
+        let shown = state.next(&catalog, event)?;
+        let line = Line {
+            event: event.copy_of()?,
+            shown,
+        };
+        Ok((World { catalog, state }, line))
+    }
+
+    /// The lowest message that may be delivered now and never was.
+    pub fn flowing(&self) -> Option<u32>
+        ensures { result ≡ flowing self.now.world }
+    {
+        self.state.flowing()
+    }
+
+    /// The transactions that were committed, in the order of the steps.
+    pub fn journal(&self) -> &Commits
+        ensures { result.now ≡ self.now.world.journal }
+    {
+        self.state.journal()
+    }
+
+    pub fn catalog(&self) -> &Catalog
+        ensures { result.now ≡ self.now.catalogue }
+    {
+        &self.catalog
+    }
+}
