@@ -182,7 +182,7 @@ impl Lent {
     {
         let missing = sites_without(&handled.pending.missing, from)?;
         if missing.as_slice().is_empty() {
-            self.answer_write(handled, rec, value)
+            self.answer_write(handled, rec, &value)
         } else {
             self.wait_for(handled, missing);
             Ok(())
