@@ -182,12 +182,13 @@ fn commits_at_three_sites(alloc: Global) -> Option<bool> {
     transaction_runs(alloc, &mut site)
 }
 
+fn late_and_left(alloc: Global, site: &mut Bench) -> Option<bool> {
+    Some(call_is_late(alloc, site)? && view_is_left(site))
+}
+
 fn ends_late_and_by_leaving(alloc: Global) -> Option<bool> {
     let mut site = first_site(alloc)?;
-    match call_is_late(alloc, &mut site) {
-        Some(true) => Some(view_is_left(&mut site)),
-        late => late,
-    }
+    late_and_left(alloc, &mut site)
 }
 
 #[test]
