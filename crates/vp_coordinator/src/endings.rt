@@ -20,13 +20,22 @@ use vp_base::{
 use vp_lists::write_copies;
 
 impl Lent {
+    /// The transaction goes back as it was.
+    pub fn put_back(&mut self, handled: Handled)
+        requires { waits handled.live ≡ true }
+        ensures { self.new ≡ in_place handled.live self.old }
+    {
+        self.coordinator.put_live(handled.live)
+    }
+
     /// The call gets this answer, which is not kept.
     pub fn refuse(&mut self, handled: Handled, answer: Answer) -> Result<(), NoMemory>
         requires { waits handled.live ≡ true }
         ensures { OnOk result (self.new ≡ lent_reply answer handled.pending.port (in_place handled.live self.old)) }
     {
-        self.coordinator.put_live(handled.live);
-        self.effects.reply(handled.pending.port, answer)
+        let port = handled.pending.port;
+        self.put_back(handled);
+        self.effects.reply(port, answer)
     }
 
     /// The operation is done, and its answer is given and kept.
@@ -130,10 +139,10 @@ fn answer_call(
     ensures live { OnOk result (t.new ≡ record t.old { ops = t.old.ops ++ operation ∷ []; answers = t.old.answers ++ answer ∷ []; pending = None }) }
     ensures effects { OnOk result (effects.new ≡ with_reply answer port effects.old) }
 {
-    t.ops.push(operation)?;
-    t.answers.push(answer.copy_of()?)?;
+    effects.reply(port, answer.copy_of()?)?;
+    t.answers.push(answer)?;
     t.pending = None;
-    effects.reply(port, answer)
+    t.ops.push(operation)
 }
 
 /// The transaction is committed, which its parts are told; its operations go there.

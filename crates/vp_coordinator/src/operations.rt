@@ -153,7 +153,7 @@ impl Lent {
         let asked = at.catalog.other_holders(at.id, at.held, rec)?;
         match first_of(asked.as_slice()) {
             None => {
-                self.coordinator.put_live(handled.live);
+                self.put_back(handled);
                 Ok(())
             }
             Some(site) => self.read_at(at.id, handled, rec, site),
