@@ -1,5 +1,5 @@
 -- Several transactions end, one after the other.
-use Rattle.std.proofs.Common.{◌≡◌, ◌∙◌, ◌&&◌, ℕ, Bool, true, false, not, List, [], ◌∷◌, filter, Option, Some, None, sym, ap, refl, arith}
+use Rattle.std.proofs.Common.{◌≡◌, ◌∙◌, ◌&&◌, ℕ, Bool, true, not, List, [], ◌∷◌, filter, Option, Some, None, sym, ap, refl, arith}
 use Rattle.std.specs.List.{list_all}
 use Rattle.std.specs.Option.{option_map_or}
 use Rattle.std.proofs.lemmas.Bool.Decides.{nat_tests}

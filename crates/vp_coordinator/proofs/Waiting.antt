@@ -1,6 +1,5 @@
 -- The calls of the live transactions wait for some site, whatever a row does to the list.
-use Rattle.std.proofs.Common.{◌≡◌, ◌-◌, Bool, true, List, [], ◌∷◌, ◌++◌, find, filter, map, length, slice_get, Option, Some, None, option_map, IfSome, refl, arith}
-use Rattle.std.specs.List.{list_all}
+use Rattle.std.proofs.Common.{◌≡◌, ◌-◌, Bool, true, List, [], ◌∷◌, ◌++◌, find, map, length, slice_get, Option, Some, None, option_map, IfSome, refl, arith}
 use Rattle.std.proofs.lemmas.Bool.Decides.{nat_tests}
 use Rattle.vp_model.specs.Types.{Live, Pending}
 use Rattle.vp_model.specs.Words.{change_first, without_first}

@@ -143,7 +143,7 @@ impl Lent {
     {
         match wanted_read(at.catalog, number, &handled.pending) {
             None => {
-                self.coordinator.put_live(handled.live);
+                self.put_back(handled);
                 Ok(())
             }
             Some(rec) => self.count_read(from, handled, rec, value),
@@ -182,7 +182,7 @@ impl Lent {
     {
         let missing = sites_without(&handled.pending.missing, from)?;
         if missing.as_slice().is_empty() {
-            self.answer_write(handled, rec, value)
+            self.answer_write(handled, rec, &value)
         } else {
             self.wait_for(handled, missing);
             Ok(())
@@ -204,7 +204,7 @@ impl Lent {
     {
         match wanted_write(at.catalog, number, &handled.pending)? {
             None => {
-                self.coordinator.put_live(handled.live);
+                self.put_back(handled);
                 Ok(())
             }
             Some((rec, value)) => self.count_write(from, handled, rec, value),
@@ -241,7 +241,7 @@ impl Lent {
     {
         match refusal(from, number, why, &handled)? {
             None => {
-                self.coordinator.put_live(handled.live);
+                self.put_back(handled);
                 Ok(())
             }
             Some(end) => self.close(at.id, handled.live, end),
@@ -296,7 +296,7 @@ impl Lent {
                 if is_commit(&handled.pending.call) {
                     return self.count_vote(at, from, handled);
                 }
-                self.coordinator.put_live(handled.live);
+                self.put_back(handled);
                 Ok(())
             }
         }

@@ -106,7 +106,7 @@ impl Lent {
             Call::Commit { .. } => self.commit(at, handled),
             Call::Abort { .. } => self.close(at.id, handled.into_live(), Ending::Aborted),
             Call::Begin | Call::Regroup => {
-                self.coordinator.put_live(handled.live);
+                self.put_back(handled);
                 Ok(())
             }
         }
@@ -120,7 +120,7 @@ impl Lent {
     {
         match told_again(handled.live.answers.as_slice(), handled.number())? {
             None => {
-                self.coordinator.put_live(handled.live);
+                self.put_back(handled);
                 Ok(())
             }
             Some(answer) => self.refuse(handled, answer),

@@ -103,9 +103,9 @@ impl Coordinator {
             promise,
         };
         let mut lent = take(&mut self.transactions, here, effects);
-        lent.own_call(&at, from, call)?;
+        let done = lent.own_call(&at, from, call);
         give_back(lent, &mut self.transactions, here, effects);
-        Ok(())
+        done
     }
 
     /// Does what a message does to the transactions of this site: an answer, a refusal, a vote, an acknowledgement or an
@@ -133,9 +133,9 @@ impl Coordinator {
             promise: ViewId { number: 0, site: 0 },
         };
         let mut lent = take(&mut self.transactions, here, effects);
-        lent.on_answer(&at, from, message)?;
+        let done = lent.on_answer(&at, from, message);
         give_back(lent, &mut self.transactions, here, effects);
-        Ok(())
+        done
     }
 
     /// Ends each transaction whose call was pending at the tick before, and marks the other pending calls. Without memory
@@ -147,9 +147,9 @@ impl Coordinator {
         ensures life { self.new.life ≡ self.old.life }
     {
         let mut lent = take(&mut self.transactions, here, effects);
-        lent.tick(self.id)?;
+        let done = lent.tick(self.id);
         give_back(lent, &mut self.transactions, here, effects);
-        Ok(())
+        done
     }
 
     /// Tells each decision again to the sites that have not acknowledged it. Without memory the effects may only be dropped.
@@ -170,9 +170,9 @@ impl Coordinator {
         ensures life { self.new.life ≡ self.old.life }
     {
         let mut lent = take(&mut self.transactions, here, effects);
-        lent.leave(self.id)?;
+        let done = lent.leave(self.id);
         give_back(lent, &mut self.transactions, here, effects);
-        Ok(())
+        done
     }
 
     /// What a client would call next of the transaction that began last among the live ones.

@@ -3,8 +3,9 @@
 ghost use Rattle.std.specs.Prelude.{◌≡◌, ◌&&◌, ◌<◌, ◌-◌, ◌^◌, ◌++◌, ◌∷◌, [], OnOk, IfOk, IfSome, true, filter, Some, None, nat_le, if◌then◌else◌, length, option_copied};
 ghost use Rattle.std.specs.Option.{option_map_or};
 ghost use Rattle.vp_base.specs.declared.answer.Answer.TheVariants as answer;
-ghost use Rattle.vp_model.specs.Words.{same_txn, has};
-ghost use Rattle.vp_model.specs.Site.{with_reply};
+ghost use Rattle.vp_model.specs.Words.{same_txn, has, at_most};
+ghost use Rattle.vp_base.specs.declared.message.Message.TheVariants as message;
+ghost use Rattle.vp_model.specs.Site.{with_reply, with_messages};
 ghost use Rattle.vp_model.specs.Transactions.{live_of, finished_of, put_live, without_live, answer_of, answers_after, with_pending_reply, with_end, with_finished, with_kept};
 ghost use Rattle.vp_model.specs.Calls.{kept_answer, begun, with_begun};
 ghost use Rattle.vp_model.specs.Answers.{waits_for, with_acknowledged, is_live, is_decided};
@@ -242,15 +243,12 @@ impl Transactions {
         let mut t = t;
         answer_pending(&mut t, &why, effects)?;
         self.drop_live(&t.txn);
-        self.finished.push_back(Finished {
+        let end = Finished {
             txn: t.txn,
             answers: t.answers,
             ending: why,
-        })?;
-        if self.finished.len() > 1024 {
-            let _ = self.finished.pop_front();
-        }
-        Ok(())
+        };
+        keep_end(&mut self.finished, end)
     }
 
     pub fn keep_decision(&mut self, txn: &TxnId, waiting: Sites) -> Result<(), NoMemory>
@@ -270,15 +268,31 @@ impl Transactions {
     }
 }
 
+/// The parts of the transaction are told how it ended.
+pub fn tell_outcome(
+    id: SiteId,
+    txn: &TxnId,
+    commit: bool,
+    parts: &[SiteId],
+    effects: &mut Effects,
+) -> Result<(), NoMemory>
+    ensures { OnOk result (effects.new ≡ with_messages id (message.Outcome txn.now commit) parts.now effects.old) }
+{
+    let outcome = Message::Outcome { txn: *txn, commit };
+    effects.send_all(id, parts, &outcome)
+}
+
 fn resend(id: SiteId, decisions: &[Decision], effects: &mut Effects) -> Result<(), NoMemory>
     ensures { OnOk result (effects.new ≡ with_outcomes id decisions.now effects.old) }
 {
     for decision in decisions {
-        let outcome = Message::Outcome {
-            txn: decision.txn,
-            commit: true,
-        };
-        effects.send_all(id, decision.waiting.as_slice(), &outcome)?;
+        tell_outcome(
+            id,
+            &decision.txn,
+            true,
+            decision.waiting.as_slice(),
+            effects,
+        )?;
     }
     Ok(())
 }
@@ -297,6 +311,16 @@ fn pending_for(t: &Live, from: SiteId) -> Result<Option<Pending>, NoMemory>
         Some(p) if has_site(p.missing.as_slice(), from) => Ok(Some(p.copy_of()?)),
         _ => Ok(None),
     }
+}
+
+fn keep_end(finished: &mut VecDeque<Finished>, end: Finished) -> Result<(), NoMemory>
+    ensures { OnOk result (finished.new.items ≡ at_most 1024 (finished.old.items ++ end ∷ [])) }
+{
+    finished.push_back(end)?;
+    if finished.len() > 1024 {
+        let _ = finished.pop_front();
+    }
+    Ok(())
 }
 
 fn find_finished<'a>(finished: &'a VecDeque<Finished>, txn: &TxnId) -> Option<&'a Finished>
