@@ -9,6 +9,7 @@ mod end;
 mod mail;
 mod place;
 mod places;
+mod queue;
 mod state;
 mod world;
 

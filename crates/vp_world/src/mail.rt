@@ -1,54 +1,98 @@
 //! The messages of the world.
 
-ghost use Rattle.std.specs.Prelude.{◌≡◌, ◌≤◌, ◌<◌, ◌+◌, ◌++◌, ◌∷◌, [], OnOk, IfOk, IsSome, nat_lt, length, if◌then◌else◌, option_copied};
-ghost use Rattle.vp_model.specs.Words.{has};
+ghost use Rattle.std.specs.Prelude.{◌≡◌, ◌≤◌, ◌<◌, ◌+◌, ◌++◌, ◌∷◌, ℕ, [], OnOk, OnErr, IfOk, Some, slice_index_or, nat_lt, length, if◌then◌else◌, option_copied};
+ghost use Rattle.vp_model.specs.Words.{first};
+ghost use Rattle.vp_world.specs.Queues.{pair_of, waiting, AreSites, AreSited};
 ghost use Rattle.vp_world.specs.Limits.{Ends, too_many};
 ghost use Rattle.vp_world.specs.Known.{message_in, posted};
 
 use crate::end::{MESSAGES, WorldEnd};
+use crate::queue::Queue;
 use std::alloc::Global;
 use std::marker::Model;
-use vp_base::{CopyOf, Counted, NoMemory, Sent};
+use vp_base::{CopyOf, Counted, NoMemory, Sent, SiteId};
 
-/// All messages that were sent, numbered from 1, and the numbers of those that were delivered.
+/// There are 16 sites at most.
+const SITES: usize = 16;
+
+/// How many pairs of a sender and a receiver there are.
+pub const PAIRS: usize = SITES * SITES;
+
+/// All messages that were sent, numbered from 1, and the numbers of those that were delivered. For each pair of a sender and a
+/// receiver there is a queue of its messages that were never delivered.
 #[derive(Drop)]
 pub struct Mail {
     sent: Vec<Sent>,
     delivered: Vec<u32>,
+    queues: Vec<Queue>,
 }
 
 impl Model for Mail {
-    ghost use Rattle.std.specs.Prelude.{◌≤◌, length};
     ghost use Rattle.vp_world.specs.Known.{Posted};
+    ghost use Rattle.vp_world.specs.Queues.{IsQueued};
 
     ghost Value = { Posted };
 
     ghost view = { λ m. record { sent = m.sent.items; delivered = m.delivered.items } };
 
-    ghost invariant = { λ m. length m.sent.items ≤ 2000000 };
+    ghost invariant = { λ m. IsQueued m.queues.items m.sent.items m.delivered.items };
+}
+
+/// The place of the pair's queue.
+fn pair_of(from: SiteId, to: SiteId) -> usize
+    ensures pair { result ≡ pair_of from to }
+    ensures within { result < 256 }
+    ensures sites { AreSites from to }
+{
+    (usize::from(from.get()) - 1) * SITES + (usize::from(to.get()) - 1)
+}
+
+fn empty_queues(alloc: Global) -> Result<Vec<Queue>, NoMemory>
+    ensures count { IfOk result (λ queues. length queues.items ≡ 256) }
+    ensures each { IfOk result (λ queues. (pair : ℕ) → slice_index_or queues.items pair [] ≡ []) }
+{
+    let mut queues = Vec::new(alloc);
+    for _ in 0..PAIRS {
+        queues.push(Queue::none(alloc))?;
+    }
+    Ok(queues)
+}
+
+/// The message gets the next number, which joins the queue. Without memory both stay as they are.
+fn post(sent: &mut Vec<Sent>, queue: &mut Queue, message: Sent) -> Result<(), NoMemory>
+    requires { length sent.old.items < 2000000 }
+    ensures sent { OnOk result (sent.new.items ≡ sent.old.items ++ message ∷ []) }
+    ensures queue { OnOk result (queue.new ≡ queue.old ++ (length sent.old.items + 1) ∷ []) }
+    ensures err { OnErr result ((sent.new.items ≡ sent.old.items) × (queue.new ≡ queue.old)) }
+{
+    let number = sent.len() as u32 + 1;
+    sent.push(message)?;
+    if let Err(e) = queue.push(number) {
+        let _ = sent.pop();
+        return Err(e);
+    }
+    Ok(())
 }
 
 impl Mail {
-    pub fn none(alloc: Global) -> Mail
-        ensures { result ≡ record { sent = []; delivered = [] } }
+    pub fn none(alloc: Global) -> Result<Mail, NoMemory>
+        ensures { IfOk result (λ mail. mail ≡ record { sent = []; delivered = [] }) }
     {
-        Mail {
+        Ok(Mail {
             sent: Vec::new(alloc),
             delivered: Vec::new(alloc),
-        }
+            queues: empty_queues(alloc)?,
+        })
     }
 
-    pub fn sent(&self) -> &[Sent]
-        ensures sent { result.now ≡ self.now.sent }
-        ensures few { length result.now ≤ 2000000 }
+    /// The lowest message of the pair that was never delivered.
+    pub fn first_waiting(&self, pair: usize) -> Option<u32>
+        requires { pair < 256 }
+        ensures first { result ≡ first (waiting pair self.now.delivered 1 self.now.sent) }
+        ensures sited { AreSited self.now.sent }
     {
-        &self.sent
-    }
-
-    pub fn was_delivered(&self, k: u32) -> bool
-        ensures { result ≡ has self.now.delivered k }
-    {
-        self.delivered.iter().any(|other| *other == k)
+        let queue = &self.queues[pair];
+        queue.first()
     }
 
     /// The message of this number.
@@ -61,12 +105,14 @@ impl Mail {
         }
     }
 
-    /// The message of this number is delivered.
-    pub fn deliver(&mut self, k: u32) -> Result<(), NoMemory>
-        requires { IsSome (message_in k self.old.sent) }
+    /// The message of this number is delivered, which is this one.
+    pub fn deliver(&mut self, k: u32, sent: &Sent) -> Result<(), NoMemory>
+        requires { message_in k self.old.sent ≡ Some sent.now }
         ensures { OnOk result (self.new ≡ record self.old { delivered = self.old.delivered ++ k ∷ [] }) }
     {
         self.delivered.push(k)?;
+        let queue = &mut self.queues[pair_of(sent.from, sent.to)];
+        queue.take(k);
         Ok(())
     }
 
@@ -101,8 +147,9 @@ impl Mail {
         requires { length self.old.sent < 2000000 }
         ensures { OnOk result (self.new ≡ posted (sent ∷ []) self.old) }
     {
-        self.sent.push(sent)?;
-        Ok(())
+        let pair = pair_of(sent.from, sent.to);
+        let queue = &mut self.queues[pair];
+        post(&mut self.sent, queue, sent)
     }
 }
 

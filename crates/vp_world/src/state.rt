@@ -1,19 +1,20 @@
 //! What the world keeps, and what an event does to it.
 
-ghost use Rattle.std.specs.Prelude.{◌≡◌, ◌≤◌, ◌+◌, ◌++◌, ◌∷◌, [], OnOk, IfOk, IsSome, Some, None, is_some, if◌then◌else◌, length, map, option_to_list};
+ghost use Rattle.std.specs.Prelude.{◌≡◌, ◌≤◌, ◌<◌, ◌+◌, ◌++◌, ◌∷◌, [], OnOk, IfOk, IsSome, Some, None, is_some, if◌then◌else◌, length, map, option_to_list};
 ghost use Rattle.vp_base.specs.declared.event.Event.TheVariants as event;
 ghost use Rattle.vp_base.specs.declared.event.Input.TheVariants as input;
 ghost use Rattle.vp_base.specs.declared.event.Shown.TheVariants as shown;
 ghost use Rattle.vp_model.specs.Catalogue.{Catalogue};
-ghost use Rattle.vp_model.specs.World.{start_world, is_flowing, flowing, message_at, is_cut, shows, at_site, deliver, crash, cut, heal, restart, happens, next};
+ghost use Rattle.vp_model.specs.World.{start_world, flowing, message_at, is_cut, shows, at_site, deliver, crash, cut, heal, restart, happens, next};
 ghost use Rattle.vp_model.specs.Limits.{world_limits, refused};
 ghost use Rattle.vp_world.specs.Limits.{Ends, Does, too_many, too_many_steps};
 ghost use Rattle.vp_world.specs.Known.{message_in, IsWithinLimits};
 ghost use Rattle.vp_world.specs.Steps.{takes_in};
+ghost use Rattle.vp_world.specs.Queues.{is_open, head_of, lesser, AreSited};
 
 use crate::cuts::Cuts;
 use crate::end::{STEPS, WorldEnd};
-use crate::mail::Mail;
+use crate::mail::{Mail, PAIRS};
 use crate::place::Taken;
 use crate::places::Places;
 use std::alloc::Global;
@@ -88,6 +89,17 @@ fn put_commits(journal: &mut Commits, commits: &[Commit]) -> Result<(), NoMemory
     Ok(())
 }
 
+/// The least of both.
+fn lesser(a: Option<u32>, b: Option<u32>) -> Option<u32>
+    ensures { result ≡ lesser a b }
+{
+    match (a, b) {
+        (None, _) => b,
+        (_, None) => a,
+        (Some(m), Some(n)) => { if n < m { b } else { a } }
+    }
+}
+
 /// The line of a step whose first message has this number.
 fn step_line(effects: Effects, first: u32) -> Shown
     ensures { result ≡ shown.Step effects.commits first effects.messages effects.replies }
@@ -115,7 +127,7 @@ impl State {
         Ok(State {
             places: Places::start(alloc, catalog)?,
             agreed: opening_views(alloc, catalog)?,
-            mail: Mail::none(alloc),
+            mail: Mail::none(alloc)?,
             cuts: Cuts::none(alloc),
             journal: Commits::new(alloc),
             steps: 0,
@@ -128,26 +140,39 @@ impl State {
         &self.journal
     }
 
-    /// Whether the message of this number may be delivered now, and never was.
-    fn is_flowing(&self, k: u32, sent: &Sent) -> bool
-        ensures { result ≡ is_flowing self.now k sent.now }
+    /// Whether the receiver of the pair is up and the pair is not cut.
+    fn is_open(&self, pair: usize) -> bool
+        requires { pair < 256 }
+        ensures { result ≡ is_open self.now pair }
     {
-        self.places.is_up(sent.to)
-            && !self.cuts.has(sent.from, sent.to)
-            && !self.mail.was_delivered(k)
+        let from = SiteId::of((pair / 16) as u8 + 1);
+        let to = SiteId::of((pair % 16) as u8 + 1);
+        self.places.is_up(to) && !self.cuts.has(from, to)
+    }
+
+    /// The lowest message of the pair that may be delivered now and never was.
+    fn head(&self, pair: usize) -> Option<u32>
+        requires { pair < 256 }
+        ensures head { result ≡ head_of self.now pair }
+        ensures sited { AreSited self.now.sent }
+    {
+        let first = self.mail.first_waiting(pair);
+        if first.is_some() && self.is_open(pair) {
+            first
+        } else {
+            None
+        }
     }
 
     /// The lowest message that may be delivered now and never was.
     pub fn flowing(&self) -> Option<u32>
         ensures { result ≡ flowing self.now }
     {
-        for (i, sent) in self.mail.sent().iter().enumerate() {
-            let k = i as u32 + 1;
-            if self.is_flowing(k, sent) {
-                return Some(k);
-            }
+        let mut least = self.head(0);
+        for pair in 1..PAIRS {
+            least = lesser(least, self.head(pair));
         }
-        None
+        least
     }
 
     /// One more step is done, where there are not too many.
@@ -203,7 +228,7 @@ impl State {
         if self.cuts.has(from, to) {
             return Ok(Shown::Parted { from, to });
         }
-        self.mail.deliver(k)?;
+        self.mail.deliver(k, &sent)?;
         let message = sent.message;
         self.at_site(catalog, to, &Input::Message { from, message })
     }

@@ -1,6 +1,6 @@
-use Rattle.std.proofs.Common.{◌≡◌, ◌+◌, drop}
-use Rattle.vp_model.specs.World.{flowing, flowing_from}
+use Rattle.std.proofs.Common.{◌≡◌}
+use Rattle.vp_world.specs.Queues.{head_of, least_below}
 use Rattle.vp_world.proofs.state.State.flowing.Given as goal
 
-abbrev pub invariant-loop-i : goal.invariant-loop-i
-invariant-loop-i l = flowing_from l.self (l.i + 1) (drop l.i l.sent-items) ≡ flowing l.self
+abbrev pub invariant-loop-pair : goal.invariant-loop-pair
+invariant-loop-pair l = l.least ≡ least_below (head_of l.self) l.pair

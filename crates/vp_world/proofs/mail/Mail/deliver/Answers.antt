@@ -1,0 +1,15 @@
+use Rattle.std.proofs.Common.{◌≡◌, Some, subst, sym}
+use Rattle.vp_world.specs.Known.{Posted, message_in}
+use Rattle.vp_world.specs.Queues.{IsOnce}
+use Rattle.vp_world.proofs.Waiting.{once}
+use Rattle.vp_world.proofs.Queued.{queue_is, delivered_queued}
+use Rattle.vp_world.proofs.mail.Mail.deliver.Goals as goal
+
+pub take-requires : goal.take-requires
+take-requires c =
+    subst (IsOnce c.args.k) (sym (queue_is c.self.inside.queues.items c.self.inside.sent.items c.self.inside.delivered.items c.self.invariant c.args.sent.now c.pair_of.result c.pair_of.ensures.pair c.pair_of.ensures.within c.index_mut-queue.result.now c.index_mut-queue.ensures.value)) (once c.pair_of.result c.self.inside.delivered.items 1 c.self.inside.sent.items c.args.k)
+
+pub invariant_of-self-2 : goal.invariant_of-self-2
+invariant_of-self-2 c =
+    let at : message_in c.args.k c.self.inside.sent.items ≡ Some c.args.sent.now = subst (λ (m : Posted). message_in c.args.k m.sent ≡ Some c.args.sent.now) (sym c.self.view_is) c.requires in
+    delivered_queued c.self.inside.queues.items c.self.inside.sent.items c.self.inside.delivered.items c.self.invariant c.args.sent.now c.pair_of.result c.pair_of.ensures.pair c.pair_of.ensures.within c.index_mut-queue.result.now c.index_mut-queue.ensures.value c.args.k at c.take.new.self c.push.new.self.items c.take.ensures c.in_ok-push.ensures.items

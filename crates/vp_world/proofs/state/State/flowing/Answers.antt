@@ -1,0 +1,16 @@
+use Rattle.std.proofs.Common.{◌≡◌, ◌∙◌, add-one, ap, refl, arith}
+use Rattle.vp_world.specs.Queues.{head_of, least_below}
+use Rattle.vp_world.proofs.Least.{least_flows}
+use Rattle.vp_world.proofs.state.State.flowing.Goals as goal
+
+pub loop-pair-init : goal.loop-pair-init
+loop-pair-init c = c.head-least.ensures.head
+
+pub loop-pair-preserved : goal.loop-pair-preserved
+loop-pair-preserved c =
+    rw (add-one, c.lesser-least.ensures, c.loop-pair.invariant, c.head.ensures.head) refl
+
+pub returns : goal.returns
+returns c =
+    let last : c.loop-pair.pair ≡ 256 = omega (arith, c.loop-pair-test.false) in
+    c.loop-pair.invariant ∙ ap (least_below (head_of c.args.self.now)) last ∙ least_flows c.args.self.now c.head-least.ensures.sited

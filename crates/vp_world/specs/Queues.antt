@@ -1,0 +1,64 @@
+-- What is kept of the messages of each pair of sites, and which of them is delivered next.
+use Rattle.std.specs.Prelude.{◌≡◌, ◌≤◌, ◌<◌, ◌+◌, ◌-◌, ◌*◌, ◌/◌, ◌%◌, ◌==◌, ◌&&◌, ℕ, zero, suc, nat_lt, Bool, false, not, if◌then◌else◌, is_some, List, [], ◌∷◌, filter, length, slice_index_or, Option, Some, None}
+use Rattle.vp_model.specs.Types.{Sent}
+use Rattle.vp_model.specs.Words.{has, first}
+use Rattle.vp_model.specs.World.{WorldState, site_of, is_cut}
+
+-- the place of a pair's queue: there are 16 sites at most
+abbrev pub pair_of : ℕ → ℕ → ℕ
+pair_of from to = (from - 1) * 16 + (to - 1)
+
+-- the numbers, from k on, of the pair's messages that were never delivered
+abbrev pub waiting : ℕ → List ℕ → ℕ → List Sent → List ℕ
+waiting pair delivered k [] = []
+waiting pair delivered k (sent ∷ rest) =
+    if (pair_of sent.from sent.to == pair) && not (has delivered k)
+    then k ∷ waiting pair delivered (k + 1) rest
+    else waiting pair delivered (k + 1) rest
+
+abbrev pub without : ℕ → List ℕ → List ℕ
+without k numbers = filter (λ j. not (j == k)) numbers
+
+-- the number is there once, where it comes first
+abbrev pub IsOnce : ℕ → List ℕ → Type 0
+IsOnce k numbers = (rest : List ℕ) → numbers ≡ k ∷ rest → without k rest ≡ rest
+
+pub record AreSites (from to : ℕ) : Type 0 where
+  pub from_least : 1 ≤ from
+  pub from_most : from ≤ 16
+  pub to_least : 1 ≤ to
+  pub to_most : to ≤ 16
+
+abbrev pub AreSited : List Sent → Type 0
+AreSited [] = Unit {0}
+AreSited (sent ∷ rest) = AreSites sent.from sent.to × AreSited rest
+
+-- each pair has its queue, and no message is delivered before it is sent
+pub record IsQueued (queues : List (List ℕ)) (sent : List Sent) (delivered : List ℕ) : Type 0 where
+  pub few : length sent ≤ 2000000
+  pub count : length queues ≡ 256
+  pub each : (pair : ℕ) → pair < 256 → slice_index_or queues pair [] ≡ waiting pair delivered 1 sent
+  pub later : (k : ℕ) → length sent < k → has delivered k ≡ false
+  pub sited : AreSited sent
+
+-- the receiver of the pair is up, and the pair is not cut
+abbrev pub is_open : WorldState → ℕ → Bool
+is_open w pair = is_some (site_of w (pair % 16 + 1)) && not (is_cut w (pair / 16 + 1) (pair % 16 + 1))
+
+-- the lowest message of the pair that may be delivered now and never was
+abbrev pub head_of : WorldState → ℕ → Option ℕ
+head_of w pair = if is_open w pair then first (waiting pair w.delivered 1 w.sent) else None
+
+abbrev pub lesser : Option ℕ → Option ℕ → Option ℕ
+lesser None b = b
+lesser (Some a) None = Some a
+lesser (Some a) (Some b) = if nat_lt b a then Some b else Some a
+
+-- the least of the first n
+abbrev pub least_below : (ℕ → Option ℕ) → ℕ → Option ℕ
+least_below heads zero = None
+least_below heads (suc n) = lesser (least_below heads n) (heads n)
+
+-- nothing was sent yet
+abbrev pub AreEmpty : List (List ℕ) → Type 0
+AreEmpty queues = (pair : ℕ) → slice_index_or queues pair [] ≡ []
