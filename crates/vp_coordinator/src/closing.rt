@@ -41,7 +41,7 @@ impl Lent {
         Ok(())
     }
 
-    /// The transactions whose calls were pending at the tick before end, and the other pending calls are marked.
+    /// Ends the transactions whose calls were pending at the tick before, and marks the other pending calls.
     pub fn tick(&mut self, id: SiteId) -> Result<(), NoMemory>
         ensures { OnOk result (self.new ≡ time_out_calls id self.old) }
     {
@@ -51,7 +51,7 @@ impl Lent {
         Ok(())
     }
 
-    /// The view that the transactions are in is left.
+    /// These transactions end, as the site leaves their view.
     fn abort_each(&mut self, id: SiteId, live: Vec<Live>) -> Result<(), NoMemory>
         ensures { OnOk result (self.new ≡ close_all id (λ t. ending.ViewChanged id t.view None) live.items self.old) }
     {
