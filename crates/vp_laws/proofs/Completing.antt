@@ -26,9 +26,8 @@ use Rattle.vp_model.specs.World.{Schedule, run_of}
 use Rattle.vp_laws.specs.Votes.{is_commit}
 use Rattle.vp_laws.specs.Completeness.{LastVotesCommit, IsNextOperation, ReadableCopiesAreRead}
 use Rattle.vp_laws.proofs.Members.{Has, has_of, contains, has_none, has_first, has_more, has_cons, any_false, either_false, both_true}
-use Rattle.vp_laws.proofs.Apart.{Apart, same_txn-is}
+use Rattle.vp_laws.proofs.Apart.{Apart, same_txn-is, same_txn-self}
 use Rattle.vp_laws.proofs.Lists.{mapped_has}
-use Rattle.vp_one_site.proofs.LockTables.{same_txn-self}
 use Rattle.vp_laws.proofs.LockTables.{HasLock}
 use Rattle.vp_laws.proofs.Frames.{decided-commits, decide-cases}
 use Rattle.vp_laws.proofs.Table.{lent_at}

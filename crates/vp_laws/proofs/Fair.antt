@@ -12,7 +12,7 @@ use Rattle.vp_model.specs.Transactions.{answer_of}
 use Rattle.vp_model.specs.World.{Moment}
 use Rattle.vp_model.specs.Told.{answers_in}
 use Rattle.vp_model.specs.Justified.{was_blocked, held_other, left_and_closed, is_begun, begun_in, refused_once, justified}
-use Rattle.vp_one_site.proofs.Refused.{Refusal, refusal_is, refusal_more}
+use Rattle.vp_laws.proofs.RefusedCalls.{Refusal, refusal_is, refusal_more}
 use Rattle.vp_laws.proofs.Members.{Has, has_left, any_of}
 
 -- the transaction was begun in the view

@@ -27,7 +27,7 @@ use Rattle.vp_laws.proofs.InvShares.{InvShares}
 use Rattle.vp_laws.proofs.InvOps.{same_held, HasWritten, LiveOk, last_written, value_key, longer, read_not_write, reads_same, writes_same, Seventh, ops_last}
 use Rattle.vp_laws.proofs.Scenes.{Scene, plain_at, kept_at, Acted, acted, stepping}
 use Rattle.vp_laws.proofs.Events.{Arrives, Lasts}
-use Rattle.vp_laws.proofs.Worlds.{NowIs, now_is, Quiet, QuietIs, quiet_is, started, start_sent, With, Above, with_last}
+use Rattle.vp_laws.proofs.Worlds.{NowIs, now_is, Quiet, QuietIs, quiet_is, start_sent, With, Above, with_last, no_live, started_idle}
 
 -- the site has answered a read, or a write, of the record for the transaction
 abbrev pub HasRead : Scene → ℕ → TxnId → ℕ → Type 0
@@ -348,10 +348,6 @@ module _ (catalogue : Catalogue) (w new : Scene) (s : ℕ) (x : SiteState) (give
 abbrev pub Eighth : Catalogue → Scene → Type 0
 Eighth catalogue w = With (Seventh catalogue) (InvAnswers catalogue) w
 
-no_live : (catalogue : Catalogue) (s : ℕ) (d : DurableState) (t : Live) → Has (start catalogue s d).live t → ⊥
-unfolding start
-no_live catalogue s d t h = has_none t h
-
 module _ (catalogue : Catalogue) (w new : Scene) (s : ℕ) (q : Quiet catalogue w new s) (inv : InvAnswers catalogue w) where
   sent_on : (m : Sent) → Has w.sent m → Has new.sent m
   sent_on m h = rw q.sent h
@@ -386,7 +382,7 @@ answers_above : (catalogue : Catalogue) → Above catalogue (Seventh catalogue) 
 answers_above catalogue = record {
   starts = record {
     asks = λ m h. absurd (start_sent catalogue m h);
-    live = λ s x t h k. absurd (no_live catalogue s (empty_durable (start_copies catalogue s)) t (subst (λ (x : SiteState). Has x.live t) (sym (started catalogue s x h)) k));
+    live = λ s x t h k. absurd (started_idle catalogue s x t h k);
   };
   acts = λ w s x given up r low now inv.
       let fourth = low.lower.lower.lower in

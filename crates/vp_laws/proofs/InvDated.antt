@@ -26,7 +26,7 @@ use Rattle.vp_laws.proofs.InvEntered.{Wrote}
 use Rattle.vp_laws.proofs.InvSettled.{holding}
 use Rattle.vp_laws.proofs.InvUsed.{Thirteenth, used_last}
 use Rattle.vp_laws.proofs.Events.{Arrives, Lasts}
-use Rattle.vp_laws.proofs.Worlds.{NowIs, now_is, KeptIs, kept_is, Quiet, QuietIs, quiet_is, quiet_kept, started, start_kept, start_sent, With, Above, with_last}
+use Rattle.vp_laws.proofs.Worlds.{NowIs, now_is, KeptIs, kept_is, Quiet, QuietIs, quiet_is, quiet_kept, started, start_kept, start_sent, With, Above, with_last, no_refresh}
 
 -- the date is the opening one, or of an entry that wrote the record
 abbrev pub IsDated : Scene → ℕ → ViewId → Type 0
@@ -132,10 +132,6 @@ module _ (catalogue : Catalogue) (w new : Scene) (s : ℕ) (x : SiteState) (give
 
 abbrev pub Fourteenth : Catalogue → Scene → Type 0
 Fourteenth catalogue w = With (Thirteenth catalogue) (InvDated catalogue) w
-
-no_refresh : (catalogue : Catalogue) (s : ℕ) (d : DurableState) (r : Refreshing) → Has (start catalogue s d).refresh r → ⊥
-unfolding start
-no_refresh catalogue s d r h = has_none r h
 
 dated_above : (catalogue : Catalogue) → Above catalogue (Thirteenth catalogue) (InvDated catalogue)
 dated_above catalogue = record {

@@ -21,7 +21,7 @@ use Rattle.vp_laws.proofs.TableNames.{Named}
 use Rattle.vp_laws.proofs.InvVotes.{Fourth, votes_last}
 use Rattle.vp_laws.proofs.TableEndings.{Settled, NotLive, WasLive, WasDecided, IsEntered, Says, FinishedFrom, Endings, endings-step}
 use Rattle.vp_laws.proofs.Events.{Lasts}
-use Rattle.vp_laws.proofs.Worlds.{NowIs, now_is, KeptIs, kept_is, Quiet, QuietIs, quiet_is, quiet_kept, started, start_kept, start_sent, start_entered, start_journal, With, Above, with_last}
+use Rattle.vp_laws.proofs.Worlds.{NowIs, now_is, KeptIs, kept_is, Quiet, QuietIs, quiet_is, quiet_kept, started, start_kept, start_sent, start_entered, start_journal, With, Above, with_last, no_finished}
 
 abbrev pub HasEntry : Scene → TxnId → Type 0
 HasEntry w txn = IsEntered w.journal txn
@@ -198,10 +198,6 @@ settled_none catalogue s d own = record {
   names = λ f k. absurd (has_none f k);
 }
 
-none_finished : (catalogue : Catalogue) (s : ℕ) (d : DurableState) (f : Finished) → Has (start catalogue s d).finished f → ⊥
-unfolding start
-none_finished catalogue s d f h = has_none f h
-
 none_live : (catalogue : Catalogue) (s : ℕ) (d : DurableState) (txn : TxnId) → NotLive (start catalogue s d).live txn
 unfolding start
 none_live catalogue s d txn t h g = has_none t h
@@ -218,7 +214,7 @@ endings_start catalogue = record {
   told = λ m h. absurd (start_sent catalogue m h);
   entry = λ e h. absurd (start_entered catalogue e h);
   once = subst Once (sym (start_journal catalogue)) tt;
-  finished = λ s x f h k. absurd (none_finished catalogue s (empty_durable (start_copies catalogue s)) f (subst (λ (x : SiteState). Has x.finished f) (sym (started catalogue s x h)) k));
+  finished = λ s x f h k. absurd (no_finished catalogue s (empty_durable (start_copies catalogue s)) f (subst (λ (x : SiteState). Has x.finished f) (sym (started catalogue s x h)) k));
 }
 
 endings_above : (catalogue : Catalogue) → Above catalogue (Fourth catalogue) InvEndings
@@ -264,7 +260,7 @@ endings_above catalogue = record {
     settled_now w new s q inv k y (QuietIs.other n old) = inv.settled k y old
 
     finished_on : (w new : Scene) (s : ℕ) → Quiet catalogue w new s → InvEndings w → (k : ℕ) (y : SiteState) (f : Finished) → Has y.finished f → QuietIs catalogue w s k y → Reported new f
-    finished_on w new s q inv k y f h (QuietIs.here e same) = absurd (none_finished catalogue s (kept_at w s) f (subst (λ (y : SiteState). Has y.finished f) (sym same) h))
+    finished_on w new s q inv k y f h (QuietIs.here e same) = absurd (no_finished catalogue s (kept_at w s) f (subst (λ (y : SiteState). Has y.finished f) (sym same) h))
     finished_on w new s q inv k y f h (QuietIs.other n old) = ⊎_elim
         (λ (c : (f.ending ≡ Committed) × HasEntry w f.txn). inl (c.0, entry_on w new s q f.txn c.1))
         (λ (a : (is_abort f.ending ≡ true) × ((e : Commit) → Has w.journal e → e.txn ≢ f.txn)). inr (a.0, (λ e z. a.1 e (rw q.journal at z))))

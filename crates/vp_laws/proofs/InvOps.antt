@@ -27,7 +27,7 @@ use Rattle.vp_laws.proofs.InvLed.{InvLed}
 use Rattle.vp_laws.proofs.InvShares.{Sixth, shares_last}
 use Rattle.vp_laws.proofs.Scenes.{Scene, plain_at, kept_at, Acted, acted, stepping}
 use Rattle.vp_laws.proofs.Events.{Lasts}
-use Rattle.vp_laws.proofs.Worlds.{NowIs, now_is, QuietIs, quiet_is, started, With, Above, with_last}
+use Rattle.vp_laws.proofs.Worlds.{NowIs, now_is, QuietIs, quiet_is, With, Above, with_last, no_live, started_idle}
 
 abbrev pub record_of : Op → ℕ
 record_of (op.Read rec value) = rec
@@ -225,10 +225,6 @@ pub record InvOps (catalogue : Catalogue) (w : Scene) : Type 0 where
 abbrev pub Seventh : Catalogue → Scene → Type 0
 Seventh catalogue w = With (Sixth catalogue) (InvOps catalogue) w
 
-no_live : (catalogue : Catalogue) (s : ℕ) (d : DurableState) (t : Live) → Has (start catalogue s d).live t → ⊥
-unfolding start
-no_live catalogue s d t h = has_none t h
-
 -- a site with a live transaction holds the view that it held as the step began
 pub same_held : (catalogue : Catalogue) (w new : Scene) (s : ℕ) (x : SiteState) (given : Input) (o : Stepped) (t : Live) → InvViews catalogue w → InvViews catalogue new → plain_at w s ≡ Some x → plain_at new s ≡ Some o.site → Led x → Led o.site → ((v : View) → Has w.agreed v → Has new.agreed v) → Has o.site.live t → LiveNow catalogue x given t → x.held ≡ o.site.held
 same_held catalogue w new s x given o t before after up now led led_now stays h from =
@@ -252,7 +248,7 @@ same_held catalogue w new s x given o t before after up now led led_now stays h 
 
 ops_above : (catalogue : Catalogue) → Above catalogue (Sixth catalogue) (InvOps catalogue)
 ops_above catalogue = record {
-  starts = record { live = λ s x t h k. absurd (no_live catalogue s (empty_durable (start_copies catalogue s)) t (subst (λ (x : SiteState). Has x.live t) (sym (started catalogue s x h)) k)) };
+  starts = record { live = λ s x t h k. absurd (started_idle catalogue s x t h k) };
   acts = λ w s x given up r low now inv.
       let first = low.lower.lower.third.second.first in
       let first_now = now.lower.lower.third.second.first in

@@ -19,7 +19,7 @@ use Rattle.vp_laws.proofs.TableSteps.{LiveNow}
 use Rattle.vp_laws.proofs.TableLocks.{not_copied}
 use Rattle.vp_laws.proofs.Scenes.{Scene, plain_at, kept_at, acted}
 use Rattle.vp_laws.proofs.Events.{Lasts}
-use Rattle.vp_laws.proofs.Worlds.{NowIs, now_is, QuietIs, quiet_is, started, With, Above, with_last}
+use Rattle.vp_laws.proofs.Worlds.{NowIs, now_is, QuietIs, quiet_is, With, Above, with_last, started_idle, live_still}
 use Rattle.vp_laws.proofs.InvOps.{HasWritten, reads_same, value_key}
 use Rattle.vp_laws.proofs.InvAnswers.{HasRead}
 use Rattle.vp_laws.proofs.InvCopies.{Eighteenth, copied_last}
@@ -118,32 +118,24 @@ module _ (catalogue : Catalogue) (w new : Scene) (s : ℕ) (x : SiteState) (give
 abbrev pub Nineteenth : Catalogue → Scene → Type 0
 Nineteenth catalogue w = With (Eighteenth catalogue) (InvReading catalogue) w
 
-no_live : (catalogue : Catalogue) (s : ℕ) (d : DurableState) (t : Live) → Has (start catalogue s d).live t → ⊥
-unfolding start
-no_live catalogue s d t h = has_none t h
-
 reading_above : (catalogue : Catalogue) → Above catalogue (Eighteenth catalogue) (InvReading catalogue)
 reading_above catalogue = record {
   starts = record {
-    pending = λ s x t p rec up h e r. absurd (no_live catalogue s (empty_durable (start_copies catalogue s)) t (subst (λ (x : SiteState). Has x.live t) (sym (started catalogue s x up)) h));
-    done = λ s x t rec value up h there none. absurd (no_live catalogue s (empty_durable (start_copies catalogue s)) t (subst (λ (x : SiteState). Has x.live t) (sym (started catalogue s x up)) h));
+    pending = λ s x t p rec up h e r. absurd (started_idle catalogue s x t up h);
+    done = λ s x t rec value up h there none. absurd (started_idle catalogue s x t up h);
   };
   acts = λ w s x given up r low now inv.
       let k = known catalogue w low.lower in
       let n = known catalogue (acted w s x (step catalogue x given)) now.lower in
       reading_keep catalogue w (acted w s x (step catalogue x given)) s x given (step catalogue x given) k n (does catalogue w s x given up r k n) inv;
   quiet = λ w new s q low now inv. record {
-    pending = λ j y t p rec up h e r. inv.pending j y t p rec (still catalogue w s j y t h (quiet_is catalogue w new s q j y up)) h e r;
+    pending = λ j y t p rec up h e r. inv.pending j y t p rec (live_still catalogue w s j y t h (quiet_is catalogue w new s q j y up)) h e r;
     done = λ j y t rec value up h there none. ⊎_elim
         (λ wrote. inl wrote)
         (λ (r : ReadElsewhere w t rec). inr (r.0, (r.1.0, r.1.1, r.1.2, r.1.3, rw q.sent r.1.4, rw q.sent r.1.5)))
-        (inv.done j y t rec value (still catalogue w s j y t h (quiet_is catalogue w new s q j y up)) h there none);
+        (inv.done j y t rec value (live_still catalogue w s j y t h (quiet_is catalogue w new s q j y up)) h there none);
   };
 }
-  where
-    still : (catalogue : Catalogue) (w : Scene) (s j : ℕ) (y : SiteState) (t : Live) → Has y.live t → QuietIs catalogue w s j y → plain_at w j ≡ Some y
-    still catalogue w s j y t h (QuietIs.other n old) = old
-    still catalogue w s j y t h (QuietIs.here z same) = absurd (no_live catalogue s (kept_at w s) t (subst (λ (y : SiteState). Has y.live t) (sym same) h))
 
 pub reading_last : (catalogue : Catalogue) → Lasts catalogue (Nineteenth catalogue)
 reading_last catalogue = with_last catalogue (Eighteenth catalogue) (InvReading catalogue) (copied_last catalogue) (reading_above catalogue)

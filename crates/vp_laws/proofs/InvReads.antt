@@ -24,7 +24,7 @@ use Rattle.vp_laws.proofs.InvOps.{HasWritten, last_written, value_key, reads_sam
 use Rattle.vp_laws.proofs.InvGuards.{outcomes, awaited, invited}
 use Rattle.vp_laws.proofs.InvDated.{Fourteenth, dated_last}
 use Rattle.vp_laws.proofs.Events.{Lasts}
-use Rattle.vp_laws.proofs.Worlds.{NowIs, now_is, QuietIs, quiet_is, started, With, Above, with_last}
+use Rattle.vp_laws.proofs.Worlds.{NowIs, now_is, QuietIs, quiet_is, With, Above, with_last, no_live, started_idle}
 
 -- the transaction has asked a site for the record
 abbrev pub HasAsked : Live → ℕ → Type 0
@@ -108,13 +108,9 @@ module _ (catalogue : Catalogue) (x : SiteState) (given : Input) (all : (u : Liv
   })
   reads_now t (LiveNow.begins view h e) = subst Ok e (record { done = λ rec value k none. absurd (has_none _ k); asked = λ p rec g r. cc })
 
-no_live : (catalogue : Catalogue) (s : ℕ) (d : DurableState) (t : Live) → Has (start catalogue s d).live t → ⊥
-unfolding start
-no_live catalogue s d t h = has_none t h
-
 reads_above : (catalogue : Catalogue) → Above catalogue (Fourteenth catalogue) (InvReads catalogue)
 reads_above catalogue = record {
-  starts = record { live = λ s x t up h. absurd (no_live catalogue s (empty_durable (start_copies catalogue s)) t (subst (λ (x : SiteState). Has x.live t) (sym (started catalogue s x up)) h)) };
+  starts = record { live = λ s x t up h. absurd (started_idle catalogue s x t up h) };
   acts = λ w s x given up r low now inv.
       let twelfth = low.lower.lower in
       let ninth = twelfth.lower.lower.lower in

@@ -30,7 +30,7 @@ use Rattle.vp_laws.proofs.TableSteps.{waiting, reading, writing, LiveNow, Only, 
 use Rattle.vp_laws.proofs.TableShares.{is_reply, PartNow, DoubtNow, OutcomeComes, ReplyTo, Shares, shares-step}
 use Rattle.vp_laws.proofs.InvEndings.{HasEntry, InvEndings, Fifth, endings_last}
 use Rattle.vp_laws.proofs.Events.{Arrives, Lasts}
-use Rattle.vp_laws.proofs.Worlds.{NowIs, now_is, KeptIs, kept_is, Quiet, QuietIs, quiet_is, quiet_kept, started, start_kept, start_sent, start_entered, With, Above, with_last}
+use Rattle.vp_laws.proofs.Worlds.{NowIs, now_is, KeptIs, kept_is, Quiet, QuietIs, quiet_is, quiet_kept, started, start_kept, start_sent, start_entered, With, Above, with_last, no_live, started_idle}
 
 abbrev pub HasVote : Scene → ℕ → TxnId → Type 0
 HasVote w from txn = (to : ℕ) × Has w.sent (letter from to (message.Vote txn))
@@ -456,10 +456,6 @@ no_parts : (catalogue : Catalogue) (s : ℕ) (d : DurableState) (a : Part) → H
 unfolding start
 no_parts catalogue s d a h = has_none a h
 
-no_live : (catalogue : Catalogue) (s : ℕ) (d : DurableState) (t : Live) → Has (start catalogue s d).live t → ⊥
-unfolding start
-no_live catalogue s d t h = has_none t h
-
 module _ (catalogue : Catalogue) (w new : Scene) (s : ℕ) (q : Quiet catalogue w new s) (inv : InvShares catalogue w) where
   sent_on : (m : Sent) → Has w.sent m → Has new.sent m
   sent_on m h = rw q.sent h
@@ -530,7 +526,7 @@ shares_above catalogue = record {
     parts = λ s x a h k. absurd (no_parts catalogue s (empty_durable (start_copies catalogue s)) a (subst (λ (x : SiteState). Has x.parts a) (sym (started catalogue s x h)) k));
     doubts = λ s d h. absurd (has_none d (rw (start_kept catalogue s).doubts at h));
     says = λ m h. absurd (start_sent catalogue m h);
-    awaits = λ s x t h k. absurd (no_live catalogue s (empty_durable (start_copies catalogue s)) t (subst (λ (x : SiteState). Has x.live t) (sym (started catalogue s x h)) k));
+    awaits = λ s x t h k. absurd (started_idle catalogue s x t h k);
     entry = λ e h. absurd (start_entered catalogue e h);
   };
   acts = λ w s x given up r low now inv.

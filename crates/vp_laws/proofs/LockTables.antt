@@ -10,6 +10,7 @@ use Rattle.vp_model.specs.Words.{same_txn, same_owner, owner_before}
 use Rattle.vp_model.specs.Locks.{conflicting, lesser, least_owner, conflict, holds, raised, with_lock, without_owner}
 use Rattle.vp_laws.proofs.Members.{Has, has_none, has_left, has_right, has_cases, has_one, has_one_is, filter_has, filter_keeps, map_has, any_true}
 use Rattle.vp_laws.proofs.Lists.{mapped_has}
+use Rattle.vp_laws.proofs.Apart.{same_txn-is, same_txn-self}
 
 pub by_bool : {A : Type 0} (P : A → Type 0) (t : Bool) (x y : A) → (t ≡ true → P x) → (t ≡ false → P y) → P (cond t x y)
 by_bool P true x y p q = p refl
@@ -22,17 +23,8 @@ filter_none test xs x e h = go (test x) refl
     go false q = refl
     go true q = absurd (has_none x (rw e at (filter_keeps test xs x h q)))
 
-pub same_txn_is : (t u : TxnId) → same_txn t u ≡ true → t ≡ u
-same_txn_is t u e = grind (arith, nat_tests)
-
-pub same_txn-self : (t : TxnId) → same_txn t t ≡ true
-same_txn-self t = grind (arith, nat_tests)
-
-pub same_txn-sym : (t u : TxnId) → same_txn t u ≡ same_txn u t
-same_txn-sym t u = grind (arith, nat_tests)
-
 pub same_owner_is : (a b : Owner) → same_owner a b ≡ true → a ≡ b
-same_owner_is (owner.Txn t) (owner.Txn u) e = ap owner.Txn (same_txn_is t u e)
+same_owner_is (owner.Txn t) (owner.Txn u) e = ap owner.Txn (same_txn-is t u e)
 same_owner_is (owner.Txn t) owner.Refresh e = cc
 same_owner_is owner.Refresh (owner.Txn u) e = cc
 same_owner_is owner.Refresh owner.Refresh e = refl

@@ -13,7 +13,7 @@ use Rattle.vp_model.specs.Transactions.{last_writes}
 use Rattle.vp_model.specs.Refresh.{is_open, is_usable_in}
 use Rattle.vp_model.specs.OneCopy.{Values, play, content}
 use Rattle.vp_model.specs.Site.{SiteState, Stepped, Lent}
-use Rattle.vp_one_site.proofs.Play.{get_all, get_all-other, play_sets, last_ascending, play-append, read_plays}
+use Rattle.vp_laws.proofs.Play.{get_all, get_all-other, play_sets, last_ascending, play-append, read_plays}
 use Rattle.vp_laws.proofs.Members.{Has}
 use Rattle.vp_laws.proofs.Lists.{mapped_has}
 use Rattle.vp_laws.proofs.Order.{AtMost, AtMost-along}

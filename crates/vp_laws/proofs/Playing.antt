@@ -8,7 +8,7 @@ use Rattle.vp_model.specs.Words.{value_at}
 use Rattle.vp_model.specs.Catalogue.{Catalogue, start_values}
 use Rattle.vp_model.specs.Transactions.{last_changes}
 use Rattle.vp_model.specs.OneCopy.{Values, play, serial, order, content}
-use Rattle.vp_one_site.proofs.Play.{Write, op_record, set_all, get_set, get_other, get_all, get_all-other, play_sets, last_ascending, serial-append, AgreeOn, play_agrees}
+use Rattle.vp_laws.proofs.Play.{Write, op_record, set_all, get_set, get_other, get_all, get_all-other, play_sets, last_ascending, serial-append, AgreeOn, play_agrees, and_then}
 use Rattle.vp_laws.proofs.Members.{Has, has_first, has_more, has_right, all_of}
 use Rattle.vp_laws.proofs.Order.{Precedes, AtMost-refl, same_site}
 use Rattle.vp_laws.proofs.InvEntered.{Wrote}
@@ -40,15 +40,11 @@ serial_value rec [] m n h = let same : m ≡ n = cc in rw (← same) (as_it_is (
     as_it_is None = refl
     as_it_is (Some v) = refl
 serial_value rec (e ∷ es) m n h =
-    let t = then_some (play m e.ops) (λ (k : Values). serial k es) n h in
+    let t = and_then (play m e.ops) (λ (k : Values). serial k es) n h in
     let rest = serial_value rec es t.0 n t.2 in
     let now : slice_get t.0 rec ≡ option_map (overwritten (last_changes e) rec) (slice_get m rec) = ap (λ (k : Values). slice_get k rec) (play_sets e.ops m t.0 t.1) ∙ set_value (last_changes e) m rec (λ v w s. get_all rec v (last_changes e) m (last_ascending e.ops) w s) in
     rest ∙ ap (option_map (λ start. value_in rec start es)) now ∙ twice (slice_get m rec)
   where
-    then_some : (o : Option Values) (f : Values → Option Values) (y : Values) → option_and_then f o ≡ Some y → (x : Values) × (o ≡ Some x) × (f x ≡ Some y)
-    then_some None f y e = cc
-    then_some (Some x) f y e = (x, refl, e)
-
     twice : (o : Option (List ℕ)) → option_map (λ start. value_in rec start es) (option_map (overwritten (last_changes e) rec) o) ≡ option_map (λ start. value_in rec start (e ∷ es)) o
     twice None = refl
     twice (Some v) = refl
@@ -77,14 +73,10 @@ plays_behind e ops a b n g h none = let i = play_agrees (unwritten e) ops a b n 
 pub serial_agrees : (e : Commit) (es : List Commit) (a b n : Values) → AgreeOn (unwritten e) a b → serial a es ≡ Some n → ((f : Commit) → Has es f → WritesNone e f.ops) → (k : Values) × (serial b es ≡ Some k)
 serial_agrees e [] a b n same h none = (b, refl)
 serial_agrees e (f ∷ es) a b n same h none =
-    let t = then_some (play a f.ops) (λ (k : Values). serial k es) n h in
+    let t = and_then (play a f.ops) (λ (k : Values). serial k es) n h in
     let i = play_agrees (unwritten e) f.ops a b t.0 (all_unwritten e f.ops (none f (has_first f es))) same t.1 in
     let j = serial_agrees e es t.0 i.0 n i.2 t.2 (λ g q. none g (has_more f es g q)) in
     (j.0, rw i.1 j.1)
-  where
-    then_some : (o : Option Values) (f : Values → Option Values) (y : Values) → option_and_then f o ≡ Some y → (x : Values) × (o ≡ Some x) × (f x ≡ Some y)
-    then_some None f y e = cc
-    then_some (Some x) f y e = (x, refl, e)
 
 module _ (start : Values) (journal : List Commit) (e : Commit) where
   abbrev s : Split e (order journal) (order (journal ++ e ∷ []))

@@ -16,7 +16,7 @@ use Rattle.vp_model.specs.Site.{SiteState}
 use Rattle.vp_model.specs.Refresh.{members_in, other_holders}
 use Rattle.vp_model.specs.World.{WorldState}
 use Rattle.vp_model.specs.Told.{answers_in, is_step, call_in, reported, put_first, is_early_refusal, is_call, takes}
-use Rattle.vp_one_site.proofs.ToldLines.{Report, IsReported, Tells, IsUnheard}
+use Rattle.vp_laws.proofs.ToldLines.{Report, IsReported, Tells, IsUnheard}
 use Rattle.vp_laws.proofs.Members.{Has, has_none, has_first, has_more, filter_keeps, both_true, any_false}
 use Rattle.vp_laws.proofs.Apart.{same_txn-is}
 use Rattle.vp_laws.proofs.Scenes.{Scene, plain_at}
