@@ -1,7 +1,7 @@
 -- The one copy after the entries of views up to one is defined, where the whole order plays; and what plays on it plays still, when an
 -- entry of a lower view is added that wrote nothing which is used above.
 use Rattle.std.proofs.Common.{◌≡◌, ◌∙◌, ap, sym, subst, Bool, true, false, List, [], ◌∷◌, ◌++◌, refl, ⊎_elim}
-use Rattle.std.specs.Prelude.{Option, Some, None, option_and_then, flat_map}
+use Rattle.std.specs.Prelude.{Some, option_and_then, flat_map}
 use Rattle.std.proofs.lemmas.List.{append_assoc}
 use Rattle.vp_model.specs.Types.{ViewId, Op, Commit}
 use Rattle.vp_model.specs.Words.{view_before}

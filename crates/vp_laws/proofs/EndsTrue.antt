@@ -3,7 +3,7 @@ use Rattle.std.proofs.Common.{◌≡◌, ◌≢◌, ◌∙◌, ◌≤◌, ◌<�
 use Rattle.std.specs.Prelude.{Some, None, ◌&&◌}
 use Rattle.std.specs.List.{list_any, list_all}
 use Rattle.std.proofs.lemmas.Bool.Decides.{nat_tests}
-use Rattle.vp_model.specs.Types.{TxnId, Commit, Input, Answer, Reply, Shown, Live, Ending, Finished}
+use Rattle.vp_model.specs.Types.{TxnId, Commit, Input, Answer, Reply, Shown, Ending, Finished}
 use Rattle.vp_base.specs.declared.site.Ending.TheVariants.{Committed, Aborted, LockHeld, ViewChanged, TimedOut}
 use Rattle.vp_model.specs.Types.answer
 use Rattle.vp_model.specs.Words.{same_txn}
@@ -11,7 +11,7 @@ use Rattle.vp_model.specs.Catalogue.{Catalogue}
 use Rattle.vp_model.specs.Durable.{DurableState}
 use Rattle.vp_model.specs.Transactions.{answer_of}
 use Rattle.vp_model.specs.Site.{SiteState, Stepped}
-use Rattle.vp_model.specs.Step.{start, step}
+use Rattle.vp_model.specs.Step.{step}
 use Rattle.vp_model.specs.World.{Moment, Schedule, moments_of, journal_of}
 use Rattle.vp_model.specs.Told.{replies_in, answers_in}
 use Rattle.vp_model.specs.Headline.{has_entry, is_committed, commits_in, agrees_with, ends_true_at, EndsAreTrue}

@@ -16,7 +16,7 @@ use Rattle.vp_model.specs.Messages.{held_id}
 use Rattle.vp_model.specs.Locks.{conflict}
 use Rattle.vp_model.specs.Transactions.{answer_of, answers_after}
 use Rattle.vp_model.specs.Refresh.{members_in, is_usable_in}
-use Rattle.vp_model.specs.Step.{start, step}
+use Rattle.vp_model.specs.Step.{step}
 use Rattle.vp_model.specs.Told.{answers_in}
 use Rattle.vp_model.specs.World.{WorldState, Moment}
 use Rattle.vp_model.specs.Justified.{site_named, justified, was_blocked, held_other, left_and_closed, is_begun, weighs, refused_number, refused_in}
@@ -37,7 +37,6 @@ use Rattle.vp_laws.proofs.Tower.{Known}
 use Rattle.vp_laws.proofs.Tower.{Does as Doing, does as doing}
 use Rattle.vp_laws.proofs.EndsTrue.{EndedAt, known_of, ended_step, ended_quiet, said_refused}
 use Rattle.vp_laws.proofs.Worlds.{NowIs, now_is, Quiet, QuietIs, quiet_is, no_finished, no_live}
-use Rattle.vp_model.specs.Durable.{DurableState}
 use Rattle.vp_laws.proofs.Reasons.{Operates, Takes, Awaits, Why, told_to}
 use Rattle.vp_laws.proofs.TableRefusals.{Refused, RefuseSays, refusals-step}
 use Rattle.vp_laws.proofs.TableFair.{is_free, finished_as, LiveFrom, FinishedFrom, ReplyFrom, Causes, causes-step}

@@ -7,12 +7,11 @@ use Rattle.vp_model.specs.Types.{ViewId, TxnId, View, Sent, Message, Input, Op, 
 use Rattle.vp_model.specs.Types.message
 use Rattle.vp_model.specs.Types.op
 use Rattle.vp_model.specs.Words.{is_empty}
-use Rattle.vp_model.specs.Catalogue.{Catalogue, start_copies}
-use Rattle.vp_model.specs.Durable.{DurableState, empty_durable}
+use Rattle.vp_model.specs.Catalogue.{Catalogue}
 use Rattle.vp_model.specs.Site.{SiteState, Stepped, Lent}
 use Rattle.vp_model.specs.Transactions.{last_writes}
 use Rattle.vp_model.specs.Refresh.{other_holders_in, other_holders}
-use Rattle.vp_model.specs.Step.{start, step, mark, marked_call}
+use Rattle.vp_model.specs.Step.{step, mark, marked_call}
 use Rattle.vp_laws.specs.Votes.{is_commit}
 use Rattle.vp_laws.proofs.Members.{Has, has_none, has_one, has_one_is, has_cases, filter_keeps}
 use Rattle.vp_laws.proofs.Order.{same_site}

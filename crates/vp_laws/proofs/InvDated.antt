@@ -10,9 +10,9 @@ use Rattle.vp_model.specs.Catalogue.{Catalogue, holders, start_copies}
 use Rattle.vp_model.specs.Durable.{DurableState, empty_durable}
 use Rattle.vp_model.specs.Refresh.{unanswered, members_in, other_holders}
 use Rattle.vp_model.specs.Site.{SiteState, Stepped}
-use Rattle.vp_model.specs.Step.{start, step, durable_of}
+use Rattle.vp_model.specs.Step.{step, durable_of}
 use Rattle.vp_model.specs.Transactions.{last_changes, writes_held}
-use Rattle.vp_laws.proofs.Members.{Has, has_none, has_from_test, filter_has, both_true}
+use Rattle.vp_laws.proofs.Members.{Has, has_from_test, filter_has, both_true}
 use Rattle.vp_laws.proofs.Lists.{mapped_has}
 use Rattle.vp_laws.proofs.LocalViews.{letter}
 use Rattle.vp_laws.proofs.Table.{Comes}

@@ -3,10 +3,10 @@ use Rattle.std.proofs.Common.{◌≡◌, ◌⊎◌, ◌∙◌, ap, sym, subst, �
 use Rattle.std.specs.Prelude.{Option, Some, None, option_map, option_to_list}
 use Rattle.vp_model.specs.Types.{Input, Answer, Pending, Live, Finished}
 use Rattle.vp_model.specs.Catalogue.{Catalogue, start_copies}
-use Rattle.vp_model.specs.Durable.{DurableState, empty_durable}
+use Rattle.vp_model.specs.Durable.{empty_durable}
 use Rattle.vp_model.specs.Transactions.{answer_of}
 use Rattle.vp_model.specs.Site.{SiteState, Stepped}
-use Rattle.vp_model.specs.Step.{start, step}
+use Rattle.vp_model.specs.Step.{step}
 use Rattle.vp_laws.proofs.Members.{Has, has_none, has_one_is, has_cases}
 use Rattle.vp_laws.proofs.Table.{is_end}
 use Rattle.vp_laws.proofs.TableSteps.{LiveNow}

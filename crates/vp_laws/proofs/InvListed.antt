@@ -8,8 +8,8 @@ use Rattle.vp_model.specs.Catalogue.{Catalogue, holders, start_copies}
 use Rattle.vp_model.specs.Durable.{DurableState, empty_durable}
 use Rattle.vp_model.specs.Transactions.{last_changes, writes_held}
 use Rattle.vp_model.specs.Site.{SiteState, Stepped}
-use Rattle.vp_model.specs.Step.{start, step}
-use Rattle.vp_laws.proofs.Members.{Has, has_none, map_has, filter_keeps}
+use Rattle.vp_model.specs.Step.{step}
+use Rattle.vp_laws.proofs.Members.{Has, map_has, filter_keeps}
 use Rattle.vp_laws.proofs.Lists.{mapped_has}
 use Rattle.vp_laws.proofs.Order.{Precedes}
 use Rattle.vp_laws.proofs.LocalViews.{letter}

@@ -6,13 +6,12 @@ use Rattle.vp_model.specs.Types.{Change, ViewId, TxnId, View, Input, Op, Answer,
 use Rattle.std.proofs.lemmas.Bool.{eqb-true}
 use Rattle.vp_model.specs.Types.op
 use Rattle.vp_model.specs.Words.{is_empty, for_each, put_number, put_at, value_at}
-use Rattle.vp_model.specs.Catalogue.{Catalogue, find_record, start_copies}
-use Rattle.vp_model.specs.Durable.{DurableState, empty_durable}
+use Rattle.vp_model.specs.Catalogue.{Catalogue, find_record}
 use Rattle.vp_model.specs.Site.{SiteState, Stepped, Lent}
 use Rattle.vp_model.specs.Transactions.{with_op, last_writes}
 use Rattle.vp_model.specs.Refresh.{other_holders_in, other_holders}
 use Rattle.vp_model.specs.Calls.{begun}
-use Rattle.vp_model.specs.Step.{start, step, mark, marked_call}
+use Rattle.vp_model.specs.Step.{step, mark, marked_call}
 use Rattle.vp_laws.specs.Votes.{is_commit}
 use Rattle.vp_laws.proofs.Members.{Has, has_none, has_one_is, has_first, has_more, has_cons, has_cases, filter_has}
 use Rattle.vp_laws.proofs.Lists.{put_has, put_new}

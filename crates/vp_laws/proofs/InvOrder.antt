@@ -5,19 +5,18 @@ use Rattle.std.specs.Prelude.{Some}
 use Rattle.vp_model.specs.Types.{ViewId, TxnId, View, Commit, Input, Op, Live}
 use Rattle.vp_model.specs.Types.message
 use Rattle.vp_model.specs.Types.op
-use Rattle.vp_model.specs.Catalogue.{Catalogue, holders, accessible, start_values, start_copies}
-use Rattle.vp_model.specs.Durable.{DurableState, empty_durable}
+use Rattle.vp_model.specs.Catalogue.{Catalogue, holders, accessible, start_values}
 use Rattle.vp_model.specs.OneCopy.{Values, play, serial, order, content}
 use Rattle.vp_model.specs.Site.{SiteState, Stepped}
-use Rattle.vp_model.specs.Step.{start, step}
+use Rattle.vp_model.specs.Step.{step}
 use Rattle.vp_laws.proofs.Play.{op_record}
 use Rattle.vp_laws.proofs.Members.{Has, has_none}
 use Rattle.vp_laws.proofs.Order.{AtMost, Precedes, not_both}
 use Rattle.vp_laws.proofs.LocalViews.{letter}
 use Rattle.vp_laws.proofs.TableLed.{IsOf}
-use Rattle.vp_laws.proofs.Scenes.{Scene, plain_at, kept_at, acted}
+use Rattle.vp_laws.proofs.Scenes.{Scene, plain_at, acted}
 use Rattle.vp_laws.proofs.Events.{Lasts}
-use Rattle.vp_laws.proofs.Worlds.{NowIs, now_is, QuietIs, quiet_is, start_journal, With, Above, with_last, started_idle, live_still}
+use Rattle.vp_laws.proofs.Worlds.{NowIs, now_is, quiet_is, start_journal, With, Above, with_last, started_idle, live_still}
 use Rattle.vp_laws.proofs.InvShares.{HasRequest}
 use Rattle.vp_laws.proofs.InvOps.{op_used, record_of, HasWritten}
 use Rattle.vp_laws.proofs.InvAnswers.{HasRead}

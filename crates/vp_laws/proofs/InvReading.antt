@@ -5,21 +5,20 @@ use Rattle.std.specs.Prelude.{Option, Some, None}
 use Rattle.vp_model.specs.Types.{TxnId, Input, Stored, Pending, Live}
 use Rattle.vp_model.specs.Types.op
 use Rattle.vp_model.specs.Words.{keys, value_at}
-use Rattle.vp_model.specs.Catalogue.{Catalogue, start_copies}
-use Rattle.vp_model.specs.Durable.{DurableState, empty_durable}
+use Rattle.vp_model.specs.Catalogue.{Catalogue}
 use Rattle.vp_model.specs.Transactions.{last_writes}
 use Rattle.vp_model.specs.Refresh.{other_holders}
 use Rattle.vp_model.specs.Site.{SiteState, Stepped}
-use Rattle.vp_model.specs.Step.{start, step, marked_call}
+use Rattle.vp_model.specs.Step.{step, marked_call}
 use Rattle.vp_laws.specs.Votes.{is_commit}
 use Rattle.vp_laws.proofs.Members.{Has, has_none}
 use Rattle.vp_laws.proofs.Lists.{mapped_has}
 use Rattle.vp_laws.proofs.Table.{Reads, remaining}
 use Rattle.vp_laws.proofs.TableSteps.{LiveNow}
 use Rattle.vp_laws.proofs.TableLocks.{not_copied}
-use Rattle.vp_laws.proofs.Scenes.{Scene, plain_at, kept_at, acted}
+use Rattle.vp_laws.proofs.Scenes.{Scene, plain_at, acted}
 use Rattle.vp_laws.proofs.Events.{Lasts}
-use Rattle.vp_laws.proofs.Worlds.{NowIs, now_is, QuietIs, quiet_is, With, Above, with_last, started_idle, live_still}
+use Rattle.vp_laws.proofs.Worlds.{NowIs, now_is, quiet_is, With, Above, with_last, started_idle, live_still}
 use Rattle.vp_laws.proofs.InvOps.{HasWritten, reads_same, value_key}
 use Rattle.vp_laws.proofs.InvAnswers.{HasRead}
 use Rattle.vp_laws.proofs.InvCopies.{Eighteenth, copied_last}

@@ -5,18 +5,17 @@ use Rattle.vp_model.specs.Types.{ViewId, TxnId, Sent, Message, Input, Stored, Pe
 use Rattle.vp_model.specs.Types.message
 use Rattle.vp_model.specs.Types.owner
 use Rattle.vp_model.specs.Locks.{conflict}
-use Rattle.vp_model.specs.Catalogue.{Catalogue, start_copies}
-use Rattle.vp_model.specs.Durable.{DurableState, empty_durable}
+use Rattle.vp_model.specs.Catalogue.{Catalogue}
+use Rattle.vp_model.specs.Durable.{DurableState}
 use Rattle.vp_model.specs.Site.{SiteState, Stepped}
 use Rattle.vp_model.specs.Messages.{on_message, on_read_request, on_write_request, on_request, lock_copy, grant}
-use Rattle.vp_model.specs.World.{start_world}
-use Rattle.vp_model.specs.Step.{on_input, start, step}
-use Rattle.vp_laws.proofs.Members.{Has, has_none}
+use Rattle.vp_model.specs.Step.{on_input, step}
+use Rattle.vp_laws.proofs.Members.{Has}
 use Rattle.vp_laws.proofs.Order.{AtMost, not_both, same_site}
 use Rattle.vp_laws.proofs.LockTables.{HasLock, lock_taken}
 use Rattle.vp_laws.proofs.LocalViews.{letter}
 use Rattle.vp_laws.proofs.Table.{Comes, Requests, next_name}
-use Rattle.vp_laws.proofs.Scenes.{Scene, scene_of, up_in, plain_at, kept_at, promise_at, Acted, acted, stepping}
+use Rattle.vp_laws.proofs.Scenes.{Scene, up_in, plain_at, promise_at, Acted, acted, stepping}
 use Rattle.vp_laws.proofs.TableViews.{local-step}
 use Rattle.vp_laws.proofs.TableVotes.{some_not}
 use Rattle.vp_laws.proofs.OnlyCoordinator.{is_aside}
@@ -37,7 +36,7 @@ use Rattle.vp_laws.proofs.InvLived.{InvLived}
 use Rattle.vp_laws.proofs.HasLeft.{HasLeft, left_lasts, left_here, left_quiet, left_by_quiet}
 use Rattle.vp_laws.proofs.InvGuards.{Twelfth, guards_last, txn_same, outcomes, awaited, invited}
 use Rattle.vp_laws.proofs.Events.{Arrives, Lasts}
-use Rattle.vp_laws.proofs.Worlds.{NowIs, now_is, Quiet, QuietIs, quiet_is, With, Above, with_last, started_idle, live_still}
+use Rattle.vp_laws.proofs.Worlds.{NowIs, now_is, Quiet, quiet_is, With, Above, with_last, started_idle, live_still}
 
 -- the site has answered a request of the transaction for the record: shared a read, exclusive a write
 pub data HasAnswered (w : Scene) (q : ℕ) (txn : TxnId) (rec : ℕ) : Bool → Type 0 where

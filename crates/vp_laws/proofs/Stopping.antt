@@ -1,6 +1,6 @@
 -- No transaction of a lower view is decided that wrote a record which is closed for a view.
 use Rattle.std.proofs.Common.{◌≡◌, ◌≢◌, ◌∙◌, ap, sym, subst, ℕ, true, false, List, ⊎_elim}
-use Rattle.std.specs.Prelude.{Some, ◌&&◌}
+use Rattle.std.specs.Prelude.{Some}
 use Rattle.vp_model.specs.Types.{Change, ViewId, TxnId, View, Commit, Input, Live}
 use Rattle.vp_model.specs.Types.message
 use Rattle.vp_model.specs.Words.{is_empty, has, keys}
@@ -8,7 +8,7 @@ use Rattle.vp_model.specs.Catalogue.{Catalogue, holders, weights_of, accessible}
 use Rattle.vp_model.specs.Transactions.{last_changes, writes_held}
 use Rattle.vp_model.specs.Site.{SiteState, Stepped}
 use Rattle.vp_catalog.proofs.Majorities.{accessible_share}
-use Rattle.vp_laws.proofs.Members.{Has, has_from_test, any_true, both_true, map_has, filter_keeps, has_of}
+use Rattle.vp_laws.proofs.Members.{Has, has_from_test, map_has, filter_keeps, has_of}
 use Rattle.vp_laws.proofs.Lists.{mapped_has}
 use Rattle.vp_laws.proofs.Order.{Precedes, same_site}
 use Rattle.vp_laws.proofs.LocalViews.{letter}

@@ -1,12 +1,11 @@
 -- What one more line makes of what the lines tell of a transaction.
-use Rattle.std.proofs.Common.{◌≡◌, ◌≤◌, ◌<◌, ℕ, ◌+◌, ◌∙◌, ap, sym, Bool, true, false, cond, List, [], ◌∷◌, ◌++◌, map, refl, append_assoc}
-use Rattle.std.specs.Prelude.{Option, Some, None, is_some, ◌==◌, nat_lt, filter_map, flat_map, option_and_then, find}
+use Rattle.std.proofs.Common.{◌≡◌, ℕ, ◌∙◌, ap, sym, Bool, true, false, cond, List, [], ◌∷◌, ◌++◌, map, refl, append_assoc}
+use Rattle.std.specs.Prelude.{Option, Some, None, is_some, ◌==◌, filter_map, flat_map, option_and_then, find}
 use Rattle.std.specs.List.{AllByRecursion}
-use Rattle.std.proofs.lemmas.Bool.{ne_eqb, le-ltb}
 use Rattle.std.proofs.lemmas.List.Elements.{filter_map-append}
 use Rattle.std.proofs.lemmas.List.Sums.{fold-append}
 use Rattle.std.proofs.lemmas.List.{append-nil}
-use Rattle.vp_model.specs.Types.{TxnId, Op, Call, Answer, Line}
+use Rattle.vp_model.specs.Types.{TxnId, Op, Answer, Line}
 use Rattle.vp_model.specs.Words.{for_each, value_at, put_at}
 use Rattle.vp_model.specs.Catalogue.{Catalogue}
 use Rattle.vp_model.specs.Told.{answers_in, reported, put_first, reports, takes, taken_call, call_in, told_by, told}
