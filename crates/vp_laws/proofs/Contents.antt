@@ -8,10 +8,10 @@ use Rattle.vp_model.specs.Words.{view_before}
 use Rattle.vp_model.specs.OneCopy.{Values, play, serial, views_of, in_view, order, content}
 use Rattle.vp_laws.proofs.Play.{serial-append, and_then}
 use Rattle.vp_laws.proofs.Members.{Has, has_right, has_cases, has_one_is}
-use Rattle.vp_laws.proofs.Order.{Precedes, AtMost-trans, Precedes-at_most, from_before}
+use Rattle.vp_laws.proofs.Order.{Precedes, AtMost-trans, Precedes-at_most, from_before, not_before}
 use Rattle.vp_laws.proofs.Journal.{Rising, Split, Precedes-trans, views_rising, flat_has, order_has, order_more}
 use Rattle.vp_laws.proofs.Playing.{WritesNone, up_to_own, serial_agrees, agrees_behind}
-use Rattle.vp_laws.proofs.UpTo.{upto, in_at, test_up_to, up_to_from, upto_all, upto_none, upto_append, upto_has}
+use Rattle.vp_laws.proofs.UpTo.{upto, in_at, up_to_from, upto_all, upto_none, upto_append, upto_has}
 
 -- the entries of views up to one come first
 upto_first : (journal : List Commit) (v : ViewId) (vs : List ViewId) → Rising vs → (rest : List Commit) × (flat_map (in_view journal) vs ≡ upto v (flat_map (in_view journal) vs) ++ rest)
@@ -60,7 +60,7 @@ module _ (start : Values) (journal : List Commit) (e : Commit) where
       (has_cases behind (last ∷ []) c q)) in
       let now = and_then (serial b behind) (λ (m : Values). serial m (last ∷ [])) i.0 (sym (serial-append b behind (last ∷ [])) ∙ i.1) in
       let end = and_then (play now.0 ops) (λ (m : Values). Some m) i.0 now.2 in
-      let keeps : upto d (e ∷ s.behind) ≡ e ∷ behind = (let t = test_up_to d e.view (Precedes-at_most e.view d below) in rw t refl) in
+      let keeps : upto d (e ∷ s.behind) ≡ e ∷ behind = (let t = not_before d e.view (Precedes-at_most e.view d below) in rw t refl) in
       let order_now : upto d (order (journal ++ e ∷ [])) ≡ s.before ++ e ∷ behind = ap (upto d) s.now ∙ upto_append d s.before (e ∷ s.behind) ∙ ap (λ (l : List Commit). l ++ upto d (e ∷ s.behind)) first ∙ ap (λ (l : List Commit). s.before ++ l) keeps in (
         now.0,
         end.0,

@@ -28,25 +28,12 @@ use Rattle.vp_laws.proofs.Lists.{without_first_has}
 use Rattle.vp_laws.proofs.LocalViews.{letter}
 use Rattle.vp_laws.specs.Votes.{is_commit}
 use Rattle.vp_laws.proofs.Table.{Closed, Comes, Handled, IsNext, Reads, Writes, Counts, remaining, IsLast, Locked, Completes, Decides, Replies, IsCallOf, Names, Says, Closes, is_abort, lent_at, OfCoordinator}
+use Rattle.vp_laws.proofs.Keeps.{by_option, by_some, by_test}
+use Rattle.vp_laws.proofs.Apart.{same_txn-is}
 
 first_has : (xs : List ℕ) (q : ℕ) → first xs ≡ Some q → Has xs q
 first_has [] q e = cc
 first_has (n ∷ ns) q e = let same : n ≡ q = cc in rw same (has_first q ns)
-
-pub by_option : {A B : Type 0} (P : B → Type 0) (f : A → B) (o : Option A) (b : B) → ((a : A) → o ≡ Some a → P (f a)) → (o ≡ None → P b) → P (option_map_or f o b)
-by_option P f None b some none = none refl
-by_option P f (Some a) b some none = some a refl
-
-pub by_some : {A B : Type 0} (P : B → Type 0) (o : Option A) (f : A → B → B) (b : B) → ((a : A) → o ≡ Some a → P (f a b)) → P b → P (for_some o f b)
-by_some P None f b some none = none
-by_some P (Some a) f b some none = some a refl
-
-pub by_test : {A : Type 0} (P : A → Type 0) (b : Bool) (x y : A) → (b ≡ true → P x) → (b ≡ false → P y) → P (cond b x y)
-by_test P true x y if_true if_false = if_true refl
-by_test P false x y if_true if_false = if_false refl
-
-same_txn-is : (t u : TxnId) → same_txn t u ≡ true → t ≡ u
-same_txn-is t u e = grind (arith, nat_tests, e)
 
 pub live_of-has : (txn : TxnId) (live : List Live) (t : Live) → live_of txn live ≡ Some t → Has live t
 live_of-has txn live t e = find_has (λ (u : Live). same_txn u.txn txn) live t e

@@ -44,9 +44,7 @@ use Rattle.vp_laws.proofs.Fair.{WasBegun, Once, OtherView, Fair, begun_more, fai
 use Rattle.vp_laws.proofs.FairStep.{IsStep, named_site, tested_x, replied, blocked_here, blocked_there, other_there, left_and_closed_now, same_view-self, eq_self}
 use Rattle.vp_laws.proofs.FairAt.{IsAsked, RefuseFair, RefuseOk, FairEnd, FairAt, refuse_on, end_more, free_justified, report_fair}
 use Rattle.vp_laws.proofs.TableKept.{is_report}
-
-no_number : (a b : ℕ) → a ≤ b → a ≡ b + 1 → ⊥
-no_number a b h e = omega arith
+use Rattle.vp_laws.proofs.Numbers.{one_above}
 
 at_most_of : (a b c : ℕ) → a ≡ b + 1 → b + 1 ≤ c → a ≤ c
 at_most_of a b c e h = omega arith
@@ -162,7 +160,7 @@ module _ (catalogue : Catalogue) (world : WorldState) (past : List Moment) (m0 :
   -- the request that was refused is of the pending call, and of another site
   current : (t : Live) (p : Pending) (Asked : Pending → Type 0) → Has x.live t → t.pending ≡ Some p → Current Asked p.number t → Asked p
   current t p Asked h e cur = ⊎_elim
-      (λ old. absurd (no_number p.number (length t.answers) old (next_number t p h e)))
+      (λ old. absurd (one_above p.number (length t.answers) old (next_number t p h e)))
       (λ (q : (a : Pending) × (t.pending ≡ Some a) × (a.number ≡ p.number) × Asked a). let z = q.1 in let same : q.0 ≡ p = cc in subst Asked same q.3) cur
 
   uses_reads : (p : Pending) (name : List ℕ) (exclusive : Bool) (rec : ℕ) → Operates p.call name exclusive → Reads catalogue p rec → find_record catalogue name ≡ Some rec

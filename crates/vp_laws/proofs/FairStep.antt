@@ -29,6 +29,7 @@ use Rattle.vp_laws.proofs.LocalViews.{letter}
 use Rattle.vp_laws.proofs.Occurs.{Gives}
 use Rattle.vp_laws.proofs.Reasons.{Called, Operates, told_to}
 use Rattle.vp_laws.proofs.LockTables.{same_owner-self, least_any}
+use Rattle.vp_laws.proofs.Numbers.{eq_not}
 
 -- the moment is a step of the site s, from x to o
 pub record IsStep (m : Moment) (w : WorldState) (s : ℕ) (x : SiteState) (given : Input) (o : Stepped) : Type 0 where
@@ -48,9 +49,6 @@ same_view-self v = grind (arith, nat_tests)
 same_now : (v : Option ViewId) → is_same_view v v ≡ true
 same_now None = refl
 same_now (Some v) = same_view-self v
-
-eq_not : (a b : ℕ) → a ≢ b → (a == b) ≡ false
-eq_not a b n = grind (arith, nat_tests, n)
 
 pub named_site : (e : Event) (w : WorldState) (s : ℕ) (given : Input) → Gives e w s given → site_named w e ≡ Some s
 named_site e w s given (Gives.called words is) = rw is refl

@@ -27,6 +27,8 @@ use Rattle.vp_laws.proofs.InvOps.{same_held, HasWritten, LiveOk, last_written, v
 use Rattle.vp_laws.proofs.Scenes.{Scene, plain_at, kept_at, Acted, acted, stepping}
 use Rattle.vp_laws.proofs.Events.{Arrives, Lasts}
 use Rattle.vp_laws.proofs.Worlds.{NowIs, now_is, Quiet, QuietIs, quiet_is, start_sent, With, Above, with_last, no_live, started_idle}
+use Rattle.vp_laws.proofs.Numbers.{one_above, not_same}
+use Rattle.vp_laws.proofs.Lists.{is_none, empty_not}
 
 -- the site has answered a read, or a write, of the record for the transaction
 abbrev pub HasRead : Scene → ℕ → TxnId → ℕ → Type 0
@@ -62,21 +64,11 @@ pub record InvAnswers (catalogue : Catalogue) (w : Scene) : Type 0 where
   pub asks : (m : Sent) → Has w.sent m → Asks catalogue w m.message
   pub live : (s : ℕ) (x : SiteState) (t : Live) → plain_at w s ≡ Some x → Has x.live t → AnswersOk catalogue w x.id x.held t
 
-not_both_numbers : (a b : ℕ) → a ≤ b → a ≡ b + 1 → ⊥
-not_both_numbers a b h e = omega arith
-
 up_to_next : (a b c : ℕ) → a ≡ b + 1 → c ≡ b + 1 → a ≤ c
 up_to_next a b c e f = omega arith
 
 at_most_next : (a b c : ℕ) → a ≤ b → c ≡ b + 1 → a ≤ c
 at_most_next a b c e f = omega arith
-
-not_same : (a b : ℕ) → a ≢ b → not (a == b) ≡ true
-not_same a b n = grind (arith, nat_tests, n)
-
-is_none : {X : Type 0} (xs : List X) → is_empty xs ≡ true → xs ≡ []
-is_none [] e = refl
-is_none (x ∷ xs) e = cc
 
 -- the call of a pending call with other sites missing is the same
 same_reads : (catalogue : Catalogue) (p a : Pending) (rec : ℕ) → p.call ≡ a.call → Reads catalogue a rec → Reads catalogue p rec
@@ -103,7 +95,7 @@ module _ (catalogue : Catalogue) (w new : Scene) (s : ℕ) (x : SiteState) (give
   not_new : (txn : TxnId) → UsedTxn w txn → txn ≡ next_name x → ⊥
   not_new txn u n =
       let here : txn.site ≡ s = ap (λ (t : TxnId). t.site) n ∙ id in
-      not_both_numbers txn.seq x.seq (u.seq x (rw here up) (sym (ap (λ (t : TxnId). t.life) n))) (ap (λ (t : TxnId). t.seq) n)
+      one_above txn.seq x.seq (u.seq x (rw here up) (sym (ap (λ (t : TxnId). t.life) n))) (ap (λ (t : TxnId). t.seq) n)
 
   module _ (Asked : Pending → Type 0) (stable : Stable Asked) where
     -- the request is current still, for what the transaction has become
@@ -170,7 +162,7 @@ module _ (catalogue : Catalogue) (w new : Scene) (s : ℕ) (x : SiteState) (give
       let sent = came from (message.WriteAnswer u.txn p.number) g in
       let q = shares.says _ sent in
       let k : Current (WritesTo catalogue q.1) p.number u = inv.asks _ q.2 x u (rw (owned u h ∙ id) up) h refl in
-      ⊎_elim (λ low. absurd (not_both_numbers p.number (length u.answers) low ((ops u h).next p e)))
+      ⊎_elim (λ low. absurd (one_above p.number (length u.answers) low ((ops u h).next p e)))
       (λ (z : (a : Pending) × (u.pending ≡ Some a) × (a.number ≡ p.number) × WritesTo catalogue q.1 a).
       let same : z.0 ≡ p = (let b = z.1 in cc) in
       let is : q.1 ≡ rec = writes_same catalogue p q.1 rec z.3.0 value (same_writes catalogue p z.0 q.1 z.3.0 (ap (λ (p : Pending). p.call) (sym same)) z.3.1) r in
@@ -181,7 +173,7 @@ module _ (catalogue : Catalogue) (w new : Scene) (s : ℕ) (x : SiteState) (give
       let sent = came from (message.ReadAnswer u.txn p.number value) g in
       let q = shares.says _ sent in
       let k : Current (λ p. Reads catalogue p q.1) p.number u = inv.asks _ q.2 x u (rw (owned u h ∙ id) up) h refl in
-      ⊎_elim (λ low. absurd (not_both_numbers p.number (length u.answers) low ((ops u h).next p e)))
+      ⊎_elim (λ low. absurd (one_above p.number (length u.answers) low ((ops u h).next p e)))
       (λ (z : (a : Pending) × (u.pending ≡ Some a) × (a.number ≡ p.number) × Reads catalogue a q.1).
       let same : z.0 ≡ p = (let b = z.1 in cc) in
       let is : q.1 ≡ rec = reads_same catalogue p q.1 rec (same_reads catalogue p z.0 q.1 (ap (λ (p : Pending). p.call) (sym same)) z.3) r in
@@ -262,10 +254,6 @@ module _ (catalogue : Catalogue) (w new : Scene) (s : ℕ) (x : SiteState) (give
 
   one_record : (operation : Op) (rec other : ℕ) (value v : List ℕ) → operation ≡ op.Write rec value → operation ≡ op.Write other v → rec ≡ other
   one_record operation rec other value v e f = cc
-
-  empty_not : (xs : List ℕ) (q : ℕ) → is_empty xs ≡ true → Has xs q → ⊥
-  empty_not [] q e h = has_none q h
-  empty_not (a ∷ xs) q e h = cc
 
   completed_fine : (u : Live) (p : Pending) (operation : Op) (words : Answer) (l : Lent) → Has x.live u → Completes catalogue x given u p operation words l → Fine (done u operation words)
   completed_fine u p operation words l h (Completes.own_write rec value next r a v o z e) = done_fine u operation words h (λ n b f. no_write operation rec n value b o f) (idle_reads u p next)

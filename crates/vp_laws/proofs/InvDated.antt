@@ -27,6 +27,7 @@ use Rattle.vp_laws.proofs.InvSettled.{holding}
 use Rattle.vp_laws.proofs.InvUsed.{Thirteenth, used_last}
 use Rattle.vp_laws.proofs.Events.{Arrives, Lasts}
 use Rattle.vp_laws.proofs.Worlds.{NowIs, now_is, KeptIs, kept_is, Quiet, QuietIs, quiet_is, quiet_kept, started, start_kept, start_sent, With, Above, with_last, no_refresh}
+use Rattle.vp_laws.proofs.Numbers.{differs}
 
 -- the date is the opening one, or of an entry that wrote the record
 abbrev pub IsDated : Scene → ℕ → ViewId → Type 0
@@ -43,9 +44,6 @@ pub record InvDated (catalogue : Catalogue) (w : Scene) : Type 0 where
   pub sent : (p to rec : ℕ) (view : ViewId) (stored : Stored) → Has w.sent (letter p to (message.RefreshAnswer view rec stored)) → IsDated w rec stored.date
   -- a kept answer was sent, by another holder in the held view
   pub kept : (s : ℕ) (x : SiteState) (r : Refreshing) (a : ℕ × Stored) → plain_at w s ≡ Some x → Has x.refresh r → Has r.answers a → (v : View) × (x.held ≡ Some v) × WasSent catalogue w s r.rec v a
-
-differs : (a b : ℕ) → not (a == b) ≡ true → a ≢ b
-differs a b e = grind (arith, nat_tests, e)
 
 module _ (catalogue : Catalogue) (w new : Scene) (s : ℕ) (x : SiteState) (given : Input) (o : Stepped) (up : plain_at w s ≡ Some x) (arrives : Arrives w s given) (id : x.id ≡ s) (was_kept : durable_of x ≡ kept_at w s) (ends : InvEndings w) (shares : InvShares catalogue w) (inv : InvDated catalogue w) (c : Copies catalogue x given o) (p : Shares x given o) (st : Acted w new s x o) where
   came : (from : ℕ) (m : Message) → Comes given from m → Has w.sent (letter from s m)

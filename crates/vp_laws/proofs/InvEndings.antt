@@ -22,6 +22,7 @@ use Rattle.vp_laws.proofs.InvVotes.{Fourth, votes_last}
 use Rattle.vp_laws.proofs.TableEndings.{Settled, NotLive, WasLive, WasDecided, IsEntered, Says, FinishedFrom, Endings, endings-step}
 use Rattle.vp_laws.proofs.Events.{Lasts}
 use Rattle.vp_laws.proofs.Worlds.{NowIs, now_is, KeptIs, kept_is, Quiet, QuietIs, quiet_is, quiet_kept, started, start_kept, start_sent, start_entered, start_journal, With, Above, with_last, no_finished}
+use Rattle.vp_laws.proofs.Numbers.{one_above}
 
 abbrev pub HasEntry : Scene → TxnId → Type 0
 HasEntry w txn = IsEntered w.journal txn
@@ -62,9 +63,6 @@ pub record InvEndings (w : Scene) : Type 0 where
 once_more : (cs : List Commit) (e : Commit) → Once cs → ((c : Commit) → Has cs c → c.txn ≢ e.txn) → Once (cs ++ e ∷ [])
 once_more [] e o n = ((λ d h. absurd (has_none d h)), tt)
 once_more (c ∷ cs) e o n = ((λ d h g. ⊎_elim (λ old. o.0 d old g) (λ new. n c (has_first c cs) (sym g ∙ ap (λ (e : Commit). e.txn) (sym (has_one_is e d new)))) (has_cases cs (e ∷ []) d h)), once_more cs e o.1 (λ d h. n d (has_more c cs d h)))
-
-one_above : (a b : ℕ) → a ≤ b → a ≡ b + 1 → ⊥
-one_above a b h e = omega arith
 
 module _ (catalogue : Catalogue) (w new : Scene) (s : ℕ) (x : SiteState) (given : Input) (o : Stepped) (up : plain_at w s ≡ Some x) (id : x.id ≡ s) (decisions : x.decisions ≡ (kept_at w s).decisions) (led : Led x) (ids : (k : ℕ) (y : SiteState) → plain_at w k ≡ Some y → y.id ≡ k) (names : InvNames w) (inv : InvEndings w) (l : Endings x given o.site.coordinator o.effects.messages o.effects.commits) (sames : (o.site.id ≡ x.id) × (o.site.life ≡ x.life)) (st : Acted w new s x o) where
   entry_stays : (txn : TxnId) → HasEntry w txn → HasEntry new txn

@@ -29,20 +29,13 @@ use Rattle.vp_laws.proofs.InvEntered.{InvEntered}
 use Rattle.vp_laws.proofs.InvSettled.{Eleventh, settled_last}
 use Rattle.vp_laws.proofs.Events.{Arrives, Lasts}
 use Rattle.vp_laws.proofs.Worlds.{NowIs, now_is, KeptIs, kept_is, QuietIs, quiet_is, quiet_kept, started, start_kept, With, Above, with_last}
+use Rattle.vp_laws.proofs.Journal.{flat_has, has_flat}
 
 pub record InvGuards (catalogue : Catalogue) (w : Scene) : Type 0 where
   -- the locks of a site are in order
   pub site : (s : ℕ) (x : SiteState) → plain_at w s ≡ Some x → LocksAt catalogue x
   -- two doubts of one site, be it up or down, write different records
   pub writes : (s : ℕ) (c d : Doubt) (rec : ℕ) → Has (kept_at w s).doubts c → Has (kept_at w s).doubts d → Has (keys c.writes) rec → Has (keys d.writes) rec → c.txn ≡ d.txn
-
-flat_has : {X Y : Type 0} (f : X → List Y) (xs : List X) (y : Y) → Has (flat_map f xs) y → (x : X) × Has xs x × Has (f x) y
-flat_has f [] y h = absurd (has_none y h)
-flat_has f (x ∷ xs) y h = ⊎_elim (λ here. (x, has_first x xs, here)) (λ more. let r = flat_has f xs y more in (r.0, has_more x xs r.0 r.1, r.2)) (has_cases (f x) (flat_map f xs) y h)
-
-has_flat : {X Y : Type 0} (f : X → List Y) (xs : List X) (x : X) (y : Y) → Has xs x → Has (f x) y → Has (flat_map f xs) y
-has_flat f [] x y h k = absurd (has_none x h)
-has_flat f (a ∷ xs) x y h k = ⊎_elim (λ (one : a ≡ x). has_left (f a) (flat_map f xs) y (rw one k)) (λ more. has_right (f a) (flat_map f xs) y (has_flat f xs x y more k)) (has_cons a xs x h)
 
 pub strictly : (a b : ViewId) → AtMost a b → a ≢ b → Precedes a b
 strictly a b h n = go (same_view a b) refl

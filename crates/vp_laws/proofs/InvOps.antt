@@ -14,7 +14,7 @@ use Rattle.vp_model.specs.Calls.{begun}
 use Rattle.vp_model.specs.Step.{step, mark, marked_call}
 use Rattle.vp_laws.specs.Votes.{is_commit}
 use Rattle.vp_laws.proofs.Members.{Has, has_none, has_one_is, has_first, has_more, has_cons, has_cases, filter_has}
-use Rattle.vp_laws.proofs.Lists.{put_has, put_new}
+use Rattle.vp_laws.proofs.Lists.{put_has, put_new, empty_not}
 use Rattle.vp_laws.proofs.Order.{put_keeps}
 use Rattle.vp_laws.proofs.Table.{Reads, Writes, remaining, Completes}
 use Rattle.vp_laws.proofs.TableSteps.{waiting, done, reading, writing, AskingRead, AskingWrite, LiveNow, Steps, steps-step}
@@ -89,10 +89,6 @@ put_all_new (n ∷ ns) ms a h = ⊎_elim (λ (one : n ≡ a). put_all_keeps ns (
 
 pub longer : {X : Type 0} (xs : List X) (x : X) → length (xs ++ x ∷ []) ≡ length xs + 1
 longer xs x = length-append xs (x ∷ [])
-
-empty_not : (xs : List ℕ) (q : ℕ) → is_empty xs ≡ true → Has xs q → ⊥
-empty_not [] q e h = has_none q h
-empty_not (x ∷ xs) q e h = cc
 
 pub read_not_write : {C : Type 0} (catalogue : Catalogue) (p : Pending) (rec other : ℕ) (value : List ℕ) → Reads catalogue p rec → Writes catalogue p other value → C
 read_not_write catalogue p rec other value r w = let a = r.words in let b = w.words in cc

@@ -11,7 +11,7 @@ use Rattle.vp_model.specs.Site.{SiteState, Stepped}
 use Rattle.vp_model.specs.Step.{step}
 use Rattle.vp_laws.proofs.Play.{op_record}
 use Rattle.vp_laws.proofs.Members.{Has, has_none}
-use Rattle.vp_laws.proofs.Order.{AtMost, Precedes, not_both}
+use Rattle.vp_laws.proofs.Order.{AtMost, Precedes, not_both, three_ways}
 use Rattle.vp_laws.proofs.LocalViews.{letter}
 use Rattle.vp_laws.proofs.TableLed.{IsOf}
 use Rattle.vp_laws.proofs.Scenes.{Scene, plain_at, acted}
@@ -27,7 +27,6 @@ use Rattle.vp_laws.proofs.ValuesAfter.{value_after}
 use Rattle.vp_laws.proofs.ValuesGrow.{after_more}
 use Rattle.vp_laws.proofs.Playing.{WritesNone, plays_behind, entry_plays, content_own, content_below}
 use Rattle.vp_laws.proofs.CopyInvariants.{InvCopies, InvRefresh}
-use Rattle.vp_laws.proofs.CopyFacts.{three_ways}
 use Rattle.vp_laws.proofs.NewEntries.{JournalNow, journal_now, Entering, entering, stops}
 use Rattle.vp_laws.proofs.OwnUse.{used_closed}
 use Rattle.vp_laws.proofs.Conflicts.{UsedAt, apart_used, written_at, read_from, no_conflict}

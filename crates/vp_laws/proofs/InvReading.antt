@@ -23,6 +23,7 @@ use Rattle.vp_laws.proofs.InvOps.{HasWritten, reads_same, value_key}
 use Rattle.vp_laws.proofs.InvAnswers.{HasRead}
 use Rattle.vp_laws.proofs.InvCopies.{Eighteenth, copied_last}
 use Rattle.vp_laws.proofs.Tower.{Known, known, Does, does}
+use Rattle.vp_laws.proofs.InvReads.{same_call}
 
 -- another site has answered a read of the record
 abbrev pub ReadElsewhere : Scene → Live → ℕ → Type 0
@@ -33,9 +34,6 @@ pub record InvReading (catalogue : Catalogue) (w : Scene) : Type 0 where
   pub pending : (s : ℕ) (x : SiteState) (t : Live) (p : Pending) (rec : ℕ) → plain_at w s ≡ Some x → Has x.live t → t.pending ≡ Some p → Reads catalogue p rec → value_at rec (last_writes t.ops) ≡ None
   -- a done read of a record with no copy here is of an own write, or another site has answered it
   pub done : (s : ℕ) (x : SiteState) (t : Live) (rec : ℕ) (value : List ℕ) → plain_at w s ≡ Some x → Has x.live t → Has t.ops (op.Read rec value) → value_at rec x.copies ≡ None → HasWritten t rec ⊎ ReadElsewhere w t rec
-
-same_call : (catalogue : Catalogue) (p q : Pending) (rec : ℕ) → q.call ≡ p.call → Reads catalogue p rec → Reads catalogue q rec
-same_call catalogue p q rec e r = record { txn = r.txn; number = r.number; name = r.name; words = e ∙ r.words; found = r.found }
 
 none_from : (rec : ℕ) (a b : List (ℕ × Stored)) → keys a ≡ keys b → value_at rec a ≡ None → value_at rec b ≡ None
 none_from rec a b same none = go (value_at rec b) refl

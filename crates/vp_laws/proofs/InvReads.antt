@@ -39,7 +39,7 @@ pub record InvReads (catalogue : Catalogue) (w : Scene) : Type 0 where
   -- the reads of each live transaction
   pub live : (s : ℕ) (x : SiteState) (t : Live) → plain_at w s ≡ Some x → Has x.live t → ReadsOk catalogue (keys x.copies) t
 
-same_call : (catalogue : Catalogue) (p q : Pending) (rec : ℕ) → q.call ≡ p.call → Reads catalogue p rec → Reads catalogue q rec
+pub same_call : (catalogue : Catalogue) (p q : Pending) (rec : ℕ) → q.call ≡ p.call → Reads catalogue p rec → Reads catalogue q rec
 same_call catalogue p q rec e r = record { txn = r.txn; number = r.number; name = r.name; words = e ∙ r.words; found = r.found }
 
 module _ (catalogue : Catalogue) (x : SiteState) (given : Input) (all : (u : Live) → Has x.live u → ReadsOk catalogue (keys x.copies) u) where

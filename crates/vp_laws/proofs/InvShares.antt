@@ -31,6 +31,8 @@ use Rattle.vp_laws.proofs.TableShares.{is_reply, PartNow, DoubtNow, OutcomeComes
 use Rattle.vp_laws.proofs.InvEndings.{HasEntry, InvEndings, Fifth, endings_last}
 use Rattle.vp_laws.proofs.Events.{Arrives, Lasts}
 use Rattle.vp_laws.proofs.Worlds.{NowIs, now_is, KeptIs, kept_is, Quiet, QuietIs, quiet_is, quiet_kept, started, start_kept, start_sent, start_entered, With, Above, with_last, no_live, started_idle}
+use Rattle.vp_laws.proofs.Numbers.{one_above, not_same}
+use Rattle.vp_laws.proofs.Lists.{is_none}
 
 abbrev pub HasVote : Scene → ℕ → TxnId → Type 0
 HasVote w from txn = (to : ℕ) × Has w.sent (letter from to (message.Vote txn))
@@ -90,10 +92,6 @@ pub record InvShares (catalogue : Catalogue) (w : Scene) : Type 0 where
   pub awaits : (s : ℕ) (x : SiteState) (t : Live) → plain_at w s ≡ Some x → Has x.live t → Awaits w t
   pub entry : (e : Commit) → Has w.journal e → EntrySays catalogue w e
 
-is_none : {X : Type 0} (xs : List X) → is_empty xs ≡ true → xs ≡ []
-is_none [] e = refl
-is_none (x ∷ xs) e = cc
-
 not_none : {X : Type 0} (xs ys : List X) → xs ≡ ys → is_empty xs ≡ false → is_empty ys ≡ true → ⊥
 not_none xs ys e f g = let z = ap is_empty e in cc
 
@@ -120,9 +118,6 @@ was_doing catalogue x given t (LiveNow.reads u p rec k h a e) c n = let q = c u 
 was_doing catalogue x given t (LiveNow.writes u p rec value h a e) c n = let q = c u h (ap (λ (t : Live). t.txn) e) in absurd (some_not u.pending q.0 q.1 a.next.idle)
 was_doing catalogue x given t (LiveNow.prepares u p h a e) c n = let q = c u h (ap (λ (t : Live). t.txn) e) in absurd (some_not u.pending q.0 q.1 a.next.idle)
 was_doing catalogue x given t (LiveNow.begins view h e) c n = absurd (n (ap (λ (t : Live). t.txn) (sym e)))
-
-one_above : (a b : ℕ) → a ≤ b → a ≡ b + 1 → ⊥
-one_above a b h e = omega arith
 
 vote_is : (t u : TxnId) → message.Vote t ≡ message.Vote u → t ≡ u
 vote_is t u e = cc
@@ -354,9 +349,6 @@ module _ (catalogue : Catalogue) (w new : Scene) (s : ℕ) (x : SiteState) (give
       (same_site q from))
       (λ v. inr (vote_stays q u.txn v)) (inv.awaits s x u up h p f (ap is_commit same ∙ commit) q part))
     where
-      not_same : (a b : ℕ) → a ≢ b → not (a == b) ≡ true
-      not_same a b n = grind (arith, nat_tests, n)
-
       counted : (u : Live) (p : Pending) (from : ℕ) → Counts catalogue given u p from → is_commit p.call ≡ true → (q : ℕ) → q ≡ from → HasVote new q u.txn
       counted u p from (Counts.read rec value g r) commit q it = absurd (let a = ap is_commit r.words in cc)
       counted u p from (Counts.written rec value g r) commit q it = absurd (let a = ap is_commit r.words in cc)
@@ -406,9 +398,6 @@ module _ (catalogue : Catalogue) (w new : Scene) (s : ℕ) (x : SiteState) (give
           let name : u.txn ≡ e.txn = cc in
           let it : u ≡ t = apart_unique x.live apart u t h here (name ∙ sym named) in
           some_not t.pending p last.pending (ap (λ (t : Live). is_some t.pending) (sym it) ∙ a.next.idle)
-
-      not_same : (a b : ℕ) → a ≢ b → not (a == b) ≡ true
-      not_same a b n = grind (arith, nat_tests, n)
 
       decided : (t : Live) → Decides catalogue x given t → (txn : TxnId) (in_view : ViewId) (last : List (ℕ × Change)) → t.txn ≡ txn → t.view ≡ in_view → last_writes t.ops ≡ last → Has w.sent (letter from to (message.Prepare txn view number readings writings)) → (in_view ≡ view) × (writes_held catalogue to last ≡ writings) × HasVote new to txn
       decided t (Decides.alone was p here next commit alone same) txn in_view last named viewed wrote old =

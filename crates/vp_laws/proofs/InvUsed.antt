@@ -37,6 +37,7 @@ use Rattle.vp_laws.proofs.HasLeft.{HasLeft, left_lasts, left_here, left_quiet, l
 use Rattle.vp_laws.proofs.InvGuards.{Twelfth, guards_last, txn_same, outcomes, awaited, invited}
 use Rattle.vp_laws.proofs.Events.{Arrives, Lasts}
 use Rattle.vp_laws.proofs.Worlds.{NowIs, now_is, Quiet, quiet_is, With, Above, with_last, started_idle, live_still}
+use Rattle.vp_laws.proofs.Numbers.{one_above}
 
 -- the site has answered a request of the transaction for the record: shared a read, exclusive a write
 pub data HasAnswered (w : Scene) (q : ℕ) (txn : TxnId) (rec : ℕ) : Bool → Type 0 where
@@ -85,9 +86,6 @@ granted_views catalogue x given from txn number rec exclusive stored g = go excl
     go : (exclusive : Bool) → Requests given from txn g.view number rec exclusive → conflict rec exclusive txn x.locks ≡ None → (step catalogue x given).site.held ≡ x.held
     go false (Requests.reads e) free = rw (e, g.held, g.going, g.copy, free) refl
     go true (Requests.writes e) free = rw (e, g.held, g.going, g.copy, free) refl
-
-above_number : (a b : ℕ) → a ≤ b → a ≡ b + 1 → ⊥
-above_number a b h e = omega arith
 
 -- a request of this step
 record NewRead (catalogue : Catalogue) (x : SiteState) (given : Input) (live : List Live) (txn : TxnId) (number rec : ℕ) : Type 0 where
@@ -176,13 +174,13 @@ module _ (catalogue : Catalogue) (w new : Scene) (s : ℕ) (x : SiteState) (give
   -- an old request has not the number of a new one
   old_read : (a b number rec other : ℕ) (txn : TxnId) (view : ViewId) → Has w.sent (letter a b (message.ReadRequest txn view number rec)) → NewRead catalogue x given o.site.live txn number other → ⊥
   old_read a b number rec other txn view h n = ⊎_elim
-      (λ low. above_number number (length n.u.answers) low (sym n.numbered ∙ n.asks.next.number))
+      (λ low. one_above number (length n.u.answers) low (sym n.numbered ∙ n.asks.next.number))
       (λ q. some_not n.u.pending q.0 q.1 n.asks.next.idle)
       (answers.asks (letter a b (message.ReadRequest txn view number rec)) h x n.u (rw (ap (λ (t : TxnId). t.site) (sym n.named) ∙ owned s x n.u up n.here) up) n.here n.named)
 
   old_write : (a b number rec other : ℕ) (txn : TxnId) (view : ViewId) → Has w.sent (letter a b (message.WriteRequest txn view number rec)) → NewWrite catalogue x given o.site.live txn number other → ⊥
   old_write a b number rec other txn view h n = ⊎_elim
-      (λ low. above_number number (length n.u.answers) low (sym n.numbered ∙ n.asks.next.number))
+      (λ low. one_above number (length n.u.answers) low (sym n.numbered ∙ n.asks.next.number))
       (λ q. some_not n.u.pending q.0 q.1 n.asks.next.idle)
       (answers.asks (letter a b (message.WriteRequest txn view number rec)) h x n.u (rw (ap (λ (t : TxnId). t.site) (sym n.named) ∙ owned s x n.u up n.here) up) n.here n.named)
 

@@ -1,5 +1,6 @@
 -- words and lists
 pub mod Members
+pub mod Numbers
 pub mod Keeps
 pub mod Order
 pub mod Lists

@@ -15,7 +15,7 @@ use Rattle.vp_model.specs.World.{Place, WorldState, Moved, Run, Moment, place_of
 use Rattle.vp_model.specs.Told.{replies_in}
 use Rattle.vp_model.specs.Headline.{commits_in}
 use Rattle.vp_laws.proofs.Members.{Has, has_of, has_none, has_cases, has_one_is}
-use Rattle.vp_laws.proofs.Keeps.{for_some-keeps}
+use Rattle.vp_laws.proofs.Keeps.{for_some-keeps, by_test}
 use Rattle.vp_laws.proofs.Scenes.{Scene, scene_of, plain_at, acted, place-id}
 use Rattle.vp_laws.proofs.Events.{Arrives, Lasts, happens-good}
 use Rattle.vp_laws.proofs.Worlds.{Quiet, crash_quiet, restart_quiet}
@@ -32,10 +32,6 @@ module _ (catalogue : Catalogue) where
   by_option : {A B : Type 0} (P : B → Type 0) (f : A → B) (o : Option A) (b : B) → ((a : A) → o ≡ Some a → P (f a)) → P b → P (option_map_or f o b)
   by_option P f None b some none = none
   by_option P f (Some a) b some none = some a refl
-
-  by_test : {A : Type 0} (P : A → Type 0) (t : Bool) (x y : A) → (t ≡ true → P x) → (t ≡ false → P y) → P (cond t x y)
-  by_test P true x y p q = p refl
-  by_test P false x y p q = q refl
 
   site_step-is : (s : ℕ) (x : SiteState) (given : Input) (w : WorldState) → site_of w s ≡ Some x → Arrives (scene_of w) s given → Is w (site_step catalogue s x given w)
   unfolding site_step

@@ -11,8 +11,7 @@ use Rattle.vp_model.specs.Site.{SiteState}
 use Rattle.vp_model.specs.Told.{is_step, replies_in}
 use Rattle.vp_model.specs.World.{Place, WorldState, Moved, Run, place_of, site_of, message_at, is_cut, site_step, at_site, deliver, crash, restart, restart_place, restart_from, happens, next, start_run, one_step, flow, one_event, run_from, run_of, flowing, shows, change_place}
 use Rattle.vp_laws.proofs.Members.{Has, has_of}
-use Rattle.vp_laws.proofs.Keeps.{for_some-keeps}
-use Rattle.vp_laws.proofs.Coordinator.{by_option, by_test}
+use Rattle.vp_laws.proofs.Keeps.{for_some-keeps, by_option, by_test}
 use Rattle.vp_laws.proofs.Scenes.{scene_of, place-id}
 use Rattle.vp_laws.proofs.Events.{Arrives, crashed, restarted}
 

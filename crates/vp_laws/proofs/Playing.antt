@@ -10,11 +10,11 @@ use Rattle.vp_model.specs.Transactions.{last_changes}
 use Rattle.vp_model.specs.OneCopy.{Values, play, serial, order, content}
 use Rattle.vp_laws.proofs.Play.{Write, op_record, set_all, get_set, get_other, get_all, get_all-other, play_sets, last_ascending, serial-append, AgreeOn, play_agrees, and_then}
 use Rattle.vp_laws.proofs.Members.{Has, has_first, has_more, has_right, all_of}
-use Rattle.vp_laws.proofs.Order.{Precedes, AtMost-refl, same_site}
+use Rattle.vp_laws.proofs.Order.{Precedes, AtMost-refl, same_site, not_before}
 use Rattle.vp_laws.proofs.InvEntered.{Wrote}
 use Rattle.vp_laws.proofs.Journal.{Split, order_has, order_more}
 use Rattle.vp_laws.proofs.ValuesAfter.{overwritten, value_in, value_after, unwritten_value}
-use Rattle.vp_laws.proofs.UpTo.{upto, test_above, test_up_to, upto_all, upto_none, upto_append}
+use Rattle.vp_laws.proofs.UpTo.{upto, test_above, upto_all, upto_none, upto_append}
 
 -- the map after a serial run has the value of each record that the entries leave
 
@@ -91,7 +91,7 @@ module _ (start : Values) (journal : List Commit) (e : Commit) where
       append_nil_before (x ∷ es) = ap (λ (l : List Commit). x ∷ l) (append_nil_before es)
 
   own_first : upto e.view (e ∷ s.behind) ≡ e ∷ []
-  own_first = let t = test_up_to e.view e.view (AtMost-refl e.view) in rw (t, upto_none e.view s.behind s.high) refl
+  own_first = let t = not_before e.view e.view (AtMost-refl e.view) in rw (t, upto_none e.view s.behind s.high) refl
 
   up_to_own_now : upto e.view (order (journal ++ e ∷ [])) ≡ s.before ++ e ∷ []
   up_to_own_now = ap (upto e.view) s.now ∙ upto_append e.view s.before (e ∷ s.behind) ∙ rw (upto_all e.view s.before s.low, own_first) refl

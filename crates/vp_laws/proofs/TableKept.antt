@@ -12,13 +12,12 @@ use Rattle.vp_model.specs.Transactions.{answer_of, answers_after, put_live, with
 use Rattle.vp_model.specs.Calls.{begun, kept_answer}
 use Rattle.vp_model.specs.Step.{mark, step}
 use Rattle.vp_laws.proofs.Members.{Has, has_of, has_none, has_cases, has_one_is, map_has, has_more}
-use Rattle.vp_laws.proofs.Lists.{without_first_has, change_first_has}
+use Rattle.vp_laws.proofs.Lists.{without_first_has, change_first_has, at_most_has}
 use Rattle.vp_laws.proofs.Apart.{named}
 use Rattle.vp_laws.proofs.Table.{next_name, Handled, Completes}
 use Rattle.vp_laws.proofs.TableSteps.{done, waiting}
 use Rattle.vp_laws.proofs.Reasons.{Goes, Front}
 use Rattle.vp_laws.proofs.FrontSteps.{step-front}
-use Rattle.vp_laws.proofs.LockTables.{by_bool}
 
 -- the answer reports an operation
 abbrev pub is_report : Answer → Bool
@@ -38,13 +37,6 @@ pub record AnswersKept (c : CoordinatorState) : Type 0 where
 
 pub kept_has : (number : ℕ) (answers : List Answer) (a : Answer) → kept_answer number answers ≡ Some a → Has answers a
 kept_has number answers a e = has_of answers a (_, slice_get_within answers _ a e, get_or_from_slice_get answers _ a a e)
-
-pub at_most_has : {X : Type 0} (n : ℕ) (xs : List X) (a : X) → Has (at_most n xs) a → Has xs a
-at_most_has {X} n xs a h = by_bool (λ (l : List X). Has l a → Has xs a) (nat_lt n (length xs)) (drop 1 xs) xs (λ e. tail xs) (λ e q. q) h
-  where
-    tail : (ys : List X) → Has (drop 1 ys) a → Has ys a
-    tail [] q = q
-    tail (y ∷ ys) q = has_more y ys a q
 
 -- the answer to an operation reports it
 pub completed : (catalogue : Catalogue) (x : SiteState) (given : Input) (t : Live) (p : Pending) (operation : Op) (words : Answer) (l : Lent) → Completes catalogue x given t p operation words l → is_report words ≡ true

@@ -23,7 +23,7 @@ use Rattle.vp_laws.proofs.ToldLines.{Report}
 use Rattle.vp_laws.specs.Reports.{is_of_kind}
 use Rattle.vp_laws.proofs.Members.{Has, has_none, has_first, has_more, has_one_is, has_cases, map_has}
 use Rattle.vp_laws.proofs.Lists.{without_first_has}
-use Rattle.vp_laws.proofs.Apart.{Apart, named, change_cases, same_txn-self}
+use Rattle.vp_laws.proofs.Apart.{Apart, named, change_cases, same_txn-self, same_txn-other}
 use Rattle.vp_laws.proofs.Table.{next_view, next_name, Reads, Writes, Completes}
 use Rattle.vp_laws.proofs.TableSteps.{done, waiting}
 use Rattle.vp_laws.proofs.TableKept.{kept_has}
@@ -40,9 +40,6 @@ pub record SaysDone (catalogue : Catalogue) (txn : TxnId) (p : Pending) (operati
   pub tells : told_by catalogue report p.call ≡ Some operation
   pub late : is_early_refusal words ≡ false
   pub kind : is_of_kind report p.call ≡ true
-
-same_txn-other : (t u : TxnId) → t ≢ u → same_txn t u ≡ false
-same_txn-other t u n = grind (arith, nat_tests, n)
 
 -- an end reports nothing
 pub end_unreported : (u txn : TxnId) (k : ℕ) (why : Ending) → reported u (answer_of txn k why) ≡ None

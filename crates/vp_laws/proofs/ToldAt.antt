@@ -31,6 +31,7 @@ use Rattle.vp_laws.proofs.TableTold.{IsKept, told_of}
 use Rattle.vp_laws.proofs.ToldCalls.{TellsCall}
 use Rattle.vp_laws.proofs.Occurs.{Gives}
 use Rattle.vp_laws.proofs.Tower.{Known}
+use Rattle.vp_laws.proofs.Numbers.{eq_not}
 
 pub record ToldAt (catalogue : Catalogue) (w : Scene) (lines : List Line) : Type 0 where
   pub base : Seventeenth catalogue w
@@ -125,10 +126,7 @@ has_holders catalogue w s x up k rec usable none =
     let members = members_in x.held in
     let q = in_force_holder catalogue rec members usable in
     let other : q.0 ≢ x.id = (λ z. not_copied rec x.copies none (holds_copy catalogue w s x up (k.views.site s x up).kept k.held rec (subst (Has (holders catalogue rec)) (z ∙ (k.views.site s x up).id) q.1))) in
-    first_of_some (other_holders catalogue x rec) q.0 (filter_keeps _ (holders catalogue rec) q.0 q.1 (both (has_test members q.0 q.2) (differs q.0 x.id other)))
+    first_of_some (other_holders catalogue x rec) q.0 (filter_keeps _ (holders catalogue rec) q.0 q.1 (both (has_test members q.0 q.2) (eq_not q.0 x.id other)))
   where
-    differs : (a b : ℕ) → a ≢ b → (a == b) ≡ false
-    differs a b n = grind (arith, nat_tests, n)
-
     both : {a b : Bool} → a ≡ true → b ≡ false → (a && not b) ≡ true
     both e f = rw (e, f) refl
