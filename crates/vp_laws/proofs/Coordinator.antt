@@ -1,8 +1,7 @@
 -- The rows of the coordinator are made of its small moves, so a property of its part that survives these is kept by them.
-use Rattle.std.proofs.Common.{◌≡◌, ◌∙◌, ℕ, zero, suc, ◌+◌, ◌-◌, ◌^◌, Bool, true, false, cond, List, [], ◌∷◌, refl, arith, length, ap, sym, ⊎_elim}
-use Rattle.std.specs.Prelude.{Option, Some, None, is_some, filter, slice_get, ◌==◌, nat_le, nat_lt}
+use Rattle.std.proofs.Common.{◌≡◌, ◌∙◌, ℕ, zero, suc, ◌+◌, ◌-◌, ◌^◌, Bool, true, false, List, [], ◌∷◌, refl, arith, length, ap, sym, ⊎_elim}
+use Rattle.std.specs.Prelude.{Some, None, is_some, filter, slice_get, ◌==◌, nat_le, nat_lt}
 use Rattle.std.specs.List.{AllByRecursion}
-use Rattle.std.specs.Option.{option_map_or}
 use Rattle.std.proofs.lemmas.Bool.Decides.{nat_tests}
 use Rattle.std.proofs.lemmas.Bool.{eqb-true}
 use Rattle.vp_model.specs.Types.{TxnId, Stored, Call, Message, Obstacle, Input, Pending, Live, Ending, Finished, Sent}
@@ -12,7 +11,7 @@ use Rattle.vp_model.specs.Types.call
 use Rattle.vp_model.specs.Types.input
 use Rattle.vp_model.specs.Types.message
 use Rattle.vp_model.specs.Types.obstacle
-use Rattle.vp_model.specs.Words.{same_txn, has, first, value_at, is_empty, for_some}
+use Rattle.vp_model.specs.Words.{same_txn, has, first, value_at, is_empty}
 use Rattle.vp_model.specs.Catalogue.{Catalogue, find_record}
 use Rattle.vp_model.specs.Locks.{conflict}
 use Rattle.vp_model.specs.Site.{SiteState, Lent, surroundings, lent_reply, CoordinatorState, letters}

@@ -1,12 +1,12 @@
 -- What the invariant of copies gives in one world: a date closes its record, and so does a view above it.
-use Rattle.std.proofs.Common.{◌≡◌, ◌⊎◌, ◌∙◌, sym, subst, ℕ, Bool, true, false, inl, inr, refl, arith, ⊎_elim}
+use Rattle.std.proofs.Common.{◌≡◌, ◌∙◌, sym, subst, ℕ, arith, ⊎_elim}
 use Rattle.std.specs.Prelude.{Some}
 use Rattle.vp_model.specs.Types.{ViewId, View, Commit, Stored, Doubt}
-use Rattle.vp_model.specs.Words.{keys, opening, same_view, view_before, value_at}
+use Rattle.vp_model.specs.Words.{keys, opening, value_at}
 use Rattle.vp_model.specs.Catalogue.{Catalogue, holders}
 use Rattle.vp_laws.proofs.Members.{Has}
 use Rattle.vp_laws.proofs.Lists.{mapped_has}
-use Rattle.vp_laws.proofs.Order.{AtMost, Precedes, not_both, opening_least, from_before, same_is, three_ways}
+use Rattle.vp_laws.proofs.Order.{AtMost, Precedes, not_both, opening_least}
 use Rattle.vp_laws.proofs.Journal.{Precedes-trans}
 use Rattle.vp_laws.proofs.Scenes.{Scene, kept_at}
 use Rattle.vp_laws.proofs.TableCopies.{value_pair}

@@ -1,8 +1,7 @@
 -- Dates of copies, in every world: each other date than the opening one is of an entry that wrote the record, and a kept answer
 -- to a refresh was sent by another holder in the held view.
-use Rattle.std.proofs.Common.{◌≡◌, ◌≢◌, ◌⊎◌, ◌∙◌, ap, sym, subst, ℕ, true, List, refl, arith, inl, inr, ⊎_elim}
+use Rattle.std.proofs.Common.{◌≡◌, ◌≢◌, ◌⊎◌, ◌∙◌, ap, sym, subst, ℕ, true, List, refl, inl, inr, ⊎_elim}
 use Rattle.std.specs.Prelude.{Option, Some, not, ◌==◌, ◌&&◌}
-use Rattle.std.proofs.lemmas.Bool.Decides.{nat_tests}
 use Rattle.vp_model.specs.Types.{ViewId, View, Sent, Commit, Message, Input, Stored, Refreshing}
 use Rattle.vp_model.specs.Types.message
 use Rattle.vp_model.specs.Words.{has, keys, opening}

@@ -1,6 +1,6 @@
 -- How transactions end, in every world: a transaction with an outcome or an entry is not live any more, has one entry, and
 -- a commit is told, kept or reported only of an entry.
-use Rattle.std.proofs.Common.{◌≡◌, ◌≢◌, ◌⊎◌, ◌∙◌, ap, sym, subst, ℕ, ◌+◌, ◌≤◌, true, false, List, [], ◌∷◌, ◌++◌, refl, arith, inl, inr, ⊎_elim, append-nil}
+use Rattle.std.proofs.Common.{◌≡◌, ◌≢◌, ◌⊎◌, ◌∙◌, ap, sym, subst, ℕ, true, false, List, [], ◌∷◌, ◌++◌, refl, inl, inr, ⊎_elim, append-nil}
 use Rattle.std.specs.Prelude.{Some}
 use Rattle.vp_model.specs.Types.{TxnId, Sent, Commit, Message, Input, Finished, Decision}
 use Rattle.vp_base.specs.declared.site.Ending.TheVariants.{Committed}

@@ -6,13 +6,13 @@ use Rattle.std.proofs.lemmas.Bool.Decides.{nat_tests}
 use Rattle.vp_model.specs.Types.{ViewId, TxnId, View, Commit, Message, Input, Op, Live, Doubt}
 use Rattle.vp_model.specs.Types.message
 use Rattle.vp_model.specs.Types.op
-use Rattle.vp_model.specs.Words.{is_empty, has, is_view, keys}
+use Rattle.vp_model.specs.Words.{has, is_view, keys}
 use Rattle.vp_model.specs.Catalogue.{Catalogue, holders, start_copies}
 use Rattle.vp_model.specs.Durable.{DurableState, empty_durable}
 use Rattle.vp_model.specs.Site.{SiteState, Stepped}
 use Rattle.vp_model.specs.Transactions.{last_changes, last_writes}
 use Rattle.vp_model.specs.Refresh.{other_holders_in}
-use Rattle.vp_model.specs.Step.{start, step}
+use Rattle.vp_model.specs.Step.{step}
 use Rattle.vp_laws.proofs.Members.{Has, has_none, has_cons, filter_keeps, map_has}
 use Rattle.vp_laws.proofs.Order.{AtMost, Precedes, not_both, AtMost-same, same_site}
 use Rattle.vp_laws.proofs.LocalViews.{letter, Local, InviteComes}

@@ -1,6 +1,6 @@
 -- Locks in every world, site by site: whose they are, and that no two transactions conflict at a site, be it up or down.
-use Rattle.std.proofs.Common.{◌≡◌, ◌≢◌, ◌∙◌, ap, sym, subst, ℕ, Bool, true, false, List, [], ◌∷◌, refl, arith, inr, ⊎_elim}
-use Rattle.std.specs.Prelude.{Some, flat_map}
+use Rattle.std.proofs.Common.{◌≡◌, ◌≢◌, ◌∙◌, ap, sym, subst, ℕ, Bool, true, false, List, refl, arith, inr}
+use Rattle.std.specs.Prelude.{Some}
 use Rattle.std.proofs.lemmas.Bool.Decides.{nat_tests}
 use Rattle.vp_model.specs.Types.{ViewId, TxnId, Input, Lock, Doubt}
 use Rattle.vp_model.specs.Types.message
@@ -10,7 +10,7 @@ use Rattle.vp_model.specs.Catalogue.{Catalogue, start_copies}
 use Rattle.vp_model.specs.Durable.{DurableState, empty_durable}
 use Rattle.vp_model.specs.Site.{SiteState, Stepped}
 use Rattle.vp_model.specs.Step.{locks_in_doubt, start, step, durable_of}
-use Rattle.vp_laws.proofs.Members.{Has, has_none, has_first, has_more, has_cons, has_cases, has_left, has_right, map_has}
+use Rattle.vp_laws.proofs.Members.{Has, has_none, map_has}
 use Rattle.vp_laws.proofs.Lists.{mapped_has}
 use Rattle.vp_laws.proofs.Order.{AtMost, Precedes, AtMost-along, opening_least, same_is}
 use Rattle.vp_laws.proofs.Table.{Comes}

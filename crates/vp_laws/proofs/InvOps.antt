@@ -5,7 +5,7 @@ use Rattle.std.specs.Prelude.{Option, Some, None, fold, ◌==◌, nat_lt, not, f
 use Rattle.vp_model.specs.Types.{Change, ViewId, TxnId, View, Input, Op, Answer, Pending, Live}
 use Rattle.std.proofs.lemmas.Bool.{eqb-true}
 use Rattle.vp_model.specs.Types.op
-use Rattle.vp_model.specs.Words.{is_empty, for_each, put_number, put_at, value_at}
+use Rattle.vp_model.specs.Words.{for_each, put_number, put_at, value_at}
 use Rattle.vp_model.specs.Catalogue.{Catalogue, find_record}
 use Rattle.vp_model.specs.Site.{SiteState, Stepped, Lent}
 use Rattle.vp_model.specs.Transactions.{with_op, last_writes}

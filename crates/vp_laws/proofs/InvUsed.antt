@@ -1,5 +1,5 @@
 -- What other sites have answered for live transactions, in every world: the site has the lock still, or has left the view.
-use Rattle.std.proofs.Common.{◌≡◌, ◌≢◌, ◌⊎◌, ◌∙◌, ap, sym, subst, ℕ, ◌+◌, ◌≤◌, Bool, true, false, List, [], ◌∷◌, refl, arith, inl, inr, ⊎_elim, length}
+use Rattle.std.proofs.Common.{◌≡◌, ◌≢◌, ◌⊎◌, ◌∙◌, ap, sym, subst, ℕ, Bool, true, false, List, [], ◌∷◌, refl, inl, inr, ⊎_elim, length}
 use Rattle.std.specs.Prelude.{Some, None}
 use Rattle.vp_model.specs.Types.{ViewId, TxnId, Sent, Message, Input, Stored, Pending, Live}
 use Rattle.vp_model.specs.Types.message

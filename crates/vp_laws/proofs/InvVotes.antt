@@ -1,5 +1,5 @@
 -- In every world: a prepare of a live transaction speaks of its pending commit, and each vote has its prepare.
-use Rattle.std.proofs.Common.{◌≡◌, ◌≢◌, ◌∙◌, ap, sym, subst, ℕ, ◌+◌, ◌≤◌, true, List, [], map, refl, arith, ⊎_elim}
+use Rattle.std.proofs.Common.{◌≡◌, ◌≢◌, ◌∙◌, ap, sym, subst, ℕ, true, List, [], map, refl, ⊎_elim}
 use Rattle.std.specs.Prelude.{Option, Some, None, option_map}
 use Rattle.vp_model.specs.Types.{Change, ViewId, TxnId, Sent, Message, Input, Pending, Live}
 use Rattle.vp_model.specs.Types.message

@@ -1,11 +1,11 @@
 -- How transactions end: what ends is not live any more, and is told, kept and entered as what it was.
-use Rattle.std.proofs.Common.{◌≡◌, ◌≢◌, ◌⊎◌, ◌∙◌, ap, sym, subst, ℕ, ◌+◌, ◌≤◌, Bool, true, false, cond, List, [], ◌∷◌, ◌++◌, map, refl, arith, inl, inr, ⊎_elim, length}
-use Rattle.std.specs.Prelude.{Some, None, nat_lt, drop, filter, not, ◌==◌}
+use Rattle.std.proofs.Common.{◌≡◌, ◌≢◌, ◌⊎◌, ◌∙◌, ap, sym, subst, ℕ, ◌+◌, ◌≤◌, Bool, true, false, cond, List, [], ◌∷◌, ◌++◌, map, refl, arith, inl, inr, ⊎_elim}
+use Rattle.std.specs.Prelude.{Some, None, filter, not, ◌==◌}
 use Rattle.std.proofs.lemmas.Bool.Decides.{nat_tests}
 use Rattle.vp_model.specs.Types.{TxnId, View, Message, Sent, Commit, Input, Live, Ending, Finished, Decision}
 use Rattle.vp_base.specs.declared.site.Ending.TheVariants.{Committed}
 use Rattle.vp_model.specs.Types.message
-use Rattle.vp_model.specs.Words.{same_txn, txn_before, is_empty, at_most, for_each, put_number}
+use Rattle.vp_model.specs.Words.{same_txn, txn_before, is_empty, for_each, put_number}
 use Rattle.vp_model.specs.Catalogue.{Catalogue}
 use Rattle.vp_model.specs.Durable.{put_decision, with_decision, acknowledged}
 use Rattle.vp_model.specs.Site.{CoordinatorState, SiteState, Lent, letters}
@@ -14,7 +14,7 @@ use Rattle.vp_model.specs.Refresh.{other_holders}
 use Rattle.vp_model.specs.Calls.{begun, with_begun, start_txn, take_lock, read_at, write_at, prepare_parts, prepare_for}
 use Rattle.vp_model.specs.Answers.{with_acknowledged, is_live, is_decided}
 use Rattle.vp_model.specs.Step.{mark, mark_calls, step}
-use Rattle.vp_laws.proofs.Members.{Has, has_none, has_more, has_one, has_one_is, has_cases, map_has, filter_has, any_true, any_false}
+use Rattle.vp_laws.proofs.Members.{Has, has_none, has_one, has_one_is, has_cases, map_has, filter_has, any_true, any_false}
 use Rattle.vp_laws.proofs.Lists.{put_has, without_first_has, change_first_has, at_most_has}
 use Rattle.vp_laws.proofs.Apart.{same_txn-is, same_txn-not, Apart, named, apart_without, without_gone, apart_change, apart_more, apart_mark}
 use Rattle.vp_laws.proofs.Frames.{Ends, close-ends, close-commits, decided-ends, decided-commits, decide-cases}

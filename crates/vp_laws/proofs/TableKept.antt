@@ -1,17 +1,16 @@
 -- The answers that a step keeps: those to operations, and at the end of a transaction its end.
-use Rattle.std.proofs.Common.{◌≡◌, ◌⊎◌, ap, sym, subst, ℕ, Bool, true, false, List, [], ◌∷◌, inl, inr, refl, ⊎_elim, length}
-use Rattle.std.specs.Prelude.{Option, Some, None, option_map, option_to_list, nat_lt, drop}
+use Rattle.std.proofs.Common.{◌≡◌, ◌⊎◌, ap, sym, subst, ℕ, Bool, true, false, List, [], ◌∷◌, inl, inr, refl, ⊎_elim}
+use Rattle.std.specs.Prelude.{Option, Some, None, option_map, option_to_list}
 use Rattle.std.proofs.lemmas.Option.{slice_get_within, get_or_from_slice_get}
 use Rattle.vp_model.specs.Types.{Op, Answer, Reply, Commit, Input, Pending, Live, Ending, Finished}
 use Rattle.vp_base.specs.declared.site.Ending.TheVariants.{Committed}
 use Rattle.vp_model.specs.Types.answer
-use Rattle.vp_model.specs.Words.{at_most}
 use Rattle.vp_model.specs.Catalogue.{Catalogue}
 use Rattle.vp_model.specs.Site.{CoordinatorState, SiteState, Lent}
 use Rattle.vp_model.specs.Transactions.{answer_of, answers_after, put_live, with_finished}
 use Rattle.vp_model.specs.Calls.{begun, kept_answer}
 use Rattle.vp_model.specs.Step.{mark, step}
-use Rattle.vp_laws.proofs.Members.{Has, has_of, has_none, has_cases, has_one_is, map_has, has_more}
+use Rattle.vp_laws.proofs.Members.{Has, has_of, has_none, has_cases, has_one_is, map_has}
 use Rattle.vp_laws.proofs.Lists.{without_first_has, change_first_has, at_most_has}
 use Rattle.vp_laws.proofs.Apart.{named}
 use Rattle.vp_laws.proofs.Table.{next_name, Handled, Completes}

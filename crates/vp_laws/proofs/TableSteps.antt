@@ -1,5 +1,5 @@
 -- Where each live transaction, each request and each entry of a step comes from.
-use Rattle.std.proofs.Common.{◌≡◌, ◌≢◌, ◌∙◌, ap, sym, subst, ℕ, ◌+◌, ◌≤◌, Bool, true, false, List, [], ◌∷◌, ◌++◌, map, refl, arith, ⊎_elim, append-nil}
+use Rattle.std.proofs.Common.{◌≡◌, ◌≢◌, ◌∙◌, ap, sym, subst, ℕ, Bool, true, false, List, [], ◌∷◌, ◌++◌, map, refl, ⊎_elim, append-nil}
 use Rattle.std.specs.Prelude.{Some, None}
 use Rattle.vp_model.specs.Types.{TxnId, View, Sent, Commit, Input, Effects, Op, Answer, Pending, Live, Ending}
 use Rattle.vp_base.specs.declared.site.Ending.TheVariants.{Committed}

@@ -1,5 +1,5 @@
 -- Prepares and votes: a prepare speaks of a live transaction whose commit is pending, and a vote answers a prepare.
-use Rattle.std.proofs.Common.{◌≡◌, ◌∙◌, ap, sym, ℕ, ◌+◌, ◌≤◌, Bool, true, false, cond, List, [], ◌∷◌, ◌++◌, map, refl, arith, inl, inr, ⊎_elim, append-nil}
+use Rattle.std.proofs.Common.{◌≡◌, ◌∙◌, ap, sym, ℕ, Bool, true, false, cond, List, [], ◌∷◌, ◌++◌, map, refl, inl, inr, ⊎_elim, append-nil}
 use Rattle.std.specs.Prelude.{Option, Some, None, is_some, ◌==◌, not, filter}
 use Rattle.vp_model.specs.Types.{Change, ViewId, TxnId, View, Stored, Op, Answer, Message, Sent, Input, Part, Refreshing, Pending, Live, Ending, Doubt}
 use Rattle.vp_base.specs.declared.site.Ending.TheVariants.{Committed}

@@ -1,10 +1,9 @@
 -- What the lines so far tell, in the world after them: of each live transaction its operations, and its pending call; of each entry its
 -- operations; of a name that was never given, nothing; and each answer that a site keeps was reported.
-use Rattle.std.proofs.Common.{◌≡◌, ◌≢◌, ◌∙◌, ap, subst, ℕ, Bool, true, false, List, [], ◌∷◌, refl, arith, length}
+use Rattle.std.proofs.Common.{◌≡◌, ◌≢◌, ◌∙◌, ap, subst, ℕ, Bool, true, false, List, [], ◌∷◌, refl, length}
 use Rattle.std.specs.Prelude.{Option, Some, None, is_some, ◌==◌, ◌&&◌, not}
 use Rattle.std.specs.Option.{option_map_or}
 use Rattle.std.specs.List.{list_any, cons_option}
-use Rattle.std.proofs.lemmas.Bool.Decides.{nat_tests}
 use Rattle.std.proofs.lemmas.Bool.{eqb-true}
 use Rattle.vp_model.specs.Types.{TxnId, Call, Answer, Reply, Commit, Event, Input, Line, Live}
 use Rattle.vp_model.specs.Types.call
