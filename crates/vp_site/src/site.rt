@@ -1,8 +1,8 @@
 //! A site that is up.
 
-ghost use Rattle.std.specs.Prelude.{◌≡◌, IfOk};
+ghost use Rattle.std.specs.Prelude.{◌≡◌, ◌<◌, ◌-◌, ◌^◌, IfOk};
 ghost use Rattle.vp_model.specs.Generated.{newest};
-ghost use Rattle.vp_model.specs.Step.{step, durable_of};
+ghost use Rattle.vp_model.specs.Step.{start, step, durable_of};
 ghost use Rattle.vp_site.specs.Starting.{Starts};
 
 use crate::fault::StartFault;
@@ -59,23 +59,33 @@ impl Site {
     ) -> Result<(Site, LogRecord), StartFault>
         ensures { Starts catalog.now id durable result }
     {
-        let alloc = catalog.sites().allocator();
-        let Some(life) = durable.life().checked_add(1) else {
+        if durable.life() == u32::MAX {
             return Err(StartFault::LivesSpent { life: u32::MAX });
-        };
+        }
+        let life = durable.life() + 1;
+        let site = Site::live(catalog, id, durable)?;
+        Ok((site, LogRecord::Start { life }))
+    }
+
+    /// The site as it is in its next life.
+    #[tactic(auto, unfolding(vp_model::specs::Step::start))]
+    fn live(catalog: &Catalog, id: SiteId, durable: Durable) -> Result<Site, NoMemory>
+        requires { durable.life < 2 ^ 32 - 1 }
+        ensures { IfOk result (λ site. site ≡ start catalog.now id durable) }
+    {
+        let alloc = catalog.sites().allocator();
         let is_opening = durable.life() == 0 && durable.promise() == OPENING;
         let mut locks = Locks::new(alloc);
-        let site = Site {
+        Ok(Site {
             views: Views::start(catalog, id, durable.promise(), is_opening)?,
             participant: Participant::restore(alloc, &durable, &mut locks)?,
             refresh: Refresh::none(alloc),
-            coordinator: Coordinator::restore(alloc, id, life, &durable)?,
+            coordinator: Coordinator::restore(alloc, id, durable.life() + 1, &durable)?,
             here: Here {
                 locks,
                 copies: durable.into_copies(),
             },
-        };
-        Ok((site, LogRecord::Start { life }))
+        })
     }
 
     /// What the input does to the site. Without memory the site is gone, as in a crash.
