@@ -64,6 +64,12 @@ once_more : (cs : List Commit) (e : Commit) → Once cs → ((c : Commit) → Ha
 once_more [] e o n = ((λ d h. absurd (has_none d h)), tt)
 once_more (c ∷ cs) e o n = ((λ d h g. ⊎_elim (λ old. o.0 d old g) (λ new. n c (has_first c cs) (sym g ∙ ap (λ (e : Commit). e.txn) (sym (has_one_is e d new)))) (has_cases cs (e ∷ []) d h)), once_more cs e o.1 (λ d h. n d (has_more c cs d h)))
 
+-- a name that was used is of no transaction that begins now
+pub fresh : (w : Scene) (s : ℕ) (x : SiteState) → plain_at w s ≡ Some x → x.id ≡ s → (txn : TxnId) → UsedTxn w txn → txn ≢ next_name x
+fresh w s x up id txn u n =
+    let here : txn.site ≡ s = ap (λ (t : TxnId). t.site) n ∙ id in
+    one_above txn.seq x.seq (u.seq x (rw here up) (sym (ap (λ (t : TxnId). t.life) n))) (ap (λ (t : TxnId). t.seq) n)
+
 module _ (catalogue : Catalogue) (w new : Scene) (s : ℕ) (x : SiteState) (given : Input) (o : Stepped) (up : plain_at w s ≡ Some x) (id : x.id ≡ s) (decisions : x.decisions ≡ (kept_at w s).decisions) (led : Led x) (ids : (k : ℕ) (y : SiteState) → plain_at w k ≡ Some y → y.id ≡ k) (names : InvNames w) (inv : InvEndings w) (l : Endings x given o.site.coordinator o.effects.messages o.effects.commits) (sames : (o.site.id ≡ x.id) × (o.site.life ≡ x.life)) (st : Acted w new s x o) where
   entry_stays : (txn : TxnId) → HasEntry w txn → HasEntry new txn
   entry_stays txn h = (h.0, st.moved.journal h.0 h.1, h.2)
@@ -74,12 +80,6 @@ module _ (catalogue : Catalogue) (w new : Scene) (s : ℕ) (x : SiteState) (give
   was_entry : (d : Decision) → Has x.decisions d → HasEntry w d.txn
   was_entry d h = (inv.decisions s d (rw (← decisions) h)).1
 
-  -- the name is of no transaction that begins now
-  not_new : (txn : TxnId) → UsedTxn w txn → txn ≡ next_name x → ⊥
-  not_new txn u n =
-      let here : txn.site ≡ s = ap (λ (t : TxnId). t.site) n ∙ id in
-      one_above txn.seq x.seq (u.seq x (rw here up) (sym (ap (λ (t : TxnId). t.life) n))) (ap (λ (t : TxnId). t.seq) n)
-
   over_lasts : (txn : TxnId) → UsedTxn w txn → Over w txn → Over new txn
   over_lasts txn u v = λ y h. now y (now_is w new s x o st txn.site y h)
     where
@@ -87,7 +87,7 @@ module _ (catalogue : Catalogue) (w new : Scene) (s : ℕ) (x : SiteState) (give
       now y (NowIs.other n h) = v y h
       now y (NowIs.here e same) = subst (λ (y : SiteState). NotLive y.live txn) same (λ t h g. ⊎_elim
           (λ (was : WasLive x t.txn). v x (rw e up) was.0 was.1 (was.2 ∙ g))
-          (λ new. not_new txn u (sym g ∙ new))
+          (λ new. fresh w s x up id txn u (sym g ∙ new))
           (l.live t h))
 
   over_now : (txn : TxnId) → txn.site ≡ x.id → NotLive o.site.live txn → Over new txn
@@ -199,11 +199,6 @@ settled_none catalogue s d own = record {
 none_live : (catalogue : Catalogue) (s : ℕ) (d : DurableState) (txn : TxnId) → NotLive (start catalogue s d).live txn
 unfolding start
 none_live catalogue s d txn t h g = has_none t h
-
-pub fresh : (w : Scene) (s : ℕ) (x : SiteState) → plain_at w s ≡ Some x → x.id ≡ s → (txn : TxnId) → UsedTxn w txn → txn ≢ next_name x
-fresh w s x up id txn u n =
-    let here : txn.site ≡ s = ap (λ (t : TxnId). t.site) n ∙ id in
-    one_above txn.seq x.seq (u.seq x (rw here up) (sym (ap (λ (t : TxnId). t.life) n))) (ap (λ (t : TxnId). t.seq) n)
 
 endings_start : (catalogue : Catalogue) → InvEndings (scene_of (start_world catalogue))
 endings_start catalogue = record {

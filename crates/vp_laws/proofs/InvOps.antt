@@ -99,6 +99,18 @@ reads_same catalogue p rec other r q = let a = sym r.words ∙ q.words in let na
 pub writes_same : (catalogue : Catalogue) (p : Pending) (rec other : ℕ) (value v : List ℕ) → Writes catalogue p rec value → Writes catalogue p other v → rec ≡ other
 writes_same catalogue p rec other value v r q = let a = sym r.words ∙ q.words in let name : r.name ≡ q.name = cc in let z : Some rec ≡ Some other = sym r.found ∙ ap (find_record catalogue) name ∙ q.found in cc
 
+-- a call that is marked was there without the mark
+pub unmarked : (o : Option Pending) (p : Pending) → marked_call o ≡ Some p → (a : Pending) × (o ≡ Some a) × (record a { marked = true } ≡ p)
+unmarked None p e = cc
+unmarked (Some a) p e = (a, refl, cc)
+
+-- a commit neither reads nor writes
+pub no_commit_reads : {C : Type 0} (catalogue : Catalogue) (p : Pending) (rec : ℕ) → is_commit p.call ≡ true → Reads catalogue p rec → C
+no_commit_reads catalogue p rec c r = let z = ap is_commit r.words in cc
+
+pub no_commit_writes : {C : Type 0} (catalogue : Catalogue) (p : Pending) (rec : ℕ) (value : List ℕ) → is_commit p.call ≡ true → Writes catalogue p rec value → C
+no_commit_writes catalogue p rec value c r = let z = ap is_commit r.words in cc
+
 module _ (catalogue : Catalogue) (x : SiteState) (given : Input) (all : (u : Live) → Has x.live u → LiveOk catalogue x.id x.held u) where
   marked_ok : (u : Live) → LiveOk catalogue x.id x.held u → LiveOk catalogue x.id x.held (mark u)
   marked_ok u h = record {
@@ -115,10 +127,6 @@ module _ (catalogue : Catalogue) (x : SiteState) (given : Input) (all : (u : Liv
 
       called_writes : (a p : Pending) (rec : ℕ) (value : List ℕ) → record a { marked = true } ≡ p → Writes catalogue p rec value → Writes catalogue a rec value
       called_writes a p rec value e r = record { txn = r.txn; number = r.number; name = r.name; words = ap (λ (p : Pending). p.call) e ∙ r.words; found = r.found }
-
-      unmarked : (o : Option Pending) (p : Pending) → marked_call o ≡ Some p → (a : Pending) × (o ≡ Some a) × (record a { marked = true } ≡ p)
-      unmarked None p e = cc
-      unmarked (Some a) p e = (a, refl, cc)
 
   waits_ok : (u : Live) (p : Pending) (sites : List ℕ) → LiveOk catalogue x.id x.held u → p.number ≡ length u.answers + 1 → ((q : ℕ) → Has sites q → Has u.parts q) → ((rec : ℕ) (value : List ℕ) → Writes catalogue p rec value → (q : ℕ) → Has (other_holders_in catalogue x.id x.held rec) q → Has u.parts q) → LiveOk catalogue x.id x.held (waiting u p sites)
   waits_ok u p sites h number sub writes = record {
@@ -189,9 +197,6 @@ module _ (catalogue : Catalogue) (x : SiteState) (given : Input) (all : (u : Liv
         (λ q k. put_all_new (other_holders catalogue x rec) u.parts q (rw same k));
   }
 
-  no_commit_writes : {C : Type 0} (p : Pending) (rec : ℕ) (value : List ℕ) → is_commit p.call ≡ true → Writes catalogue p rec value → C
-  no_commit_writes p rec value c r = let z = ap is_commit r.words in cc
-
   begun_ok : (txn : TxnId) (view : ViewId) → LiveOk catalogue x.id x.held (begun txn view)
   begun_ok txn view = record {
     numbers = refl;
@@ -211,7 +216,7 @@ module _ (catalogue : Catalogue) (x : SiteState) (given : Input) (all : (u : Liv
   live_ok t (LiveNow.completed u p operation words l h c e) = subst (LiveOk catalogue x.id x.held) e (completed_ok u p operation words l (all u h) c)
   live_ok t (LiveNow.reads u p rec q h a e) = subst (LiveOk catalogue x.id x.held) e (reads_ok u p rec q (all u h) a)
   live_ok t (LiveNow.writes u p rec value h a e) = subst (LiveOk catalogue x.id x.held) e (writes_ok u p rec value (all u h) a)
-  live_ok t (LiveNow.prepares u p h a e) = subst (LiveOk catalogue x.id x.held) e (waits_ok u p u.parts (all u h) a.next.number (λ q z. z) (λ rec value r. no_commit_writes p rec value a.commit r))
+  live_ok t (LiveNow.prepares u p h a e) = subst (LiveOk catalogue x.id x.held) e (waits_ok u p u.parts (all u h) a.next.number (λ q z. z) (λ rec value r. no_commit_writes catalogue p rec value a.commit r))
   live_ok t (LiveNow.begins view h e) = subst (LiveOk catalogue x.id x.held) e (begun_ok _ view.id)
 
 pub record InvOps (catalogue : Catalogue) (w : Scene) : Type 0 where

@@ -1,6 +1,6 @@
 -- Reads of live transactions, in every world: a pending read is of a record that the transaction has not written, and a read that was done
 -- elsewhere has been answered.
-use Rattle.std.proofs.Common.{◌≡◌, ◌⊎◌, ◌∙◌, ap, sym, subst, ℕ, true, List, [], ◌∷◌, refl, inl, inr, ⊎_elim}
+use Rattle.std.proofs.Common.{◌≡◌, ◌⊎◌, ◌∙◌, ap, sym, subst, ℕ, List, [], ◌∷◌, refl, inl, inr, ⊎_elim}
 use Rattle.std.specs.Prelude.{Option, Some, None}
 use Rattle.vp_model.specs.Types.{TxnId, Input, Stored, Pending, Live}
 use Rattle.vp_model.specs.Types.op
@@ -9,7 +9,7 @@ use Rattle.vp_model.specs.Catalogue.{Catalogue}
 use Rattle.vp_model.specs.Transactions.{last_writes}
 use Rattle.vp_model.specs.Refresh.{other_holders}
 use Rattle.vp_model.specs.Site.{SiteState, Stepped}
-use Rattle.vp_model.specs.Step.{step, marked_call}
+use Rattle.vp_model.specs.Step.{step}
 use Rattle.vp_laws.specs.Votes.{is_commit}
 use Rattle.vp_laws.proofs.Members.{Has, has_none}
 use Rattle.vp_laws.proofs.Lists.{mapped_has}
@@ -23,7 +23,7 @@ use Rattle.vp_laws.proofs.InvOps.{HasWritten, reads_same, value_key}
 use Rattle.vp_laws.proofs.InvAnswers.{HasRead}
 use Rattle.vp_laws.proofs.InvCopies.{Eighteenth, copied_last}
 use Rattle.vp_laws.proofs.Tower.{Known, known, Does, does}
-use Rattle.vp_laws.proofs.InvReads.{same_call}
+use Rattle.vp_laws.proofs.InvReads.{same_call, unmarked_call}
 
 -- another site has answered a read of the record
 abbrev pub ReadElsewhere : Scene → Live → ℕ → Type 0
@@ -48,12 +48,8 @@ module _ (catalogue : Catalogue) (w new : Scene) (s : ℕ) (x : SiteState) (give
   pending_now : (t : Live) → LiveNow catalogue x given t → (p : Pending) (rec : ℕ) → t.pending ≡ Some p → Reads catalogue p rec → value_at rec (last_writes t.ops) ≡ None
   pending_now t (LiveNow.still h) p rec e r = inv.pending s x t p rec d.up h e r
   pending_now t (LiveNow.marked u h tick is) p rec e r =
-      let q = unmarked u.pending p (ap (λ (t : Live). t.pending) is ∙ e) in
+      let q = unmarked_call u.pending p (ap (λ (t : Live). t.pending) is ∙ e) in
       rw (← (ap (λ (t : Live). t.ops) is)) (inv.pending s x u q.0 rec d.up h q.1 (same_call catalogue p q.0 rec q.2 r))
-    where
-      unmarked : (o : Option Pending) (p : Pending) → marked_call o ≡ Some p → (q : Pending) × (o ≡ Some q) × (q.call ≡ p.call)
-      unmarked None p e = cc
-      unmarked (Some q) p e = let z : record q { marked = true } ≡ p = cc in (q, refl, ap (λ (p : Pending). p.call) z)
   pending_now t (LiveNow.waits u a from h f m l c is) p rec e r =
       let z : record a { missing = remaining from a } ≡ p = (let y = ap (λ (t : Live). t.pending) is ∙ e in cc) in
       rw (← (ap (λ (t : Live). t.ops) is)) (inv.pending s x u a rec d.up h f (same_call catalogue p a rec (ap (λ (p : Pending). p.call) z) r))

@@ -1,6 +1,6 @@
 -- Reads of records without a copy at the coordinator, in every world: another holder was asked, or the transaction reads its own write.
-use Rattle.std.proofs.Common.{◌≡◌, ◌⊎◌, ◌∙◌, ap, sym, subst, ℕ, true, List, [], ◌∷◌, ◌++◌, refl, inl, inr, ⊎_elim}
-use Rattle.std.specs.Prelude.{Option, Some, None}
+use Rattle.std.proofs.Common.{◌≡◌, ◌⊎◌, ◌∙◌, ap, sym, subst, ℕ, List, [], ◌∷◌, ◌++◌, inl, inr, ⊎_elim}
+use Rattle.std.specs.Prelude.{Option, Some}
 use Rattle.vp_model.specs.Types.{Input, Op, Answer, Pending, Live}
 use Rattle.vp_model.specs.Types.op
 use Rattle.vp_model.specs.Words.{keys}
@@ -19,7 +19,7 @@ use Rattle.vp_laws.proofs.TableLocks.{Guards, guards-step}
 use Rattle.vp_laws.proofs.Lists.{mapped_has}
 use Rattle.vp_model.specs.Types.{Stored}
 use Rattle.vp_laws.proofs.Scenes.{Scene, plain_at, kept_at, Acted, acted, stepping}
-use Rattle.vp_laws.proofs.InvOps.{HasWritten, last_written, value_key, reads_same}
+use Rattle.vp_laws.proofs.InvOps.{HasWritten, last_written, value_key, reads_same, unmarked}
 use Rattle.vp_laws.proofs.InvGuards.{outcomes, awaited, invited}
 use Rattle.vp_laws.proofs.InvDated.{Fourteenth, dated_last}
 use Rattle.vp_laws.proofs.Events.{Lasts}
@@ -38,6 +38,10 @@ pub record ReadsOk (catalogue : Catalogue) (copied : List ℕ) (t : Live) : Type
 pub record InvReads (catalogue : Catalogue) (w : Scene) : Type 0 where
   -- the reads of each live transaction
   pub live : (s : ℕ) (x : SiteState) (t : Live) → plain_at w s ≡ Some x → Has x.live t → ReadsOk catalogue (keys x.copies) t
+
+-- a call that is marked is the one that was there
+pub unmarked_call : (o : Option Pending) (p : Pending) → marked_call o ≡ Some p → (q : Pending) × (o ≡ Some q) × (q.call ≡ p.call)
+unmarked_call o p e = let q = unmarked o p e in (q.0, q.1, ap (λ (p : Pending). p.call) q.2)
 
 pub same_call : (catalogue : Catalogue) (p q : Pending) (rec : ℕ) → q.call ≡ p.call → Reads catalogue p rec → Reads catalogue q rec
 same_call catalogue p q rec e r = record { txn = r.txn; number = r.number; name = r.name; words = e ∙ r.words; found = r.found }
@@ -73,12 +77,8 @@ module _ (catalogue : Catalogue) (x : SiteState) (given : Input) (all : (u : Liv
   reads_now t (LiveNow.still h) = all t h
   reads_now t (LiveNow.marked u h tick e) = let b = all u h in subst Ok e (record {
     done = b.done;
-    asked = λ p rec f r. let q = unmarked u.pending p f in b.asked q.0 rec q.1 (same_call catalogue p q.0 rec q.2 r);
+    asked = λ p rec f r. let q = unmarked_call u.pending p f in b.asked q.0 rec q.1 (same_call catalogue p q.0 rec q.2 r);
   })
-    where
-      unmarked : (o : Option Pending) (p : Pending) → marked_call o ≡ Some p → (q : Pending) × (o ≡ Some q) × (q.call ≡ p.call)
-      unmarked None p e = cc
-      unmarked (Some q) p e = let z : record q { marked = true } ≡ p = cc in (q, refl, ap (λ (p : Pending). p.call) z)
   reads_now t (LiveNow.waits u p from h f m l k e) = let b = all u h in subst Ok e (record {
     done = b.done;
     asked = λ a rec g r. let is : record p { missing = remaining from p } ≡ a = cc in b.asked p rec f (same_call catalogue a p rec (ap (λ (p : Pending). p.call) is) r);

@@ -27,10 +27,10 @@ use Rattle.vp_laws.proofs.InvVotes.{InvVotes, voted_pending}
 use Rattle.vp_laws.proofs.OnlyCoordinator.{is_aside}
 use Rattle.vp_laws.proofs.TableSteps.{waiting, reading, writing, LiveNow, Only, SentFor, EnteredFor, Steps, steps-step}
 use Rattle.vp_laws.proofs.TableShares.{is_reply, PartNow, DoubtNow, OutcomeComes, ReplyTo, Shares, shares-step}
-use Rattle.vp_laws.proofs.InvEndings.{HasEntry, InvEndings, Fifth, endings_last}
+use Rattle.vp_laws.proofs.InvEndings.{HasEntry, InvEndings, Fifth, endings_last, fresh}
 use Rattle.vp_laws.proofs.Events.{Arrives, Lasts}
 use Rattle.vp_laws.proofs.Worlds.{NowIs, now_is, KeptIs, kept_is, Quiet, QuietIs, quiet_is, quiet_kept, started, start_kept, start_sent, start_entered, With, Above, with_last, no_live, started_idle}
-use Rattle.vp_laws.proofs.Numbers.{one_above, not_same}
+use Rattle.vp_laws.proofs.Numbers.{not_same}
 use Rattle.vp_laws.proofs.Lists.{is_none}
 
 abbrev pub HasVote : Scene → ℕ → TxnId → Type 0
@@ -154,11 +154,6 @@ module _ (catalogue : Catalogue) (w new : Scene) (s : ℕ) (x : SiteState) (give
   came : (from : ℕ) (m : Message) → Comes given from m → Has w.sent (letter from s m)
   came from m e = rw e at arrives
 
-  not_new : (txn : TxnId) → UsedTxn w txn → txn ≡ next_name x → ⊥
-  not_new txn u n =
-      let here : txn.site ≡ s = ap (λ (t : TxnId). t.site) n ∙ id in
-      one_above txn.seq x.seq (u.seq x (rw here up) (sym (ap (λ (t : TxnId). t.life) n))) (ap (λ (t : TxnId). t.seq) n)
-
   -- a live transaction now of a name that was used: at another site, or it was live here
   view_lasts : (txn : TxnId) (view : ViewId) → UsedTxn w txn → OneView w txn view → OneView new txn view
   view_lasts txn view used h = record {
@@ -170,7 +165,7 @@ module _ (catalogue : Catalogue) (w new : Scene) (s : ℕ) (x : SiteState) (give
       live_now y t (NowIs.other n g) k e = h.live y t g k e
       live_now y t (NowIs.here z same) k e = ⊎_elim
           (λ (was : (u : Live) × Has x.live u × (u.txn ≡ t.txn) × (u.view ≡ t.view)). sym was.3 ∙ h.live x was.0 (rw z up) was.1 (was.2 ∙ e))
-          (λ (new : t.txn ≡ next_name x). absurd (not_new txn used (sym e ∙ new)))
+          (λ (new : t.txn ≡ next_name x). absurd (fresh w s x up id txn used (sym e ∙ new)))
           (was_viewed catalogue x given t (c.live t (subst (λ (y : SiteState). Has y.live t) (sym same) k)))
 
       entered : (e : Commit) → EnteredFor catalogue x given e → e.txn ≡ txn → e.view ≡ view
@@ -228,7 +223,7 @@ module _ (catalogue : Catalogue) (w new : Scene) (s : ℕ) (x : SiteState) (give
           let used : UsedTxn w txn = names.sent _ sent in
           let was = was_doing catalogue x given t (c.live t (subst (λ (y : SiteState). Has y.live t) (sym same) k))
           (λ u q f. voted_pending catalogue w votes from to txn sent x u (rw z up) q (f ∙ e))
-          (λ n. not_new txn used (sym e ∙ n)) in
+          (λ n. fresh w s x up id txn used (sym e ∙ n)) in
           doubt_lasts from txn x was.0 (rw z up) was.1 (was.2 ∙ e) (h x was.0 (rw z up) was.1 (was.2 ∙ e) (rw was.3 writes))
 
   doubt_here : (txn : TxnId) (d : Doubt) → Has o.site.doubts d → d.txn ≡ txn → InDoubt new s txn

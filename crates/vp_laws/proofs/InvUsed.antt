@@ -155,14 +155,11 @@ module _ (catalogue : Catalogue) (w new : Scene) (s : ℕ) (x : SiteState) (give
   came : (from : ℕ) (m : Message) → Comes given from m → Has w.sent (letter from s m)
   came from m e = rw e at arrives
 
-  not_new : (txn : TxnId) → UsedTxn w txn → txn ≡ next_name x → ⊥
-  not_new txn u n = fresh w s x up id txn u n
-
   pub was : (k : ℕ) (y : SiteState) (t : Live) → UsedTxn w t.txn → Has y.live t → NowIs w s (step catalogue x given).site k y → Was w k t
   was k y t used h (NowIs.other n old) = record { site = y; up_then = old; u = t; here = h; named = refl; viewed = refl }
   was k y t used h (NowIs.here e same) = ⊎_elim
       (λ (q : (u : Live) × Has x.live u × (u.txn ≡ t.txn) × (u.view ≡ t.view)). record { site = x; up_then = rw e up; u = q.0; here = q.1; named = q.2; viewed = q.3 })
-      (λ (n : t.txn ≡ next_name x). absurd (not_new t.txn used n))
+      (λ (n : t.txn ≡ next_name x). absurd (fresh w s x up id t.txn used n))
       (was_viewed catalogue x given t (c.live t (subst (λ (y : SiteState). Has y.live t) (sym same) h)))
 
   named_read : (a b number rec : ℕ) (txn : TxnId) (view : ViewId) → Has w.sent (letter a b (message.ReadRequest txn view number rec)) → UsedTxn w txn
