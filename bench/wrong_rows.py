@@ -15,7 +15,7 @@ import tempfile
 
 TOP = pathlib.Path(__file__).resolve().parent.parent
 SPECS = "crates/vp_model/specs/"
-CRATES = ["vp_text", "vp_base", "vp_model", "vp_one_site", "vp_laws"]
+CRATES = ["vp_text", "vp_base", "vp_model", "vp_catalog", "vp_laws"]
 
 # name, file, the line as it stands, the wrong line
 ROWS = [
@@ -39,19 +39,6 @@ ROWS = [
      "if (txn.site == id) && not (is_live txn l.live)", "if txn.site == id"),
 ]
 IMPORTS = {"Catalogue.antt": ("Prelude.{ℕ, ◌*◌, Bool, nat_lt,", "Prelude.{ℕ, ◌*◌, Bool, not, nat_lt,")}
-# lemmas of the library below that have to be proved in another way for the laws to be reached
-HELPED = {
-    "exactly half of the weight is enough": [
-        ("Copies.antt", "nat_lt (0 + n) (2 * (0 + n)) ≡ true", "not (nat_lt (2 * (0 + n)) (0 + n)) ≡ true"),
-        ("Copies.antt", "Prelude.{Some, None, ◌==◌, nat_lt,", "Prelude.{Some, None, not, ◌==◌, nat_lt,"),
-    ],
-    "the order of the journal alone": [
-        ("OneView.antt", """own_order (e ∷ es) h =
-    let views : views_of (e ∷ es) ≡ opening ∷ [] = rw h.0 (one_view es h.1) in
-    ap (flat_map (in_view (e ∷ es))) views ∙ append-nil (in_view (e ∷ es) opening) ∙ all_in (e ∷ es) h
-""", "own_order (e ∷ es) h = refl\n"),
-    ],
-}
 
 
 def replaced(path, old, new):
@@ -72,9 +59,6 @@ def without_worked_schedules(copy):
         (crate / f"proofs/{name}.antt").unlink()
     (crate / "src/rows.rt").unlink()
     shutil.rmtree(crate / "must-fail", ignore_errors=True)
-    theorem = copy / "crates/vp_one_site/proofs"
-    (theorem / "Worked.antt").unlink()
-    replaced(theorem / "Lib.antt", "pub mod Worked\n", "")
 
 
 def without_shapes(copy):
@@ -89,7 +73,7 @@ def without_shapes(copy):
         (crate / path).write_text("\n".join(kept) + "\n")
     crates = copy / "crates.txt"
     kept = [line for line in crates.read_text().splitlines() if line.split(":")[0] in CRATES]
-    crates.write_text("\n".join(re.sub(" vp_(wire|records|bytes|catalog)", "", line) for line in kept) + "\n")
+    crates.write_text("\n".join(re.sub(" vp_(wire|records|bytes)", "", line) for line in kept) + "\n")
 
 
 def left_out(folder, names):
@@ -118,8 +102,6 @@ def main(words):
             replaced(copy / SPECS / file, old, new)
             if file in IMPORTS:
                 replaced(copy / SPECS / file, *IMPORTS[file])
-            for below, was, now in HELPED.get(name, []):
-                replaced(copy / "crates/vp_one_site/proofs" / below, was, now)
             print(name, flush=True)
             for line in refusals(copy)[:4]:
                 print("   ", line[:160], flush=True)

@@ -25,10 +25,9 @@ use Rattle.vp_model.specs.Headline.{is_locked}
 use Rattle.vp_model.specs.World.{Schedule, run_of}
 use Rattle.vp_laws.specs.Votes.{is_commit}
 use Rattle.vp_laws.specs.Completeness.{LastVotesCommit, IsNextOperation, ReadableCopiesAreRead}
-use Rattle.vp_laws.proofs.Members.{Has, has_of, contains, has_none, has_first, has_more, has_cons, any_false, either_false, both_true}
-use Rattle.vp_laws.proofs.Apart.{Apart, same_txn-is}
+use Rattle.vp_laws.proofs.Members.{Has, has_of, contains, has_none, has_first, has_more, has_cons, any_false, either_false, both_true, not_true}
+use Rattle.vp_laws.proofs.Apart.{Apart, same_txn-is, same_txn-self}
 use Rattle.vp_laws.proofs.Lists.{mapped_has}
-use Rattle.vp_one_site.proofs.LockTables.{same_txn-self}
 use Rattle.vp_laws.proofs.LockTables.{HasLock}
 use Rattle.vp_laws.proofs.Frames.{decided-commits, decide-cases}
 use Rattle.vp_laws.proofs.Table.{lent_at}
@@ -106,10 +105,6 @@ nothing_conflicts rec o (l ∷ locks) e =
     shared : (l : Lock) → is_locked rec l ≡ false → ((l.rec == rec) && l.exclusive && not (same_owner l.owner o)) ≡ false
     shared l e = grind (arith, e)
 
-untrue : (b : Bool) → not b ≡ true → b ≡ false
-untrue true e = cc
-untrue false e = refl
-
 shut : (rec : ℕ) (l : Lock) → l.rec ≡ rec → l.exclusive ≡ true → is_locked rec l ≡ false → ⊥
 shut rec l on high e = let z : (l.rec == rec) ≡ true = eq-eqb l.rec rec on in let y : is_locked rec l ≡ true = rw (z, high) refl in cc
 
@@ -135,7 +130,7 @@ readable_copies_are_read s site port number rec name x t copy up there next copi
     read_answers s.catalogue x t port number rec name copy (live_found x.live ((known_now s).votes.site site x up) t (has_of x.live t there)) next parts.0 unwritten copied (ap least_owner (nothing_conflicts rec (owner.Txn t.txn) x.locks parts.1))
   where
     parts : (is_open s.catalogue x rec ≡ true) × (list_any (is_locked rec) x.locks ≡ false)
-    parts = let q = both_true (is_open s.catalogue x rec) (not (list_any (is_locked rec) x.locks)) readable in (q.0, untrue (list_any (is_locked rec) x.locks) q.1)
+    parts = let q = both_true (is_open s.catalogue x rec) (not (list_any (is_locked rec) x.locks)) readable in (q.0, not_true (list_any (is_locked rec) x.locks) q.1)
 
     locked : HasLock rec true (owner.Txn t.txn) x.locks → ⊥
     locked l = shut rec l.lock l.on (l.strong refl) (any_false (is_locked rec) x.locks parts.1 l.lock l.has)

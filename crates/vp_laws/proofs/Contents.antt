@@ -1,21 +1,17 @@
 -- The one copy after the entries of views up to one is defined, where the whole order plays; and what plays on it plays still, when an
 -- entry of a lower view is added that wrote nothing which is used above.
 use Rattle.std.proofs.Common.{◌≡◌, ◌∙◌, ap, sym, subst, Bool, true, false, List, [], ◌∷◌, ◌++◌, refl, ⊎_elim}
-use Rattle.std.specs.Prelude.{Option, Some, None, option_and_then, flat_map}
+use Rattle.std.specs.Prelude.{Some, option_and_then, flat_map}
 use Rattle.std.proofs.lemmas.List.{append_assoc}
 use Rattle.vp_model.specs.Types.{ViewId, Op, Commit}
 use Rattle.vp_model.specs.Words.{view_before}
 use Rattle.vp_model.specs.OneCopy.{Values, play, serial, views_of, in_view, order, content}
-use Rattle.vp_one_site.proofs.Play.{serial-append}
+use Rattle.vp_laws.proofs.Play.{serial-append, and_then}
 use Rattle.vp_laws.proofs.Members.{Has, has_right, has_cases, has_one_is}
-use Rattle.vp_laws.proofs.Order.{Precedes, AtMost-trans, Precedes-at_most, from_before}
+use Rattle.vp_laws.proofs.Order.{Precedes, AtMost-trans, Precedes-at_most, from_before, not_before}
 use Rattle.vp_laws.proofs.Journal.{Rising, Split, Precedes-trans, views_rising, flat_has, order_has, order_more}
 use Rattle.vp_laws.proofs.Playing.{WritesNone, up_to_own, serial_agrees, agrees_behind}
-use Rattle.vp_laws.proofs.UpTo.{upto, in_at, test_up_to, up_to_from, upto_all, upto_none, upto_append, upto_has}
-
-then_some : {X Y : Type 0} (o : Option X) (f : X → Option Y) (y : Y) → option_and_then f o ≡ Some y → (x : X) × (o ≡ Some x) × (f x ≡ Some y)
-then_some None f y e = cc
-then_some (Some x) f y e = (x, refl, e)
+use Rattle.vp_laws.proofs.UpTo.{upto, in_at, up_to_from, upto_all, upto_none, upto_append, upto_has}
 
 -- the entries of views up to one come first
 upto_first : (journal : List Commit) (v : ViewId) (vs : List ViewId) → Rising vs → (rest : List Commit) × (flat_map (in_view journal) vs ≡ upto v (flat_map (in_view journal) vs) ++ rest)
@@ -43,7 +39,7 @@ upto_first journal v (u ∷ vs) h = go (view_before v u) refl (upto_first journa
 pub content_there : (start : Values) (journal : List Commit) (v : ViewId) (n : Values) → serial start (order journal) ≡ Some n → (m : Values) × (content start journal v ≡ Some m)
 content_there start journal v n h =
     let r = upto_first journal v (views_of journal) (views_rising journal) in
-    let t = then_some (serial start (upto v (order journal))) (λ (m : Values). serial m r.0) n (sym (serial-append start (upto v (order journal)) r.0) ∙ ap (serial start) (sym r.1) ∙ h) in
+    let t = and_then (serial start (upto v (order journal))) (λ (m : Values). serial m r.0) n (sym (serial-append start (upto v (order journal)) r.0) ∙ ap (serial start) (sym r.1) ∙ h) in
     (t.0, t.1)
 
 module _ (start : Values) (journal : List Commit) (e : Commit) where
@@ -62,9 +58,9 @@ module _ (start : Values) (journal : List Commit) (e : Commit) where
       (λ old. let k = upto_has d s.behind c old in none_above c (order_has journal c (subst (λ (l : List Commit). Has l c) (sym s.was) (has_right s.before s.behind c k.0))) (s.high c k.0))
       (λ more. subst (λ (c : Commit). WritesNone e c.ops) (has_one_is last c more) none)
       (has_cases behind (last ∷ []) c q)) in
-      let now = then_some (serial b behind) (λ (m : Values). serial m (last ∷ [])) i.0 (sym (serial-append b behind (last ∷ [])) ∙ i.1) in
-      let end = then_some (play now.0 ops) (λ (m : Values). Some m) i.0 now.2 in
-      let keeps : upto d (e ∷ s.behind) ≡ e ∷ behind = (let t = test_up_to d e.view (Precedes-at_most e.view d below) in rw t refl) in
+      let now = and_then (serial b behind) (λ (m : Values). serial m (last ∷ [])) i.0 (sym (serial-append b behind (last ∷ [])) ∙ i.1) in
+      let end = and_then (play now.0 ops) (λ (m : Values). Some m) i.0 now.2 in
+      let keeps : upto d (e ∷ s.behind) ≡ e ∷ behind = (let t = not_before d e.view (Precedes-at_most e.view d below) in rw t refl) in
       let order_now : upto d (order (journal ++ e ∷ [])) ≡ s.before ++ e ∷ behind = ap (upto d) s.now ∙ upto_append d s.before (e ∷ s.behind) ∙ ap (λ (l : List Commit). l ++ upto d (e ∷ s.behind)) first ∙ ap (λ (l : List Commit). s.before ++ l) keeps in (
         now.0,
         end.0,

@@ -1,8 +1,7 @@
 -- The rows of the coordinator are made of its small moves, so a property of its part that survives these is kept by them.
-use Rattle.std.proofs.Common.{◌≡◌, ◌∙◌, ℕ, zero, suc, ◌+◌, ◌-◌, ◌^◌, Bool, true, false, cond, List, [], ◌∷◌, refl, arith, length, ap, sym, ⊎_elim}
-use Rattle.std.specs.Prelude.{Option, Some, None, is_some, filter, slice_get, ◌==◌, nat_le, nat_lt}
+use Rattle.std.proofs.Common.{◌≡◌, ◌∙◌, ℕ, zero, suc, ◌+◌, ◌-◌, ◌^◌, Bool, true, false, List, [], ◌∷◌, refl, arith, length, ap, sym, ⊎_elim}
+use Rattle.std.specs.Prelude.{Some, None, is_some, filter, slice_get, ◌==◌, nat_le, nat_lt}
 use Rattle.std.specs.List.{AllByRecursion}
-use Rattle.std.specs.Option.{option_map_or}
 use Rattle.std.proofs.lemmas.Bool.Decides.{nat_tests}
 use Rattle.std.proofs.lemmas.Bool.{eqb-true}
 use Rattle.vp_model.specs.Types.{TxnId, Stored, Call, Message, Obstacle, Input, Pending, Live, Ending, Finished, Sent}
@@ -12,7 +11,7 @@ use Rattle.vp_model.specs.Types.call
 use Rattle.vp_model.specs.Types.input
 use Rattle.vp_model.specs.Types.message
 use Rattle.vp_model.specs.Types.obstacle
-use Rattle.vp_model.specs.Words.{same_txn, has, first, value_at, is_empty, for_some}
+use Rattle.vp_model.specs.Words.{same_txn, has, first, value_at, is_empty}
 use Rattle.vp_model.specs.Catalogue.{Catalogue, find_record}
 use Rattle.vp_model.specs.Locks.{conflict}
 use Rattle.vp_model.specs.Site.{SiteState, Lent, surroundings, lent_reply, CoordinatorState, letters}
@@ -28,25 +27,12 @@ use Rattle.vp_laws.proofs.Lists.{without_first_has}
 use Rattle.vp_laws.proofs.LocalViews.{letter}
 use Rattle.vp_laws.specs.Votes.{is_commit}
 use Rattle.vp_laws.proofs.Table.{Closed, Comes, Handled, IsNext, Reads, Writes, Counts, remaining, IsLast, Locked, Completes, Decides, Replies, IsCallOf, Names, Says, Closes, is_abort, lent_at, OfCoordinator}
+use Rattle.vp_laws.proofs.Keeps.{by_option, by_some, by_test}
+use Rattle.vp_laws.proofs.Apart.{same_txn-is}
 
 first_has : (xs : List ℕ) (q : ℕ) → first xs ≡ Some q → Has xs q
 first_has [] q e = cc
 first_has (n ∷ ns) q e = let same : n ≡ q = cc in rw same (has_first q ns)
-
-pub by_option : {A B : Type 0} (P : B → Type 0) (f : A → B) (o : Option A) (b : B) → ((a : A) → o ≡ Some a → P (f a)) → (o ≡ None → P b) → P (option_map_or f o b)
-by_option P f None b some none = none refl
-by_option P f (Some a) b some none = some a refl
-
-pub by_some : {A B : Type 0} (P : B → Type 0) (o : Option A) (f : A → B → B) (b : B) → ((a : A) → o ≡ Some a → P (f a b)) → P b → P (for_some o f b)
-by_some P None f b some none = none
-by_some P (Some a) f b some none = some a refl
-
-pub by_test : {A : Type 0} (P : A → Type 0) (b : Bool) (x y : A) → (b ≡ true → P x) → (b ≡ false → P y) → P (cond b x y)
-by_test P true x y if_true if_false = if_true refl
-by_test P false x y if_true if_false = if_false refl
-
-same_txn-is : (t u : TxnId) → same_txn t u ≡ true → t ≡ u
-same_txn-is t u e = grind (arith, nat_tests, e)
 
 pub live_of-has : (txn : TxnId) (live : List Live) (t : Live) → live_of txn live ≡ Some t → Has live t
 live_of-has txn live t e = find_has (λ (u : Live). same_txn u.txn txn) live t e

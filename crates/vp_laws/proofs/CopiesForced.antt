@@ -17,11 +17,11 @@ use Rattle.vp_model.specs.Step.{on_input, step}
 use Rattle.vp_laws.specs.Decisions.{Forces, CopyComes}
 use Rattle.vp_laws.proofs.Members.{Has, has_of, contains, has_one, has_left, filter_has}
 use Rattle.vp_laws.proofs.LocalViews.{Tidy}
-use Rattle.vp_laws.proofs.Coordinator.{by_some, by_test}
-use Rattle.vp_one_site.proofs.LockTables.{same_txn-self}
 use Rattle.vp_laws.proofs.Table.{Comes}
 use Rattle.vp_laws.proofs.TableOutcomes.{find_none}
 use Rattle.vp_laws.proofs.TableCopies.{AnswerNow, CopyNow, copies-step}
+use Rattle.vp_laws.proofs.Apart.{same_txn-self}
+use Rattle.vp_laws.proofs.Keeps.{by_some, by_test}
 
 -- what was forced stays while refreshes end
 module _ (catalogue : Catalogue) (l : LogRecord) where

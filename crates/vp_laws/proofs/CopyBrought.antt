@@ -9,7 +9,7 @@ use Rattle.vp_model.specs.Catalogue.{Catalogue, holders, accessible}
 use Rattle.vp_model.specs.Durable.{DurableState}
 use Rattle.vp_model.specs.Site.{SiteState, Stepped}
 use Rattle.vp_laws.proofs.Members.{Has}
-use Rattle.vp_laws.proofs.Order.{AtMost, Precedes, AtMost-along, not_both, same_site}
+use Rattle.vp_laws.proofs.Order.{AtMost, Precedes, AtMost-along, not_both, same_site, three_ways}
 use Rattle.vp_laws.proofs.LocalViews.{letter}
 use Rattle.vp_laws.proofs.TableCopies.{AnswerNow}
 use Rattle.vp_laws.proofs.TableCopyAt.{Certain}
@@ -20,7 +20,7 @@ use Rattle.vp_laws.proofs.InvListed.{wrote_here}
 use Rattle.vp_laws.proofs.Stopping.{shared_holder}
 use Rattle.vp_laws.proofs.ValuesAfter.{value_after}
 use Rattle.vp_laws.proofs.CopyInvariants.{FromView, InvCopies, InvRefresh}
-use Rattle.vp_laws.proofs.CopyFacts.{still_below, three_ways, copy_holder}
+use Rattle.vp_laws.proofs.CopyFacts.{still_below, copy_holder}
 use Rattle.vp_laws.proofs.NewEntries.{doubted, agreed_was}
 use Rattle.vp_laws.proofs.CopyOrigins.{Untouched, Own, Brought, gone_aborted}
 use Rattle.vp_laws.proofs.CopyValues.{value_now}

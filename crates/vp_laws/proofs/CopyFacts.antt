@@ -1,13 +1,13 @@
 -- What the invariant of copies gives in one world: a date closes its record, and so does a view above it.
-use Rattle.std.proofs.Common.{◌≡◌, ◌⊎◌, ◌∙◌, sym, subst, ℕ, Bool, true, false, inl, inr, refl, arith, ⊎_elim}
+use Rattle.std.proofs.Common.{◌≡◌, ◌∙◌, sym, subst, ℕ, arith, ⊎_elim}
 use Rattle.std.specs.Prelude.{Some}
 use Rattle.vp_model.specs.Types.{ViewId, View, Commit, Stored, Doubt}
-use Rattle.vp_model.specs.Words.{keys, opening, same_view, view_before, value_at}
+use Rattle.vp_model.specs.Words.{keys, opening, value_at}
 use Rattle.vp_model.specs.Catalogue.{Catalogue, holders}
 use Rattle.vp_laws.proofs.Members.{Has}
 use Rattle.vp_laws.proofs.Lists.{mapped_has}
-use Rattle.vp_laws.proofs.Order.{AtMost, Precedes, not_both, opening_least, from_before, same_is}
-use Rattle.vp_laws.proofs.Journal.{Precedes-trans, above_from}
+use Rattle.vp_laws.proofs.Order.{AtMost, Precedes, not_both, opening_least}
+use Rattle.vp_laws.proofs.Journal.{Precedes-trans}
 use Rattle.vp_laws.proofs.Scenes.{Scene, kept_at}
 use Rattle.vp_laws.proofs.TableCopies.{value_pair}
 use Rattle.vp_laws.proofs.InvEntered.{Wrote, AgreedAs, written_op}
@@ -22,14 +22,6 @@ pub still_below : (a b c : ViewId) → AtMost a b → Precedes b c → Precedes 
 still_below a b c p q = omega arith
 
 -- one of two identifiers is below the other, or they are the same
-pub three_ways : (a b : ViewId) → Precedes a b ⊎ ((a ≡ b) ⊎ Precedes b a)
-three_ways a b = go (same_view a b) (view_before a b) refl refl
-  where
-    go : (c e : Bool) → same_view a b ≡ c → view_before a b ≡ e → Precedes a b ⊎ ((a ≡ b) ⊎ Precedes b a)
-    go true e p q = inr (inl (same_is a b p))
-    go false true p q = inl (from_before a b q)
-    go false false p q = inr (inr (above_from a b p q))
-
 -- the record is closed for a view above this one, of which the site is a member
 pub record ClosedAbove (catalogue : Catalogue) (w : Scene) (s rec : ℕ) (j : ViewId) : Type 0 where
   pub view : View

@@ -11,7 +11,7 @@ use Rattle.vp_model.specs.Transactions.{last_changes, writes_held}
 use Rattle.vp_model.specs.Site.{SiteState, Stepped}
 use Rattle.vp_laws.proofs.Members.{Has, filter_has}
 use Rattle.vp_laws.proofs.Lists.{mapped_has}
-use Rattle.vp_laws.proofs.Order.{AtMost, Precedes, AtMost-same, AtMost-along, not_both}
+use Rattle.vp_laws.proofs.Order.{AtMost, Precedes, AtMost-same, AtMost-along, not_both, three_ways}
 use Rattle.vp_laws.proofs.Journal.{Precedes-trans}
 use Rattle.vp_laws.proofs.LocalViews.{letter}
 use Rattle.vp_laws.proofs.Scenes.{Scene, kept_at, promise_at}
@@ -24,7 +24,7 @@ use Rattle.vp_laws.proofs.JournalPlaces.{has_split, stands_behind, once_later, l
 use Rattle.vp_laws.proofs.ValuesAfter.{value_after, value_up_to, value_written, value_of_last}
 use Rattle.vp_laws.proofs.ValuesGrow.{after_is}
 use Rattle.vp_laws.proofs.CopyInvariants.{FromView, InvCopies, InvRefresh}
-use Rattle.vp_laws.proofs.CopyFacts.{three_ways, no_doubt_below}
+use Rattle.vp_laws.proofs.CopyFacts.{no_doubt_below}
 use Rattle.vp_laws.proofs.NewEntries.{none_entered, journal_same, journal_with, one_entry, Entering, entering, entering_agreed, certain_now, doubt_says, agreed_was, doubt_from, fresh_no_outcome}
 use Rattle.vp_laws.proofs.CopyOrigins.{Applied, Written}
 use Rattle.vp_laws.proofs.CopyValues.{value_now}

@@ -3,7 +3,7 @@ use Rattle.std.proofs.Common.{◌≡◌, ◌≢◌, ◌∙◌, ◌≤◌, ◌<�
 use Rattle.std.specs.Prelude.{Some, None, ◌&&◌}
 use Rattle.std.specs.List.{list_any, list_all}
 use Rattle.std.proofs.lemmas.Bool.Decides.{nat_tests}
-use Rattle.vp_model.specs.Types.{TxnId, Commit, Input, Answer, Reply, Shown, Live, Ending, Finished}
+use Rattle.vp_model.specs.Types.{TxnId, Commit, Input, Answer, Reply, Shown, Ending, Finished}
 use Rattle.vp_base.specs.declared.site.Ending.TheVariants.{Committed, Aborted, LockHeld, ViewChanged, TimedOut}
 use Rattle.vp_model.specs.Types.answer
 use Rattle.vp_model.specs.Words.{same_txn}
@@ -11,12 +11,12 @@ use Rattle.vp_model.specs.Catalogue.{Catalogue}
 use Rattle.vp_model.specs.Durable.{DurableState}
 use Rattle.vp_model.specs.Transactions.{answer_of}
 use Rattle.vp_model.specs.Site.{SiteState, Stepped}
-use Rattle.vp_model.specs.Step.{start, step}
+use Rattle.vp_model.specs.Step.{step}
 use Rattle.vp_model.specs.World.{Moment, Schedule, moments_of, journal_of}
 use Rattle.vp_model.specs.Told.{replies_in, answers_in}
 use Rattle.vp_model.specs.Headline.{has_entry, is_committed, commits_in, agrees_with, ends_true_at, EndsAreTrue}
 use Rattle.vp_model.specs.Justified.{refused_number}
-use Rattle.vp_one_site.proofs.Refused.{refused_of}
+use Rattle.vp_laws.proofs.RefusedCalls.{refused_of}
 use Rattle.vp_laws.proofs.Members.{Has, has_none, map_has, any_true, any_false}
 use Rattle.vp_laws.proofs.Lists.{mapped_has, all_from}
 use Rattle.vp_laws.proofs.Apart.{same_txn-is}
@@ -25,7 +25,7 @@ use Rattle.vp_laws.proofs.TableEndings.{NotLive, WasLive}
 use Rattle.vp_laws.proofs.TableReplies.{Said}
 use Rattle.vp_laws.proofs.Scenes.{Scene, scene_of, kept_at, acted}
 use Rattle.vp_laws.proofs.Events.{in_each}
-use Rattle.vp_laws.proofs.Worlds.{now_is, Quiet, QuietIs, quiet_is}
+use Rattle.vp_laws.proofs.Worlds.{now_is, Quiet, QuietIs, quiet_is, no_live}
 use Rattle.vp_laws.proofs.InvNames.{UsedTxn, Grows, used_lasts, own_used, start_life}
 use Rattle.vp_laws.proofs.InvEndings.{HasEntry, Over}
 use Rattle.vp_laws.proofs.InvKept.{InvKept, TwentyFirst, kept_last}
@@ -86,10 +86,6 @@ module _ (catalogue : Catalogue) where
   pub known_of : (w : Scene) → I w → Known catalogue w
   known_of w inv = known catalogue w inv.lower.lower.lower.lower
 
-  no_live : (s : ℕ) (d : DurableState) (t : Live) → Has (start catalogue s d).live t → ⊥
-  unfolding start
-  no_live s d t h = has_none t h
-
   pub ended_step : (w new : Scene) (s : ℕ) (x : SiteState) (given : Input) (o : Stepped) (k : Known catalogue w) (n : Known catalogue new) (d : Does catalogue w new s x given o) (txn : TxnId) → EndedAt w txn → EndedAt new txn
   ended_step w new s x given o k n d txn h = record {
     used = used_lasts w new s d.st.moved d.grows txn h.used;
@@ -117,7 +113,7 @@ module _ (catalogue : Catalogue) where
 
       over_at : (y : SiteState) → QuietIs catalogue w s txn.site y → NotLive y.live txn
       over_at y (QuietIs.other m old) t live same = h.over y old t live same
-      over_at y (QuietIs.here z is) t live same = no_live s (kept_at w s) t (subst (λ (y : SiteState). Has y.live t) (sym is) live)
+      over_at y (QuietIs.here z is) t live same = no_live catalogue s (kept_at w s) t (subst (λ (y : SiteState). Has y.live t) (sym is) live)
 
   pub ended_keeps : (txn : TxnId) (w : Scene) (what : Shown) (new : Scene) → MomentOf catalogue w what new → I w → I new → EndedAt w txn → EndedAt new txn
   ended_keeps txn w what new (MomentOf.same e rs cs) inv now h = subst (λ (w : Scene). EndedAt w txn) (sym e) h

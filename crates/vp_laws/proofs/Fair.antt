@@ -12,8 +12,9 @@ use Rattle.vp_model.specs.Transactions.{answer_of}
 use Rattle.vp_model.specs.World.{Moment}
 use Rattle.vp_model.specs.Told.{answers_in}
 use Rattle.vp_model.specs.Justified.{was_blocked, held_other, left_and_closed, is_begun, begun_in, refused_once, justified}
-use Rattle.vp_one_site.proofs.Refused.{Refusal, refusal_is, refusal_more}
+use Rattle.vp_laws.proofs.RefusedCalls.{Refusal, refusal_is, refusal_more}
 use Rattle.vp_laws.proofs.Members.{Has, has_left, any_of}
+use Rattle.vp_laws.proofs.Numbers.{eq_not}
 
 -- the transaction was begun in the view
 pub record WasBegun (past : List Moment) (txn : TxnId) (view : ViewId) : Type 0 where
@@ -80,9 +81,6 @@ begun_is past txn view o = any_of (λ (m : Moment). list_any (is_begun txn view)
 
 eq_same : (a b : ℕ) → a ≡ b → (a == b) ≡ true
 eq_same a b e = grind (arith, nat_tests, e)
-
-eq_not : (a b : ℕ) → a ≢ b → (a == b) ≡ false
-eq_not a b n = grind (arith, nat_tests, n)
 
 pub fair_justified : (catalogue : Catalogue) (past : List Moment) (m : Moment) (a : Answer) → Fair catalogue past a → justified catalogue past m a ≡ true
 fair_justified catalogue past m (answer.LockHeld txn number name at holder) f = refusal_is past txn number (λ refused. was_blocked catalogue txn refused name at holder) f

@@ -12,7 +12,6 @@ use Rattle.vp_model.specs.Transactions.{answer_of}
 use Rattle.vp_model.specs.World.{Moment}
 use Rattle.vp_model.specs.Told.{answers_in}
 use Rattle.vp_model.specs.Justified.{justified, was_blocked, held_other, refused_number}
-use Rattle.vp_one_site.proofs.Outcome.{is_report}
 use Rattle.vp_laws.proofs.Members.{Has, has_left}
 use Rattle.vp_laws.proofs.LocalViews.{letter}
 use Rattle.vp_laws.proofs.Scenes.{Scene, plain_at}
@@ -23,6 +22,7 @@ use Rattle.vp_laws.proofs.InvKept.{TwentyFirst}
 use Rattle.vp_laws.proofs.EndsTrue.{EndedAt}
 use Rattle.vp_laws.proofs.TableFair.{is_free}
 use Rattle.vp_laws.proofs.Fair.{WasBegun, Once, Fair, fair_more}
+use Rattle.vp_laws.proofs.TableKept.{is_report}
 
 -- a site was asked for a part of the transaction, in the view
 pub data IsAsked (w : Scene) (q from : ℕ) (txn : TxnId) (view : ViewId) (number : ℕ) : Type 0 where

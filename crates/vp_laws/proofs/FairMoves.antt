@@ -16,14 +16,12 @@ use Rattle.vp_model.specs.Messages.{held_id}
 use Rattle.vp_model.specs.Locks.{conflict}
 use Rattle.vp_model.specs.Transactions.{answer_of, answers_after}
 use Rattle.vp_model.specs.Refresh.{members_in, is_usable_in}
-use Rattle.vp_model.specs.Step.{start, step}
+use Rattle.vp_model.specs.Step.{step}
 use Rattle.vp_model.specs.Told.{answers_in}
 use Rattle.vp_model.specs.World.{WorldState, Moment}
 use Rattle.vp_model.specs.Justified.{site_named, justified, was_blocked, held_other, left_and_closed, is_begun, weighs, refused_number, refused_in}
-use Rattle.vp_one_site.proofs.Outcome.{is_report}
-use Rattle.vp_one_site.proofs.Members.{Has as LoneHas, contains as lone_contains, has_of as lone_of}
-use Rattle.vp_one_site.proofs.Refused.{refused_last, none_refused, first_told, refused_of}
-use Rattle.vp_laws.proofs.Members.{Has, contains, has_of, has_none, has_one, has_left, has_right, has_cases, has_one_is, map_has, any_true, any_of}
+use Rattle.vp_laws.proofs.RefusedCalls.{refused_last, none_refused, first_told, refused_of}
+use Rattle.vp_laws.proofs.Members.{Has, has_none, has_one, has_left, has_right, has_cases, has_one_is, map_has, any_true, any_of}
 use Rattle.vp_laws.proofs.Table.{Comes, Handled, Reads, Writes, Requests, Asks}
 use Rattle.vp_laws.proofs.LocalViews.{letter}
 use Rattle.vp_laws.proofs.Scenes.{Scene, scene_of, plain_at, kept_at, acted}
@@ -34,34 +32,25 @@ use Rattle.vp_laws.proofs.TableLed.{Led}
 use Rattle.vp_laws.proofs.InvRepeated.{Kept, kept_last, Does, does}
 use Rattle.vp_laws.proofs.InvKept.{TwentyFirst}
 use Rattle.vp_laws.proofs.InvKept.{kept_last as ends_last}
-use Rattle.vp_laws.proofs.Apart.{apart_unique}
+use Rattle.vp_laws.proofs.Apart.{apart_unique, same_txn-self}
 use Rattle.vp_laws.proofs.Tower.{Known}
 use Rattle.vp_laws.proofs.Tower.{Does as Doing, does as doing}
 use Rattle.vp_laws.proofs.EndsTrue.{EndedAt, known_of, ended_step, ended_quiet, said_refused}
-use Rattle.vp_laws.proofs.Worlds.{NowIs, now_is, Quiet, QuietIs, quiet_is}
-use Rattle.vp_model.specs.Durable.{DurableState}
+use Rattle.vp_laws.proofs.Worlds.{NowIs, now_is, Quiet, QuietIs, quiet_is, no_finished, no_live}
 use Rattle.vp_laws.proofs.Reasons.{Operates, Takes, Awaits, Why, told_to}
 use Rattle.vp_laws.proofs.TableRefusals.{Refused, RefuseSays, refusals-step}
 use Rattle.vp_laws.proofs.TableFair.{is_free, finished_as, LiveFrom, FinishedFrom, ReplyFrom, Causes, causes-step}
 use Rattle.vp_laws.proofs.Fair.{WasBegun, Once, OtherView, Fair, begun_more, fair_more, fair_justified}
-use Rattle.vp_laws.proofs.FairStep.{IsStep, named_site, tested_x, replied, blocked_here, blocked_there, other_there, left_and_closed_now, same_txn-self, same_view-self, eq_self}
+use Rattle.vp_laws.proofs.FairStep.{IsStep, named_site, tested_x, replied, blocked_here, blocked_there, other_there, left_and_closed_now, same_view-self, eq_self}
 use Rattle.vp_laws.proofs.FairAt.{IsAsked, RefuseFair, RefuseOk, FairEnd, FairAt, refuse_on, end_more, free_justified, report_fair}
-
-no_number : (a b : ℕ) → a ≤ b → a ≡ b + 1 → ⊥
-no_number a b h e = omega arith
+use Rattle.vp_laws.proofs.TableKept.{is_report}
+use Rattle.vp_laws.proofs.Numbers.{one_above}
 
 at_most_of : (a b c : ℕ) → a ≡ b + 1 → b + 1 ≤ c → a ≤ c
 at_most_of a b c e h = omega arith
 
 same_at_most : (a b : ℕ) → a ≡ b → b ≤ a
 same_at_most a b e = omega arith
-
--- membership in the words of a site that is alone
-to_lone : {X : Type 0} (xs : List X) (x : X) → Has xs x → LoneHas xs x
-to_lone xs x h = lone_of xs x (contains xs x h)
-
-from_lone : {X : Type 0} (xs : List X) (x : X) → LoneHas xs x → Has xs x
-from_lone xs x h = has_of xs x (lone_contains xs x h)
 
 -- answers that say nothing of a refused call
 free_unrefused : (txn : TxnId) (a : Answer) (n : ℕ) → is_free a ≡ true → refused_number txn a ≡ Some n → ⊥
@@ -132,7 +121,7 @@ module _ (catalogue : Catalogue) (world : WorldState) (past : List Moment) (m0 :
   -- a transaction that was live as the step began was told of no refusal before
   never_told : (txn : TxnId) (u : Live) → Has x.live u → u.txn ≡ txn → refused_in past txn ≡ None
   never_told txn u h same = none_refused txn past (λ m k a q n e.
-      let ended = fair.told m (from_lone past m k) a (from_lone (answers_in m.line) a q) txn n e in
+      let ended = fair.told m k a q txn n e in
       ended.over x (rw (← same, own_site u h) up) u h same)
 
   -- and in this step only under the number of its pending call
@@ -163,7 +152,7 @@ module _ (catalogue : Catalogue) (world : WorldState) (past : List Moment) (m0 :
   refused_first : (t : Live) (p : Pending) (a : Answer) → Handled x t → p.number ≡ length t.answers + 1 → refused_number t.txn a ≡ Some p.number → Has (answers_in m0.line) a → refused_in now t.txn ≡ Some p.number
   refused_first t p a at number own h =
       refused_last t.txn past m0 (never_told t.txn at.was at.live (ap (λ (t : Live). t.txn) (sym at.same)))
-      ∙ first_told t.txn (answers_in m0.line) p.number (λ b q n e. number_in t at b (from_lone (answers_in m0.line) b q) n e ∙ sym number) a (to_lone (answers_in m0.line) a h) own
+      ∙ first_told t.txn (answers_in m0.line) p.number (λ b q n e. number_in t at b q n e ∙ sym number) a h own
 
   came : (from : ℕ) (m : Message) → Comes given from m → Has w.sent (letter from s m)
   came from m e = rw e at arrives
@@ -171,7 +160,7 @@ module _ (catalogue : Catalogue) (world : WorldState) (past : List Moment) (m0 :
   -- the request that was refused is of the pending call, and of another site
   current : (t : Live) (p : Pending) (Asked : Pending → Type 0) → Has x.live t → t.pending ≡ Some p → Current Asked p.number t → Asked p
   current t p Asked h e cur = ⊎_elim
-      (λ old. absurd (no_number p.number (length t.answers) old (next_number t p h e)))
+      (λ old. absurd (one_above p.number (length t.answers) old (next_number t p h e)))
       (λ (q : (a : Pending) × (t.pending ≡ Some a) × (a.number ≡ p.number) × Asked a). let z = q.1 in let same : q.0 ≡ p = cc in subst Asked same q.3) cur
 
   uses_reads : (p : Pending) (name : List ℕ) (exclusive : Bool) (rec : ℕ) → Operates p.call name exclusive → Reads catalogue p rec → find_record catalogue name ≡ Some rec
@@ -403,14 +392,6 @@ module _ (catalogue : Catalogue) (world : WorldState) (past : List Moment) (m0 :
       finished_at {k} y f g (NowIs.other n old) = end_more catalogue past (m0 ∷ []) f (fair.finished k y f old g)
       finished_at y f g (NowIs.here e same) = finished_now f (c.finished f (subst (λ (y : SiteState). Has y.finished f) (sym same) g))
 
-pub none_live : (catalogue : Catalogue) (s : ℕ) (d : DurableState) (t : Live) → Has (start catalogue s d).live t → ⊥
-unfolding start
-none_live catalogue s d t h = has_none t h
-
-pub none_finished : (catalogue : Catalogue) (s : ℕ) (d : DurableState) (f : Finished) → Has (start catalogue s d).finished f → ⊥
-unfolding start
-none_finished catalogue s d f h = has_none f h
-
 -- no moment tells an answer
 abbrev pub Silent : List Moment → Type 0
 Silent more = (m : Moment) → Has more m → (a : Answer) → Has (answers_in m.line) a → ⊥
@@ -429,11 +410,11 @@ quiet_fair catalogue w new past more s q base kept eighth silent fair = record {
   where
     live_at : {k : ℕ} (y : SiteState) (t : Live) → Has y.live t → QuietIs catalogue w s k y → WasBegun (past ++ more) t.txn t.view
     live_at {k} y t g (QuietIs.other n old) = begun_more past more t.txn t.view (fair.live k y t old g)
-    live_at y t g (QuietIs.here e same) = absurd (none_live catalogue s (kept_at w s) t (subst (λ (y : SiteState). Has y.live t) (sym same) g))
+    live_at y t g (QuietIs.here e same) = absurd (no_live catalogue s (kept_at w s) t (subst (λ (y : SiteState). Has y.live t) (sym same) g))
 
     finished_at : {k : ℕ} (y : SiteState) (f : Finished) → Has y.finished f → QuietIs catalogue w s k y → FairEnd catalogue (past ++ more) f
     finished_at {k} y f g (QuietIs.other n old) = end_more catalogue past more f (fair.finished k y f old g)
-    finished_at y f g (QuietIs.here e same) = absurd (none_finished catalogue s (kept_at w s) f (subst (λ (y : SiteState). Has y.finished f) (sym same) g))
+    finished_at y f g (QuietIs.here e same) = absurd (no_finished catalogue s (kept_at w s) f (subst (λ (y : SiteState). Has y.finished f) (sym same) g))
 
 -- nothing but the moments
 pub same_fair : (catalogue : Catalogue) (w : Scene) (past more : List Moment) → Silent more → FairAt catalogue w past → FairAt catalogue w (past ++ more)

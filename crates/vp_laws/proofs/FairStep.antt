@@ -21,14 +21,15 @@ use Rattle.vp_model.specs.Answers.{is_live}
 use Rattle.vp_model.specs.Messages.{held_id}
 use Rattle.vp_model.specs.Told.{answers_in, messages_in}
 use Rattle.vp_model.specs.Justified.{Request, call_request, message_request, request_of, site_named, is_step_of, is_request, tested_before, tested_after, blocks, is_named, says_held, gave_held, was_blocked, refuses, is_held_by, is_other_view, is_same_view, handles, held_other, left_then, left_and_closed}
-use Rattle.vp_one_site.proofs.LockTables.{same_owner-self, least_any}
 use Rattle.vp_laws.proofs.Members.{Has, both_true, any_of}
 use Rattle.vp_laws.proofs.Lists.{mapped_has}
-use Rattle.vp_laws.proofs.Apart.{same_txn-is}
+use Rattle.vp_laws.proofs.Apart.{same_txn-is, same_txn-self}
 use Rattle.vp_laws.proofs.Table.{Comes, Requests, Asks}
 use Rattle.vp_laws.proofs.LocalViews.{letter}
 use Rattle.vp_laws.proofs.Occurs.{Gives}
 use Rattle.vp_laws.proofs.Reasons.{Called, Operates, told_to}
+use Rattle.vp_laws.proofs.LockTables.{same_owner-self, least_any}
+use Rattle.vp_laws.proofs.Numbers.{eq_not}
 
 -- the moment is a step of the site s, from x to o
 pub record IsStep (m : Moment) (w : WorldState) (s : ℕ) (x : SiteState) (given : Input) (o : Stepped) : Type 0 where
@@ -39,9 +40,6 @@ pub record IsStep (m : Moment) (w : WorldState) (s : ℕ) (x : SiteState) (given
   pub up : site_of w s ≡ Some x
   pub after : site_of m.after s ≡ Some o.site
 
-pub same_txn-self : (t : TxnId) → same_txn t t ≡ true
-same_txn-self t = grind (arith, nat_tests)
-
 pub eq_self : (n : ℕ) → (n == n) ≡ true
 eq_self n = grind (arith, nat_tests)
 
@@ -51,9 +49,6 @@ same_view-self v = grind (arith, nat_tests)
 same_now : (v : Option ViewId) → is_same_view v v ≡ true
 same_now None = refl
 same_now (Some v) = same_view-self v
-
-eq_not : (a b : ℕ) → a ≢ b → (a == b) ≡ false
-eq_not a b n = grind (arith, nat_tests, n)
 
 pub named_site : (e : Event) (w : WorldState) (s : ℕ) (given : Input) → Gives e w s given → site_named w e ≡ Some s
 named_site e w s given (Gives.called words is) = rw is refl

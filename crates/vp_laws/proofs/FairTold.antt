@@ -1,5 +1,5 @@
 -- The refusals that clients are told are justified, in every schedule.
-use Rattle.std.proofs.Common.{◌≡◌, ap, sym, subst, ℕ, true, false, List, [], ◌∷◌, ◌++◌, map, refl}
+use Rattle.std.proofs.Common.{◌≡◌, ap, sym, subst, ℕ, true, false, List, [], ◌∷◌, ◌++◌, map, refl, append_assoc}
 use Rattle.std.specs.Prelude.{Some}
 use Rattle.vp_model.specs.Types.{Event, Input, Answer, Reply}
 use Rattle.vp_model.specs.Catalogue.{Catalogue, start_copies}
@@ -10,19 +10,27 @@ use Rattle.vp_model.specs.Told.{is_step, answers_in}
 use Rattle.vp_model.specs.Justified.{justified, all_justified}
 use Rattle.vp_model.specs.Headline.{RefusalsAreJustified}
 use Rattle.vp_model.specs.World.{WorldState, Moved, Moment, Run, Schedule, moment, next, one_step, site_of, site_step, start_world}
-use Rattle.vp_one_site.proofs.KeptAnswers.{all_justified-last}
 use Rattle.vp_laws.proofs.Members.{Has, has_none, has_one_is}
 use Rattle.vp_laws.proofs.Lists.{all_from}
 use Rattle.vp_laws.proofs.Scenes.{Scene, scene_of, plain_at, acted}
 use Rattle.vp_laws.proofs.Events.{Arrives, crashed, restarted}
-use Rattle.vp_laws.proofs.Worlds.{crash_quiet, restart_quiet, started, start_sent}
+use Rattle.vp_laws.proofs.Worlds.{crash_quiet, restart_quiet, started, start_sent, no_finished, started_idle}
 use Rattle.vp_laws.proofs.InvAnswers.{answers_last}
 use Rattle.vp_laws.proofs.InvRepeated.{kept_last, Does, does}
 use Rattle.vp_laws.proofs.InvKept.{kept_last as ends_last}
 use Rattle.vp_laws.proofs.Occurs.{no_replies, Gives, Occurs, occurs, run-keeps}
 use Rattle.vp_laws.proofs.FairStep.{IsStep}
 use Rattle.vp_laws.proofs.FairAt.{FairAt}
-use Rattle.vp_laws.proofs.FairMoves.{Silent, step_fair, replies_justified, quiet_fair, same_fair, none_live, none_finished}
+use Rattle.vp_laws.proofs.FairMoves.{Silent, step_fair, replies_justified, quiet_fair, same_fair}
+use Rattle.std.proofs.lemmas.Bool.{and_parts}
+use Rattle.std.specs.List.{list_all}
+
+-- a moment is judged by what came before it
+all_justified-last : (catalogue : Catalogue) (past moments : List Moment) (m : Moment) → all_justified catalogue past moments ≡ true → list_all (justified catalogue (past ++ (moments ++ m ∷ [])) m) (answers_in m.line) ≡ true → all_justified catalogue past (moments ++ m ∷ []) ≡ true
+all_justified-last catalogue past [] m h e = rw e refl
+all_justified-last catalogue past (x ∷ moments) m h e =
+    let p = and_parts (list_all (justified catalogue (past ++ x ∷ []) x) (answers_in x.line)) (all_justified catalogue (past ++ x ∷ []) moments) h in
+    rw p.0 (all_justified-last catalogue (past ++ x ∷ []) moments m p.1 (rw (append_assoc past (x ∷ []) (moments ++ m ∷ [])) e))
 
 -- one more moment: what is refused is justified by then, and so are its answers
 pub record Justifies (catalogue : Catalogue) (past : List Moment) (m : Moment) (new : Scene) : Type 0 where
@@ -99,8 +107,8 @@ start_fair catalogue = record {
   kept = (kept_last catalogue).starts;
   eighth = (answers_last catalogue).starts;
   sent = λ m h. absurd (start_sent catalogue m h);
-  live = λ s x t h k. absurd (none_live catalogue s (empty_durable (start_copies catalogue s)) t (subst (λ (x : SiteState). Has x.live t) (sym (started catalogue s x h)) k));
-  finished = λ s x f h k. absurd (none_finished catalogue s (empty_durable (start_copies catalogue s)) f (subst (λ (x : SiteState). Has x.finished f) (sym (started catalogue s x h)) k));
+  live = λ s x t h k. absurd (started_idle catalogue s x t h k);
+  finished = λ s x f h k. absurd (no_finished catalogue s (empty_durable (start_copies catalogue s)) f (subst (λ (x : SiteState). Has x.finished f) (sym (started catalogue s x h)) k));
 }
 
 pub refusals_justified : (s : Schedule) → RefusalsAreJustified s

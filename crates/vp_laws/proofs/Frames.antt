@@ -1,16 +1,16 @@
 -- What the ends of transactions leave of the coordinator's part, and what they send.
-use Rattle.std.proofs.Common.{◌≡◌, ◌∙◌, ℕ, Bool, true, false, cond, List, [], ◌∷◌, ◌++◌, refl, arith}
+use Rattle.std.proofs.Common.{◌≡◌, ◌∙◌, ℕ, Bool, true, false, cond, List, [], ◌∷◌, ◌++◌, refl}
 use Rattle.std.specs.Prelude.{Option, Some, None}
-use Rattle.std.proofs.lemmas.Bool.Decides.{nat_tests}
 use Rattle.vp_model.specs.Types.{TxnId, Effects, Pending, Live, Ending}
 use Rattle.vp_base.specs.declared.site.Ending.TheVariants.{Committed}
 use Rattle.vp_model.specs.Types.owner
 use Rattle.vp_model.specs.Types.message
 use Rattle.vp_model.specs.Catalogue.{Catalogue}
-use Rattle.vp_model.specs.Words.{same_txn, is_empty}
+use Rattle.vp_model.specs.Words.{is_empty}
 use Rattle.vp_model.specs.Locks.{without_owner}
 use Rattle.vp_model.specs.Site.{Lent, letters}
 use Rattle.vp_model.specs.Transactions.{last_changes, entry_of, with_pending_reply, finish, close, close_all, with_finished, keep_writes, decided, decide}
+use Rattle.vp_laws.proofs.Apart.{same_txn-self}
 
 -- a transaction has ended: its parts are told whether it commits, and its locks go
 pub record Ends (id : ℕ) (t : Live) (why : Ending) (commit : Bool) (l now : Lent) : Type 0 where
@@ -48,9 +48,6 @@ unfolding decided finish
 decided-commits id t l = reply-commits t.txn Committed t.pending _
 
 -- after all live ones have been closed, none is live
-same_txn-self : (t : TxnId) → same_txn t t ≡ true
-same_txn-self t = grind (arith, nat_tests)
-
 closed_first : (id : ℕ) (t : Live) (ts : List Live) (why : Ending) (l : Lent) → l.live ≡ t ∷ ts → (close id t why l).live ≡ ts
 unfolding close finish
 closed_first id t ts why l e = rw (e, same_txn-self t.txn) refl

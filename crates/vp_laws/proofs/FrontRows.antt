@@ -24,10 +24,11 @@ use Rattle.vp_model.specs.Step.{is_marked_call, least_missing, time_out_calls, m
 use Rattle.vp_laws.specs.Votes.{is_commit}
 use Rattle.vp_laws.proofs.Members.{Has, filter_has, has_first, has_more, find_has}
 use Rattle.vp_laws.proofs.Frames.{close-commits, decided-ends, decided-commits, decide-cases}
-use Rattle.vp_laws.proofs.Coordinator.{by_option, by_some, by_test, live_of-has, live_of-is}
+use Rattle.vp_laws.proofs.Coordinator.{live_of-has, live_of-is, next_number}
 use Rattle.vp_laws.proofs.Table.{Comes, Handled, Reads, Writes, remaining, IsLast, Locked, Completes, Decides, lent_at}
 use Rattle.vp_laws.proofs.TableSteps.{reading, writing, waiting}
 use Rattle.vp_laws.proofs.Reasons.{Called, Operates, Takes, Awaits, Why, Tells, last_reply, IsDone, Goes, Front}
+use Rattle.vp_laws.proofs.Keeps.{by_option, by_some, by_test}
 
 -- the end that is replied
 reply-replies : (txn : TxnId) (why : Ending) (t : Live) (e : Effects) → t.txn ≡ txn → (with_pending_reply txn why t.pending e).replies ≡ e.replies ++ last_reply t why
@@ -48,10 +49,6 @@ decided-replies id t l = reply-replies t.txn Committed t _ refl
 close-coordinator : (id : ℕ) (t : Live) (why : Ending) (l : Lent) → (close id t why l).coordinator ≡ with_finished t why l.coordinator
 unfolding close finish
 close-coordinator id t why l = refl
-
--- neither below nor above the next number
-next_number : (n m : ℕ) → nat_le n m ≡ false → nat_lt (m + 1) n ≡ false → n ≡ m + 1
-next_number n m a b = grind (arith, a, b)
 
 -- the call is of the transaction that is handled
 own_name : (t : Live) (txn : TxnId) → t.txn ≡ txn → (number : ℕ) (words : Call) → is_call txn number words ≡ true → is_call t.txn number words ≡ true

@@ -16,8 +16,7 @@ use Rattle.vp_model.specs.Views.{drop_view, leave, start_inviting, invite, refre
 use Rattle.vp_model.specs.Calls.{on_regroup, on_call}
 use Rattle.vp_model.specs.Messages.{with_heard, refuse_view, with_vote, with_new_doubt, doubted_records, with_answer, accept, on_invite, on_accept, on_stale, on_view_commit, on_probe_message, grant, lock_copy, on_request, on_read_request, on_write_request, first_vote, on_prepare, end_here, end_part, on_outcome, on_refresh_request, on_refresh_answer, answered, on_message}
 use Rattle.vp_model.specs.Step.{time_out_calls, fix, fix_view, ask_again, ask_again_all, time_out, without_wait, tick_view, resend_one, resend, resend_decisions, inquire, inquire_all, on_tick, probe_in, probe_all, on_probe, on_input, step}
-use Rattle.vp_laws.proofs.Keeps.{for_each-same}
-use Rattle.vp_laws.proofs.Coordinator.{by_some, by_test}
+use Rattle.vp_laws.proofs.Keeps.{for_each-same, by_some, by_test}
 use Rattle.vp_laws.proofs.Table.{Comes, lent_at}
 use Rattle.vp_laws.proofs.Reasons.{Tells, Front}
 use Rattle.vp_laws.proofs.FrontRows.{abandon-front, time_out_calls-front, own_call-front, on_answer-front}

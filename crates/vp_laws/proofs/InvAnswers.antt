@@ -1,19 +1,16 @@
 -- Requests and their answers, in every world: a request of a live transaction is of its pending call or of an answered one, and
 -- each other holder of what it wrote, and each site that it read at, has answered.
 use Rattle.std.proofs.Common.{◌≡◌, ◌≢◌, ◌⊎◌, ◌∙◌, ap, sym, subst, ℕ, ◌+◌, ◌≤◌, true, List, [], ◌∷◌, ◌++◌, refl, arith, inl, inr, ⊎_elim, length}
-use Rattle.std.specs.Prelude.{Option, Some, None, not, ◌==◌}
-use Rattle.std.proofs.lemmas.Bool.Decides.{nat_tests}
+use Rattle.std.specs.Prelude.{Option, Some, not, ◌==◌}
 use Rattle.vp_model.specs.Types.{ViewId, TxnId, View, Sent, Message, Input, Op, Answer, Pending, Live}
 use Rattle.vp_model.specs.Types.message
 use Rattle.vp_model.specs.Types.op
 use Rattle.vp_model.specs.Words.{is_empty}
-use Rattle.vp_model.specs.Catalogue.{Catalogue, start_copies}
-use Rattle.vp_model.specs.Durable.{DurableState, empty_durable}
+use Rattle.vp_model.specs.Catalogue.{Catalogue}
 use Rattle.vp_model.specs.Site.{SiteState, Stepped, Lent}
 use Rattle.vp_model.specs.Transactions.{last_writes}
 use Rattle.vp_model.specs.Refresh.{other_holders_in, other_holders}
-use Rattle.vp_model.specs.Step.{start, step, mark, marked_call}
-use Rattle.vp_laws.specs.Votes.{is_commit}
+use Rattle.vp_model.specs.Step.{step, mark}
 use Rattle.vp_laws.proofs.Members.{Has, has_none, has_one, has_one_is, has_cases, filter_keeps}
 use Rattle.vp_laws.proofs.Order.{same_site}
 use Rattle.vp_laws.proofs.LocalViews.{letter}
@@ -24,10 +21,13 @@ use Rattle.vp_laws.proofs.TableSteps.{waiting, done, reading, writing, LiveNow, 
 use Rattle.vp_laws.proofs.OnlyCoordinator.{is_aside}
 use Rattle.vp_laws.proofs.InvNames.{UsedTxn, InvNames}
 use Rattle.vp_laws.proofs.InvShares.{InvShares}
-use Rattle.vp_laws.proofs.InvOps.{same_held, HasWritten, LiveOk, last_written, value_key, longer, read_not_write, reads_same, writes_same, Seventh, ops_last}
+use Rattle.vp_laws.proofs.InvOps.{same_held, HasWritten, LiveOk, last_written, value_key, longer, read_not_write, reads_same, writes_same, Seventh, ops_last, unmarked, no_commit_reads, no_commit_writes}
 use Rattle.vp_laws.proofs.Scenes.{Scene, plain_at, kept_at, Acted, acted, stepping}
 use Rattle.vp_laws.proofs.Events.{Arrives, Lasts}
-use Rattle.vp_laws.proofs.Worlds.{NowIs, now_is, Quiet, QuietIs, quiet_is, started, start_sent, With, Above, with_last}
+use Rattle.vp_laws.proofs.Worlds.{NowIs, now_is, Quiet, QuietIs, quiet_is, start_sent, With, Above, with_last, no_live, started_idle}
+use Rattle.vp_laws.proofs.Numbers.{one_above, not_same}
+use Rattle.vp_laws.proofs.Lists.{is_none, empty_not}
+use Rattle.vp_laws.proofs.InvEndings.{fresh}
 
 -- the site has answered a read, or a write, of the record for the transaction
 abbrev pub HasRead : Scene → ℕ → TxnId → ℕ → Type 0
@@ -63,21 +63,11 @@ pub record InvAnswers (catalogue : Catalogue) (w : Scene) : Type 0 where
   pub asks : (m : Sent) → Has w.sent m → Asks catalogue w m.message
   pub live : (s : ℕ) (x : SiteState) (t : Live) → plain_at w s ≡ Some x → Has x.live t → AnswersOk catalogue w x.id x.held t
 
-not_both_numbers : (a b : ℕ) → a ≤ b → a ≡ b + 1 → ⊥
-not_both_numbers a b h e = omega arith
-
 up_to_next : (a b c : ℕ) → a ≡ b + 1 → c ≡ b + 1 → a ≤ c
 up_to_next a b c e f = omega arith
 
 at_most_next : (a b c : ℕ) → a ≤ b → c ≡ b + 1 → a ≤ c
 at_most_next a b c e f = omega arith
-
-not_same : (a b : ℕ) → a ≢ b → not (a == b) ≡ true
-not_same a b n = grind (arith, nat_tests, n)
-
-is_none : {X : Type 0} (xs : List X) → is_empty xs ≡ true → xs ≡ []
-is_none [] e = refl
-is_none (x ∷ xs) e = cc
 
 -- the call of a pending call with other sites missing is the same
 same_reads : (catalogue : Catalogue) (p a : Pending) (rec : ℕ) → p.call ≡ a.call → Reads catalogue a rec → Reads catalogue p rec
@@ -100,11 +90,6 @@ module _ (catalogue : Catalogue) (w new : Scene) (s : ℕ) (x : SiteState) (give
 
   came : (from : ℕ) (m : Message) → Comes given from m → Has w.sent (letter from s m)
   came from m e = rw e at arrives
-
-  not_new : (txn : TxnId) → UsedTxn w txn → txn ≡ next_name x → ⊥
-  not_new txn u n =
-      let here : txn.site ≡ s = ap (λ (t : TxnId). t.site) n ∙ id in
-      not_both_numbers txn.seq x.seq (u.seq x (rw here up) (sym (ap (λ (t : TxnId). t.life) n))) (ap (λ (t : TxnId). t.seq) n)
 
   module _ (Asked : Pending → Type 0) (stable : Stable Asked) where
     -- the request is current still, for what the transaction has become
@@ -131,7 +116,7 @@ module _ (catalogue : Catalogue) (w new : Scene) (s : ℕ) (x : SiteState) (give
         go : (y : SiteState) (t : Live) → NowIs w s o.site txn.site y → Has y.live t → t.txn ≡ txn → Current Asked number t
         go y t (NowIs.other n g) k e = h y t g k e
         go y t (NowIs.here z same) k e =
-            current_now number t (λ u q f. h x u (rw z up) q (f ∙ e)) (λ f. not_new txn used (sym e ∙ f)) (c.live t (subst (λ (y : SiteState). Has y.live t) (sym same) k))
+            current_now number t (λ u q f. h x u (rw z up) q (f ∙ e)) (λ f. fresh w s x up id txn used (sym e ∙ f)) (c.live t (subst (λ (y : SiteState). Has y.live t) (sym same) k))
 
     asks_new : (u now : Live) (p : Pending) → Has x.live u → now.txn ≡ u.txn → now.pending ≡ Some p → Asked p → Only o.site.live now → AskSays new u.txn p.number Asked
     asks_new u now p h name pending asked only = λ y t g k e. go y t (now_is w new s x o st u.txn.site y g) k e
@@ -171,7 +156,7 @@ module _ (catalogue : Catalogue) (w new : Scene) (s : ℕ) (x : SiteState) (give
       let sent = came from (message.WriteAnswer u.txn p.number) g in
       let q = shares.says _ sent in
       let k : Current (WritesTo catalogue q.1) p.number u = inv.asks _ q.2 x u (rw (owned u h ∙ id) up) h refl in
-      ⊎_elim (λ low. absurd (not_both_numbers p.number (length u.answers) low ((ops u h).next p e)))
+      ⊎_elim (λ low. absurd (one_above p.number (length u.answers) low ((ops u h).next p e)))
       (λ (z : (a : Pending) × (u.pending ≡ Some a) × (a.number ≡ p.number) × WritesTo catalogue q.1 a).
       let same : z.0 ≡ p = (let b = z.1 in cc) in
       let is : q.1 ≡ rec = writes_same catalogue p q.1 rec z.3.0 value (same_writes catalogue p z.0 q.1 z.3.0 (ap (λ (p : Pending). p.call) (sym same)) z.3.1) r in
@@ -182,7 +167,7 @@ module _ (catalogue : Catalogue) (w new : Scene) (s : ℕ) (x : SiteState) (give
       let sent = came from (message.ReadAnswer u.txn p.number value) g in
       let q = shares.says _ sent in
       let k : Current (λ p. Reads catalogue p q.1) p.number u = inv.asks _ q.2 x u (rw (owned u h ∙ id) up) h refl in
-      ⊎_elim (λ low. absurd (not_both_numbers p.number (length u.answers) low ((ops u h).next p e)))
+      ⊎_elim (λ low. absurd (one_above p.number (length u.answers) low ((ops u h).next p e)))
       (λ (z : (a : Pending) × (u.pending ≡ Some a) × (a.number ≡ p.number) × Reads catalogue a q.1).
       let same : z.0 ≡ p = (let b = z.1 in cc) in
       let is : q.1 ≡ rec = reads_same catalogue p q.1 rec (same_reads catalogue p z.0 q.1 (ap (λ (p : Pending). p.call) (sym same)) z.3) r in
@@ -204,12 +189,6 @@ module _ (catalogue : Catalogue) (w new : Scene) (s : ℕ) (x : SiteState) (give
   only_from : (p : Pending) (from q : ℕ) → is_empty (remaining from p) ≡ true → Has p.missing q → q ≡ from
   only_from p from q e h = ⊎_elim (λ it. it) (λ (n : q ≢ from). absurd (has_none q (rw (is_none (remaining from p) e) at (filter_keeps (λ (a : ℕ). not (a == from)) p.missing q h (not_same q from n))))) (same_site q from)
 
-  no_commit_writes : {C : Type 0} (p : Pending) (rec : ℕ) (value : List ℕ) → is_commit p.call ≡ true → Writes catalogue p rec value → C
-  no_commit_writes p rec value k r = let z = ap is_commit r.words in cc
-
-  no_commit_reads : {C : Type 0} (p : Pending) (rec : ℕ) → is_commit p.call ≡ true → Reads catalogue p rec → C
-  no_commit_reads p rec k r = let z = ap is_commit r.words in cc
-
   abbrev Fine : Live → Type 0
   Fine t = AnswersOk catalogue new x.id x.held t
 
@@ -220,12 +199,12 @@ module _ (catalogue : Catalogue) (w new : Scene) (s : ℕ) (x : SiteState) (give
   counted_write : (u : Live) (p : Pending) (from rec : ℕ) (value : List ℕ) → Has x.live u → u.pending ≡ Some p → Counts catalogue given u p from → Writes catalogue p rec value → HasWrote new from u.txn rec
   counted_write u p from rec value h e (Counts.read other v g r) w = read_not_write catalogue p other rec value r w
   counted_write u p from rec value h e (Counts.written other v g r) w = wrote_now u p from rec value h e w g
-  counted_write u p from rec value h e (Counts.voted g k) w = no_commit_writes p rec value k w
+  counted_write u p from rec value h e (Counts.voted g k) w = no_commit_writes catalogue p rec value k w
 
   counted_read : (u : Live) (p : Pending) (from rec : ℕ) → Has x.live u → u.pending ≡ Some p → Counts catalogue given u p from → Reads catalogue p rec → HasRead new from u.txn rec
   counted_read u p from rec h e (Counts.read other v g r) w = read_now u p from rec v h e w g
   counted_read u p from rec h e (Counts.written other v g r) w = read_not_write catalogue p rec other v w r
-  counted_read u p from rec h e (Counts.voted g k) w = no_commit_reads p rec k w
+  counted_read u p from rec h e (Counts.voted g k) w = no_commit_reads catalogue p rec k w
 
   waits_fine : (u : Live) (p : Pending) (from : ℕ) → Has x.live u → u.pending ≡ Some p → Counts catalogue given u p from → Fine (waiting u p (remaining from p))
   waits_fine u p from h f k = let b = before u h in record {
@@ -264,10 +243,6 @@ module _ (catalogue : Catalogue) (w new : Scene) (s : ℕ) (x : SiteState) (give
   one_record : (operation : Op) (rec other : ℕ) (value v : List ℕ) → operation ≡ op.Write rec value → operation ≡ op.Write other v → rec ≡ other
   one_record operation rec other value v e f = cc
 
-  empty_not : (xs : List ℕ) (q : ℕ) → is_empty xs ≡ true → Has xs q → ⊥
-  empty_not [] q e h = has_none q h
-  empty_not (a ∷ xs) q e h = cc
-
   completed_fine : (u : Live) (p : Pending) (operation : Op) (words : Answer) (l : Lent) → Has x.live u → Completes catalogue x given u p operation words l → Fine (done u operation words)
   completed_fine u p operation words l h (Completes.own_write rec value next r a v o z e) = done_fine u operation words h (λ n b f. no_write operation rec n value b o f) (idle_reads u p next)
   completed_fine u p operation words l h (Completes.own_copy rec stored next r a v k f o z e) = done_fine u operation words h (λ n b g. no_write operation rec n stored.value b o g) (idle_reads u p next)
@@ -304,10 +279,6 @@ module _ (catalogue : Catalogue) (w new : Scene) (s : ℕ) (x : SiteState) (give
     writing = λ p rec value f r q z. let a = unmarked u.pending p f in ⊎_elim (λ still. inl (rw (← (ap (λ (p : Pending). p.missing) a.2)) still)) (λ g. inr g) (b.writing a.0 rec value a.1 (same_writes catalogue a.0 p rec value (ap (λ (p : Pending). p.call) a.2) r) q z);
     remote = λ r z. ⊎_elim (λ g. inl g) (λ (a : (a : Pending) × (u.pending ≡ Some a) × Reads catalogue a r.1 × Has a.missing r.0). inr (record a.0 { marked = true }, rw a.1 refl, same_reads catalogue (record a.0 { marked = true }) a.0 r.1 refl a.2, a.3)) (b.remote r z);
   })
-    where
-      unmarked : (o : Option Pending) (p : Pending) → marked_call o ≡ Some p → (a : Pending) × (o ≡ Some a) × (record a { marked = true } ≡ p)
-      unmarked None p e = cc
-      unmarked (Some a) p e = (a, refl, cc)
   live_fine t (LiveNow.waits u p from h f m l k e) = subst Fine e (waits_fine u p from h f k)
   live_fine t (LiveNow.completed u p operation words l h k e) = subst Fine e (completed_fine u p operation words l h k)
   live_fine t (LiveNow.reads u p rec q h a e) = subst Fine e (let b = before u h in record {
@@ -327,7 +298,7 @@ module _ (catalogue : Catalogue) (w new : Scene) (s : ℕ) (x : SiteState) (give
   })
   live_fine t (LiveNow.prepares u p h a e) = subst Fine e (let b = before u h in record {
     wrote = asked_fine u (waiting u p u.parts) b refl refl;
-    writing = λ n rec value f r q z. let is : record p { missing = u.parts } ≡ n = cc in no_commit_writes p rec value a.commit (same_writes catalogue p n rec value (ap (λ (p : Pending). p.call) is) r);
+    writing = λ n rec value f r q z. let is : record p { missing = u.parts } ≡ n = cc in no_commit_writes catalogue p rec value a.commit (same_writes catalogue p n rec value (ap (λ (p : Pending). p.call) is) r);
     remote = λ r z. inl (old_read u p b a.next r z);
   })
   live_fine t (LiveNow.begins view h e) = subst Fine e (record { wrote = λ rec k q z. absurd (has_none _ k.1); writing = λ p rec value f r q z. cc; remote = λ r z. absurd (has_none r z) })
@@ -347,10 +318,6 @@ module _ (catalogue : Catalogue) (w new : Scene) (s : ℕ) (x : SiteState) (give
 
 abbrev pub Eighth : Catalogue → Scene → Type 0
 Eighth catalogue w = With (Seventh catalogue) (InvAnswers catalogue) w
-
-no_live : (catalogue : Catalogue) (s : ℕ) (d : DurableState) (t : Live) → Has (start catalogue s d).live t → ⊥
-unfolding start
-no_live catalogue s d t h = has_none t h
 
 module _ (catalogue : Catalogue) (w new : Scene) (s : ℕ) (q : Quiet catalogue w new s) (inv : InvAnswers catalogue w) where
   sent_on : (m : Sent) → Has w.sent m → Has new.sent m
@@ -386,7 +353,7 @@ answers_above : (catalogue : Catalogue) → Above catalogue (Seventh catalogue) 
 answers_above catalogue = record {
   starts = record {
     asks = λ m h. absurd (start_sent catalogue m h);
-    live = λ s x t h k. absurd (no_live catalogue s (empty_durable (start_copies catalogue s)) t (subst (λ (x : SiteState). Has x.live t) (sym (started catalogue s x h)) k));
+    live = λ s x t h k. absurd (started_idle catalogue s x t h k);
   };
   acts = λ w s x given up r low now inv.
       let fourth = low.lower.lower.lower in

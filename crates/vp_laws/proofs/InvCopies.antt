@@ -19,7 +19,7 @@ use Rattle.vp_laws.proofs.TableLeaves.{Uses}
 use Rattle.vp_laws.proofs.Scenes.{Scene, scene_of, kept_in, up-place, plain_at, kept_at, acted}
 use Rattle.vp_laws.proofs.Agreement.{start_at, views_last}
 use Rattle.vp_laws.proofs.Events.{Lasts}
-use Rattle.vp_laws.proofs.Worlds.{Quiet, QuietIs, quiet_is, quiet_kept, started, start_kept, start_sent, start_entered, With, Above, with_last}
+use Rattle.vp_laws.proofs.Worlds.{Quiet, QuietIs, quiet_is, quiet_kept, started, start_kept, start_sent, start_entered, With, Above, with_last, started_idle, live_still}
 use Rattle.vp_laws.proofs.InvShares.{HasRequest}
 use Rattle.vp_laws.proofs.InvEntered.{AgreedAs}
 use Rattle.vp_laws.proofs.InvLived.{InvLived, start_unused}
@@ -110,10 +110,6 @@ module _ (catalogue : Catalogue) where
       none : (j : ViewId) → Precedes j v.id → ⊥
       none j below = not_both j opening (subst (Precedes j) at below) (opening_least j)
 
-  no_live : (s : ℕ) (d : DurableState) (t : Live) → Has (start catalogue s d).live t → ⊥
-  unfolding start
-  no_live s d t h = has_none t h
-
   no_request : (from to number rec : ℕ) (txn : TxnId) (view : ViewId) (exclusive : Bool) → HasRequest w from to txn view number rec exclusive → ⊥
   no_request from to number rec txn view false (HasRequest.to_read h) = start_sent catalogue _ h
   no_request from to number rec txn view true (HasRequest.to_write h) = start_sent catalogue _ h
@@ -135,9 +131,9 @@ module _ (catalogue : Catalogue) where
       value = λ p to rec view stored h low. absurd (start_sent catalogue _ h);
       between = λ p to rec view stored e v h there wrote later below agreed member. start_sent catalogue _ h;
       from = λ p to rec view stored h low. absurd (start_sent catalogue _ h);
-      live = λ s x t up h. absurd (no_live s (empty_durable (start_copies catalogue s)) t (subst (λ (x : SiteState). Has x.live t) (sym (started catalogue s x up)) h));
+      live = λ s x t up h. absurd (started_idle catalogue s x t up h);
       entry = λ e v rec h agreed did. absurd (start_entered catalogue e h);
-      used = λ s q rec exclusive x t v up h has agreed. absurd (no_live s (empty_durable (start_copies catalogue s)) t (subst (λ (x : SiteState). Has x.live t) (sym (started catalogue s x up)) h));
+      used = λ s q rec exclusive x t v up h has agreed. absurd (started_idle catalogue s x t up h);
       asked = λ from to number rec txn view exclusive v h agreed. absurd (no_request from to number rec txn view exclusive h);
     };
   }
@@ -180,11 +176,7 @@ module _ (catalogue : Catalogue) (w new : Scene) (s : ℕ) (q : Quiet catalogue 
           absurd (start_unused catalogue s (kept_at w s) v.id (lived.lived s (q.moved.there s p.0 p.1)) (Uses.held v (ap (λ (y : SiteState). y.held) same ∙ held) refl))
 
   pub still_live : (j : ℕ) (y : SiteState) (t : Live) → plain_at new j ≡ Some y → Has y.live t → plain_at w j ≡ Some y
-  still_live j y t up h = go (quiet_is catalogue w new s q j y up)
-    where
-      go : QuietIs catalogue w s j y → plain_at w j ≡ Some y
-      go (QuietIs.other n old) = old
-      go (QuietIs.here z same) = absurd (no_live catalogue s (kept_at w s) t (subst (λ (y : SiteState). Has y.live t) (sym same) h))
+  still_live j y t up h = live_still catalogue w s j y t h (quiet_is catalogue w new s q j y up)
 
   pub entry_was : (e : Commit) → Has new.journal e → Has w.journal e
   entry_was e h = rw q.journal at h

@@ -1,8 +1,7 @@
 -- Dates of copies, in every world: each other date than the opening one is of an entry that wrote the record, and a kept answer
 -- to a refresh was sent by another holder in the held view.
-use Rattle.std.proofs.Common.{◌≡◌, ◌≢◌, ◌⊎◌, ◌∙◌, ap, sym, subst, ℕ, true, List, refl, arith, inl, inr, ⊎_elim}
+use Rattle.std.proofs.Common.{◌≡◌, ◌≢◌, ◌⊎◌, ◌∙◌, ap, sym, subst, ℕ, true, List, refl, inl, inr, ⊎_elim}
 use Rattle.std.specs.Prelude.{Option, Some, not, ◌==◌, ◌&&◌}
-use Rattle.std.proofs.lemmas.Bool.Decides.{nat_tests}
 use Rattle.vp_model.specs.Types.{ViewId, View, Sent, Commit, Message, Input, Stored, Refreshing}
 use Rattle.vp_model.specs.Types.message
 use Rattle.vp_model.specs.Words.{has, keys, opening}
@@ -10,9 +9,9 @@ use Rattle.vp_model.specs.Catalogue.{Catalogue, holders, start_copies}
 use Rattle.vp_model.specs.Durable.{DurableState, empty_durable}
 use Rattle.vp_model.specs.Refresh.{unanswered, members_in, other_holders}
 use Rattle.vp_model.specs.Site.{SiteState, Stepped}
-use Rattle.vp_model.specs.Step.{start, step, durable_of}
+use Rattle.vp_model.specs.Step.{step, durable_of}
 use Rattle.vp_model.specs.Transactions.{last_changes, writes_held}
-use Rattle.vp_laws.proofs.Members.{Has, has_none, has_from_test, filter_has, both_true}
+use Rattle.vp_laws.proofs.Members.{Has, has_from_test, filter_has, both_true}
 use Rattle.vp_laws.proofs.Lists.{mapped_has}
 use Rattle.vp_laws.proofs.LocalViews.{letter}
 use Rattle.vp_laws.proofs.Table.{Comes}
@@ -26,7 +25,8 @@ use Rattle.vp_laws.proofs.InvEntered.{Wrote}
 use Rattle.vp_laws.proofs.InvSettled.{holding}
 use Rattle.vp_laws.proofs.InvUsed.{Thirteenth, used_last}
 use Rattle.vp_laws.proofs.Events.{Arrives, Lasts}
-use Rattle.vp_laws.proofs.Worlds.{NowIs, now_is, KeptIs, kept_is, Quiet, QuietIs, quiet_is, quiet_kept, started, start_kept, start_sent, With, Above, with_last}
+use Rattle.vp_laws.proofs.Worlds.{NowIs, now_is, KeptIs, kept_is, Quiet, QuietIs, quiet_is, quiet_kept, started, start_kept, start_sent, With, Above, with_last, no_refresh}
+use Rattle.vp_laws.proofs.Numbers.{differs}
 
 -- the date is the opening one, or of an entry that wrote the record
 abbrev pub IsDated : Scene → ℕ → ViewId → Type 0
@@ -43,9 +43,6 @@ pub record InvDated (catalogue : Catalogue) (w : Scene) : Type 0 where
   pub sent : (p to rec : ℕ) (view : ViewId) (stored : Stored) → Has w.sent (letter p to (message.RefreshAnswer view rec stored)) → IsDated w rec stored.date
   -- a kept answer was sent, by another holder in the held view
   pub kept : (s : ℕ) (x : SiteState) (r : Refreshing) (a : ℕ × Stored) → plain_at w s ≡ Some x → Has x.refresh r → Has r.answers a → (v : View) × (x.held ≡ Some v) × WasSent catalogue w s r.rec v a
-
-differs : (a b : ℕ) → not (a == b) ≡ true → a ≢ b
-differs a b e = grind (arith, nat_tests, e)
 
 module _ (catalogue : Catalogue) (w new : Scene) (s : ℕ) (x : SiteState) (given : Input) (o : Stepped) (up : plain_at w s ≡ Some x) (arrives : Arrives w s given) (id : x.id ≡ s) (was_kept : durable_of x ≡ kept_at w s) (ends : InvEndings w) (shares : InvShares catalogue w) (inv : InvDated catalogue w) (c : Copies catalogue x given o) (p : Shares x given o) (st : Acted w new s x o) where
   came : (from : ℕ) (m : Message) → Comes given from m → Has w.sent (letter from s m)
@@ -132,10 +129,6 @@ module _ (catalogue : Catalogue) (w new : Scene) (s : ℕ) (x : SiteState) (give
 
 abbrev pub Fourteenth : Catalogue → Scene → Type 0
 Fourteenth catalogue w = With (Thirteenth catalogue) (InvDated catalogue) w
-
-no_refresh : (catalogue : Catalogue) (s : ℕ) (d : DurableState) (r : Refreshing) → Has (start catalogue s d).refresh r → ⊥
-unfolding start
-no_refresh catalogue s d r h = has_none r h
 
 dated_above : (catalogue : Catalogue) → Above catalogue (Thirteenth catalogue) (InvDated catalogue)
 dated_above catalogue = record {

@@ -1,6 +1,6 @@
 -- How transactions end, in every world: a transaction with an outcome or an entry is not live any more, has one entry, and
 -- a commit is told, kept or reported only of an entry.
-use Rattle.std.proofs.Common.{◌≡◌, ◌≢◌, ◌⊎◌, ◌∙◌, ap, sym, subst, ℕ, ◌+◌, ◌≤◌, true, false, List, [], ◌∷◌, ◌++◌, refl, arith, inl, inr, ⊎_elim, append-nil}
+use Rattle.std.proofs.Common.{◌≡◌, ◌≢◌, ◌⊎◌, ◌∙◌, ap, sym, subst, ℕ, true, false, List, [], ◌∷◌, ◌++◌, refl, inl, inr, ⊎_elim, append-nil}
 use Rattle.std.specs.Prelude.{Some}
 use Rattle.vp_model.specs.Types.{TxnId, Sent, Commit, Message, Input, Finished, Decision}
 use Rattle.vp_base.specs.declared.site.Ending.TheVariants.{Committed}
@@ -21,7 +21,8 @@ use Rattle.vp_laws.proofs.TableNames.{Named}
 use Rattle.vp_laws.proofs.InvVotes.{Fourth, votes_last}
 use Rattle.vp_laws.proofs.TableEndings.{Settled, NotLive, WasLive, WasDecided, IsEntered, Says, FinishedFrom, Endings, endings-step}
 use Rattle.vp_laws.proofs.Events.{Lasts}
-use Rattle.vp_laws.proofs.Worlds.{NowIs, now_is, KeptIs, kept_is, Quiet, QuietIs, quiet_is, quiet_kept, started, start_kept, start_sent, start_entered, start_journal, With, Above, with_last}
+use Rattle.vp_laws.proofs.Worlds.{NowIs, now_is, KeptIs, kept_is, Quiet, QuietIs, quiet_is, quiet_kept, started, start_kept, start_sent, start_entered, start_journal, With, Above, with_last, no_finished}
+use Rattle.vp_laws.proofs.Numbers.{one_above}
 
 abbrev pub HasEntry : Scene → TxnId → Type 0
 HasEntry w txn = IsEntered w.journal txn
@@ -63,8 +64,11 @@ once_more : (cs : List Commit) (e : Commit) → Once cs → ((c : Commit) → Ha
 once_more [] e o n = ((λ d h. absurd (has_none d h)), tt)
 once_more (c ∷ cs) e o n = ((λ d h g. ⊎_elim (λ old. o.0 d old g) (λ new. n c (has_first c cs) (sym g ∙ ap (λ (e : Commit). e.txn) (sym (has_one_is e d new)))) (has_cases cs (e ∷ []) d h)), once_more cs e o.1 (λ d h. n d (has_more c cs d h)))
 
-one_above : (a b : ℕ) → a ≤ b → a ≡ b + 1 → ⊥
-one_above a b h e = omega arith
+-- a name that was used is of no transaction that begins now
+pub fresh : (w : Scene) (s : ℕ) (x : SiteState) → plain_at w s ≡ Some x → x.id ≡ s → (txn : TxnId) → UsedTxn w txn → txn ≢ next_name x
+fresh w s x up id txn u n =
+    let here : txn.site ≡ s = ap (λ (t : TxnId). t.site) n ∙ id in
+    one_above txn.seq x.seq (u.seq x (rw here up) (sym (ap (λ (t : TxnId). t.life) n))) (ap (λ (t : TxnId). t.seq) n)
 
 module _ (catalogue : Catalogue) (w new : Scene) (s : ℕ) (x : SiteState) (given : Input) (o : Stepped) (up : plain_at w s ≡ Some x) (id : x.id ≡ s) (decisions : x.decisions ≡ (kept_at w s).decisions) (led : Led x) (ids : (k : ℕ) (y : SiteState) → plain_at w k ≡ Some y → y.id ≡ k) (names : InvNames w) (inv : InvEndings w) (l : Endings x given o.site.coordinator o.effects.messages o.effects.commits) (sames : (o.site.id ≡ x.id) × (o.site.life ≡ x.life)) (st : Acted w new s x o) where
   entry_stays : (txn : TxnId) → HasEntry w txn → HasEntry new txn
@@ -76,12 +80,6 @@ module _ (catalogue : Catalogue) (w new : Scene) (s : ℕ) (x : SiteState) (give
   was_entry : (d : Decision) → Has x.decisions d → HasEntry w d.txn
   was_entry d h = (inv.decisions s d (rw (← decisions) h)).1
 
-  -- the name is of no transaction that begins now
-  not_new : (txn : TxnId) → UsedTxn w txn → txn ≡ next_name x → ⊥
-  not_new txn u n =
-      let here : txn.site ≡ s = ap (λ (t : TxnId). t.site) n ∙ id in
-      one_above txn.seq x.seq (u.seq x (rw here up) (sym (ap (λ (t : TxnId). t.life) n))) (ap (λ (t : TxnId). t.seq) n)
-
   over_lasts : (txn : TxnId) → UsedTxn w txn → Over w txn → Over new txn
   over_lasts txn u v = λ y h. now y (now_is w new s x o st txn.site y h)
     where
@@ -89,7 +87,7 @@ module _ (catalogue : Catalogue) (w new : Scene) (s : ℕ) (x : SiteState) (give
       now y (NowIs.other n h) = v y h
       now y (NowIs.here e same) = subst (λ (y : SiteState). NotLive y.live txn) same (λ t h g. ⊎_elim
           (λ (was : WasLive x t.txn). v x (rw e up) was.0 was.1 (was.2 ∙ g))
-          (λ new. not_new txn u (sym g ∙ new))
+          (λ new. fresh w s x up id txn u (sym g ∙ new))
           (l.live t h))
 
   over_now : (txn : TxnId) → txn.site ≡ x.id → NotLive o.site.live txn → Over new txn
@@ -198,18 +196,9 @@ settled_none catalogue s d own = record {
   names = λ f k. absurd (has_none f k);
 }
 
-none_finished : (catalogue : Catalogue) (s : ℕ) (d : DurableState) (f : Finished) → Has (start catalogue s d).finished f → ⊥
-unfolding start
-none_finished catalogue s d f h = has_none f h
-
 none_live : (catalogue : Catalogue) (s : ℕ) (d : DurableState) (txn : TxnId) → NotLive (start catalogue s d).live txn
 unfolding start
 none_live catalogue s d txn t h g = has_none t h
-
-pub fresh : (w : Scene) (s : ℕ) (x : SiteState) → plain_at w s ≡ Some x → x.id ≡ s → (txn : TxnId) → UsedTxn w txn → txn ≢ next_name x
-fresh w s x up id txn u n =
-    let here : txn.site ≡ s = ap (λ (t : TxnId). t.site) n ∙ id in
-    one_above txn.seq x.seq (u.seq x (rw here up) (sym (ap (λ (t : TxnId). t.life) n))) (ap (λ (t : TxnId). t.seq) n)
 
 endings_start : (catalogue : Catalogue) → InvEndings (scene_of (start_world catalogue))
 endings_start catalogue = record {
@@ -218,7 +207,7 @@ endings_start catalogue = record {
   told = λ m h. absurd (start_sent catalogue m h);
   entry = λ e h. absurd (start_entered catalogue e h);
   once = subst Once (sym (start_journal catalogue)) tt;
-  finished = λ s x f h k. absurd (none_finished catalogue s (empty_durable (start_copies catalogue s)) f (subst (λ (x : SiteState). Has x.finished f) (sym (started catalogue s x h)) k));
+  finished = λ s x f h k. absurd (no_finished catalogue s (empty_durable (start_copies catalogue s)) f (subst (λ (x : SiteState). Has x.finished f) (sym (started catalogue s x h)) k));
 }
 
 endings_above : (catalogue : Catalogue) → Above catalogue (Fourth catalogue) InvEndings
@@ -264,7 +253,7 @@ endings_above catalogue = record {
     settled_now w new s q inv k y (QuietIs.other n old) = inv.settled k y old
 
     finished_on : (w new : Scene) (s : ℕ) → Quiet catalogue w new s → InvEndings w → (k : ℕ) (y : SiteState) (f : Finished) → Has y.finished f → QuietIs catalogue w s k y → Reported new f
-    finished_on w new s q inv k y f h (QuietIs.here e same) = absurd (none_finished catalogue s (kept_at w s) f (subst (λ (y : SiteState). Has y.finished f) (sym same) h))
+    finished_on w new s q inv k y f h (QuietIs.here e same) = absurd (no_finished catalogue s (kept_at w s) f (subst (λ (y : SiteState). Has y.finished f) (sym same) h))
     finished_on w new s q inv k y f h (QuietIs.other n old) = ⊎_elim
         (λ (c : (f.ending ≡ Committed) × HasEntry w f.txn). inl (c.0, entry_on w new s q f.txn c.1))
         (λ (a : (is_abort f.ending ≡ true) × ((e : Commit) → Has w.journal e → e.txn ≢ f.txn)). inr (a.0, (λ e z. a.1 e (rw q.journal at z))))

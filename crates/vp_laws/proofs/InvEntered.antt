@@ -6,13 +6,13 @@ use Rattle.std.proofs.lemmas.Bool.Decides.{nat_tests}
 use Rattle.vp_model.specs.Types.{ViewId, TxnId, View, Commit, Message, Input, Op, Live, Doubt}
 use Rattle.vp_model.specs.Types.message
 use Rattle.vp_model.specs.Types.op
-use Rattle.vp_model.specs.Words.{is_empty, has, is_view, keys}
+use Rattle.vp_model.specs.Words.{has, is_view, keys}
 use Rattle.vp_model.specs.Catalogue.{Catalogue, holders, start_copies}
 use Rattle.vp_model.specs.Durable.{DurableState, empty_durable}
 use Rattle.vp_model.specs.Site.{SiteState, Stepped}
 use Rattle.vp_model.specs.Transactions.{last_changes, last_writes}
 use Rattle.vp_model.specs.Refresh.{other_holders_in}
-use Rattle.vp_model.specs.Step.{start, step}
+use Rattle.vp_model.specs.Step.{step}
 use Rattle.vp_laws.proofs.Members.{Has, has_none, has_cons, filter_keeps, map_has}
 use Rattle.vp_laws.proofs.Order.{AtMost, Precedes, not_both, AtMost-same, same_site}
 use Rattle.vp_laws.proofs.LocalViews.{letter, Local, InviteComes}
@@ -30,6 +30,9 @@ use Rattle.vp_laws.proofs.InvOps.{LiveOk, last_written}
 use Rattle.vp_laws.proofs.InvAnswers.{Eighth, answers_last}
 use Rattle.vp_laws.proofs.Events.{Arrives, Lasts}
 use Rattle.vp_laws.proofs.Worlds.{NowIs, now_is, QuietIs, quiet_is, started, start_entered, With, Above, with_last}
+use Rattle.vp_laws.proofs.Numbers.{not_same}
+use Rattle.vp_laws.proofs.Lists.{is_none}
+use Rattle.vp_laws.proofs.Agreement.{none_waiting}
 
 -- the entry wrote the record
 abbrev pub Wrote : Commit → ℕ → Type 0
@@ -76,13 +79,6 @@ written_op ops rec h =
 
 above_is_other : (a b c : ViewId) → AtMost a b → Precedes b c → a ≢ c
 above_is_other a b c h p e = not_both b c p (rw (← e) h)
-
-is_none : {X : Type 0} (xs : List X) → is_empty xs ≡ true → xs ≡ []
-is_none [] e = refl
-is_none (x ∷ xs) e = cc
-
-pub not_same : (a b : ℕ) → a ≢ b → not (a == b) ≡ true
-not_same a b n = grind (arith, nat_tests, n)
 
 module _ (catalogue : Catalogue) (w new : Scene) (s : ℕ) (x : SiteState) (given : Input) (o : Stepped) (up : plain_at w s ≡ Some x) (arrives : Arrives w s given) (id : x.id ≡ s) (promise : x.promise ≡ promise_at w s) (views : InvViews catalogue w) (views_now : InvViews catalogue new) (led : Led x) (asked : InvLed w) (below : Below x) (shares : InvShares catalogue w) (ops : (u : Live) → Has x.live u → LiveOk catalogue x.id x.held u) (inv : InvEntered catalogue w) (l : Local x given o) (c : Steps catalogue x given o.site.coordinator o.effects.messages o.effects.commits) (p : Shares x given o) (st : Acted w new s x o) where
   came : (from : ℕ) (m : Message) → Comes given from m → Has w.sent (letter from s m)
@@ -194,15 +190,11 @@ module _ (catalogue : Catalogue) (w new : Scene) (s : ℕ) (x : SiteState) (give
 abbrev pub Ninth : Catalogue → Scene → Type 0
 Ninth catalogue w = With (Eighth catalogue) (InvEntered catalogue) w
 
-no_wait : (catalogue : Catalogue) (s : ℕ) (d : DurableState) (i : ViewId) → (start catalogue s d).waiting ≡ Some i → ⊥
-unfolding start
-no_wait catalogue s d i e = cc
-
 entered_above : (catalogue : Catalogue) → Above catalogue (Eighth catalogue) (InvEntered catalogue)
 entered_above catalogue = record {
   starts = record {
     voted = λ e s h a n. absurd (start_entered catalogue e h);
-    no_doubt = λ s x i d h f q. absurd (no_wait catalogue s (empty_durable (start_copies catalogue s)) i (ap (λ (x : SiteState). x.waiting) (started catalogue s x h) ∙ f));
+    no_doubt = λ s x i d h f q. absurd (none_waiting catalogue s (empty_durable (start_copies catalogue s)) i (ap (λ (x : SiteState). x.waiting) (started catalogue s x h) ∙ f));
     no_entry = λ s x i e h f q site. absurd (start_entered catalogue e q);
   };
   acts = λ w s x given up r low now inv.
@@ -224,11 +216,11 @@ entered_above catalogue = record {
   where
     quiet_doubt : (w : Scene) (s : ℕ) → InvEntered catalogue w → (k : ℕ) (y : SiteState) (i : ViewId) (d : Doubt) → y.waiting ≡ Some i → Has y.doubts d → QuietIs catalogue w s k y → d.view ≢ i
     quiet_doubt w s inv k y i d f z (QuietIs.other n old) = inv.no_doubt k y i d old f z
-    quiet_doubt w s inv k y i d f z (QuietIs.here e same) = absurd (no_wait catalogue s (kept_at w s) i (ap (λ (y : SiteState). y.waiting) same ∙ f))
+    quiet_doubt w s inv k y i d f z (QuietIs.here e same) = absurd (none_waiting catalogue s (kept_at w s) i (ap (λ (y : SiteState). y.waiting) same ∙ f))
 
     quiet_entry : (w : Scene) (s : ℕ) → InvEntered catalogue w → (k : ℕ) (y : SiteState) (i : ViewId) (e : Commit) → y.waiting ≡ Some i → Has w.journal e → e.txn.site ≡ k → QuietIs catalogue w s k y → e.view ≢ i
     quiet_entry w s inv k y i e f z site (QuietIs.other n old) = inv.no_entry k y i e old f z site
-    quiet_entry w s inv k y i e f z site (QuietIs.here g same) = absurd (no_wait catalogue s (kept_at w s) i (ap (λ (y : SiteState). y.waiting) same ∙ f))
+    quiet_entry w s inv k y i e f z site (QuietIs.here g same) = absurd (none_waiting catalogue s (kept_at w s) i (ap (λ (y : SiteState). y.waiting) same ∙ f))
 
 pub entered_last : (catalogue : Catalogue) → Lasts catalogue (Ninth catalogue)
 entered_last catalogue = with_last catalogue (Eighth catalogue) (InvEntered catalogue) (answers_last catalogue) (entered_above catalogue)

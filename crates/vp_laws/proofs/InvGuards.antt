@@ -1,6 +1,6 @@
 -- Locks in every world, site by site: whose they are, and that no two transactions conflict at a site, be it up or down.
-use Rattle.std.proofs.Common.{◌≡◌, ◌≢◌, ◌∙◌, ap, sym, subst, ℕ, Bool, true, false, List, [], ◌∷◌, refl, arith, inr, ⊎_elim}
-use Rattle.std.specs.Prelude.{Some, flat_map}
+use Rattle.std.proofs.Common.{◌≡◌, ◌≢◌, ◌∙◌, ap, sym, subst, ℕ, Bool, true, false, List, refl, arith, inr}
+use Rattle.std.specs.Prelude.{Some}
 use Rattle.std.proofs.lemmas.Bool.Decides.{nat_tests}
 use Rattle.vp_model.specs.Types.{ViewId, TxnId, Input, Lock, Doubt}
 use Rattle.vp_model.specs.Types.message
@@ -10,7 +10,7 @@ use Rattle.vp_model.specs.Catalogue.{Catalogue, start_copies}
 use Rattle.vp_model.specs.Durable.{DurableState, empty_durable}
 use Rattle.vp_model.specs.Site.{SiteState, Stepped}
 use Rattle.vp_model.specs.Step.{locks_in_doubt, start, step, durable_of}
-use Rattle.vp_laws.proofs.Members.{Has, has_none, has_first, has_more, has_cons, has_cases, has_left, has_right, map_has}
+use Rattle.vp_laws.proofs.Members.{Has, has_none, map_has}
 use Rattle.vp_laws.proofs.Lists.{mapped_has}
 use Rattle.vp_laws.proofs.Order.{AtMost, Precedes, AtMost-along, opening_least, same_is}
 use Rattle.vp_laws.proofs.Table.{Comes}
@@ -29,20 +29,13 @@ use Rattle.vp_laws.proofs.InvEntered.{InvEntered}
 use Rattle.vp_laws.proofs.InvSettled.{Eleventh, settled_last}
 use Rattle.vp_laws.proofs.Events.{Arrives, Lasts}
 use Rattle.vp_laws.proofs.Worlds.{NowIs, now_is, KeptIs, kept_is, QuietIs, quiet_is, quiet_kept, started, start_kept, With, Above, with_last}
+use Rattle.vp_laws.proofs.Journal.{flat_has, has_flat}
 
 pub record InvGuards (catalogue : Catalogue) (w : Scene) : Type 0 where
   -- the locks of a site are in order
   pub site : (s : ℕ) (x : SiteState) → plain_at w s ≡ Some x → LocksAt catalogue x
   -- two doubts of one site, be it up or down, write different records
   pub writes : (s : ℕ) (c d : Doubt) (rec : ℕ) → Has (kept_at w s).doubts c → Has (kept_at w s).doubts d → Has (keys c.writes) rec → Has (keys d.writes) rec → c.txn ≡ d.txn
-
-flat_has : {X Y : Type 0} (f : X → List Y) (xs : List X) (y : Y) → Has (flat_map f xs) y → (x : X) × Has xs x × Has (f x) y
-flat_has f [] y h = absurd (has_none y h)
-flat_has f (x ∷ xs) y h = ⊎_elim (λ here. (x, has_first x xs, here)) (λ more. let r = flat_has f xs y more in (r.0, has_more x xs r.0 r.1, r.2)) (has_cases (f x) (flat_map f xs) y h)
-
-has_flat : {X Y : Type 0} (f : X → List Y) (xs : List X) (x : X) (y : Y) → Has xs x → Has (f x) y → Has (flat_map f xs) y
-has_flat f [] x y h k = absurd (has_none x h)
-has_flat f (a ∷ xs) x y h k = ⊎_elim (λ (one : a ≡ x). has_left (f a) (flat_map f xs) y (rw one k)) (λ more. has_right (f a) (flat_map f xs) y (has_flat f xs x y more k)) (has_cons a xs x h)
 
 pub strictly : (a b : ViewId) → AtMost a b → a ≢ b → Precedes a b
 strictly a b h n = go (same_view a b) refl

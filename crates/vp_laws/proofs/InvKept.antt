@@ -3,10 +3,10 @@ use Rattle.std.proofs.Common.{◌≡◌, ◌⊎◌, ◌∙◌, ap, sym, subst, �
 use Rattle.std.specs.Prelude.{Option, Some, None, option_map, option_to_list}
 use Rattle.vp_model.specs.Types.{Input, Answer, Pending, Live, Finished}
 use Rattle.vp_model.specs.Catalogue.{Catalogue, start_copies}
-use Rattle.vp_model.specs.Durable.{DurableState, empty_durable}
+use Rattle.vp_model.specs.Durable.{empty_durable}
 use Rattle.vp_model.specs.Transactions.{answer_of}
 use Rattle.vp_model.specs.Site.{SiteState, Stepped}
-use Rattle.vp_model.specs.Step.{start, step}
+use Rattle.vp_model.specs.Step.{step}
 use Rattle.vp_laws.proofs.Members.{Has, has_none, has_one_is, has_cases}
 use Rattle.vp_laws.proofs.Table.{is_end}
 use Rattle.vp_laws.proofs.TableSteps.{LiveNow}
@@ -14,7 +14,7 @@ use Rattle.vp_laws.proofs.TableReplies.{completed_words}
 use Rattle.vp_laws.proofs.TableFinished.{EndsNow}
 use Rattle.vp_laws.proofs.Scenes.{Scene, plain_at, kept_at, acted}
 use Rattle.vp_laws.proofs.Events.{Lasts}
-use Rattle.vp_laws.proofs.Worlds.{NowIs, now_is, QuietIs, quiet_is, started, With, Above, with_last}
+use Rattle.vp_laws.proofs.Worlds.{NowIs, now_is, QuietIs, quiet_is, started, With, Above, with_last, started_idle, live_still, no_finished}
 use Rattle.vp_laws.proofs.InvOrder.{Twentieth, order_last}
 use Rattle.vp_laws.proofs.Tower.{Known, known, Does, does}
 
@@ -73,18 +73,10 @@ module _ (catalogue : Catalogue) (w new : Scene) (s : ℕ) (x : SiteState) (give
 abbrev pub TwentyFirst : Catalogue → Scene → Type 0
 TwentyFirst catalogue w = With (Twentieth catalogue) InvKept w
 
-no_live : (catalogue : Catalogue) (s : ℕ) (d : DurableState) (t : Live) → Has (start catalogue s d).live t → ⊥
-unfolding start
-no_live catalogue s d t h = has_none t h
-
-no_finished : (catalogue : Catalogue) (s : ℕ) (d : DurableState) (f : Finished) → Has (start catalogue s d).finished f → ⊥
-unfolding start
-no_finished catalogue s d f h = has_none f h
-
 kept_above : (catalogue : Catalogue) → Above catalogue (Twentieth catalogue) InvKept
 kept_above catalogue = record {
   starts = record {
-    live = λ s x t a up h there. absurd (no_live catalogue s (empty_durable (start_copies catalogue s)) t (subst (λ (x : SiteState). Has x.live t) (sym (started catalogue s x up)) h));
+    live = λ s x t a up h there. absurd (started_idle catalogue s x t up h);
     finished = λ s x f a up h there. absurd (no_finished catalogue s (empty_durable (start_copies catalogue s)) f (subst (λ (x : SiteState). Has x.finished f) (sym (started catalogue s x up)) h));
   };
   acts = λ w s x given up r low now inv.
@@ -93,15 +85,11 @@ kept_above catalogue = record {
       let n = known catalogue new now.lower.lower.lower in
       kept_keep catalogue w new s x given (step catalogue x given) k n (does catalogue w s x given up r k n) inv;
   quiet = λ w new s q low now inv. record {
-    live = λ j y t a up h there. inv.live j y t a (still w s j y t h (quiet_is catalogue w new s q j y up)) h there;
+    live = λ j y t a up h there. inv.live j y t a (live_still catalogue w s j y t h (quiet_is catalogue w new s q j y up)) h there;
     finished = λ j y f a up h there. inv.finished j y f a (still_finished w s j y f h (quiet_is catalogue w new s q j y up)) h there;
   };
 }
   where
-    still : (w : Scene) (s j : ℕ) (y : SiteState) (t : Live) → Has y.live t → QuietIs catalogue w s j y → plain_at w j ≡ Some y
-    still w s j y t h (QuietIs.other n old) = old
-    still w s j y t h (QuietIs.here z same) = absurd (no_live catalogue s (kept_at w s) t (subst (λ (y : SiteState). Has y.live t) (sym same) h))
-
     still_finished : (w : Scene) (s j : ℕ) (y : SiteState) (f : Finished) → Has y.finished f → QuietIs catalogue w s j y → plain_at w j ≡ Some y
     still_finished w s j y f h (QuietIs.other n old) = old
     still_finished w s j y f h (QuietIs.here z same) = absurd (no_finished catalogue s (kept_at w s) f (subst (λ (y : SiteState). Has y.finished f) (sym same) h))

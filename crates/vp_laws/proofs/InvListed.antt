@@ -8,8 +8,8 @@ use Rattle.vp_model.specs.Catalogue.{Catalogue, holders, start_copies}
 use Rattle.vp_model.specs.Durable.{DurableState, empty_durable}
 use Rattle.vp_model.specs.Transactions.{last_changes, writes_held}
 use Rattle.vp_model.specs.Site.{SiteState, Stepped}
-use Rattle.vp_model.specs.Step.{start, step}
-use Rattle.vp_laws.proofs.Members.{Has, has_none, map_has, filter_keeps}
+use Rattle.vp_model.specs.Step.{step}
+use Rattle.vp_laws.proofs.Members.{Has, map_has, filter_keeps}
 use Rattle.vp_laws.proofs.Lists.{mapped_has}
 use Rattle.vp_laws.proofs.Order.{Precedes}
 use Rattle.vp_laws.proofs.LocalViews.{letter}
@@ -29,7 +29,7 @@ use Rattle.vp_laws.proofs.InvGuards.{InvGuards}
 use Rattle.vp_laws.proofs.HasLeft.{HasLeft}
 use Rattle.vp_laws.proofs.InvHeld.{InvHeld, copy_held, Sixteenth, held_last}
 use Rattle.vp_laws.proofs.Events.{Lasts}
-use Rattle.vp_laws.proofs.Worlds.{NowIs, now_is, QuietIs, quiet_is, started, start_entered, With, Above, with_last}
+use Rattle.vp_laws.proofs.Worlds.{NowIs, now_is, QuietIs, quiet_is, started, start_entered, With, Above, with_last, no_refresh}
 
 pub record InvListed (catalogue : Catalogue) (w : Scene) : Type 0 where
   -- what is under refresh has a copy here and may be used
@@ -205,10 +205,6 @@ module _ (catalogue : Catalogue) (w new : Scene) (s : ℕ) (x : SiteState) (give
 
 abbrev pub Seventeenth : Catalogue → Scene → Type 0
 Seventeenth catalogue w = With (Sixteenth catalogue) (InvListed catalogue) w
-
-no_refresh : (catalogue : Catalogue) (s : ℕ) (d : DurableState) (r : Refreshing) → Has (start catalogue s d).refresh r → ⊥
-unfolding start
-no_refresh catalogue s d r h = has_none r h
 
 listed_above : (catalogue : Catalogue) → Above catalogue (Sixteenth catalogue) (InvListed catalogue)
 listed_above catalogue = record {

@@ -5,17 +5,16 @@ use Rattle.std.specs.Prelude.{Option, Some, None, fold, ◌==◌, nat_lt, not, f
 use Rattle.vp_model.specs.Types.{Change, ViewId, TxnId, View, Input, Op, Answer, Pending, Live}
 use Rattle.std.proofs.lemmas.Bool.{eqb-true}
 use Rattle.vp_model.specs.Types.op
-use Rattle.vp_model.specs.Words.{is_empty, for_each, put_number, put_at, value_at}
-use Rattle.vp_model.specs.Catalogue.{Catalogue, find_record, start_copies}
-use Rattle.vp_model.specs.Durable.{DurableState, empty_durable}
+use Rattle.vp_model.specs.Words.{for_each, put_number, put_at, value_at}
+use Rattle.vp_model.specs.Catalogue.{Catalogue, find_record}
 use Rattle.vp_model.specs.Site.{SiteState, Stepped, Lent}
 use Rattle.vp_model.specs.Transactions.{with_op, last_writes}
 use Rattle.vp_model.specs.Refresh.{other_holders_in, other_holders}
 use Rattle.vp_model.specs.Calls.{begun}
-use Rattle.vp_model.specs.Step.{start, step, mark, marked_call}
+use Rattle.vp_model.specs.Step.{step, mark, marked_call}
 use Rattle.vp_laws.specs.Votes.{is_commit}
 use Rattle.vp_laws.proofs.Members.{Has, has_none, has_one_is, has_first, has_more, has_cons, has_cases, filter_has}
-use Rattle.vp_laws.proofs.Lists.{put_has, put_new}
+use Rattle.vp_laws.proofs.Lists.{put_has, put_new, empty_not}
 use Rattle.vp_laws.proofs.Order.{put_keeps}
 use Rattle.vp_laws.proofs.Table.{Reads, Writes, remaining, Completes}
 use Rattle.vp_laws.proofs.TableSteps.{waiting, done, reading, writing, AskingRead, AskingWrite, LiveNow, Steps, steps-step}
@@ -27,7 +26,7 @@ use Rattle.vp_laws.proofs.InvLed.{InvLed}
 use Rattle.vp_laws.proofs.InvShares.{Sixth, shares_last}
 use Rattle.vp_laws.proofs.Scenes.{Scene, plain_at, kept_at, Acted, acted, stepping}
 use Rattle.vp_laws.proofs.Events.{Lasts}
-use Rattle.vp_laws.proofs.Worlds.{NowIs, now_is, QuietIs, quiet_is, started, With, Above, with_last}
+use Rattle.vp_laws.proofs.Worlds.{NowIs, now_is, QuietIs, quiet_is, With, Above, with_last, no_live, started_idle}
 
 abbrev pub record_of : Op → ℕ
 record_of (op.Read rec value) = rec
@@ -91,10 +90,6 @@ put_all_new (n ∷ ns) ms a h = ⊎_elim (λ (one : n ≡ a). put_all_keeps ns (
 pub longer : {X : Type 0} (xs : List X) (x : X) → length (xs ++ x ∷ []) ≡ length xs + 1
 longer xs x = length-append xs (x ∷ [])
 
-empty_not : (xs : List ℕ) (q : ℕ) → is_empty xs ≡ true → Has xs q → ⊥
-empty_not [] q e h = has_none q h
-empty_not (x ∷ xs) q e h = cc
-
 pub read_not_write : {C : Type 0} (catalogue : Catalogue) (p : Pending) (rec other : ℕ) (value : List ℕ) → Reads catalogue p rec → Writes catalogue p other value → C
 read_not_write catalogue p rec other value r w = let a = r.words in let b = w.words in cc
 
@@ -103,6 +98,18 @@ reads_same catalogue p rec other r q = let a = sym r.words ∙ q.words in let na
 
 pub writes_same : (catalogue : Catalogue) (p : Pending) (rec other : ℕ) (value v : List ℕ) → Writes catalogue p rec value → Writes catalogue p other v → rec ≡ other
 writes_same catalogue p rec other value v r q = let a = sym r.words ∙ q.words in let name : r.name ≡ q.name = cc in let z : Some rec ≡ Some other = sym r.found ∙ ap (find_record catalogue) name ∙ q.found in cc
+
+-- a call that is marked was there without the mark
+pub unmarked : (o : Option Pending) (p : Pending) → marked_call o ≡ Some p → (a : Pending) × (o ≡ Some a) × (record a { marked = true } ≡ p)
+unmarked None p e = cc
+unmarked (Some a) p e = (a, refl, cc)
+
+-- a commit neither reads nor writes
+pub no_commit_reads : {C : Type 0} (catalogue : Catalogue) (p : Pending) (rec : ℕ) → is_commit p.call ≡ true → Reads catalogue p rec → C
+no_commit_reads catalogue p rec c r = let z = ap is_commit r.words in cc
+
+pub no_commit_writes : {C : Type 0} (catalogue : Catalogue) (p : Pending) (rec : ℕ) (value : List ℕ) → is_commit p.call ≡ true → Writes catalogue p rec value → C
+no_commit_writes catalogue p rec value c r = let z = ap is_commit r.words in cc
 
 module _ (catalogue : Catalogue) (x : SiteState) (given : Input) (all : (u : Live) → Has x.live u → LiveOk catalogue x.id x.held u) where
   marked_ok : (u : Live) → LiveOk catalogue x.id x.held u → LiveOk catalogue x.id x.held (mark u)
@@ -120,10 +127,6 @@ module _ (catalogue : Catalogue) (x : SiteState) (given : Input) (all : (u : Liv
 
       called_writes : (a p : Pending) (rec : ℕ) (value : List ℕ) → record a { marked = true } ≡ p → Writes catalogue p rec value → Writes catalogue a rec value
       called_writes a p rec value e r = record { txn = r.txn; number = r.number; name = r.name; words = ap (λ (p : Pending). p.call) e ∙ r.words; found = r.found }
-
-      unmarked : (o : Option Pending) (p : Pending) → marked_call o ≡ Some p → (a : Pending) × (o ≡ Some a) × (record a { marked = true } ≡ p)
-      unmarked None p e = cc
-      unmarked (Some a) p e = (a, refl, cc)
 
   waits_ok : (u : Live) (p : Pending) (sites : List ℕ) → LiveOk catalogue x.id x.held u → p.number ≡ length u.answers + 1 → ((q : ℕ) → Has sites q → Has u.parts q) → ((rec : ℕ) (value : List ℕ) → Writes catalogue p rec value → (q : ℕ) → Has (other_holders_in catalogue x.id x.held rec) q → Has u.parts q) → LiveOk catalogue x.id x.held (waiting u p sites)
   waits_ok u p sites h number sub writes = record {
@@ -194,9 +197,6 @@ module _ (catalogue : Catalogue) (x : SiteState) (given : Input) (all : (u : Liv
         (λ q k. put_all_new (other_holders catalogue x rec) u.parts q (rw same k));
   }
 
-  no_commit_writes : {C : Type 0} (p : Pending) (rec : ℕ) (value : List ℕ) → is_commit p.call ≡ true → Writes catalogue p rec value → C
-  no_commit_writes p rec value c r = let z = ap is_commit r.words in cc
-
   begun_ok : (txn : TxnId) (view : ViewId) → LiveOk catalogue x.id x.held (begun txn view)
   begun_ok txn view = record {
     numbers = refl;
@@ -216,7 +216,7 @@ module _ (catalogue : Catalogue) (x : SiteState) (given : Input) (all : (u : Liv
   live_ok t (LiveNow.completed u p operation words l h c e) = subst (LiveOk catalogue x.id x.held) e (completed_ok u p operation words l (all u h) c)
   live_ok t (LiveNow.reads u p rec q h a e) = subst (LiveOk catalogue x.id x.held) e (reads_ok u p rec q (all u h) a)
   live_ok t (LiveNow.writes u p rec value h a e) = subst (LiveOk catalogue x.id x.held) e (writes_ok u p rec value (all u h) a)
-  live_ok t (LiveNow.prepares u p h a e) = subst (LiveOk catalogue x.id x.held) e (waits_ok u p u.parts (all u h) a.next.number (λ q z. z) (λ rec value r. no_commit_writes p rec value a.commit r))
+  live_ok t (LiveNow.prepares u p h a e) = subst (LiveOk catalogue x.id x.held) e (waits_ok u p u.parts (all u h) a.next.number (λ q z. z) (λ rec value r. no_commit_writes catalogue p rec value a.commit r))
   live_ok t (LiveNow.begins view h e) = subst (LiveOk catalogue x.id x.held) e (begun_ok _ view.id)
 
 pub record InvOps (catalogue : Catalogue) (w : Scene) : Type 0 where
@@ -224,10 +224,6 @@ pub record InvOps (catalogue : Catalogue) (w : Scene) : Type 0 where
 
 abbrev pub Seventh : Catalogue → Scene → Type 0
 Seventh catalogue w = With (Sixth catalogue) (InvOps catalogue) w
-
-no_live : (catalogue : Catalogue) (s : ℕ) (d : DurableState) (t : Live) → Has (start catalogue s d).live t → ⊥
-unfolding start
-no_live catalogue s d t h = has_none t h
 
 -- a site with a live transaction holds the view that it held as the step began
 pub same_held : (catalogue : Catalogue) (w new : Scene) (s : ℕ) (x : SiteState) (given : Input) (o : Stepped) (t : Live) → InvViews catalogue w → InvViews catalogue new → plain_at w s ≡ Some x → plain_at new s ≡ Some o.site → Led x → Led o.site → ((v : View) → Has w.agreed v → Has new.agreed v) → Has o.site.live t → LiveNow catalogue x given t → x.held ≡ o.site.held
@@ -252,7 +248,7 @@ same_held catalogue w new s x given o t before after up now led led_now stays h 
 
 ops_above : (catalogue : Catalogue) → Above catalogue (Sixth catalogue) (InvOps catalogue)
 ops_above catalogue = record {
-  starts = record { live = λ s x t h k. absurd (no_live catalogue s (empty_durable (start_copies catalogue s)) t (subst (λ (x : SiteState). Has x.live t) (sym (started catalogue s x h)) k)) };
+  starts = record { live = λ s x t h k. absurd (started_idle catalogue s x t h k) };
   acts = λ w s x given up r low now inv.
       let first = low.lower.lower.third.second.first in
       let first_now = now.lower.lower.third.second.first in

@@ -5,19 +5,18 @@ use Rattle.std.specs.Prelude.{Some}
 use Rattle.vp_model.specs.Types.{ViewId, TxnId, View, Commit, Input, Op, Live}
 use Rattle.vp_model.specs.Types.message
 use Rattle.vp_model.specs.Types.op
-use Rattle.vp_model.specs.Catalogue.{Catalogue, holders, accessible, start_values, start_copies}
-use Rattle.vp_model.specs.Durable.{DurableState, empty_durable}
+use Rattle.vp_model.specs.Catalogue.{Catalogue, holders, accessible, start_values}
 use Rattle.vp_model.specs.OneCopy.{Values, play, serial, order, content}
 use Rattle.vp_model.specs.Site.{SiteState, Stepped}
-use Rattle.vp_model.specs.Step.{start, step}
-use Rattle.vp_one_site.proofs.Play.{op_record}
+use Rattle.vp_model.specs.Step.{step}
+use Rattle.vp_laws.proofs.Play.{op_record}
 use Rattle.vp_laws.proofs.Members.{Has, has_none}
-use Rattle.vp_laws.proofs.Order.{AtMost, Precedes, not_both}
+use Rattle.vp_laws.proofs.Order.{AtMost, Precedes, not_both, three_ways}
 use Rattle.vp_laws.proofs.LocalViews.{letter}
 use Rattle.vp_laws.proofs.TableLed.{IsOf}
-use Rattle.vp_laws.proofs.Scenes.{Scene, plain_at, kept_at, acted}
+use Rattle.vp_laws.proofs.Scenes.{Scene, plain_at, acted}
 use Rattle.vp_laws.proofs.Events.{Lasts}
-use Rattle.vp_laws.proofs.Worlds.{NowIs, now_is, QuietIs, quiet_is, started, start_journal, With, Above, with_last}
+use Rattle.vp_laws.proofs.Worlds.{NowIs, now_is, quiet_is, start_journal, With, Above, with_last, started_idle, live_still}
 use Rattle.vp_laws.proofs.InvShares.{HasRequest}
 use Rattle.vp_laws.proofs.InvOps.{op_used, record_of, HasWritten}
 use Rattle.vp_laws.proofs.InvAnswers.{HasRead}
@@ -28,7 +27,6 @@ use Rattle.vp_laws.proofs.ValuesAfter.{value_after}
 use Rattle.vp_laws.proofs.ValuesGrow.{after_more}
 use Rattle.vp_laws.proofs.Playing.{WritesNone, plays_behind, entry_plays, content_own, content_below}
 use Rattle.vp_laws.proofs.CopyInvariants.{InvCopies, InvRefresh}
-use Rattle.vp_laws.proofs.CopyFacts.{three_ways}
 use Rattle.vp_laws.proofs.NewEntries.{JournalNow, journal_now, Entering, entering, stops}
 use Rattle.vp_laws.proofs.OwnUse.{used_closed}
 use Rattle.vp_laws.proofs.Conflicts.{UsedAt, apart_used, written_at, read_from, no_conflict}
@@ -205,16 +203,12 @@ module _ (catalogue : Catalogue) (w new : Scene) (s : ℕ) (x : SiteState) (give
 abbrev pub Twentieth : Catalogue → Scene → Type 0
 Twentieth catalogue w = With (Nineteenth catalogue) (InvOrder catalogue) w
 
-no_live : (catalogue : Catalogue) (s : ℕ) (d : DurableState) (t : Live) → Has (start catalogue s d).live t → ⊥
-unfolding start
-no_live catalogue s d t h = has_none t h
-
 order_above : (catalogue : Catalogue) → Above catalogue (Nineteenth catalogue) (InvOrder catalogue)
 order_above catalogue = record {
   starts = record {
     serial = (start_values catalogue, ap (λ (es : List Commit). serial (start_values catalogue) (order es)) (start_journal catalogue));
-    live = λ s x t up h. absurd (no_live catalogue s (empty_durable (start_copies catalogue s)) t (subst (λ (x : SiteState). Has x.live t) (sym (started catalogue s x up)) h));
-    answered = λ s q to number rec view value x t up h sent request. absurd (no_live catalogue s (empty_durable (start_copies catalogue s)) t (subst (λ (x : SiteState). Has x.live t) (sym (started catalogue s x up)) h));
+    live = λ s x t up h. absurd (started_idle catalogue s x t up h);
+    answered = λ s q to number rec view value x t up h sent request. absurd (started_idle catalogue s x t up h);
   };
   acts = λ w s x given up r low now inv.
       let new = acted w s x (step catalogue x given) in
@@ -223,14 +217,10 @@ order_above catalogue = record {
       order_keep catalogue w new s x given (step catalogue x given) k n (does catalogue w s x given up r k n) low.lower.upper.copies low.lower.upper.refresh low.upper inv;
   quiet = λ w new s q low now inv. record {
     serial = (inv.serial.0, ap (λ (es : List Commit). serial (start_values catalogue) (order es)) q.journal ∙ inv.serial.1);
-    live = λ j y t up h. subst (λ (es : List Commit). Plays (content (start_values catalogue) es t.view) t.ops) (sym q.journal) (inv.live j y t (still catalogue w s j y t h (quiet_is catalogue w new s q j y up)) h);
-    answered = λ j a to number rec view value y t up h sent request. subst (λ (es : List Commit). value_after catalogue es t.view rec ≡ Some value) (sym q.journal) (inv.answered j a to number rec view value y t (still catalogue w s j y t h (quiet_is catalogue w new s q j y up)) h (rw q.sent at sent) (rw q.sent at request));
+    live = λ j y t up h. subst (λ (es : List Commit). Plays (content (start_values catalogue) es t.view) t.ops) (sym q.journal) (inv.live j y t (live_still catalogue w s j y t h (quiet_is catalogue w new s q j y up)) h);
+    answered = λ j a to number rec view value y t up h sent request. subst (λ (es : List Commit). value_after catalogue es t.view rec ≡ Some value) (sym q.journal) (inv.answered j a to number rec view value y t (live_still catalogue w s j y t h (quiet_is catalogue w new s q j y up)) h (rw q.sent at sent) (rw q.sent at request));
   };
 }
-  where
-    still : (catalogue : Catalogue) (w : Scene) (s j : ℕ) (y : SiteState) (t : Live) → Has y.live t → QuietIs catalogue w s j y → plain_at w j ≡ Some y
-    still catalogue w s j y t h (QuietIs.other n old) = old
-    still catalogue w s j y t h (QuietIs.here z same) = absurd (no_live catalogue s (kept_at w s) t (subst (λ (y : SiteState). Has y.live t) (sym same) h))
 
 pub order_last : (catalogue : Catalogue) → Lasts catalogue (Twentieth catalogue)
 order_last catalogue = with_last catalogue (Nineteenth catalogue) (InvOrder catalogue) (reading_last catalogue) (order_above catalogue)

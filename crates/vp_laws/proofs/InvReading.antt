@@ -1,29 +1,29 @@
 -- Reads of live transactions, in every world: a pending read is of a record that the transaction has not written, and a read that was done
 -- elsewhere has been answered.
-use Rattle.std.proofs.Common.{◌≡◌, ◌⊎◌, ◌∙◌, ap, sym, subst, ℕ, true, List, [], ◌∷◌, refl, inl, inr, ⊎_elim}
+use Rattle.std.proofs.Common.{◌≡◌, ◌⊎◌, ◌∙◌, ap, sym, subst, ℕ, List, [], ◌∷◌, refl, inl, inr, ⊎_elim}
 use Rattle.std.specs.Prelude.{Option, Some, None}
 use Rattle.vp_model.specs.Types.{TxnId, Input, Stored, Pending, Live}
 use Rattle.vp_model.specs.Types.op
 use Rattle.vp_model.specs.Words.{keys, value_at}
-use Rattle.vp_model.specs.Catalogue.{Catalogue, start_copies}
-use Rattle.vp_model.specs.Durable.{DurableState, empty_durable}
+use Rattle.vp_model.specs.Catalogue.{Catalogue}
 use Rattle.vp_model.specs.Transactions.{last_writes}
 use Rattle.vp_model.specs.Refresh.{other_holders}
 use Rattle.vp_model.specs.Site.{SiteState, Stepped}
-use Rattle.vp_model.specs.Step.{start, step, marked_call}
+use Rattle.vp_model.specs.Step.{step}
 use Rattle.vp_laws.specs.Votes.{is_commit}
 use Rattle.vp_laws.proofs.Members.{Has, has_none}
 use Rattle.vp_laws.proofs.Lists.{mapped_has}
 use Rattle.vp_laws.proofs.Table.{Reads, remaining}
 use Rattle.vp_laws.proofs.TableSteps.{LiveNow}
 use Rattle.vp_laws.proofs.TableLocks.{not_copied}
-use Rattle.vp_laws.proofs.Scenes.{Scene, plain_at, kept_at, acted}
+use Rattle.vp_laws.proofs.Scenes.{Scene, plain_at, acted}
 use Rattle.vp_laws.proofs.Events.{Lasts}
-use Rattle.vp_laws.proofs.Worlds.{NowIs, now_is, QuietIs, quiet_is, started, With, Above, with_last}
+use Rattle.vp_laws.proofs.Worlds.{NowIs, now_is, quiet_is, With, Above, with_last, started_idle, live_still}
 use Rattle.vp_laws.proofs.InvOps.{HasWritten, reads_same, value_key}
 use Rattle.vp_laws.proofs.InvAnswers.{HasRead}
 use Rattle.vp_laws.proofs.InvCopies.{Eighteenth, copied_last}
 use Rattle.vp_laws.proofs.Tower.{Known, known, Does, does}
+use Rattle.vp_laws.proofs.InvReads.{same_call, unmarked_call}
 
 -- another site has answered a read of the record
 abbrev pub ReadElsewhere : Scene → Live → ℕ → Type 0
@@ -34,9 +34,6 @@ pub record InvReading (catalogue : Catalogue) (w : Scene) : Type 0 where
   pub pending : (s : ℕ) (x : SiteState) (t : Live) (p : Pending) (rec : ℕ) → plain_at w s ≡ Some x → Has x.live t → t.pending ≡ Some p → Reads catalogue p rec → value_at rec (last_writes t.ops) ≡ None
   -- a done read of a record with no copy here is of an own write, or another site has answered it
   pub done : (s : ℕ) (x : SiteState) (t : Live) (rec : ℕ) (value : List ℕ) → plain_at w s ≡ Some x → Has x.live t → Has t.ops (op.Read rec value) → value_at rec x.copies ≡ None → HasWritten t rec ⊎ ReadElsewhere w t rec
-
-same_call : (catalogue : Catalogue) (p q : Pending) (rec : ℕ) → q.call ≡ p.call → Reads catalogue p rec → Reads catalogue q rec
-same_call catalogue p q rec e r = record { txn = r.txn; number = r.number; name = r.name; words = e ∙ r.words; found = r.found }
 
 none_from : (rec : ℕ) (a b : List (ℕ × Stored)) → keys a ≡ keys b → value_at rec a ≡ None → value_at rec b ≡ None
 none_from rec a b same none = go (value_at rec b) refl
@@ -51,12 +48,8 @@ module _ (catalogue : Catalogue) (w new : Scene) (s : ℕ) (x : SiteState) (give
   pending_now : (t : Live) → LiveNow catalogue x given t → (p : Pending) (rec : ℕ) → t.pending ≡ Some p → Reads catalogue p rec → value_at rec (last_writes t.ops) ≡ None
   pending_now t (LiveNow.still h) p rec e r = inv.pending s x t p rec d.up h e r
   pending_now t (LiveNow.marked u h tick is) p rec e r =
-      let q = unmarked u.pending p (ap (λ (t : Live). t.pending) is ∙ e) in
+      let q = unmarked_call u.pending p (ap (λ (t : Live). t.pending) is ∙ e) in
       rw (← (ap (λ (t : Live). t.ops) is)) (inv.pending s x u q.0 rec d.up h q.1 (same_call catalogue p q.0 rec q.2 r))
-    where
-      unmarked : (o : Option Pending) (p : Pending) → marked_call o ≡ Some p → (q : Pending) × (o ≡ Some q) × (q.call ≡ p.call)
-      unmarked None p e = cc
-      unmarked (Some q) p e = let z : record q { marked = true } ≡ p = cc in (q, refl, ap (λ (p : Pending). p.call) z)
   pending_now t (LiveNow.waits u a from h f m l c is) p rec e r =
       let z : record a { missing = remaining from a } ≡ p = (let y = ap (λ (t : Live). t.pending) is ∙ e in cc) in
       rw (← (ap (λ (t : Live). t.ops) is)) (inv.pending s x u a rec d.up h f (same_call catalogue p a rec (ap (λ (p : Pending). p.call) z) r))
@@ -118,32 +111,24 @@ module _ (catalogue : Catalogue) (w new : Scene) (s : ℕ) (x : SiteState) (give
 abbrev pub Nineteenth : Catalogue → Scene → Type 0
 Nineteenth catalogue w = With (Eighteenth catalogue) (InvReading catalogue) w
 
-no_live : (catalogue : Catalogue) (s : ℕ) (d : DurableState) (t : Live) → Has (start catalogue s d).live t → ⊥
-unfolding start
-no_live catalogue s d t h = has_none t h
-
 reading_above : (catalogue : Catalogue) → Above catalogue (Eighteenth catalogue) (InvReading catalogue)
 reading_above catalogue = record {
   starts = record {
-    pending = λ s x t p rec up h e r. absurd (no_live catalogue s (empty_durable (start_copies catalogue s)) t (subst (λ (x : SiteState). Has x.live t) (sym (started catalogue s x up)) h));
-    done = λ s x t rec value up h there none. absurd (no_live catalogue s (empty_durable (start_copies catalogue s)) t (subst (λ (x : SiteState). Has x.live t) (sym (started catalogue s x up)) h));
+    pending = λ s x t p rec up h e r. absurd (started_idle catalogue s x t up h);
+    done = λ s x t rec value up h there none. absurd (started_idle catalogue s x t up h);
   };
   acts = λ w s x given up r low now inv.
       let k = known catalogue w low.lower in
       let n = known catalogue (acted w s x (step catalogue x given)) now.lower in
       reading_keep catalogue w (acted w s x (step catalogue x given)) s x given (step catalogue x given) k n (does catalogue w s x given up r k n) inv;
   quiet = λ w new s q low now inv. record {
-    pending = λ j y t p rec up h e r. inv.pending j y t p rec (still catalogue w s j y t h (quiet_is catalogue w new s q j y up)) h e r;
+    pending = λ j y t p rec up h e r. inv.pending j y t p rec (live_still catalogue w s j y t h (quiet_is catalogue w new s q j y up)) h e r;
     done = λ j y t rec value up h there none. ⊎_elim
         (λ wrote. inl wrote)
         (λ (r : ReadElsewhere w t rec). inr (r.0, (r.1.0, r.1.1, r.1.2, r.1.3, rw q.sent r.1.4, rw q.sent r.1.5)))
-        (inv.done j y t rec value (still catalogue w s j y t h (quiet_is catalogue w new s q j y up)) h there none);
+        (inv.done j y t rec value (live_still catalogue w s j y t h (quiet_is catalogue w new s q j y up)) h there none);
   };
 }
-  where
-    still : (catalogue : Catalogue) (w : Scene) (s j : ℕ) (y : SiteState) (t : Live) → Has y.live t → QuietIs catalogue w s j y → plain_at w j ≡ Some y
-    still catalogue w s j y t h (QuietIs.other n old) = old
-    still catalogue w s j y t h (QuietIs.here z same) = absurd (no_live catalogue s (kept_at w s) t (subst (λ (y : SiteState). Has y.live t) (sym same) h))
 
 pub reading_last : (catalogue : Catalogue) → Lasts catalogue (Nineteenth catalogue)
 reading_last catalogue = with_last catalogue (Eighteenth catalogue) (InvReading catalogue) (copied_last catalogue) (reading_above catalogue)

@@ -1,15 +1,14 @@
 -- Reads of records without a copy at the coordinator, in every world: another holder was asked, or the transaction reads its own write.
-use Rattle.std.proofs.Common.{◌≡◌, ◌⊎◌, ◌∙◌, ap, sym, subst, ℕ, true, List, [], ◌∷◌, ◌++◌, refl, inl, inr, ⊎_elim}
-use Rattle.std.specs.Prelude.{Option, Some, None}
+use Rattle.std.proofs.Common.{◌≡◌, ◌⊎◌, ◌∙◌, ap, sym, subst, ℕ, List, [], ◌∷◌, ◌++◌, inl, inr, ⊎_elim}
+use Rattle.std.specs.Prelude.{Option, Some}
 use Rattle.vp_model.specs.Types.{Input, Op, Answer, Pending, Live}
 use Rattle.vp_model.specs.Types.op
 use Rattle.vp_model.specs.Words.{keys}
-use Rattle.vp_model.specs.Catalogue.{Catalogue, start_copies}
-use Rattle.vp_model.specs.Durable.{DurableState, empty_durable}
+use Rattle.vp_model.specs.Catalogue.{Catalogue}
 use Rattle.vp_model.specs.Transactions.{last_writes}
 use Rattle.vp_model.specs.Refresh.{other_holders}
 use Rattle.vp_model.specs.Site.{SiteState, Stepped, Lent}
-use Rattle.vp_model.specs.Step.{start, step, marked_call}
+use Rattle.vp_model.specs.Step.{step, marked_call}
 use Rattle.vp_laws.specs.Votes.{is_commit}
 use Rattle.vp_laws.proofs.Members.{Has, has_none, has_one, has_one_is, has_left, has_right, has_cases}
 use Rattle.vp_laws.proofs.Table.{Reads, remaining, Completes}
@@ -20,11 +19,11 @@ use Rattle.vp_laws.proofs.TableLocks.{Guards, guards-step}
 use Rattle.vp_laws.proofs.Lists.{mapped_has}
 use Rattle.vp_model.specs.Types.{Stored}
 use Rattle.vp_laws.proofs.Scenes.{Scene, plain_at, kept_at, Acted, acted, stepping}
-use Rattle.vp_laws.proofs.InvOps.{HasWritten, last_written, value_key, reads_same}
+use Rattle.vp_laws.proofs.InvOps.{HasWritten, last_written, value_key, reads_same, unmarked}
 use Rattle.vp_laws.proofs.InvGuards.{outcomes, awaited, invited}
 use Rattle.vp_laws.proofs.InvDated.{Fourteenth, dated_last}
 use Rattle.vp_laws.proofs.Events.{Lasts}
-use Rattle.vp_laws.proofs.Worlds.{NowIs, now_is, QuietIs, quiet_is, started, With, Above, with_last}
+use Rattle.vp_laws.proofs.Worlds.{NowIs, now_is, QuietIs, quiet_is, With, Above, with_last, no_live, started_idle}
 
 -- the transaction has asked a site for the record
 abbrev pub HasAsked : Live → ℕ → Type 0
@@ -40,7 +39,11 @@ pub record InvReads (catalogue : Catalogue) (w : Scene) : Type 0 where
   -- the reads of each live transaction
   pub live : (s : ℕ) (x : SiteState) (t : Live) → plain_at w s ≡ Some x → Has x.live t → ReadsOk catalogue (keys x.copies) t
 
-same_call : (catalogue : Catalogue) (p q : Pending) (rec : ℕ) → q.call ≡ p.call → Reads catalogue p rec → Reads catalogue q rec
+-- a call that is marked is the one that was there
+pub unmarked_call : (o : Option Pending) (p : Pending) → marked_call o ≡ Some p → (q : Pending) × (o ≡ Some q) × (q.call ≡ p.call)
+unmarked_call o p e = let q = unmarked o p e in (q.0, q.1, ap (λ (p : Pending). p.call) q.2)
+
+pub same_call : (catalogue : Catalogue) (p q : Pending) (rec : ℕ) → q.call ≡ p.call → Reads catalogue p rec → Reads catalogue q rec
 same_call catalogue p q rec e r = record { txn = r.txn; number = r.number; name = r.name; words = e ∙ r.words; found = r.found }
 
 module _ (catalogue : Catalogue) (x : SiteState) (given : Input) (all : (u : Live) → Has x.live u → ReadsOk catalogue (keys x.copies) u) where
@@ -74,12 +77,8 @@ module _ (catalogue : Catalogue) (x : SiteState) (given : Input) (all : (u : Liv
   reads_now t (LiveNow.still h) = all t h
   reads_now t (LiveNow.marked u h tick e) = let b = all u h in subst Ok e (record {
     done = b.done;
-    asked = λ p rec f r. let q = unmarked u.pending p f in b.asked q.0 rec q.1 (same_call catalogue p q.0 rec q.2 r);
+    asked = λ p rec f r. let q = unmarked_call u.pending p f in b.asked q.0 rec q.1 (same_call catalogue p q.0 rec q.2 r);
   })
-    where
-      unmarked : (o : Option Pending) (p : Pending) → marked_call o ≡ Some p → (q : Pending) × (o ≡ Some q) × (q.call ≡ p.call)
-      unmarked None p e = cc
-      unmarked (Some q) p e = let z : record q { marked = true } ≡ p = cc in (q, refl, ap (λ (p : Pending). p.call) z)
   reads_now t (LiveNow.waits u p from h f m l k e) = let b = all u h in subst Ok e (record {
     done = b.done;
     asked = λ a rec g r. let is : record p { missing = remaining from p } ≡ a = cc in b.asked p rec f (same_call catalogue a p rec (ap (λ (p : Pending). p.call) is) r);
@@ -108,13 +107,9 @@ module _ (catalogue : Catalogue) (x : SiteState) (given : Input) (all : (u : Liv
   })
   reads_now t (LiveNow.begins view h e) = subst Ok e (record { done = λ rec value k none. absurd (has_none _ k); asked = λ p rec g r. cc })
 
-no_live : (catalogue : Catalogue) (s : ℕ) (d : DurableState) (t : Live) → Has (start catalogue s d).live t → ⊥
-unfolding start
-no_live catalogue s d t h = has_none t h
-
 reads_above : (catalogue : Catalogue) → Above catalogue (Fourteenth catalogue) (InvReads catalogue)
 reads_above catalogue = record {
-  starts = record { live = λ s x t up h. absurd (no_live catalogue s (empty_durable (start_copies catalogue s)) t (subst (λ (x : SiteState). Has x.live t) (sym (started catalogue s x up)) h)) };
+  starts = record { live = λ s x t up h. absurd (started_idle catalogue s x t up h) };
   acts = λ w s x given up r low now inv.
       let twelfth = low.lower.lower in
       let ninth = twelfth.lower.lower.lower in

@@ -1,8 +1,7 @@
 -- Parts, doubts, votes and entries in every world: each doubt has its prepare, each vote on a transaction that writes has its
 -- doubt while the transaction is live, and an entry is what its prepares said.
-use Rattle.std.proofs.Common.{◌≡◌, ◌≢◌, ◌⊎◌, ◌∙◌, ap, sym, subst, ℕ, ◌+◌, ◌≤◌, Bool, true, false, List, [], ◌∷◌, refl, arith, inl, inr, ⊎_elim}
+use Rattle.std.proofs.Common.{◌≡◌, ◌≢◌, ◌⊎◌, ◌∙◌, ap, sym, subst, ℕ, Bool, true, false, List, [], ◌∷◌, refl, inl, inr, ⊎_elim}
 use Rattle.std.specs.Prelude.{Option, Some, None, is_some, option_map, not, ◌==◌}
-use Rattle.std.proofs.lemmas.Bool.Decides.{nat_tests}
 use Rattle.vp_model.specs.Types.{Change, ViewId, TxnId, View, Sent, Commit, Message, Input, Part, Pending, Live, Doubt}
 use Rattle.vp_model.specs.Types.message
 use Rattle.vp_model.specs.Words.{is_empty, is_view}
@@ -28,9 +27,11 @@ use Rattle.vp_laws.proofs.InvVotes.{InvVotes, voted_pending}
 use Rattle.vp_laws.proofs.OnlyCoordinator.{is_aside}
 use Rattle.vp_laws.proofs.TableSteps.{waiting, reading, writing, LiveNow, Only, SentFor, EnteredFor, Steps, steps-step}
 use Rattle.vp_laws.proofs.TableShares.{is_reply, PartNow, DoubtNow, OutcomeComes, ReplyTo, Shares, shares-step}
-use Rattle.vp_laws.proofs.InvEndings.{HasEntry, InvEndings, Fifth, endings_last}
+use Rattle.vp_laws.proofs.InvEndings.{HasEntry, InvEndings, Fifth, endings_last, fresh}
 use Rattle.vp_laws.proofs.Events.{Arrives, Lasts}
-use Rattle.vp_laws.proofs.Worlds.{NowIs, now_is, KeptIs, kept_is, Quiet, QuietIs, quiet_is, quiet_kept, started, start_kept, start_sent, start_entered, With, Above, with_last}
+use Rattle.vp_laws.proofs.Worlds.{NowIs, now_is, KeptIs, kept_is, Quiet, QuietIs, quiet_is, quiet_kept, started, start_kept, start_sent, start_entered, With, Above, with_last, no_live, started_idle}
+use Rattle.vp_laws.proofs.Numbers.{not_same}
+use Rattle.vp_laws.proofs.Lists.{is_none}
 
 abbrev pub HasVote : Scene → ℕ → TxnId → Type 0
 HasVote w from txn = (to : ℕ) × Has w.sent (letter from to (message.Vote txn))
@@ -90,10 +91,6 @@ pub record InvShares (catalogue : Catalogue) (w : Scene) : Type 0 where
   pub awaits : (s : ℕ) (x : SiteState) (t : Live) → plain_at w s ≡ Some x → Has x.live t → Awaits w t
   pub entry : (e : Commit) → Has w.journal e → EntrySays catalogue w e
 
-is_none : {X : Type 0} (xs : List X) → is_empty xs ≡ true → xs ≡ []
-is_none [] e = refl
-is_none (x ∷ xs) e = cc
-
 not_none : {X : Type 0} (xs ys : List X) → xs ≡ ys → is_empty xs ≡ false → is_empty ys ≡ true → ⊥
 not_none xs ys e f g = let z = ap is_empty e in cc
 
@@ -120,9 +117,6 @@ was_doing catalogue x given t (LiveNow.reads u p rec k h a e) c n = let q = c u 
 was_doing catalogue x given t (LiveNow.writes u p rec value h a e) c n = let q = c u h (ap (λ (t : Live). t.txn) e) in absurd (some_not u.pending q.0 q.1 a.next.idle)
 was_doing catalogue x given t (LiveNow.prepares u p h a e) c n = let q = c u h (ap (λ (t : Live). t.txn) e) in absurd (some_not u.pending q.0 q.1 a.next.idle)
 was_doing catalogue x given t (LiveNow.begins view h e) c n = absurd (n (ap (λ (t : Live). t.txn) (sym e)))
-
-one_above : (a b : ℕ) → a ≤ b → a ≡ b + 1 → ⊥
-one_above a b h e = omega arith
 
 vote_is : (t u : TxnId) → message.Vote t ≡ message.Vote u → t ≡ u
 vote_is t u e = cc
@@ -160,11 +154,6 @@ module _ (catalogue : Catalogue) (w new : Scene) (s : ℕ) (x : SiteState) (give
   came : (from : ℕ) (m : Message) → Comes given from m → Has w.sent (letter from s m)
   came from m e = rw e at arrives
 
-  not_new : (txn : TxnId) → UsedTxn w txn → txn ≡ next_name x → ⊥
-  not_new txn u n =
-      let here : txn.site ≡ s = ap (λ (t : TxnId). t.site) n ∙ id in
-      one_above txn.seq x.seq (u.seq x (rw here up) (sym (ap (λ (t : TxnId). t.life) n))) (ap (λ (t : TxnId). t.seq) n)
-
   -- a live transaction now of a name that was used: at another site, or it was live here
   view_lasts : (txn : TxnId) (view : ViewId) → UsedTxn w txn → OneView w txn view → OneView new txn view
   view_lasts txn view used h = record {
@@ -176,7 +165,7 @@ module _ (catalogue : Catalogue) (w new : Scene) (s : ℕ) (x : SiteState) (give
       live_now y t (NowIs.other n g) k e = h.live y t g k e
       live_now y t (NowIs.here z same) k e = ⊎_elim
           (λ (was : (u : Live) × Has x.live u × (u.txn ≡ t.txn) × (u.view ≡ t.view)). sym was.3 ∙ h.live x was.0 (rw z up) was.1 (was.2 ∙ e))
-          (λ (new : t.txn ≡ next_name x). absurd (not_new txn used (sym e ∙ new)))
+          (λ (new : t.txn ≡ next_name x). absurd (fresh w s x up id txn used (sym e ∙ new)))
           (was_viewed catalogue x given t (c.live t (subst (λ (y : SiteState). Has y.live t) (sym same) k)))
 
       entered : (e : Commit) → EnteredFor catalogue x given e → e.txn ≡ txn → e.view ≡ view
@@ -234,7 +223,7 @@ module _ (catalogue : Catalogue) (w new : Scene) (s : ℕ) (x : SiteState) (give
           let used : UsedTxn w txn = names.sent _ sent in
           let was = was_doing catalogue x given t (c.live t (subst (λ (y : SiteState). Has y.live t) (sym same) k))
           (λ u q f. voted_pending catalogue w votes from to txn sent x u (rw z up) q (f ∙ e))
-          (λ n. not_new txn used (sym e ∙ n)) in
+          (λ n. fresh w s x up id txn used (sym e ∙ n)) in
           doubt_lasts from txn x was.0 (rw z up) was.1 (was.2 ∙ e) (h x was.0 (rw z up) was.1 (was.2 ∙ e) (rw was.3 writes))
 
   doubt_here : (txn : TxnId) (d : Doubt) → Has o.site.doubts d → d.txn ≡ txn → InDoubt new s txn
@@ -354,9 +343,6 @@ module _ (catalogue : Catalogue) (w new : Scene) (s : ℕ) (x : SiteState) (give
       (same_site q from))
       (λ v. inr (vote_stays q u.txn v)) (inv.awaits s x u up h p f (ap is_commit same ∙ commit) q part))
     where
-      not_same : (a b : ℕ) → a ≢ b → not (a == b) ≡ true
-      not_same a b n = grind (arith, nat_tests, n)
-
       counted : (u : Live) (p : Pending) (from : ℕ) → Counts catalogue given u p from → is_commit p.call ≡ true → (q : ℕ) → q ≡ from → HasVote new q u.txn
       counted u p from (Counts.read rec value g r) commit q it = absurd (let a = ap is_commit r.words in cc)
       counted u p from (Counts.written rec value g r) commit q it = absurd (let a = ap is_commit r.words in cc)
@@ -407,9 +393,6 @@ module _ (catalogue : Catalogue) (w new : Scene) (s : ℕ) (x : SiteState) (give
           let it : u ≡ t = apart_unique x.live apart u t h here (name ∙ sym named) in
           some_not t.pending p last.pending (ap (λ (t : Live). is_some t.pending) (sym it) ∙ a.next.idle)
 
-      not_same : (a b : ℕ) → a ≢ b → not (a == b) ≡ true
-      not_same a b n = grind (arith, nat_tests, n)
-
       decided : (t : Live) → Decides catalogue x given t → (txn : TxnId) (in_view : ViewId) (last : List (ℕ × Change)) → t.txn ≡ txn → t.view ≡ in_view → last_writes t.ops ≡ last → Has w.sent (letter from to (message.Prepare txn view number readings writings)) → (in_view ≡ view) × (writes_held catalogue to last ≡ writings) × HasVote new to txn
       decided t (Decides.alone was p here next commit alone same) txn in_view last named viewed wrote old =
           let name : was.txn ≡ txn = ap (λ (t : Live). t.txn) (sym same) ∙ named in
@@ -455,10 +438,6 @@ Sixth catalogue w = With (Fifth catalogue) (InvShares catalogue) w
 no_parts : (catalogue : Catalogue) (s : ℕ) (d : DurableState) (a : Part) → Has (start catalogue s d).parts a → ⊥
 unfolding start
 no_parts catalogue s d a h = has_none a h
-
-no_live : (catalogue : Catalogue) (s : ℕ) (d : DurableState) (t : Live) → Has (start catalogue s d).live t → ⊥
-unfolding start
-no_live catalogue s d t h = has_none t h
 
 module _ (catalogue : Catalogue) (w new : Scene) (s : ℕ) (q : Quiet catalogue w new s) (inv : InvShares catalogue w) where
   sent_on : (m : Sent) → Has w.sent m → Has new.sent m
@@ -530,7 +509,7 @@ shares_above catalogue = record {
     parts = λ s x a h k. absurd (no_parts catalogue s (empty_durable (start_copies catalogue s)) a (subst (λ (x : SiteState). Has x.parts a) (sym (started catalogue s x h)) k));
     doubts = λ s d h. absurd (has_none d (rw (start_kept catalogue s).doubts at h));
     says = λ m h. absurd (start_sent catalogue m h);
-    awaits = λ s x t h k. absurd (no_live catalogue s (empty_durable (start_copies catalogue s)) t (subst (λ (x : SiteState). Has x.live t) (sym (started catalogue s x h)) k));
+    awaits = λ s x t h k. absurd (started_idle catalogue s x t h k);
     entry = λ e h. absurd (start_entered catalogue e h);
   };
   acts = λ w s x given up r low now inv.

@@ -1,22 +1,21 @@
 -- What other sites have answered for live transactions, in every world: the site has the lock still, or has left the view.
-use Rattle.std.proofs.Common.{◌≡◌, ◌≢◌, ◌⊎◌, ◌∙◌, ap, sym, subst, ℕ, ◌+◌, ◌≤◌, Bool, true, false, List, [], ◌∷◌, refl, arith, inl, inr, ⊎_elim, length}
+use Rattle.std.proofs.Common.{◌≡◌, ◌≢◌, ◌⊎◌, ◌∙◌, ap, sym, subst, ℕ, Bool, true, false, List, [], ◌∷◌, refl, inl, inr, ⊎_elim, length}
 use Rattle.std.specs.Prelude.{Some, None}
 use Rattle.vp_model.specs.Types.{ViewId, TxnId, Sent, Message, Input, Stored, Pending, Live}
 use Rattle.vp_model.specs.Types.message
 use Rattle.vp_model.specs.Types.owner
 use Rattle.vp_model.specs.Locks.{conflict}
-use Rattle.vp_model.specs.Catalogue.{Catalogue, start_copies}
-use Rattle.vp_model.specs.Durable.{DurableState, empty_durable}
+use Rattle.vp_model.specs.Catalogue.{Catalogue}
+use Rattle.vp_model.specs.Durable.{DurableState}
 use Rattle.vp_model.specs.Site.{SiteState, Stepped}
 use Rattle.vp_model.specs.Messages.{on_message, on_read_request, on_write_request, on_request, lock_copy, grant}
-use Rattle.vp_model.specs.World.{start_world}
-use Rattle.vp_model.specs.Step.{on_input, start, step}
-use Rattle.vp_laws.proofs.Members.{Has, has_none}
+use Rattle.vp_model.specs.Step.{on_input, step}
+use Rattle.vp_laws.proofs.Members.{Has}
 use Rattle.vp_laws.proofs.Order.{AtMost, not_both, same_site}
 use Rattle.vp_laws.proofs.LockTables.{HasLock, lock_taken}
 use Rattle.vp_laws.proofs.LocalViews.{letter}
 use Rattle.vp_laws.proofs.Table.{Comes, Requests, next_name}
-use Rattle.vp_laws.proofs.Scenes.{Scene, scene_of, up_in, plain_at, kept_at, promise_at, Acted, acted, stepping}
+use Rattle.vp_laws.proofs.Scenes.{Scene, up_in, plain_at, promise_at, Acted, acted, stepping}
 use Rattle.vp_laws.proofs.TableViews.{local-step}
 use Rattle.vp_laws.proofs.TableVotes.{some_not}
 use Rattle.vp_laws.proofs.OnlyCoordinator.{is_aside}
@@ -37,7 +36,8 @@ use Rattle.vp_laws.proofs.InvLived.{InvLived}
 use Rattle.vp_laws.proofs.HasLeft.{HasLeft, left_lasts, left_here, left_quiet, left_by_quiet}
 use Rattle.vp_laws.proofs.InvGuards.{Twelfth, guards_last, txn_same, outcomes, awaited, invited}
 use Rattle.vp_laws.proofs.Events.{Arrives, Lasts}
-use Rattle.vp_laws.proofs.Worlds.{NowIs, now_is, Quiet, QuietIs, quiet_is, started, With, Above, with_last}
+use Rattle.vp_laws.proofs.Worlds.{NowIs, now_is, Quiet, quiet_is, With, Above, with_last, started_idle, live_still}
+use Rattle.vp_laws.proofs.Numbers.{one_above}
 
 -- the site has answered a request of the transaction for the record: shared a read, exclusive a write
 pub data HasAnswered (w : Scene) (q : ℕ) (txn : TxnId) (rec : ℕ) : Bool → Type 0 where
@@ -86,9 +86,6 @@ granted_views catalogue x given from txn number rec exclusive stored g = go excl
     go : (exclusive : Bool) → Requests given from txn g.view number rec exclusive → conflict rec exclusive txn x.locks ≡ None → (step catalogue x given).site.held ≡ x.held
     go false (Requests.reads e) free = rw (e, g.held, g.going, g.copy, free) refl
     go true (Requests.writes e) free = rw (e, g.held, g.going, g.copy, free) refl
-
-above_number : (a b : ℕ) → a ≤ b → a ≡ b + 1 → ⊥
-above_number a b h e = omega arith
 
 -- a request of this step
 record NewRead (catalogue : Catalogue) (x : SiteState) (given : Input) (live : List Live) (txn : TxnId) (number rec : ℕ) : Type 0 where
@@ -158,14 +155,11 @@ module _ (catalogue : Catalogue) (w new : Scene) (s : ℕ) (x : SiteState) (give
   came : (from : ℕ) (m : Message) → Comes given from m → Has w.sent (letter from s m)
   came from m e = rw e at arrives
 
-  not_new : (txn : TxnId) → UsedTxn w txn → txn ≡ next_name x → ⊥
-  not_new txn u n = fresh w s x up id txn u n
-
   pub was : (k : ℕ) (y : SiteState) (t : Live) → UsedTxn w t.txn → Has y.live t → NowIs w s (step catalogue x given).site k y → Was w k t
   was k y t used h (NowIs.other n old) = record { site = y; up_then = old; u = t; here = h; named = refl; viewed = refl }
   was k y t used h (NowIs.here e same) = ⊎_elim
       (λ (q : (u : Live) × Has x.live u × (u.txn ≡ t.txn) × (u.view ≡ t.view)). record { site = x; up_then = rw e up; u = q.0; here = q.1; named = q.2; viewed = q.3 })
-      (λ (n : t.txn ≡ next_name x). absurd (not_new t.txn used n))
+      (λ (n : t.txn ≡ next_name x). absurd (fresh w s x up id t.txn used n))
       (was_viewed catalogue x given t (c.live t (subst (λ (y : SiteState). Has y.live t) (sym same) h)))
 
   named_read : (a b number rec : ℕ) (txn : TxnId) (view : ViewId) → Has w.sent (letter a b (message.ReadRequest txn view number rec)) → UsedTxn w txn
@@ -177,13 +171,13 @@ module _ (catalogue : Catalogue) (w new : Scene) (s : ℕ) (x : SiteState) (give
   -- an old request has not the number of a new one
   old_read : (a b number rec other : ℕ) (txn : TxnId) (view : ViewId) → Has w.sent (letter a b (message.ReadRequest txn view number rec)) → NewRead catalogue x given o.site.live txn number other → ⊥
   old_read a b number rec other txn view h n = ⊎_elim
-      (λ low. above_number number (length n.u.answers) low (sym n.numbered ∙ n.asks.next.number))
+      (λ low. one_above number (length n.u.answers) low (sym n.numbered ∙ n.asks.next.number))
       (λ q. some_not n.u.pending q.0 q.1 n.asks.next.idle)
       (answers.asks (letter a b (message.ReadRequest txn view number rec)) h x n.u (rw (ap (λ (t : TxnId). t.site) (sym n.named) ∙ owned s x n.u up n.here) up) n.here n.named)
 
   old_write : (a b number rec other : ℕ) (txn : TxnId) (view : ViewId) → Has w.sent (letter a b (message.WriteRequest txn view number rec)) → NewWrite catalogue x given o.site.live txn number other → ⊥
   old_write a b number rec other txn view h n = ⊎_elim
-      (λ low. above_number number (length n.u.answers) low (sym n.numbered ∙ n.asks.next.number))
+      (λ low. one_above number (length n.u.answers) low (sym n.numbered ∙ n.asks.next.number))
       (λ q. some_not n.u.pending q.0 q.1 n.asks.next.idle)
       (answers.asks (letter a b (message.WriteRequest txn view number rec)) h x n.u (rw (ap (λ (t : TxnId). t.site) (sym n.named) ∙ owned s x n.u up n.here) up) n.here n.named)
 
@@ -403,10 +397,6 @@ module _ (catalogue : Catalogue) (w new : Scene) (s : ℕ) (x : SiteState) (give
 abbrev pub Thirteenth : Catalogue → Scene → Type 0
 Thirteenth catalogue w = With (Twelfth catalogue) (InvUsed catalogue) w
 
-no_live : (catalogue : Catalogue) (s : ℕ) (d : DurableState) (t : Live) → Has (start catalogue s d).live t → ⊥
-unfolding start
-no_live catalogue s d t h = has_none t h
-
 -- the same messages were sent
 pub request_on : (w new : Scene) → new.sent ≡ w.sent → (a b : ℕ) (txn : TxnId) (view : ViewId) (number rec : ℕ) (exclusive : Bool) → HasRequest new a b txn view number rec exclusive → HasRequest w a b txn view number rec exclusive
 request_on w new same a b txn view number rec false (HasRequest.to_read h) = HasRequest.to_read (rw same at h)
@@ -417,10 +407,6 @@ answered_on w new same k txn rec false (HasAnswered.read r) = HasAnswered.read (
 answered_on w new same k txn rec true (HasAnswered.wrote r) = HasAnswered.wrote (r.0, r.1, r.2, rw same at r.3, rw same at r.4)
 
 module _ (catalogue : Catalogue) (w new : Scene) (s : ℕ) (q : Quiet catalogue w new s) (lived : InvLived w) (views : InvViews catalogue w) (asked : InvLed w) (shares : InvShares catalogue w) (owned : (k : ℕ) (y : SiteState) (t : Live) → plain_at w k ≡ Some y → Has y.live t → t.txn.site ≡ k) (inv : InvUsed catalogue w) where
-  still_there : (k : ℕ) (y : SiteState) (t : Live) → QuietIs catalogue w s k y → Has y.live t → plain_at w k ≡ Some y
-  still_there k y t (QuietIs.other n old) h = old
-  still_there k y t (QuietIs.here e same) h = absurd (no_live catalogue s (kept_at w s) t (subst (λ (y : SiteState). Has y.live t) (sym same) h))
-
   lock_on : (k : ℕ) (view : ViewId) (txn : TxnId) (rec : ℕ) (exclusive : Bool) → AtMost view (promise_at w k) → LockedAt w k txn rec exclusive → HasLeft new k view ⊎ LockedAt new k txn rec exclusive
   lock_on k view txn rec exclusive promised (y, up, lock) = ⊎_elim
       (λ (e : k ≡ s). inl (rw e (left_by_quiet catalogue w new s q lived view (rw e at promised))))
@@ -429,22 +415,22 @@ module _ (catalogue : Catalogue) (w new : Scene) (s : ℕ) (q : Quiet catalogue 
 
   used_quiet : InvUsed catalogue new
   used_quiet = record {
-    one = λ k y t a b e d number rec other u z exclusive g h f i. inv.one k y t a b e d number rec other u z exclusive (still_there k y t (quiet_is catalogue w new s q k y g) h) h (request_on w new q.sent a b t.txn u number rec exclusive f) (request_on w new q.sent e d t.txn z number other exclusive i);
+    one = λ k y t a b e d number rec other u z exclusive g h f i. inv.one k y t a b e d number rec other u z exclusive (live_still catalogue w s k y t h (quiet_is catalogue w new s q k y g)) h (request_on w new q.sent a b t.txn u number rec exclusive f) (request_on w new q.sent e d t.txn z number other exclusive i);
     used = λ k at rec exclusive y t g h a.
-        let old = still_there k y t (quiet_is catalogue w new s q k y g) h in
+        let old = live_still catalogue w s k y t h (quiet_is catalogue w new s q k y g) in
         let b = answered_on w new q.sent at t.txn rec exclusive a in
         ⊎_elim (λ (l : HasLeft w at t.view). inl (left_quiet catalogue w new s q lived at t.view l))
         (λ (l : LockedAt w at t.txn rec exclusive). lock_on at t.view t.txn rec exclusive (answered_promised catalogue w views asked shares k y t at rec exclusive old (owned k y t old h) h b) l)
         (inv.used k at rec exclusive y t old h b);
-    conflict = λ k j at rec exclusive y z t u g h f i e a b. inv.conflict k j at rec exclusive y z t u (still_there k y t (quiet_is catalogue w new s q k y g) h) h (still_there j z u (quiet_is catalogue w new s q j z f) i) i e (answered_on w new q.sent at t.txn rec true a) (answered_on w new q.sent at u.txn rec exclusive b);
+    conflict = λ k j at rec exclusive y z t u g h f i e a b. inv.conflict k j at rec exclusive y z t u (live_still catalogue w s k y t h (quiet_is catalogue w new s q k y g)) h (live_still catalogue w s j z u i (quiet_is catalogue w new s q j z f)) i e (answered_on w new q.sent at t.txn rec true a) (answered_on w new q.sent at u.txn rec exclusive b);
   }
 
 used_above : (catalogue : Catalogue) → Above catalogue (Twelfth catalogue) (InvUsed catalogue)
 used_above catalogue = record {
   starts = record {
-    one = λ s x t a b c d number rec other u v exclusive up h f g. absurd (none s x t up h);
-    used = λ s q rec exclusive x t up h a. absurd (none s x t up h);
-    conflict = λ s r q rec exclusive x y t u up h up2 k e a b. absurd (none s x t up h);
+    one = λ s x t a b c d number rec other u v exclusive up h f g. absurd (started_idle catalogue s x t up h);
+    used = λ s q rec exclusive x t up h a. absurd (started_idle catalogue s x t up h);
+    conflict = λ s r q rec exclusive x y t u up h up2 k e a b. absurd (started_idle catalogue s x t up h);
   };
   acts = λ w s x given up r low now inv.
       let ninth = low.lower.lower.lower in
@@ -475,9 +461,6 @@ used_above catalogue = record {
   where
     owned : (w : Scene) → Second catalogue w → (k : ℕ) (y : SiteState) (t : Live) → plain_at w k ≡ Some y → Has y.live t → t.txn.site ≡ k
     owned w second k y t g h = ((second.first.led.site k y g).names t h).0 ∙ (second.first.views.site k y g).id
-
-    none : (s : ℕ) (x : SiteState) (t : Live) → plain_at (scene_of (start_world catalogue)) s ≡ Some x → Has x.live t → ⊥
-    none s x t up h = no_live catalogue s (empty_durable (start_copies catalogue s)) t (subst (λ (x : SiteState). Has x.live t) (sym (started catalogue s x up)) h)
 
 pub used_last : (catalogue : Catalogue) → Lasts catalogue (Thirteenth catalogue)
 used_last catalogue = with_last catalogue (Twelfth catalogue) (InvUsed catalogue) (guards_last catalogue) (used_above catalogue)

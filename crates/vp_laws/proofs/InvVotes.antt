@@ -1,5 +1,5 @@
 -- In every world: a prepare of a live transaction speaks of its pending commit, and each vote has its prepare.
-use Rattle.std.proofs.Common.{◌≡◌, ◌≢◌, ◌∙◌, ap, sym, subst, ℕ, ◌+◌, ◌≤◌, true, List, [], map, refl, arith, ⊎_elim}
+use Rattle.std.proofs.Common.{◌≡◌, ◌≢◌, ◌∙◌, ap, sym, subst, ℕ, true, List, [], map, refl, ⊎_elim}
 use Rattle.std.specs.Prelude.{Option, Some, None, option_map}
 use Rattle.vp_model.specs.Types.{Change, ViewId, TxnId, Sent, Message, Input, Pending, Live}
 use Rattle.vp_model.specs.Types.message
@@ -20,6 +20,7 @@ use Rattle.vp_laws.proofs.TableVotes.{SameCall, LiveFrom, IsPrepared, Prepares, 
 use Rattle.vp_laws.proofs.InvNames.{UsedTxn, InvNames, Third, names_last}
 use Rattle.vp_laws.proofs.Agreement.{start_at, start_promise, down}
 use Rattle.vp_laws.proofs.Events.{Arrives, crashed, restarted, Lasts}
+use Rattle.vp_laws.proofs.Numbers.{one_above}
 
 abbrev pub Prepared : Catalogue → Scene → ℕ → Message → Type 0
 Prepared catalogue w to (message.Prepare txn view number reads writes) = (x : SiteState) (t : Live) → plain_at w txn.site ≡ Some x → Has x.live t → t.txn ≡ txn → IsPrepared catalogue t to view number reads writes
@@ -62,9 +63,6 @@ prepared_same catalogue t u to view number reads writes v o r p c q =
       has_read = rw r q.has_read;
       has_written = rw o q.has_written;
     }
-
-one_above : (a b : ℕ) → a ≤ b → a ≡ b + 1 → ⊥
-one_above a b h e = omega arith
 
 module _ (catalogue : Catalogue) (w new : Scene) (s : ℕ) (x : SiteState) (given : Input) (o : Stepped) (was : plain_at w s ≡ Some x) (id : x.id ≡ s) (arrives : Arrives w s given) (names : InvNames w) (inv : InvVotes catalogue w) (leads : Leads x o) (l : Votes catalogue x given o) (st : Acted w new s x o) where
   -- a live transaction now, at the moving site

@@ -9,15 +9,12 @@ use Rattle.vp_model.specs.Words.{same_view, view_before, put_view, for_each}
 use Rattle.vp_model.specs.OneCopy.{views_of, in_view, order}
 use Rattle.vp_laws.proofs.Members.{Has, has_none, has_first, has_more, has_cons, has_cases, has_left, has_right, filter_has, filter_keeps}
 use Rattle.vp_laws.proofs.Lists.{put_has, put_new, put_old}
-use Rattle.vp_laws.proofs.Order.{AtMost, Precedes, AtMost-same, from_before, same_is, same_from}
+use Rattle.vp_laws.proofs.Order.{AtMost, Precedes, AtMost-same, from_before, same_is, same_from, not_itself, above_from}
 
 -- identifiers in ascending order
 abbrev pub Rising : List ViewId → Type 0
 Rising [] = Unit {0}
 Rising (v ∷ vs) = ((u : ViewId) → Has vs u → Precedes v u) × Rising vs
-
-pub above_from : (a b : ViewId) → same_view a b ≡ false → view_before a b ≡ false → Precedes b a
-above_from a b e f = grind (arith, nat_tests, e, f)
 
 pub Precedes-trans : (a b c : ViewId) → Precedes a b → Precedes b c → Precedes a c
 Precedes-trans a b c p q = omega arith
@@ -27,9 +24,6 @@ unlike_below a b p = grind (arith, nat_tests, p)
 
 pub unlike_above : (a b : ViewId) → Precedes a b → same_view b a ≡ false
 unlike_above a b p = grind (arith, nat_tests, p)
-
-not_itself : (a : ViewId) → Precedes a a → ⊥
-not_itself a p = grind arith
 
 put_rising : (i : ViewId) (vs : List ViewId) → Rising vs → Rising (put_view i vs)
 put_rising i [] h = ((λ u k. absurd (has_none u k)), tt)

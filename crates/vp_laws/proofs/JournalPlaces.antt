@@ -5,7 +5,7 @@ use Rattle.std.specs.List.{AllByRecursion}
 use Rattle.vp_model.specs.Types.{Commit, Op}
 use Rattle.vp_model.specs.Words.{keys, value_at}
 use Rattle.vp_model.specs.Transactions.{last_writes}
-use Rattle.vp_one_site.proofs.Play.{Write, Ascending, last_ascending}
+use Rattle.vp_laws.proofs.Play.{Write, Ascending, last_ascending}
 use Rattle.vp_laws.proofs.Members.{Has, has_none, has_first, has_more, has_right, has_cons}
 use Rattle.vp_laws.proofs.InvEndings.{Once}
 use Rattle.vp_laws.proofs.InvHeld.{Differ, pair_value}

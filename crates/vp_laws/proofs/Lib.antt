@@ -1,12 +1,13 @@
 -- words and lists
 pub mod Members
+pub mod Numbers
 pub mod Keeps
 pub mod Order
 pub mod Lists
 pub mod Apart
-pub mod Majorities
 pub mod LockTables
 pub mod Journal
+pub mod Play
 -- the table in small moves, and that every step is made of them: no other file unfolds a row
 pub mod Table
 pub mod Frames
@@ -132,12 +133,14 @@ pub mod Moments
 pub mod EndsTrue
 pub mod OneCopy
 -- what clients are told, in every schedule
+pub mod RefusedCalls
 pub mod Fair
 pub mod FairStep
 pub mod FairAt
 pub mod FairMoves
 pub mod FairTold
 -- the operations that clients are told of
+pub mod ToldLines
 pub mod ToldCalls
 pub mod TableTold
 pub mod ToldAt

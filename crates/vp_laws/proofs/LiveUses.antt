@@ -1,18 +1,17 @@
 -- What a live transaction uses is accessible in the view that its site holds: the records of its operations, and of its pending call.
 use Rattle.std.proofs.Common.{◌≡◌, ◌∙◌, ap, sym, subst, ℕ, true, List, [], ◌∷◌, refl, ⊎_elim}
-use Rattle.std.specs.Prelude.{Option, Some, None}
+use Rattle.std.specs.Prelude.{Option, Some}
 use Rattle.vp_model.specs.Types.{TxnId, View, ViewId, Input, Op, Answer, Pending, Live}
 use Rattle.vp_model.specs.Types.op
 use Rattle.vp_model.specs.Catalogue.{Catalogue}
 use Rattle.vp_model.specs.Site.{SiteState, Lent}
 use Rattle.vp_model.specs.Refresh.{is_usable_in, other_holders}
 use Rattle.vp_model.specs.Calls.{begun}
-use Rattle.vp_model.specs.Step.{mark, marked_call}
-use Rattle.vp_laws.specs.Votes.{is_commit}
+use Rattle.vp_model.specs.Step.{mark}
 use Rattle.vp_laws.proofs.Members.{Has, has_none, has_one_is, has_cases}
 use Rattle.vp_laws.proofs.Table.{Reads, Writes, remaining, Completes}
 use Rattle.vp_laws.proofs.TableSteps.{waiting, done, reading, writing, LiveNow}
-use Rattle.vp_laws.proofs.InvOps.{HasUsed, record_of, read_not_write, reads_same, writes_same}
+use Rattle.vp_laws.proofs.InvOps.{HasUsed, record_of, read_not_write, reads_same, writes_same, unmarked, no_commit_reads, no_commit_writes}
 
 pub record LiveUses (catalogue : Catalogue) (held : Option View) (t : Live) : Type 0 where
   pub usable : (rec : ℕ) → HasUsed t.ops rec → is_usable_in catalogue held rec ≡ true
@@ -29,10 +28,6 @@ module _ (catalogue : Catalogue) (x : SiteState) (given : Input) (all : (u : Liv
     reading = λ p rec e r. let q = unmarked u.pending p e in h.reading q.0 rec q.1 (record { txn = r.txn; number = r.number; name = r.name; words = ap (λ (p : Pending). p.call) q.2 ∙ r.words; found = r.found });
     writing = λ p rec value e r. let q = unmarked u.pending p e in h.writing q.0 rec value q.1 (record { txn = r.txn; number = r.number; name = r.name; words = ap (λ (p : Pending). p.call) q.2 ∙ r.words; found = r.found });
   }
-    where
-      unmarked : (o : Option Pending) (p : Pending) → marked_call o ≡ Some p → (a : Pending) × (o ≡ Some a) × (record a { marked = true } ≡ p)
-      unmarked None p e = cc
-      unmarked (Some a) p e = (a, refl, cc)
 
   -- a call is asked of sites, and nothing more is done
   asking_uses : (u t : Live) (p : Pending) (sites : List ℕ) → LiveUses catalogue x.held u → t.ops ≡ u.ops → t.pending ≡ Some (record p { missing = sites }) → ((rec : ℕ) → Reads catalogue p rec → Usable rec) → ((rec : ℕ) (value : List ℕ) → Writes catalogue p rec value → Usable rec) → LiveUses catalogue x.held t
@@ -63,12 +58,6 @@ module _ (catalogue : Catalogue) (x : SiteState) (given : Input) (all : (u : Liv
   completed_uses u p operation words l h (Completes.read_answered from rec value c last r o w e) = done_uses u operation words h (usable_read operation rec value o (h.reading p rec last.pending r))
   completed_uses u p operation words l h (Completes.write_answered from rec value c last r o w e) = done_uses u operation words h (usable_write operation rec value o (h.writing p rec value last.pending r))
 
-  no_commit_reads : {C : Type 0} (p : Pending) (rec : ℕ) → is_commit p.call ≡ true → Reads catalogue p rec → C
-  no_commit_reads p rec c r = let z = ap is_commit r.words in cc
-
-  no_commit_writes : {C : Type 0} (p : Pending) (rec : ℕ) (value : List ℕ) → is_commit p.call ≡ true → Writes catalogue p rec value → C
-  no_commit_writes p rec value c r = let z = ap is_commit r.words in cc
-
   begun_uses : (txn : TxnId) (view : ViewId) → LiveUses catalogue x.held (begun txn view)
   begun_uses txn view = record {
     usable = λ rec k. absurd (has_none k.0 k.1);
@@ -92,5 +81,5 @@ module _ (catalogue : Catalogue) (x : SiteState) (given : Input) (all : (u : Liv
       (λ other r. read_not_write catalogue p other rec value r a.writes)
       (λ other v r. subst Usable (writes_same catalogue p rec other value v a.writes r) a.usable))
   live_uses t (LiveNow.prepares u p h a e) = subst (LiveUses catalogue x.held) e
-      (asking_uses u (waiting u p u.parts) p u.parts (all u h) refl refl (λ rec r. no_commit_reads p rec a.commit r) (λ rec value r. no_commit_writes p rec value a.commit r))
+      (asking_uses u (waiting u p u.parts) p u.parts (all u h) refl refl (λ rec r. no_commit_reads catalogue p rec a.commit r) (λ rec value r. no_commit_writes catalogue p rec value a.commit r))
   live_uses t (LiveNow.begins view h e) = subst (LiveUses catalogue x.held) e (begun_uses _ view.id)

@@ -13,7 +13,7 @@ use Rattle.vp_model.specs.Locks.{with_lock, with_guard, without_guard, without_o
 use Rattle.vp_model.specs.Site.{ParticipantState}
 use Rattle.vp_model.specs.Views.{has_part, has_doubt, outlasts_for, outlasts}
 use Rattle.vp_laws.proofs.Members.{Has, has_none, has_first, has_more, has_cons, filter_has, filter_keeps, any_true, any_false}
-use Rattle.vp_laws.proofs.Apart.{Apart, named, same_txn-is, same_txn-not, without_gone}
+use Rattle.vp_laws.proofs.Apart.{Apart, named, same_txn-is, same_txn-not, without_gone, same_txn-self, same_txn-other, same_txn-clash}
 use Rattle.vp_laws.proofs.Lists.{without_first_has}
 use Rattle.vp_laws.proofs.LockTables.{NoConflict, IsFree, HasLock, lock_origin, locked, guarded, lock_kept, lock_taken, fewer_locks, lock_stays}
 use Rattle.vp_laws.proofs.Order.{Precedes}
@@ -61,11 +61,8 @@ without_first_keeps test (x ∷ xs) a h e = go (test x) refl (λ q. without_firs
     go true t rest = ⊎_elim (λ (one : x ≡ a). absurd (let z : test a ≡ true = rw (← one) t in cc)) (λ more. more) (has_cons x xs a h)
     go false t rest = ⊎_elim (λ (one : x ≡ a). rw one (has_first a _)) (λ more. has_more x _ a (rest more)) (has_cons x xs a h)
 
-unlike : (a b : TxnId) → a ≢ b → same_txn a b ≡ false
-unlike a b n = grind (arith, nat_tests, n)
-
 not_that : (a b : TxnId) → a ≢ b → not (same_txn a b) ≡ true
-not_that a b n = rw (unlike a b n) refl
+not_that a b n = rw (same_txn-other a b n) refl
 
 -- more locks on what there is
 own_more : (catalogue : Catalogue) (copied : List ℕ) (locks now : List Lock) (t : Live) → ((rec : ℕ) (exclusive : Bool) → HasLock rec exclusive (owner.Txn t.txn) locks → HasLock rec exclusive (owner.Txn t.txn) now) → OwnLocks catalogue copied locks t → OwnLocks catalogue copied now t
@@ -140,37 +137,31 @@ module _ (catalogue : Catalogue) (live : List Live) (parts : List Part) (doubts 
   ends txn away no_doubt = record {
     apart = fewer_locks (λ (lock : Lock). not (same_owner lock.owner (owner.Txn txn))) locks ok.apart;
     owners = λ l u h e. let f = filter_has (λ (lock : Lock). not (same_owner lock.owner (owner.Txn txn))) locks l h in
-        ⊎_elim (λ (q : (t : Live) × Has live t × (t.txn ≡ u)). inl (q.0, without_first_keeps (named txn) live q.0 q.1 (unlike q.0.txn txn (other l u e f.1 q.2)), q.2)) (λ rest. inr rest) (ok.owners l u f.0 e);
-    doubted = λ d rec h k. lock_stays rec true (owner.Txn d.txn) (owner.Txn txn) locks (unlike d.txn txn (no_doubt d h)) (ok.doubted d rec h k);
+        ⊎_elim (λ (q : (t : Live) × Has live t × (t.txn ≡ u)). inl (q.0, without_first_keeps (named txn) live q.0 q.1 (same_txn-other q.0.txn txn (other l u e f.1 q.2)), q.2)) (λ rest. inr rest) (ok.owners l u f.0 e);
+    doubted = λ d rec h k. lock_stays rec true (owner.Txn d.txn) (owner.Txn txn) locks (same_txn-other d.txn txn (no_doubt d h)) (ok.doubted d rec h k);
     listed = λ r h. lock_stays r.rec true owner.Refresh (owner.Txn txn) locks refl (ok.listed r h);
     guard = λ l h e. ok.guard l (filter_has _ locks l h).0 e;
     lower = λ r h. let q = ok.lower r h in (q.0, q.1, q.2, (λ l u k on by. q.3 l u (filter_has _ locks l k).0 on by));
-    own = λ t h. own_more catalogue copied locks _ t (λ rec e k. lock_stays rec e (owner.Txn t.txn) (owner.Txn txn) locks (unlike t.txn txn (without_gone txn live away t h)) k) (ok.own t (without_first_has (named txn) live t h));
+    own = λ t h. own_more catalogue copied locks _ t (λ rec e k. lock_stays rec e (owner.Txn t.txn) (owner.Txn txn) locks (same_txn-other t.txn txn (without_gone txn live away t h)) k) (ok.own t (without_first_has (named txn) live t h));
   }
     where
       other : (l : Lock) (u : TxnId) → l.owner ≡ owner.Txn u → not (same_owner l.owner (owner.Txn txn)) ≡ true → {a : TxnId} → a ≡ u → a ≢ txn
-      other l u e n {a} same is = clash (u) txn (rw e at n) (sym same ∙ is)
-        where
-          clash : (a b : TxnId) → not (same_txn a b) ≡ true → a ≢ b
-          clash a b q e = grind (arith, nat_tests, q, e)
+      other l u e n {a} same is = same_txn-clash (u) txn (rw e at n) (sym same ∙ is)
 
   -- a transaction of another site ends here
   pub ends_part : (txn : TxnId) → ((t : Live) → Has live t → t.txn ≢ txn) → LocksOk catalogue live (filter (λ (p : Part). not (same_txn p.txn txn)) parts) (without_doubt txn doubts) refresh held copied (without_owner (owner.Txn txn) locks)
   ends_part txn over = record {
     apart = fewer_locks (λ (lock : Lock). not (same_owner lock.owner (owner.Txn txn))) locks ok.apart;
     owners = λ l u h e. let f = filter_has (λ (lock : Lock). not (same_owner lock.owner (owner.Txn txn))) locks l h in known u (differs l u e f.1) (ok.owners l u f.0 e);
-    doubted = λ d rec h k. let f = filter_has (λ (d : Doubt). not (same_txn d.txn txn)) doubts d h in lock_stays rec true (owner.Txn d.txn) (owner.Txn txn) locks (unlike d.txn txn (clash d.txn txn f.1)) (ok.doubted d rec f.0 k);
+    doubted = λ d rec h k. let f = filter_has (λ (d : Doubt). not (same_txn d.txn txn)) doubts d h in lock_stays rec true (owner.Txn d.txn) (owner.Txn txn) locks (same_txn-other d.txn txn (same_txn-clash d.txn txn f.1)) (ok.doubted d rec f.0 k);
     listed = λ r h. lock_stays r.rec true owner.Refresh (owner.Txn txn) locks refl (ok.listed r h);
     guard = λ l h e. ok.guard l (filter_has _ locks l h).0 e;
     lower = λ r h. let q = ok.lower r h in (q.0, q.1, q.2, (λ l u k on by. let f = filter_has (λ (lock : Lock). not (same_owner lock.owner (owner.Txn txn))) locks l k in let d = q.3 l u f.0 on by in (d.0, doubt_stays d.0 d.1 (λ z. differs l u by f.1 (sym d.2 ∙ z)), d.2, d.3)));
-    own = λ t h. own_more catalogue copied locks _ t (λ rec e k. lock_stays rec e (owner.Txn t.txn) (owner.Txn txn) locks (unlike t.txn txn (over t h)) k) (ok.own t h);
+    own = λ t h. own_more catalogue copied locks _ t (λ rec e k. lock_stays rec e (owner.Txn t.txn) (owner.Txn txn) locks (same_txn-other t.txn txn (over t h)) k) (ok.own t h);
   }
     where
-      clash : (a b : TxnId) → not (same_txn a b) ≡ true → a ≢ b
-      clash a b q e = grind (arith, nat_tests, q, e)
-
       differs : (l : Lock) (u : TxnId) → l.owner ≡ owner.Txn u → not (same_owner l.owner (owner.Txn txn)) ≡ true → u ≢ txn
-      differs l u e n = clash u txn (rw e at n)
+      differs l u e n = same_txn-clash u txn (rw e at n)
 
       doubt_stays : (d : Doubt) → Has doubts d → d.txn ≢ txn → Has (without_doubt txn doubts) d
       doubt_stays d h n = filter_keeps (λ (d : Doubt). not (same_txn d.txn txn)) doubts d h (not_that d.txn txn n)
@@ -196,11 +187,8 @@ module _ (catalogue : Catalogue) (live : List Live) (parts : List Part) (doubts 
       no_guard l e t = let z : outlasts_for p l.exclusive owner.Refresh ≡ true = rw e at t in cc
 
       of_doubt : (d : Doubt) → Has doubts d → has_doubt d.txn p.doubts ≡ true
-      of_doubt d h = any_is (λ (e : Doubt). same_txn e.txn d.txn) p.doubts d (rw same_doubts h) (self d.txn)
+      of_doubt d h = any_is (λ (e : Doubt). same_txn e.txn d.txn) p.doubts d (rw same_doubts h) (same_txn-self d.txn)
         where
-          self : (t : TxnId) → same_txn t t ≡ true
-          self t = grind (arith, nat_tests)
-
           any_is : (test : Doubt → Bool) (ds : List Doubt) (d : Doubt) → Has ds d → test d ≡ true → list_any test ds ≡ true
           any_is test ds d h t = go (list_any test ds) refl
             where

@@ -1,19 +1,16 @@
 -- Lock tables in which no two owners conflict.
-use Rattle.std.proofs.Common.{◌≡◌, ℕ, Bool, true, false, cond, refl, arith, inl, inr, ◌⊎◌, List, [], ◌∷◌, ◌++◌, ⊎_elim, map, sym, ap, ◌∙◌}
+use Rattle.std.proofs.Common.{◌≡◌, ℕ, Bool, true, false, cond, refl, inl, inr, ◌⊎◌, List, [], ◌∷◌, ◌++◌, ⊎_elim, map, sym, ap, ◌∙◌}
 use Rattle.std.specs.Prelude.{◌==◌, ◌&&◌, ◌||◌, not, Some, None, fold, filter}
 use Rattle.std.specs.List.{list_any}
-use Rattle.std.proofs.lemmas.Bool.Decides.{nat_tests}
 use Rattle.std.proofs.lemmas.Bool.{eqb-true, eq-eqb, and_parts}
 use Rattle.vp_model.specs.Types.{TxnId, Owner, Lock}
 use Rattle.vp_model.specs.Types.owner
-use Rattle.vp_model.specs.Words.{same_txn, same_owner, owner_before}
+use Rattle.vp_model.specs.Words.{same_owner, owner_before}
 use Rattle.vp_model.specs.Locks.{conflicting, lesser, least_owner, conflict, holds, raised, with_lock, without_owner}
 use Rattle.vp_laws.proofs.Members.{Has, has_none, has_left, has_right, has_cases, has_one, has_one_is, filter_has, filter_keeps, map_has, any_true}
 use Rattle.vp_laws.proofs.Lists.{mapped_has}
-
-pub by_bool : {A : Type 0} (P : A → Type 0) (t : Bool) (x y : A) → (t ≡ true → P x) → (t ≡ false → P y) → P (cond t x y)
-by_bool P true x y p q = p refl
-by_bool P false x y p q = q refl
+use Rattle.vp_laws.proofs.Apart.{same_txn-is, same_txn-self}
+use Rattle.vp_laws.proofs.Keeps.{by_test}
 
 filter_none : {X : Type 0} (test : X → Bool) (xs : List X) (x : X) → filter test xs ≡ [] → Has xs x → test x ≡ false
 filter_none test xs x e h = go (test x) refl
@@ -22,17 +19,8 @@ filter_none test xs x e h = go (test x) refl
     go false q = refl
     go true q = absurd (has_none x (rw e at (filter_keeps test xs x h q)))
 
-pub same_txn_is : (t u : TxnId) → same_txn t u ≡ true → t ≡ u
-same_txn_is t u e = grind (arith, nat_tests)
-
-pub same_txn-self : (t : TxnId) → same_txn t t ≡ true
-same_txn-self t = grind (arith, nat_tests)
-
-pub same_txn-sym : (t u : TxnId) → same_txn t u ≡ same_txn u t
-same_txn-sym t u = grind (arith, nat_tests)
-
 pub same_owner_is : (a b : Owner) → same_owner a b ≡ true → a ≡ b
-same_owner_is (owner.Txn t) (owner.Txn u) e = ap owner.Txn (same_txn_is t u e)
+same_owner_is (owner.Txn t) (owner.Txn u) e = ap owner.Txn (same_txn-is t u e)
 same_owner_is (owner.Txn t) owner.Refresh e = cc
 same_owner_is owner.Refresh (owner.Txn u) e = cc
 same_owner_is owner.Refresh owner.Refresh e = refl
@@ -115,7 +103,7 @@ data Source (rec : ℕ) (exclusive : Bool) (o : Owner) (locks : List Lock) (a : 
   mine : a.rec ≡ rec → a.owner ≡ o → (a.exclusive ≡ true → (exclusive ≡ true) ⊎ HasLock rec true o locks) → Source rec exclusive o locks a
 
 raised_source : (rec : ℕ) (exclusive : Bool) (o : Owner) (locks : List Lock) (l : Lock) → Has locks l → Source rec exclusive o locks (raised rec exclusive o l)
-raised_source rec exclusive o locks l h = by_bool (Source rec exclusive o locks) ((l.rec == rec) && same_owner l.owner o) (record l { exclusive = l.exclusive || exclusive }) l
+raised_source rec exclusive o locks l h = by_test (Source rec exclusive o locks) ((l.rec == rec) && same_owner l.owner o) (record l { exclusive = l.exclusive || exclusive }) l
     (λ e. let p = and_parts (l.rec == rec) (same_owner l.owner o) e in
     let at : l.rec ≡ rec = eqb-true l.rec rec p.0 in
     let by : l.owner ≡ o = same_owner_is l.owner o p.1 in
@@ -127,7 +115,7 @@ raised_source rec exclusive o locks l h = by_bool (Source rec exclusive o locks)
     which false e q at by = inl q
 
 source : (rec : ℕ) (exclusive : Bool) (o : Owner) (locks : List Lock) (a : Lock) → Has (with_lock rec exclusive o locks) a → Source rec exclusive o locks a
-source rec exclusive o locks a h = by_bool (λ (ls : List Lock). Has ls a → Source rec exclusive o locks a) (holds rec false o locks) (map (raised rec exclusive o) locks) (locks ++ (record { rec = rec; exclusive = exclusive; owner = o }) ∷ [])
+source rec exclusive o locks a h = by_test (λ (ls : List Lock). Has ls a → Source rec exclusive o locks a) (holds rec false o locks) (map (raised rec exclusive o) locks) (locks ++ (record { rec = rec; exclusive = exclusive; owner = o }) ∷ [])
     (λ e q. let r = map_has (raised rec exclusive o) locks a q in rw (← r.2) (raised_source rec exclusive o locks r.0 r.1))
     (λ e q. ⊎_elim (λ was. Source.old was) (λ new. rw (← has_one_is (record { rec = rec; exclusive = exclusive; owner = o }) a new) (Source.mine refl refl (λ z. inl z))) (has_cases locks _ a q)) h
 
@@ -168,16 +156,16 @@ guarded rec locks n a b t u h k r x f g = go (lock_origin rec true owner.Refresh
     go (inr p) q = absurd (let z = sym p.1 ∙ f in cc)
 
 raised_keeps : (rec : ℕ) (exclusive : Bool) (o : Owner) (l : Lock) → ((raised rec exclusive o l).rec ≡ l.rec) × ((raised rec exclusive o l).owner ≡ l.owner) × (l.exclusive ≡ true → (raised rec exclusive o l).exclusive ≡ true)
-raised_keeps rec exclusive o l = by_bool (λ (m : Lock). (m.rec ≡ l.rec) × (m.owner ≡ l.owner) × (l.exclusive ≡ true → m.exclusive ≡ true)) ((l.rec == rec) && same_owner l.owner o) (record l { exclusive = l.exclusive || exclusive }) l
+raised_keeps rec exclusive o l = by_test (λ (m : Lock). (m.rec ≡ l.rec) × (m.owner ≡ l.owner) × (l.exclusive ≡ true → m.exclusive ≡ true)) ((l.rec == rec) && same_owner l.owner o) (record l { exclusive = l.exclusive || exclusive }) l
     (λ e. (refl, refl, λ q. rw q refl)) (λ e. (refl, refl, λ q. q))
 
 pub lock_kept : (r : ℕ) (x : Bool) (p : Owner) (rec : ℕ) (exclusive : Bool) (o : Owner) (locks : List Lock) → HasLock r x p locks → HasLock r x p (with_lock rec exclusive o locks)
-lock_kept r x p rec exclusive o locks h = by_bool (HasLock r x p) (holds rec false o locks) (map (raised rec exclusive o) locks) (locks ++ (record { rec = rec; exclusive = exclusive; owner = o }) ∷ [])
+lock_kept r x p rec exclusive o locks h = by_test (HasLock r x p) (holds rec false o locks) (map (raised rec exclusive o) locks) (locks ++ (record { rec = rec; exclusive = exclusive; owner = o }) ∷ [])
     (λ e. let k = raised_keeps rec exclusive o h.lock in record { lock = raised rec exclusive o h.lock; has = mapped_has (raised rec exclusive o) locks h.lock h.has; on = k.0 ∙ h.on; by = k.1 ∙ h.by; strong = λ q. k.2 (h.strong q) })
     (λ e. record { lock = h.lock; has = has_left locks _ h.lock h.has; on = h.on; by = h.by; strong = h.strong })
 
 pub lock_taken : (rec : ℕ) (exclusive : Bool) (o : Owner) (locks : List Lock) → HasLock rec exclusive o (with_lock rec exclusive o locks)
-lock_taken rec exclusive o locks = by_bool (HasLock rec exclusive o) (holds rec false o locks) (map (raised rec exclusive o) locks) (locks ++ (record { rec = rec; exclusive = exclusive; owner = o }) ∷ [])
+lock_taken rec exclusive o locks = by_test (HasLock rec exclusive o) (holds rec false o locks) (map (raised rec exclusive o) locks) (locks ++ (record { rec = rec; exclusive = exclusive; owner = o }) ∷ [])
     (λ e. let r = any_true (λ (lock : Lock). (lock.rec == rec) && (not false || lock.exclusive) && same_owner lock.owner o) locks e in mine r.0 r.1 (three (r.0.rec == rec) (same_owner r.0.owner o) r.2))
     (λ e. record { lock = record { rec = rec; exclusive = exclusive; owner = o }; has = has_right locks _ _ (has_one _); on = refl; by = refl; strong = λ q. q })
   where

@@ -1,9 +1,7 @@
 -- What a moment of a schedule is: a step of a site with what it gave, or a change that shows no commit and no reply. And what lasts from a
 -- moment to the end of the schedule.
-use Rattle.std.proofs.Common.{◌≡◌, sym, subst, ℕ, ◌+◌, ◌-◌, ◌^◌, zero, suc, Bool, true, false, cond, List, [], ◌∷◌, ◌++◌, refl, ⊎_elim}
-use Rattle.std.specs.Prelude.{Option, Some, None, ◌==◌, slice_get, length}
-use Rattle.std.specs.Option.{option_map_or}
-use Rattle.std.proofs.lemmas.Option.{slice_get_within, get_or_from_slice_get}
+use Rattle.std.proofs.Common.{◌≡◌, sym, subst, ℕ, ◌+◌, ◌-◌, ◌^◌, zero, suc, List, [], ◌∷◌, ◌++◌, refl, ⊎_elim}
+use Rattle.std.specs.Prelude.{Option, Some, None, ◌==◌, length}
 use Rattle.vp_model.specs.Types.{Event, Input, Sent, Shown}
 use Rattle.vp_model.specs.Types.event
 use Rattle.vp_model.specs.Types.input
@@ -14,9 +12,9 @@ use Rattle.vp_model.specs.Step.{step}
 use Rattle.vp_model.specs.World.{Place, WorldState, Moved, Run, Moment, place_of, site_of, change_place, message_at, is_cut, site_step, at_site, deliver, crash, restart, restart_place, restart_from, happens, next, one_step, flow, one_event, run_from, run_of, flowing, moments_of, shows}
 use Rattle.vp_model.specs.Told.{replies_in}
 use Rattle.vp_model.specs.Headline.{commits_in}
-use Rattle.vp_laws.proofs.Members.{Has, has_of, has_none, has_cases, has_one_is}
-use Rattle.vp_laws.proofs.Keeps.{for_some-keeps}
-use Rattle.vp_laws.proofs.Scenes.{Scene, scene_of, plain_at, acted, place-id}
+use Rattle.vp_laws.proofs.Members.{Has, has_none, has_cases, has_one_is}
+use Rattle.vp_laws.proofs.Keeps.{for_some-keeps, by_test, by_option}
+use Rattle.vp_laws.proofs.Scenes.{Scene, scene_of, plain_at, acted, place-id, message_at-has}
 use Rattle.vp_laws.proofs.Events.{Arrives, Lasts, happens-good}
 use Rattle.vp_laws.proofs.Worlds.{Quiet, crash_quiet, restart_quiet}
 
@@ -29,21 +27,13 @@ module _ (catalogue : Catalogue) where
   abbrev Is : WorldState → Moved → Type 0
   Is w m = MomentOf catalogue (scene_of w) m.shown (scene_of m.world)
 
-  by_option : {A B : Type 0} (P : B → Type 0) (f : A → B) (o : Option A) (b : B) → ((a : A) → o ≡ Some a → P (f a)) → P b → P (option_map_or f o b)
-  by_option P f None b some none = none
-  by_option P f (Some a) b some none = some a refl
-
-  by_test : {A : Type 0} (P : A → Type 0) (t : Bool) (x y : A) → (t ≡ true → P x) → (t ≡ false → P y) → P (cond t x y)
-  by_test P true x y p q = p refl
-  by_test P false x y p q = q refl
-
   site_step-is : (s : ℕ) (x : SiteState) (given : Input) (w : WorldState) → site_of w s ≡ Some x → Arrives (scene_of w) s given → Is w (site_step catalogue s x given w)
   unfolding site_step
   site_step-is s x given w up a = MomentOf.steps s x given (length w.sent + 1) up a refl refl
 
   at_site-is : (s : ℕ) (given : Input) (w : WorldState) → Arrives (scene_of w) s given → Is w (at_site catalogue s given w)
   unfolding at_site
-  at_site-is s given w a = by_option (Is w) (λ site. site_step catalogue s site given w) (site_of w s) (shows w (shown.Down s)) (λ x up. site_step-is s x given w up a) (MomentOf.same refl refl refl)
+  at_site-is s given w a = by_option (Is w) (λ site. site_step catalogue s site given w) (site_of w s) (shows w (shown.Down s)) (λ x up. site_step-is s x given w up a) (λ none. MomentOf.same refl refl refl)
 
   deliver-is : (n : ℕ) (m : Sent) (w : WorldState) → Has w.sent m → Is w (deliver catalogue n m w)
   unfolding deliver
@@ -51,18 +41,11 @@ module _ (catalogue : Catalogue) where
       by_option (Is w) _ (site_of w m.to) (shows w (shown.Down m.to))
       (λ x up. by_test (Is w) (is_cut w m.from m.to) (shows w (shown.Parted m.from m.to)) (site_step catalogue m.to x (input.Message m.from m.message) (record w { delivered = w.delivered ++ n ∷ [] }))
       (λ e. MomentOf.same refl refl refl) (λ e. site_step-is m.to x (input.Message m.from m.message) (record w { delivered = w.delivered ++ n ∷ [] }) up sent))
-      (MomentOf.same refl refl refl)
-
-  message_at-has : (w : WorldState) (n : ℕ) (m : Sent) → message_at w n ≡ Some m → Has w.sent m
-  message_at-has w n m e = go (n == 0) e
-    where
-      go : (b : Bool) → cond b None (slice_get w.sent (n - 1)) ≡ Some m → Has w.sent m
-      go true q = cc
-      go false q = has_of w.sent m (n - 1, slice_get_within w.sent (n - 1) m q, get_or_from_slice_get w.sent (n - 1) m m q)
+      (λ none. MomentOf.same refl refl refl)
 
   crash-is : (s : ℕ) (w : WorldState) → Is w (crash s w)
   unfolding crash
-  crash-is s w = by_option (Is w) _ (site_of w s) (shows w (shown.Down s)) (λ x up. MomentOf.quiet s (crash_quiet catalogue (scene_of w) s) refl refl) (MomentOf.same refl refl refl)
+  crash-is s w = by_option (Is w) _ (site_of w s) (shows w (shown.Down s)) (λ x up. MomentOf.quiet s (crash_quiet catalogue (scene_of w) s) refl refl) (λ none. MomentOf.same refl refl refl)
 
   restart_from-is : (place : Place) (s : ℕ) (w : WorldState) → place_of s w.places ≡ Some place → place.id ≡ s → Is w (restart_from catalogue place w)
   restart_from-is place s w e i = go place.up refl
@@ -76,12 +59,12 @@ module _ (catalogue : Catalogue) where
 
   restart-is : (s : ℕ) (w : WorldState) → Is w (restart catalogue s w)
   unfolding restart
-  restart-is s w = by_option (Is w) _ (place_of s w.places) (shows w shown.Nothing) (λ place e. restart_from-is place s w e (place-id s w.places place e)) (MomentOf.same refl refl refl)
+  restart-is s w = by_option (Is w) _ (place_of s w.places) (shows w shown.Nothing) (λ place e. restart_from-is place s w e (place-id s w.places place e)) (λ none. MomentOf.same refl refl refl)
 
   happens-is : (e : Event) (w : WorldState) → Is w (happens catalogue e w)
   unfolding happens
   happens-is (event.Call s words) w = at_site-is s (input.Call 0 words) w tt
-  happens-is (event.Deliver n) w = by_option (Is w) _ (message_at w n) (shows w shown.NoMessage) (λ m e. deliver-is n m w (message_at-has w n m e)) (MomentOf.same refl refl refl)
+  happens-is (event.Deliver n) w = by_option (Is w) _ (message_at w n) (shows w shown.NoMessage) (λ m e. deliver-is n m w (message_at-has w n m e)) (λ none. MomentOf.same refl refl refl)
   happens-is (event.Flow count) w = MomentOf.same refl refl refl
   happens-is (event.Tick s) w = at_site-is s input.Tick w tt
   happens-is (event.Probe s) w = at_site-is s input.Probe w tt

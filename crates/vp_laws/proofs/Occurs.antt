@@ -1,7 +1,6 @@
 -- What one event does in a world, by kinds, and the induction over the runs of all schedules for a property of runs.
-use Rattle.std.proofs.Common.{◌≡◌, ◌++◌, ℕ, zero, suc, ◌+◌, ◌-◌, ◌^◌, Bool, true, false, cond, List, [], ◌∷◌, refl}
-use Rattle.std.specs.Prelude.{Option, Some, None, ◌==◌, slice_get}
-use Rattle.std.proofs.lemmas.Option.{slice_get_within, get_or_from_slice_get}
+use Rattle.std.proofs.Common.{◌≡◌, ◌++◌, ℕ, zero, suc, ◌+◌, ◌-◌, ◌^◌, false, List, [], ◌∷◌, refl}
+use Rattle.std.specs.Prelude.{Option, Some, None, ◌==◌}
 use Rattle.vp_model.specs.Types.{Event, Input, Sent, Call, Shown}
 use Rattle.vp_model.specs.Types.event
 use Rattle.vp_model.specs.Types.input
@@ -10,10 +9,8 @@ use Rattle.vp_model.specs.Catalogue.{Catalogue}
 use Rattle.vp_model.specs.Site.{SiteState}
 use Rattle.vp_model.specs.Told.{is_step, replies_in}
 use Rattle.vp_model.specs.World.{Place, WorldState, Moved, Run, place_of, site_of, message_at, is_cut, site_step, at_site, deliver, crash, restart, restart_place, restart_from, happens, next, start_run, one_step, flow, one_event, run_from, run_of, flowing, shows, change_place}
-use Rattle.vp_laws.proofs.Members.{Has, has_of}
-use Rattle.vp_laws.proofs.Keeps.{for_some-keeps}
-use Rattle.vp_laws.proofs.Coordinator.{by_option, by_test}
-use Rattle.vp_laws.proofs.Scenes.{scene_of, place-id}
+use Rattle.vp_laws.proofs.Keeps.{for_some-keeps, by_option, by_test}
+use Rattle.vp_laws.proofs.Scenes.{scene_of, place-id, message_at-has}
 use Rattle.vp_laws.proofs.Events.{Arrives, crashed, restarted}
 
 -- what is no step shows no reply
@@ -47,13 +44,6 @@ module _ (catalogue : Catalogue) (e : Event) (w : WorldState) where
   unfolding at_site
   at_site-occurs s given a g = by_option O (λ site. site_step catalogue s site given counted) (site_of w s) (shows counted (shown.Down s)) (λ x up. Occurs.acts s x given counted refl up a g refl) (λ down. Occurs.stands refl refl)
 
-  message_at-has : (n : ℕ) (m : Sent) → message_at w n ≡ Some m → Has w.sent m
-  message_at-has n m q = go (n == 0) q
-    where
-      go : (b : Bool) → cond b None (slice_get w.sent (n - 1)) ≡ Some m → Has w.sent m
-      go true z = cc
-      go false z = has_of w.sent m (n - 1, slice_get_within w.sent (n - 1) m z, get_or_from_slice_get w.sent (n - 1) m m z)
-
   deliver-occurs : (k : ℕ) (m : Sent) → e ≡ event.Deliver k → message_at w k ≡ Some m → O (deliver catalogue k m counted)
   unfolding deliver
   deliver-occurs k m is at =
@@ -61,7 +51,7 @@ module _ (catalogue : Catalogue) (e : Event) (w : WorldState) where
       by_option O _ (site_of w m.to) (shows counted (shown.Down m.to))
       (λ x up. by_test O (is_cut w m.from m.to) (shows counted (shown.Parted m.from m.to)) (site_step catalogue m.to x (input.Message m.from m.message) v)
       (λ parted. Occurs.stands refl refl)
-      (λ joined. Occurs.acts m.to x (input.Message m.from m.message) v refl up (message_at-has k m at) (Gives.came k m is at refl) refl))
+      (λ joined. Occurs.acts m.to x (input.Message m.from m.message) v refl up (message_at-has w k m at) (Gives.came k m is at refl) refl))
       (λ down. Occurs.stands refl refl)
 
   crash-occurs : (s : ℕ) → O (crash s counted)

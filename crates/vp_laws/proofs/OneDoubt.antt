@@ -1,14 +1,13 @@
 -- The doubts of an entry's transaction at a site are one, which is the one that is found by its name.
-use Rattle.std.proofs.Common.{◌≡◌, ◌∙◌, ap, sym, subst, ℕ, Bool, true, false, cond, List, [], ◌∷◌, refl, arith, ⊎_elim}
+use Rattle.std.proofs.Common.{◌≡◌, ◌∙◌, ap, sym, subst, ℕ, Bool, true, false, cond, List, [], ◌∷◌, refl, ⊎_elim}
 use Rattle.std.specs.Prelude.{Some, find}
-use Rattle.std.proofs.lemmas.Bool.Decides.{nat_tests}
 use Rattle.vp_model.specs.Types.{TxnId, Commit, Doubt}
 use Rattle.vp_model.specs.Types.message
 use Rattle.vp_model.specs.Words.{same_txn}
 use Rattle.vp_model.specs.Catalogue.{Catalogue}
 use Rattle.vp_model.specs.Durable.{doubt_of}
 use Rattle.vp_laws.proofs.Members.{Has, has_none, has_cons, find_has, find_true}
-use Rattle.vp_laws.proofs.Apart.{same_txn-is}
+use Rattle.vp_laws.proofs.Apart.{same_txn-is, same_txn-self}
 use Rattle.vp_laws.proofs.LocalViews.{letter}
 use Rattle.vp_laws.proofs.Scenes.{Scene, kept_at}
 use Rattle.vp_laws.proofs.InvShares.{InvShares}
@@ -20,12 +19,9 @@ found : (d : Doubt) (doubts : List Doubt) → Has doubts d → (c : Doubt) × (d
 found d [] h = absurd (has_none d h)
 found d (u ∷ doubts) h = go (same_txn u.txn d.txn) refl (λ k. found d doubts k)
   where
-    itself : (t : TxnId) → same_txn t t ≡ true
-    itself t = grind (arith, nat_tests)
-
     go : (b : Bool) → same_txn u.txn d.txn ≡ b → (Has doubts d → (c : Doubt) × (doubt_of d.txn doubts ≡ Some c)) → (c : Doubt) × (cond b (Some u) (find (λ (u : Doubt). same_txn u.txn d.txn) doubts) ≡ Some c)
     go true e rest = (u, refl)
-    go false e rest = ⊎_elim (λ (one : u ≡ d). absurd (let z : same_txn u.txn d.txn ≡ true = subst (λ (v : Doubt). same_txn v.txn d.txn ≡ true) (sym one) (itself d.txn) in cc)) (λ more. rest more) (has_cons u doubts d h)
+    go false e rest = ⊎_elim (λ (one : u ≡ d). absurd (let z : same_txn u.txn d.txn ≡ true = subst (λ (v : Doubt). same_txn v.txn d.txn ≡ true) (sym one) (same_txn-self d.txn) in cc)) (λ more. rest more) (has_cons u doubts d h)
 
 module _ (catalogue : Catalogue) (w : Scene) (shares : InvShares catalogue w) (e : Commit) (h : Has w.journal e) (k : ℕ) where
   pub one_doubt : (c d : Doubt) → Has (kept_at w k).doubts c → Has (kept_at w k).doubts d → c.txn ≡ e.txn → d.txn ≡ e.txn → c ≡ d

@@ -13,7 +13,7 @@ use Rattle.vp_model.specs.Transactions.{last_writes}
 use Rattle.vp_model.specs.Refresh.{is_open, is_usable_in}
 use Rattle.vp_model.specs.OneCopy.{Values, play, content}
 use Rattle.vp_model.specs.Site.{SiteState, Stepped, Lent}
-use Rattle.vp_one_site.proofs.Play.{get_all, get_all-other, play_sets, last_ascending, play-append, read_plays}
+use Rattle.vp_laws.proofs.Play.{get_all, get_all-other, play_sets, last_ascending, play-append, read_plays}
 use Rattle.vp_laws.proofs.Members.{Has}
 use Rattle.vp_laws.proofs.Lists.{mapped_has}
 use Rattle.vp_laws.proofs.Order.{AtMost, AtMost-along}
@@ -42,6 +42,7 @@ use Rattle.vp_laws.proofs.UsableCopies.{usable_value}
 use Rattle.vp_laws.proofs.Contents.{content_there}
 use Rattle.vp_laws.proofs.OrderInvariant.{Plays, InvOrder}
 use Rattle.vp_laws.proofs.Tower.{Known, Does}
+use Rattle.vp_laws.proofs.InvGuards.{txn_same}
 
 -- the value of a record after operations: the last one that they wrote, or the one before
 
@@ -76,14 +77,11 @@ module _ (catalogue : Catalogue) (w new : Scene) (s : ℕ) (x : SiteState) (give
       or_true true = refl
       or_true false = refl
 
-      same : (t u : TxnId) → owner.Txn t ≡ owner.Txn u → t ≡ u
-      same t u e = cc
-
       unentered : (u : Doubt) → Has (kept_at w s).doubts u → Has (keys u.writes) rec → (e : Commit) → Has w.journal e → e.txn ≢ u.txn
       unentered u h on e entry named =
           let lock = (k.guards.site s x d.up).doubted u rec (subst (λ (k : DurableState). Has k.doubts u) (sym d.here.kept) h) on in
           let by = free lock.lock lock.has lock.on (rw (lock.strong refl) (or_true exclusive)) in
-          no_entry e entry (named ∙ same u.txn txn (sym lock.by ∙ by))
+          no_entry e entry (named ∙ txn_same u.txn txn (sym lock.by ∙ by))
 
   -- a live transaction here has no entry
   live_no_entry : (t : Live) → Has x.live t → (e : Commit) → Has w.journal e → e.txn ≢ t.txn

@@ -1,6 +1,6 @@
 -- What plays on one copy, when an entry is added to the journal: the entries in order, and what a live transaction has done.
 use Rattle.std.proofs.Common.{◌≡◌, ◌∙◌, true, ap, sym, subst, ℕ, List, [], ◌∷◌, ◌++◌, refl, ⊎_elim}
-use Rattle.std.specs.Prelude.{Option, Some, None, is_some, option_map, option_and_then, slice_get, slice_set}
+use Rattle.std.specs.Prelude.{Option, Some, None, is_some, option_map, slice_get, slice_set}
 use Rattle.std.specs.Option.{option_map_or}
 use Rattle.std.specs.List.{AllByRecursion}
 use Rattle.vp_model.specs.Types.{ViewId, Op, Commit}
@@ -8,13 +8,13 @@ use Rattle.vp_model.specs.Words.{value_at}
 use Rattle.vp_model.specs.Catalogue.{Catalogue, start_values}
 use Rattle.vp_model.specs.Transactions.{last_changes}
 use Rattle.vp_model.specs.OneCopy.{Values, play, serial, order, content}
-use Rattle.vp_one_site.proofs.Play.{Write, op_record, set_all, get_set, get_other, get_all, get_all-other, play_sets, last_ascending, serial-append, AgreeOn, play_agrees}
+use Rattle.vp_laws.proofs.Play.{Write, op_record, set_all, get_set, get_other, get_all, get_all-other, play_sets, last_ascending, serial-append, AgreeOn, play_agrees, and_then}
 use Rattle.vp_laws.proofs.Members.{Has, has_first, has_more, has_right, all_of}
-use Rattle.vp_laws.proofs.Order.{Precedes, AtMost-refl, same_site}
+use Rattle.vp_laws.proofs.Order.{Precedes, AtMost-refl, same_site, not_before}
 use Rattle.vp_laws.proofs.InvEntered.{Wrote}
 use Rattle.vp_laws.proofs.Journal.{Split, order_has, order_more}
 use Rattle.vp_laws.proofs.ValuesAfter.{overwritten, value_in, value_after, unwritten_value}
-use Rattle.vp_laws.proofs.UpTo.{upto, test_above, test_up_to, upto_all, upto_none, upto_append}
+use Rattle.vp_laws.proofs.UpTo.{upto, test_above, upto_all, upto_none, upto_append}
 
 -- the map after a serial run has the value of each record that the entries leave
 
@@ -40,15 +40,11 @@ serial_value rec [] m n h = let same : m ≡ n = cc in rw (← same) (as_it_is (
     as_it_is None = refl
     as_it_is (Some v) = refl
 serial_value rec (e ∷ es) m n h =
-    let t = then_some (play m e.ops) (λ (k : Values). serial k es) n h in
+    let t = and_then (play m e.ops) (λ (k : Values). serial k es) n h in
     let rest = serial_value rec es t.0 n t.2 in
     let now : slice_get t.0 rec ≡ option_map (overwritten (last_changes e) rec) (slice_get m rec) = ap (λ (k : Values). slice_get k rec) (play_sets e.ops m t.0 t.1) ∙ set_value (last_changes e) m rec (λ v w s. get_all rec v (last_changes e) m (last_ascending e.ops) w s) in
     rest ∙ ap (option_map (λ start. value_in rec start es)) now ∙ twice (slice_get m rec)
   where
-    then_some : (o : Option Values) (f : Values → Option Values) (y : Values) → option_and_then f o ≡ Some y → (x : Values) × (o ≡ Some x) × (f x ≡ Some y)
-    then_some None f y e = cc
-    then_some (Some x) f y e = (x, refl, e)
-
     twice : (o : Option (List ℕ)) → option_map (λ start. value_in rec start es) (option_map (overwritten (last_changes e) rec) o) ≡ option_map (λ start. value_in rec start (e ∷ es)) o
     twice None = refl
     twice (Some v) = refl
@@ -77,14 +73,10 @@ plays_behind e ops a b n g h none = let i = play_agrees (unwritten e) ops a b n 
 pub serial_agrees : (e : Commit) (es : List Commit) (a b n : Values) → AgreeOn (unwritten e) a b → serial a es ≡ Some n → ((f : Commit) → Has es f → WritesNone e f.ops) → (k : Values) × (serial b es ≡ Some k)
 serial_agrees e [] a b n same h none = (b, refl)
 serial_agrees e (f ∷ es) a b n same h none =
-    let t = then_some (play a f.ops) (λ (k : Values). serial k es) n h in
+    let t = and_then (play a f.ops) (λ (k : Values). serial k es) n h in
     let i = play_agrees (unwritten e) f.ops a b t.0 (all_unwritten e f.ops (none f (has_first f es))) same t.1 in
     let j = serial_agrees e es t.0 i.0 n i.2 t.2 (λ g q. none g (has_more f es g q)) in
     (j.0, rw i.1 j.1)
-  where
-    then_some : (o : Option Values) (f : Values → Option Values) (y : Values) → option_and_then f o ≡ Some y → (x : Values) × (o ≡ Some x) × (f x ≡ Some y)
-    then_some None f y e = cc
-    then_some (Some x) f y e = (x, refl, e)
 
 module _ (start : Values) (journal : List Commit) (e : Commit) where
   abbrev s : Split e (order journal) (order (journal ++ e ∷ []))
@@ -99,7 +91,7 @@ module _ (start : Values) (journal : List Commit) (e : Commit) where
       append_nil_before (x ∷ es) = ap (λ (l : List Commit). x ∷ l) (append_nil_before es)
 
   own_first : upto e.view (e ∷ s.behind) ≡ e ∷ []
-  own_first = let t = test_up_to e.view e.view (AtMost-refl e.view) in rw (t, upto_none e.view s.behind s.high) refl
+  own_first = let t = not_before e.view e.view (AtMost-refl e.view) in rw (t, upto_none e.view s.behind s.high) refl
 
   up_to_own_now : upto e.view (order (journal ++ e ∷ [])) ≡ s.before ++ e ∷ []
   up_to_own_now = ap (upto e.view) s.now ∙ upto_append e.view s.before (e ∷ s.behind) ∙ rw (upto_all e.view s.before s.low, own_first) refl

@@ -18,7 +18,7 @@ use Rattle.vp_model.specs.Step.{durable_of}
 use Rattle.vp_model.specs.World.{Place, WorldState, Moment, Schedule, place_of, start_place, start_world, moments_of, run_of}
 use Rattle.vp_model.specs.Headline.{IsSerial, is_locked, is_readable, has_value, copies_true_in, copies_true_at, copies_true, CopiesAreTrue}
 use Rattle.vp_laws.specs.Catalogues.{AreApart}
-use Rattle.vp_laws.proofs.Members.{Has, contains, has_none, has_cons, any_false, both_true}
+use Rattle.vp_laws.proofs.Members.{Has, contains, has_none, has_cons, any_false, both_true, not_true}
 use Rattle.vp_laws.proofs.Lists.{mapped_has, all_from}
 use Rattle.vp_laws.proofs.Order.{AtMost-along}
 use Rattle.vp_laws.proofs.Scenes.{Scene, scene_of, plain_at, kept_at}
@@ -84,10 +84,6 @@ module _ (catalogue : Catalogue) (w : WorldState) (inv : Twentieth catalogue (sc
       let value = readable_value copy.0 copy.1 h t.0 (not_true (list_any (is_locked copy.0) x.locks) t.1) in
       has_it (content (start_values catalogue) w.journal v.id) one_copy.0 copy.0 copy.1.value one_copy.1 value
     where
-      not_true : (b : Bool) → not b ≡ true → b ≡ false
-      not_true true e = cc
-      not_true false e = refl
-
       has_it : (o : Option Values) (m : Values) (rec : ℕ) (value : List ℕ) → o ≡ Some m → slice_get m rec ≡ Some value → has_value o rec value ≡ true
       has_it o m rec value e f = rw (e, f) (same_bytes value)
 

@@ -13,7 +13,7 @@ use Rattle.vp_model.specs.Site.{SiteState, Stepped}
 use Rattle.vp_laws.specs.Votes.{is_commit}
 use Rattle.vp_laws.proofs.Members.{Has, filter_has}
 use Rattle.vp_laws.proofs.Apart.{apart_unique}
-use Rattle.vp_laws.proofs.Order.{AtMost, Precedes, not_both, same_site}
+use Rattle.vp_laws.proofs.Order.{AtMost, Precedes, not_both, same_site, three_ways}
 use Rattle.vp_laws.proofs.Journal.{Precedes-trans}
 use Rattle.vp_laws.proofs.LockTables.{IsFree, free_from_none}
 use Rattle.vp_laws.proofs.LocalViews.{letter}
@@ -35,7 +35,7 @@ use Rattle.vp_laws.proofs.InvUsed.{HasAnswered, Was, Split}
 use Rattle.vp_laws.proofs.Closing.{ClosedAt, Open, closed_at_lasts}
 use Rattle.vp_laws.proofs.ValuesAfter.{value_after}
 use Rattle.vp_laws.proofs.CopyInvariants.{FromView, InvCopies, InvRefresh}
-use Rattle.vp_laws.proofs.CopyFacts.{three_ways, copy_holder, closed_above}
+use Rattle.vp_laws.proofs.CopyFacts.{copy_holder, closed_above}
 use Rattle.vp_laws.proofs.Worlds.{now_is}
 use Rattle.vp_laws.proofs.NewEntries.{none_entered, journal_same, Entering, entering, doubted, stops, agreed_was, Fresh, doubt_from}
 use Rattle.vp_laws.proofs.CopyValues.{value_now}

@@ -22,8 +22,8 @@ use Rattle.vp_laws.specs.Refusals.{is_not_done, RefusalsChangeNothing}
 use Rattle.vp_laws.proofs.Members.{has_of, has_one_is, any_false, either_false}
 use Rattle.vp_laws.proofs.Frames.{decide-cases}
 use Rattle.vp_laws.proofs.Table.{next_name, lent_at, Completes, Says, OfCoordinator, Back, Table}
-use Rattle.vp_laws.proofs.Coordinator.{by_option, by_some, by_test}
 use Rattle.vp_laws.proofs.Rows.{step-keeps}
+use Rattle.vp_laws.proofs.Keeps.{by_option, by_some, by_test}
 
 abbrev refuses : Reply → Bool
 refuses r = is_not_done r.answer

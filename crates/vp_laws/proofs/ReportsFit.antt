@@ -8,9 +8,7 @@ use Rattle.vp_model.specs.Site.{SiteState, Lent}
 use Rattle.vp_model.specs.Step.{step}
 use Rattle.vp_model.specs.Told.{is_step, answers_in, replies_in, reported, taken_call}
 use Rattle.vp_model.specs.World.{WorldState, Moved, Moment, Run, Schedule, moment, next, one_step, site_step, start_world, moments_of}
-use Rattle.vp_one_site.proofs.ToldLines.{Report}
-use Rattle.vp_one_site.proofs.Invariant.{lines_in}
-use Rattle.vp_one_site.proofs.Called.{lines_last}
+use Rattle.vp_laws.proofs.ToldLines.{Report, lines_in, lines_last}
 use Rattle.vp_laws.specs.Reports.{is_of_kind, RepliesFitCalls}
 use Rattle.vp_laws.proofs.Members.{Has, has_of, has_none, has_cases, has_one_is, map_has}
 use Rattle.vp_laws.proofs.Lists.{mapped_has}

@@ -21,7 +21,8 @@ use Rattle.vp_laws.proofs.Members.{Has, filter_has, has_first, has_more, both_tr
 use Rattle.vp_laws.proofs.Order.{is_view_is}
 use Rattle.vp_laws.proofs.Frames.{close_all-beside, close_all-none}
 use Rattle.vp_laws.proofs.Table.{Comes, Replies, Says, Left, Joined, Requests, Asks, lent_at, Back, Table}
-use Rattle.vp_laws.proofs.Coordinator.{by_test, abandon-closed, abandon-kept, time_out_calls-kept, own_call-kept, on_answer-kept}
+use Rattle.vp_laws.proofs.Coordinator.{abandon-closed, abandon-kept, time_out_calls-kept, own_call-kept, on_answer-kept}
+use Rattle.vp_laws.proofs.Keeps.{by_test}
 
 -- a record that is accessible and has a copy here
 usable_here-has : (catalogue : Catalogue) (site : SiteState) (rec : ℕ) → Has (usable_here catalogue site) rec → (is_open catalogue site rec ≡ true) × Has (keys site.copies) rec

@@ -1,15 +1,15 @@
 -- No transaction of a lower view is decided that wrote a record which is closed for a view.
 use Rattle.std.proofs.Common.{◌≡◌, ◌≢◌, ◌∙◌, ap, sym, subst, ℕ, true, false, List, ⊎_elim}
-use Rattle.std.specs.Prelude.{Some, ◌&&◌}
+use Rattle.std.specs.Prelude.{Some}
 use Rattle.vp_model.specs.Types.{Change, ViewId, TxnId, View, Commit, Input, Live}
 use Rattle.vp_model.specs.Types.message
 use Rattle.vp_model.specs.Words.{is_empty, has, keys}
 use Rattle.vp_model.specs.Catalogue.{Catalogue, holders, weights_of, accessible}
 use Rattle.vp_model.specs.Transactions.{last_changes, writes_held}
 use Rattle.vp_model.specs.Site.{SiteState, Stepped}
-use Rattle.vp_laws.proofs.Members.{Has, has_from_test, any_true, both_true, map_has, filter_keeps}
+use Rattle.vp_catalog.proofs.Majorities.{accessible_share}
+use Rattle.vp_laws.proofs.Members.{Has, has_from_test, map_has, filter_keeps, has_of}
 use Rattle.vp_laws.proofs.Lists.{mapped_has}
-use Rattle.vp_laws.proofs.Majorities.{accessible-share}
 use Rattle.vp_laws.proofs.Order.{Precedes, same_site}
 use Rattle.vp_laws.proofs.LocalViews.{letter}
 use Rattle.vp_laws.proofs.TableLed.{IsOf, Led}
@@ -25,9 +25,8 @@ use Rattle.vp_laws.proofs.Closing.{ClosedAt, Open}
 -- two sets of sites in which a record is accessible share a holder
 pub shared_holder : (catalogue : Catalogue) (rec : ℕ) (sites others : List ℕ) → accessible catalogue rec sites ≡ true → accessible catalogue rec others ≡ true → (q : ℕ) × Has (holders catalogue rec) q × Has sites q × Has others q
 shared_holder catalogue rec sites others a b =
-    let r = any_true (λ (w : ℕ × ℕ). has sites w.0 && has others w.0) (weights_of catalogue rec) (accessible-share catalogue rec sites others a b) in
-    let t = both_true (has sites r.0.0) (has others r.0.0) r.2 in
-    (r.0.0, mapped_has (λ (w : ℕ × ℕ). w.0) (weights_of catalogue rec) r.0 r.1, has_from_test sites r.0.0 t.0, has_from_test others r.0.0 t.1)
+    let q = accessible_share catalogue rec sites others a b in
+    (q.holder.0, mapped_has (λ (w : ℕ × ℕ). w.0) (weights_of catalogue rec) q.holder (has_of (weights_of catalogue rec) q.holder q.listed), has_from_test sites q.holder.0 q.inside, has_from_test others q.holder.0 q.among_others)
 
 -- and one in which it is accessible has a holder
 pub in_force_holder : (catalogue : Catalogue) (rec : ℕ) (sites : List ℕ) → accessible catalogue rec sites ≡ true → (q : ℕ) × Has (holders catalogue rec) q × Has sites q

@@ -24,7 +24,8 @@ use Rattle.vp_laws.proofs.Apart.{same_txn-is, Apart, named, without_gone, change
 use Rattle.vp_laws.proofs.Frames.{close-ends, decided-ends, decide-cases}
 use Rattle.vp_laws.proofs.Table.{lent_at}
 use Rattle.vp_laws.proofs.TableSteps.{done, waiting, reading, writing}
-use Rattle.vp_laws.proofs.Coordinator.{by_option, by_test, live_of-has, live_of-is, next_number}
+use Rattle.vp_laws.proofs.Coordinator.{live_of-has, live_of-is, next_number}
+use Rattle.vp_laws.proofs.Keeps.{by_option, by_test}
 
 -- after the step the call is pending, or answered, or the transaction is not live
 abbrev pub IsTaken : Live → List Live → Type 0

@@ -17,6 +17,7 @@ use Rattle.vp_laws.proofs.Lists.{put_has, put_new, put_old}
 use Rattle.vp_laws.proofs.Order.{is_view_is, same_site}
 use Rattle.vp_laws.proofs.LocalViews.{Tidy}
 use Rattle.vp_laws.proofs.TableUnlisted.{IsUnlisted, Ended, Joins, Unlisted, Unlisting, Took, took}
+use Rattle.vp_laws.proofs.Numbers.{eq_not}
 
 -- one of the records under refresh is this one
 abbrev pub Listed : List Refreshing → ℕ → Type 0
@@ -46,11 +47,8 @@ listed_new rec refresh = (record { rec = rec; answers = [] }, put_new (λ (a : R
 listed_old : (rec k : ℕ) (refresh : List Refreshing) → Listed refresh k → Listed (listing rec refresh) k
 listed_old rec k refresh (r, h, e) = ⊎_elim
     (λ (one : rec ≡ k). subst (Listed (listing rec refresh)) one (listed_new rec refresh))
-    (λ (other : rec ≢ k). (r, put_old (λ (a : Refreshing) (b : Refreshing). a.rec == b.rec) (λ (a : Refreshing) (b : Refreshing). nat_lt a.rec b.rec) (record { rec = rec; answers = [] }) refresh r h (apart rec r.rec (λ z. other (z ∙ e))), e))
+    (λ (other : rec ≢ k). (r, put_old (λ (a : Refreshing) (b : Refreshing). a.rec == b.rec) (λ (a : Refreshing) (b : Refreshing). nat_lt a.rec b.rec) (record { rec = rec; answers = [] }) refresh r h (eq_not rec r.rec (λ z. other (z ∙ e))), e))
     (same_site rec k)
-  where
-    apart : (a b : ℕ) → a ≢ b → (a == b) ≡ false
-    apart a b n = grind (arith, nat_tests, n)
 
 started : (catalogue : Catalogue) (view : View) (recs : List ℕ) (o : Stepped) → IsFresh o.site.refresh → Started recs o (start_refresh_all catalogue view recs o)
 unfolding start_refresh

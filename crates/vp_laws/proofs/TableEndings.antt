@@ -1,11 +1,11 @@
 -- How transactions end: what ends is not live any more, and is told, kept and entered as what it was.
-use Rattle.std.proofs.Common.{◌≡◌, ◌≢◌, ◌⊎◌, ◌∙◌, ap, sym, subst, ℕ, ◌+◌, ◌≤◌, Bool, true, false, cond, List, [], ◌∷◌, ◌++◌, map, refl, arith, inl, inr, ⊎_elim, length}
-use Rattle.std.specs.Prelude.{Some, None, nat_lt, drop, filter, not, ◌==◌}
+use Rattle.std.proofs.Common.{◌≡◌, ◌≢◌, ◌⊎◌, ◌∙◌, ap, sym, subst, ℕ, ◌+◌, ◌≤◌, Bool, true, false, cond, List, [], ◌∷◌, ◌++◌, map, refl, arith, inl, inr, ⊎_elim}
+use Rattle.std.specs.Prelude.{Some, None, filter, not, ◌==◌}
 use Rattle.std.proofs.lemmas.Bool.Decides.{nat_tests}
 use Rattle.vp_model.specs.Types.{TxnId, View, Message, Sent, Commit, Input, Live, Ending, Finished, Decision}
 use Rattle.vp_base.specs.declared.site.Ending.TheVariants.{Committed}
 use Rattle.vp_model.specs.Types.message
-use Rattle.vp_model.specs.Words.{same_txn, txn_before, is_empty, at_most, for_each, put_number}
+use Rattle.vp_model.specs.Words.{same_txn, txn_before, is_empty, for_each, put_number}
 use Rattle.vp_model.specs.Catalogue.{Catalogue}
 use Rattle.vp_model.specs.Durable.{put_decision, with_decision, acknowledged}
 use Rattle.vp_model.specs.Site.{CoordinatorState, SiteState, Lent, letters}
@@ -14,8 +14,8 @@ use Rattle.vp_model.specs.Refresh.{other_holders}
 use Rattle.vp_model.specs.Calls.{begun, with_begun, start_txn, take_lock, read_at, write_at, prepare_parts, prepare_for}
 use Rattle.vp_model.specs.Answers.{with_acknowledged, is_live, is_decided}
 use Rattle.vp_model.specs.Step.{mark, mark_calls, step}
-use Rattle.vp_laws.proofs.Members.{Has, has_none, has_more, has_one, has_one_is, has_cases, map_has, filter_has, any_true, any_false}
-use Rattle.vp_laws.proofs.Lists.{put_has, without_first_has, change_first_has}
+use Rattle.vp_laws.proofs.Members.{Has, has_none, has_one, has_one_is, has_cases, map_has, filter_has, any_true, any_false}
+use Rattle.vp_laws.proofs.Lists.{put_has, without_first_has, change_first_has, at_most_has}
 use Rattle.vp_laws.proofs.Apart.{same_txn-is, same_txn-not, Apart, named, apart_without, without_gone, apart_change, apart_more, apart_mark}
 use Rattle.vp_laws.proofs.Frames.{Ends, close-ends, close-commits, decided-ends, decided-commits, decide-cases}
 use Rattle.vp_laws.proofs.Table.{Comes, next_name, lent_at, Handled, is_abort, remaining, OfCoordinator}
@@ -23,6 +23,7 @@ use Rattle.vp_laws.proofs.Rows.{step-keeps}
 use Rattle.vp_laws.proofs.LocalViews.{letter}
 use Rattle.vp_laws.proofs.TableLed.{Led}
 use Rattle.vp_laws.proofs.OnlyCoordinator.{is_aside, OnCoordinator, Keeps, only_begins, only_table}
+use Rattle.vp_laws.proofs.Numbers.{one_above}
 
 -- a decision and a finished transaction are of no live one, and a finished one has a name that was given in this life
 pub record Settled (id life : ℕ) (c : CoordinatorState) : Type 0 where
@@ -97,17 +98,6 @@ not_live_named : (live now : List Live) → ((t : Live) → Has now t → (u : L
 not_live_named live now sub txn h t q e = let r = sub t q in h r.0 r.1 (r.2 ∙ e)
 
 -- the end of a list of ends
-pub at_most-has : {X : Type 0} (n : ℕ) (xs : List X) (a : X) → Has (at_most n xs) a → Has xs a
-at_most-has n xs a h = go (nat_lt n (length xs)) h
-  where
-    dropped : {X : Type 0} (xs : List X) (a : X) → Has (drop 1 xs) a → Has xs a
-    dropped [] a h = h
-    dropped (x ∷ xs) a h = has_more x xs a h
-
-    go : (b : Bool) → Has (cond b (drop 1 xs) xs) a → Has xs a
-    go true q = dropped xs a q
-    go false q = q
-
 module _ (catalogue : Catalogue) (x : SiteState) (given : Input) (led : Led x) (apart : Apart x.live) (settled : Settled x.id x.life x.coordinator) (fresh : (d : Decision) → Has x.decisions d → d.txn ≢ next_name x) where
   abbrev R : CoordinatorState → List Sent → List Commit → Type 0
   R = Endings x given
@@ -184,7 +174,7 @@ module _ (catalogue : Catalogue) (x : SiteState) (given : Input) (led : Led x) (
   finished_has : (t : Live) (why : Ending) (c : CoordinatorState) (f : Finished) → Has (with_finished t why c).finished f → Has c.finished f ⊎ ((f.txn ≡ t.txn) × (f.ending ≡ why))
   finished_has t why c f h = ⊎_elim (λ old. inl old)
       (λ new. let e = has_one_is (record { txn = t.txn; answers = answers_after t why; ending = why }) f new in inr (sym (ap (λ (f : Finished). f.txn) e), sym (ap (λ (f : Finished). f.ending) e)))
-      (has_cases c.finished ((record { txn = t.txn; answers = answers_after t why; ending = why }) ∷ []) f (at_most-has 1024 _ f h))
+      (has_cases c.finished ((record { txn = t.txn; answers = answers_after t why; ending = why }) ∷ []) f (at_most_has 1024 _ f h))
 
   settled_now : (t : Live) (why : Ending) (c : CoordinatorState) → Apart c.live → WasLive x t.txn → x.seq ≤ c.seq → Settled x.id x.life c → Settled x.id x.life (with_finished t why c)
   settled_now t why c a was up s = record {
@@ -273,12 +263,12 @@ module _ (catalogue : Catalogue) (x : SiteState) (given : Input) (led : Led x) (
   begun_now : (view : View) → R (with_begun (begun (next_name x) view.id) x.coordinator) [] []
   begun_now view = record {
     up = higher x.seq x.seq (same_up x.seq);
-    apart = apart_more (begun (next_name x) view.id) x.live apart (λ t h e. above t.txn.seq x.seq (led.names t h).2 (ap (λ (t : TxnId). t.seq) e));
+    apart = apart_more (begun (next_name x) view.id) x.live apart (λ t h e. one_above t.txn.seq x.seq (led.names t h).2 (ap (λ (t : TxnId). t.seq) e));
     live = λ t h. ⊎_elim (λ old. inl (t, old, refl)) (λ new. inr (ap (λ (t : Live). t.txn) (sym (has_one_is (begun (next_name x) view.id) t new)))) (has_cases x.live (begun (next_name x) view.id ∷ []) t h);
     settled = record {
       decisions = λ d t k h. ⊎_elim (λ old. settled.decisions d t k old) (λ new. (λ e. fresh d k (sym (ap (λ (t : Live). t.txn) (has_one_is (begun (next_name x) view.id) t new) ∙ e)))) (has_cases x.live (begun (next_name x) view.id ∷ []) t h);
       own = settled.own;
-      finished = λ f t k h. ⊎_elim (λ old. settled.finished f t k old) (λ new. (λ e. above f.txn.seq x.seq (settled.names f k).2 (sym (ap (λ (t : TxnId). t.seq) (ap (λ (t : Live). t.txn) (has_one_is (begun (next_name x) view.id) t new) ∙ e))))) (has_cases x.live (begun (next_name x) view.id ∷ []) t h);
+      finished = λ f t k h. ⊎_elim (λ old. settled.finished f t k old) (λ new. (λ e. one_above f.txn.seq x.seq (settled.names f k).2 (sym (ap (λ (t : TxnId). t.seq) (ap (λ (t : Live). t.txn) (has_one_is (begun (next_name x) view.id) t new) ∙ e))))) (has_cases x.live (begun (next_name x) view.id ∷ []) t h);
       names = λ f k. let n = settled.names f k in (n.0, n.1, higher f.txn.seq x.seq n.2);
     };
     says = λ m h. absurd (has_none m h);
@@ -288,9 +278,6 @@ module _ (catalogue : Catalogue) (x : SiteState) (given : Input) (led : Led x) (
     finished = λ f h. inl h;
   }
     where
-      above : (a b : ℕ) → a ≤ b → a ≡ b + 1 → ⊥
-      above a b h e = omega arith
-
       higher : (a b : ℕ) → a ≤ b → a ≤ b + 1
       higher a b h = omega arith
 

@@ -11,13 +11,12 @@ use Rattle.vp_model.specs.Refresh.{members_in, is_usable_in}
 use Rattle.vp_model.specs.Calls.{begun, with_begun}
 use Rattle.vp_model.specs.Answers.{with_acknowledged}
 use Rattle.vp_model.specs.Step.{mark, step}
-use Rattle.vp_one_site.proofs.Outcome.{is_report}
 use Rattle.vp_laws.proofs.Members.{Has, has_none, has_one, has_left, has_right, has_cases, has_one_is, map_has}
-use Rattle.vp_laws.proofs.Lists.{without_first_has, change_first_has}
+use Rattle.vp_laws.proofs.Lists.{without_first_has, change_first_has, at_most_has}
 use Rattle.vp_laws.proofs.Apart.{named}
 use Rattle.vp_laws.proofs.Table.{next_view, next_name, Handled}
 use Rattle.vp_laws.proofs.TableSteps.{done, waiting, reading, writing}
-use Rattle.vp_laws.proofs.TableKept.{AnswersKept, kept_has, at_most_has, completed}
+use Rattle.vp_laws.proofs.TableKept.{AnswersKept, kept_has, completed, is_report}
 use Rattle.vp_laws.proofs.Reasons.{Takes, Why, Tells, is_plain, told_to, last_reply, Goes, Front}
 use Rattle.vp_laws.proofs.FrontSteps.{step-front}
 

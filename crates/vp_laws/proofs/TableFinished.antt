@@ -10,9 +10,9 @@ use Rattle.vp_model.specs.Step.{mark_calls, step}
 use Rattle.vp_laws.proofs.Members.{Has, has_one_is, has_cases}
 use Rattle.vp_laws.proofs.Frames.{Ends, close-ends, decided-ends, decide-cases}
 use Rattle.vp_laws.proofs.Table.{lent_at, Handled, OfCoordinator}
-use Rattle.vp_laws.proofs.TableEndings.{at_most-has}
 use Rattle.vp_laws.proofs.Rows.{step-keeps}
 use Rattle.vp_laws.proofs.OnlyCoordinator.{OnCoordinator, Keeps, only_begins, only_table}
+use Rattle.vp_laws.proofs.Lists.{at_most_has}
 
 pub record EndsNow (x : SiteState) (f : Finished) : Type 0 where
   pub handled : Live
@@ -31,7 +31,7 @@ module _ (catalogue : Catalogue) (x : SiteState) (given : Input) where
   ends t why commit l now n e p f h = ⊎_elim
       (λ old. p f old)
       (λ new. inr (record { handled = t; live = n; why = why; is = has_one_is _ f new }))
-      (has_cases l.finished ((record { txn = t.txn; answers = answers_after t why; ending = why }) ∷ []) f (at_most-has 1024 (l.finished ++ (record { txn = t.txn; answers = answers_after t why; ending = why }) ∷ []) f (rw (ap (λ (c : CoordinatorState). c.finished) e.coordinator) at h)))
+      (has_cases l.finished ((record { txn = t.txn; answers = answers_after t why; ending = why }) ∷ []) f (at_most_has 1024 (l.finished ++ (record { txn = t.txn; answers = answers_after t why; ending = why }) ∷ []) f (rw (ap (λ (c : CoordinatorState). c.finished) e.coordinator) at h)))
 
   starts : FinishedNow x x.coordinator [] []
   starts f h = inl h

@@ -1,25 +1,28 @@
 -- The answers that a step keeps: those to operations, and at the end of a transaction its end.
-use Rattle.std.proofs.Common.{◌≡◌, ◌⊎◌, ap, sym, subst, ℕ, true, List, [], ◌∷◌, inl, inr, refl, ⊎_elim}
+use Rattle.std.proofs.Common.{◌≡◌, ◌⊎◌, ap, sym, subst, ℕ, Bool, true, false, List, [], ◌∷◌, inl, inr, refl, ⊎_elim}
 use Rattle.std.specs.Prelude.{Option, Some, None, option_map, option_to_list}
 use Rattle.std.proofs.lemmas.Option.{slice_get_within, get_or_from_slice_get}
 use Rattle.vp_model.specs.Types.{Op, Answer, Reply, Commit, Input, Pending, Live, Ending, Finished}
 use Rattle.vp_base.specs.declared.site.Ending.TheVariants.{Committed}
-use Rattle.vp_model.specs.Words.{at_most}
+use Rattle.vp_model.specs.Types.answer
 use Rattle.vp_model.specs.Catalogue.{Catalogue}
 use Rattle.vp_model.specs.Site.{CoordinatorState, SiteState, Lent}
 use Rattle.vp_model.specs.Transactions.{answer_of, answers_after, put_live, with_finished}
 use Rattle.vp_model.specs.Calls.{begun, kept_answer}
 use Rattle.vp_model.specs.Step.{mark, step}
-use Rattle.vp_one_site.proofs.Members.{has_of as lone_of, contains as lone_contains}
-use Rattle.vp_one_site.proofs.Lists.{drop_has}
-use Rattle.vp_one_site.proofs.Outcome.{is_report}
-use Rattle.vp_laws.proofs.Members.{Has, contains, has_of, has_none, has_cases, has_one_is, map_has}
-use Rattle.vp_laws.proofs.Lists.{without_first_has, change_first_has}
+use Rattle.vp_laws.proofs.Members.{Has, has_of, has_none, has_cases, has_one_is, map_has}
+use Rattle.vp_laws.proofs.Lists.{without_first_has, change_first_has, at_most_has}
 use Rattle.vp_laws.proofs.Apart.{named}
 use Rattle.vp_laws.proofs.Table.{next_name, Handled, Completes}
 use Rattle.vp_laws.proofs.TableSteps.{done, waiting}
 use Rattle.vp_laws.proofs.Reasons.{Goes, Front}
 use Rattle.vp_laws.proofs.FrontSteps.{step-front}
+
+-- the answer reports an operation
+abbrev pub is_report : Answer → Bool
+is_report (answer.Value txn number value) = true
+is_report (answer.Written txn number) = true
+is_report _ = false
 
 -- a kept answer reports an operation, or is the transaction's end
 abbrev pub KeptEnd : Finished → Answer → Type 0
@@ -33,9 +36,6 @@ pub record AnswersKept (c : CoordinatorState) : Type 0 where
 
 pub kept_has : (number : ℕ) (answers : List Answer) (a : Answer) → kept_answer number answers ≡ Some a → Has answers a
 kept_has number answers a e = has_of answers a (_, slice_get_within answers _ a e, get_or_from_slice_get answers _ a a e)
-
-pub at_most_has : {X : Type 0} (n : ℕ) (xs : List X) (a : X) → Has (at_most n xs) a → Has xs a
-at_most_has n xs a h = has_of xs a (lone_contains xs a (drop_has n xs a (lone_of (at_most n xs) a (contains (at_most n xs) a h))))
 
 -- the answer to an operation reports it
 pub completed : (catalogue : Catalogue) (x : SiteState) (given : Input) (t : Live) (p : Pending) (operation : Op) (words : Answer) (l : Lent) → Completes catalogue x given t p operation words l → is_report words ≡ true

@@ -2,7 +2,6 @@
 -- without a view has none, and nothing listed. What a step asks of others for them is of the held view, and of its members.
 use Rattle.std.proofs.Common.{◌≡◌, ◌≢◌, ◌⊎◌, ◌∙◌, ap, sym, ℕ, ◌+◌, ◌≤◌, Bool, true, false, cond, List, [], ◌∷◌, ◌++◌, map, refl, arith, inl, inr, ⊎_elim, append-nil}
 use Rattle.std.specs.Prelude.{Option, Some, None, is_some, ◌&&◌, ◌==◌, not, filter}
-use Rattle.std.proofs.lemmas.Bool.Decides.{nat_tests}
 use Rattle.vp_model.specs.Types.{ViewId, TxnId, View, Stored, Op, Answer, Message, Sent, Commit, Input, Refreshing, Pending, Live, Ending, Doubt, Decision}
 use Rattle.vp_base.specs.declared.site.Ending.TheVariants.{Committed}
 use Rattle.vp_model.specs.Types.owner
@@ -28,6 +27,7 @@ use Rattle.vp_laws.proofs.Lists.{without_first_has, change_first_has}
 use Rattle.vp_laws.proofs.Table.{next_view, next_name, lent_at, Left, Handled, Back, Table}
 use Rattle.vp_laws.proofs.Rows.{step-keeps}
 use Rattle.vp_laws.proofs.LocalViews.{letter, Tidy}
+use Rattle.vp_laws.proofs.Numbers.{differs}
 
 abbrev pub IsOf : SiteState → Live → Type 0
 IsOf x t = (v : View) × (x.held ≡ Some v) × (v.id ≡ t.view) × ((q : ℕ) → Has t.parts q → Has v.members q × (q ≢ x.id))
@@ -103,9 +103,6 @@ others-are catalogue x rec q v e h =
     let f = filter_has (λ q. has (members x) q && not (q == x.id)) (holders catalogue rec) q h in
     let b = both_true (has (members x) q) (not (q == x.id)) f.1 in
     (has_from_test v.members q (rw e at b.0), differs q x.id b.1)
-  where
-    differs : (a b : ℕ) → not (a == b) ≡ true → a ≢ b
-    differs a b e same = grind (arith, nat_tests, e, same)
 
 module _ (catalogue : Catalogue) (x : SiteState) (given : Input) (tidy : Tidy x) (led : Led x) where
   begins : Leads x (begin_step x)

@@ -1,5 +1,5 @@
 -- The locks of a site after a step, and which locks of transactions go.
-use Rattle.std.proofs.Common.{◌≡◌, ◌≢◌, ◌⊎◌, ◌∙◌, ap, sym, subst, ℕ, ◌+◌, ◌≤◌, Bool, true, false, cond, List, [], ◌∷◌, ◌++◌, map, refl, arith, inl, inr, ⊎_elim}
+use Rattle.std.proofs.Common.{◌≡◌, ◌≢◌, ◌⊎◌, ◌∙◌, ap, sym, subst, ℕ, Bool, true, false, cond, List, [], ◌∷◌, ◌++◌, map, refl, arith, inl, inr, ⊎_elim}
 use Rattle.std.specs.Prelude.{Option, Some, None, filter, find, option_map, not, ◌==◌, ◌&&◌, ◌||◌, nat_lt}
 use Rattle.std.specs.List.{list_all}
 use Rattle.std.proofs.lemmas.Bool.Decides.{nat_tests}
@@ -25,7 +25,7 @@ use Rattle.vp_model.specs.Step.{fix, mark, marked_call, mark_calls, ask_again, r
 use Rattle.vp_laws.specs.Votes.{is_commit}
 use Rattle.vp_laws.proofs.Members.{Has, has_none, has_left, has_first, has_more, has_cons, has_cases, has_one_is, map_has, filter_keeps, find_has, find_true, any_true, any_false, both_true, either_true}
 use Rattle.vp_laws.proofs.Order.{Precedes, is_view_is}
-use Rattle.vp_laws.proofs.Apart.{Apart, named, same_txn-is, apart_without, without_gone, change_cases, apart_change, apart_more, apart_mark}
+use Rattle.vp_laws.proofs.Apart.{Apart, named, same_txn-is, apart_without, without_gone, change_cases, apart_change, apart_more, apart_mark, same_txn-turned}
 use Rattle.vp_laws.proofs.Lists.{without_first_has, put_has, put_new, put_old, mapped_has}
 use Rattle.vp_laws.proofs.Frames.{Ends, close-ends, decided-ends, decide-cases}
 use Rattle.vp_laws.proofs.LockTables.{same_owner_is, HasLock, free_from_none, lock_kept, lock_taken, lock_stays}
@@ -39,6 +39,7 @@ use Rattle.vp_laws.proofs.TableEndings.{NotLive}
 use Rattle.vp_laws.proofs.TableShares.{OutcomeComes}
 use Rattle.vp_laws.proofs.TableLeaves.{Uses, unused, uses_same, invites_only, accepts_only}
 use Rattle.vp_laws.proofs.InvOps.{last_written, value_key, reads_same, writes_same, read_not_write}
+use Rattle.vp_laws.proofs.Numbers.{one_above}
 
 -- why a transaction's lock is gone: its outcome came, the site has left its view, or it was of this site and is not live
 pub data Gone (x : SiteState) (given : Input) (o : Stepped) (txn : TxnId) : Type 0 where
@@ -251,9 +252,6 @@ module _ (catalogue : Catalogue) (x : SiteState) (given : Input) (tidy : Tidy x)
   part_there : (txn : TxnId) (part : Part) → part_of txn x.parts ≡ Some part → Has x.parts part
   part_there txn part e = find_has (λ (p : Part). same_txn p.txn txn) x.parts part e
 
-  same_txn-self : (t : TxnId) → same_txn t t ≡ true
-  same_txn-self t = grind (arith, nat_tests)
-
   -- the parts with one more, or with another one of its name
   put_known : (part : Part) (txn : TxnId) → ((p : Part) × Has x.parts p × (p.txn ≡ txn)) → (p : Part) × Has (put_part part x.parts) p × (p.txn ≡ txn)
   put_known part txn (p, h, e) = split (same_txn part.txn p.txn) refl
@@ -336,11 +334,8 @@ module _ (catalogue : Catalogue) (x : SiteState) (given : Input) (tidy : Tidy x)
       before_name : Doubt → Doubt → Bool
       before_name a b = txn_before a.txn b.txn
 
-      turned : (a b : TxnId) → same_txn a b ≡ false → same_txn b a ≡ false
-      turned a b e = grind (arith, nat_tests, e)
-
       unlike_it : (d : Doubt) → Has x.doubts d → same_txn part.txn d.txn ≡ false
-      unlike_it d h = turned d.txn part.txn (any_false (λ (d : Doubt). same_txn d.txn part.txn) x.doubts certain d h)
+      unlike_it d h = same_txn-turned d.txn part.txn (any_false (λ (d : Doubt). same_txn d.txn part.txn) x.doubts certain d h)
 
       split : (u : TxnId) (p : (p : Part) × Has x.parts p × (p.txn ≡ u)) (b : Bool) → same_txn p.0.txn part.txn ≡ b → ((q : Part) × Has (filter (λ (other : Part). not (same_txn other.txn part.txn)) x.parts) q × (q.txn ≡ u)) ⊎ ((d : Doubt) × Has (put same_name before_name new x.doubts) d × (d.txn ≡ u))
       split u (p, h, e) true is = inr (new, put_new same_name before_name new x.doubts, sym (same_txn-is p.txn part.txn is) ∙ e)
@@ -393,15 +388,12 @@ module _ (catalogue : Catalogue) (x : SiteState) (given : Input) (tidy : Tidy x)
 
   begins : (view : View) (now : Lent) → now.live ≡ x.live ++ begun (next_name x) view.id ∷ [] → now.copies ≡ x.copies → now.locks ≡ x.locks → K now
   begins view now v c k = record {
-    apart = rw v (apart_more (begun (next_name x) view.id) x.live apart (λ t h e. above t.txn.seq x.seq (led.names t h).2 (ap (λ (t : TxnId). t.seq) e)));
+    apart = rw v (apart_more (begun (next_name x) view.id) x.live apart (λ t h e. one_above t.txn.seq x.seq (led.names t h).2 (ap (λ (t : TxnId). t.seq) e)));
     ok = rw (c, k) (renews catalogue x.live x.parts x.doubts x.refresh x.held (keys x.copies) x.locks ok now.live (λ u h. (u, rw v (has_left x.live _ u h), refl)) (λ t h. ⊎_elim (λ old. ok.own t old) (λ new. rw (← has_one_is (begun (next_name x) view.id) t new) fresh) (has_cases x.live (begun (next_name x) view.id ∷ []) t (rw v at h))));
     copied = ap (λ (c : List (ℕ × Stored)). keys c) c;
     stays = λ rec z txn h. inl (rw k h);
   }
     where
-      above : (a b : ℕ) → a ≤ b → a ≡ b + 1 → ⊥
-      above a b h e = omega arith
-
       fresh : OwnLocks catalogue (keys x.copies) x.locks (begun (next_name x) view.id)
       fresh = record { read = λ rec value h c. absurd (has_none _ h); wrote = λ rec value h c. absurd (has_none _ h); reading = λ p rec e r c. cc; writing = λ p rec value e w c. cc }
 

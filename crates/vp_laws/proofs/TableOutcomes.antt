@@ -1,7 +1,6 @@
 -- A step forces the outcome of a transaction only as that outcome comes, at a site that is in doubt about it; and a doubt ends only so.
 use Rattle.std.proofs.Common.{◌≡◌, ◌⊎◌, ◌∙◌, ap, sym, subst, ℕ, Bool, true, false, cond, List, [], ◌∷◌, ◌++◌, refl, arith, inl, inr, ⊎_elim}
 use Rattle.std.specs.Prelude.{Option, Some, None, find, not}
-use Rattle.std.proofs.lemmas.Bool.Decides.{nat_tests}
 use Rattle.vp_model.specs.Types.{ViewId, TxnId, Stored, LogRecord, Input, Part, Live, Ending, Refreshing, Doubt}
 use Rattle.vp_base.specs.declared.site.Ending.TheVariants.{Committed}
 use Rattle.vp_model.specs.Types.entry
@@ -19,7 +18,7 @@ use Rattle.vp_model.specs.Messages.{with_part, accept, on_accept, on_stale, gran
 use Rattle.vp_model.specs.Step.{step, fix, mark_calls, ask_again, resend_one, inquire}
 use Rattle.vp_laws.proofs.Members.{Has, has_none, has_one, has_one_is, has_cases, has_cons, has_left, any_false, filter_keeps, find_has, find_true}
 use Rattle.vp_laws.proofs.Lists.{put_old}
-use Rattle.vp_laws.proofs.Apart.{same_txn-is}
+use Rattle.vp_laws.proofs.Apart.{same_txn-is, same_txn-turned}
 use Rattle.vp_laws.proofs.Frames.{Ends, close-ends, decided-ends, decide-cases}
 use Rattle.vp_laws.proofs.Table.{Comes, next_view, lent_at, Back, Table}
 use Rattle.vp_laws.proofs.Rows.{step-keeps}
@@ -57,10 +56,7 @@ find_none {A} test (y ∷ ys) e a h = go (test y) refl e (λ q k. find_none test
 
 -- a transaction that is not in doubt has no doubt
 no_such : (doubts : List Doubt) (txn named : TxnId) (d : Doubt) → named ≡ txn → has_doubt txn doubts ≡ false → Has doubts d → same_txn named d.txn ≡ false
-no_such doubts txn named d is e h = rw is (turned d.txn txn (any_false (λ (d : Doubt). same_txn d.txn txn) doubts e d h))
-  where
-    turned : (a b : TxnId) → same_txn a b ≡ false → same_txn b a ≡ false
-    turned a b e = grind (arith, nat_tests, e)
+no_such doubts txn named d is e h = rw is (same_txn-turned d.txn txn (any_false (λ (d : Doubt). same_txn d.txn txn) doubts e d h))
 
 module _ (catalogue : Catalogue) (x : SiteState) (given : Input) where
   with_part-doubts : (txn : TxnId) (view : ViewId) → (with_part txn view x.participant).doubts ≡ x.doubts

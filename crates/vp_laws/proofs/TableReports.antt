@@ -8,13 +8,12 @@ use Rattle.vp_model.specs.Catalogue.{Catalogue}
 use Rattle.vp_model.specs.Site.{SiteState, Lent}
 use Rattle.vp_model.specs.Step.{step}
 use Rattle.vp_model.specs.Told.{reported, is_early_refusal}
-use Rattle.vp_one_site.proofs.KeptTold.{end_unreported}
 use Rattle.vp_laws.proofs.Members.{Has, has_none, has_one_is, has_cases}
 use Rattle.vp_laws.proofs.Table.{next_view, Completes}
 use Rattle.vp_laws.proofs.TableKept.{kept_has}
 use Rattle.vp_laws.proofs.Reasons.{Tells, told_to, last_reply, IsDone, Front}
 use Rattle.vp_laws.proofs.FrontSteps.{step-front}
-use Rattle.vp_laws.proofs.TableTold.{completed_says, IsKept, AreLate, IsSilent, plain_unreported, last_silent, late_more}
+use Rattle.vp_laws.proofs.TableTold.{completed_says, IsKept, AreLate, IsSilent, plain_unreported, last_silent, late_more, end_unreported}
 
 pub data Cause (catalogue : Catalogue) (x : SiteState) (given : Input) (rs : List Reply) (a : Answer) : Type 0 where
   nothing : ((u : TxnId) → reported u a ≡ None) → Cause catalogue x given rs a

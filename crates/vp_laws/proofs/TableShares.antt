@@ -1,7 +1,6 @@
 -- Where each part and each doubt of a step comes from, and what each answer to another site answers.
-use Rattle.std.proofs.Common.{◌≡◌, ◌≢◌, ◌⊎◌, ◌∙◌, ap, sym, subst, ℕ, Bool, true, false, cond, List, [], ◌∷◌, ◌++◌, map, refl, arith, inl, inr, ⊎_elim, append-nil}
+use Rattle.std.proofs.Common.{◌≡◌, ◌≢◌, ◌⊎◌, ◌∙◌, ap, sym, subst, ℕ, Bool, true, false, cond, List, [], ◌∷◌, ◌++◌, map, refl, inl, inr, ⊎_elim, append-nil}
 use Rattle.std.specs.Prelude.{Option, Some, None, is_some, filter, not, ◌==◌, ◌||◌}
-use Rattle.std.proofs.lemmas.Bool.Decides.{nat_tests}
 use Rattle.vp_model.specs.Types.{Change, ViewId, TxnId, Message, Sent, Input, Stored, Part, Refreshing, Live, Doubt}
 use Rattle.vp_model.specs.Types.entry
 use Rattle.vp_model.specs.Types.input
@@ -21,7 +20,7 @@ use Rattle.vp_model.specs.Messages.{held_id, holds_view, put_part, with_part, wi
 use Rattle.vp_model.specs.Step.{fix, mark_calls, ask_again, resend_one, known, inquire, step}
 use Rattle.vp_laws.proofs.Members.{Has, has_none, has_one_is, has_cases, map_has, filter_has, filter_keeps, find_has, find_true, any_true, any_false}
 use Rattle.vp_laws.proofs.Lists.{put_has, put_new, put_old}
-use Rattle.vp_laws.proofs.Apart.{same_txn-is}
+use Rattle.vp_laws.proofs.Apart.{same_txn-is, same_txn-turned, same_txn-clash}
 use Rattle.vp_laws.proofs.Frames.{close-ends, decided-ends, decide-cases}
 use Rattle.vp_laws.proofs.Table.{Comes, Closed, next_view, lent_at, Requests, Back, Table}
 use Rattle.vp_laws.proofs.Rows.{step-keeps}
@@ -186,10 +185,7 @@ module _ (catalogue : Catalogue) (x : SiteState) (given : Input) where
       (λ d h. DoubtNow.still (rw with_part-doubts at h)) (λ d h. inl (rw with_part-doubts h)) reply
 
   no_such : (txn : TxnId) (d : Doubt) (writes : List (ℕ × Change)) (view : ViewId) → has_doubt txn x.doubts ≡ false → Has x.doubts d → same_txn txn d.txn ≡ false
-  no_such txn d writes view e h = let n = any_false (λ (d : Doubt). same_txn d.txn txn) x.doubts e d h in turned d.txn txn n
-    where
-      turned : (a b : TxnId) → same_txn a b ≡ false → same_txn b a ≡ false
-      turned a b e = grind (arith, nat_tests, e)
+  no_such txn d writes view e h = let n = any_false (λ (d : Doubt). same_txn d.txn txn) x.doubts e d h in same_txn-turned d.txn txn n
 
   votes_reading : (from : ℕ) (part : Part) (reads : List ℕ) (writes : List (ℕ × Change)) → Prepared x given from part reads writes → is_empty writes ≡ true → (o : Stepped) → o.site.id ≡ x.id → o.site.participant ≡ with_vote part x.participant → o.effects.messages ≡ letter x.id from (message.Vote part.txn) ∷ [] → P o
   votes_reading from part reads writes p e o i same ms =
@@ -247,10 +243,7 @@ module _ (catalogue : Catalogue) (x : SiteState) (given : Input) where
           split false e = inl (filter_keeps (λ (d : Doubt). not (same_txn d.txn txn)) x.doubts d h (ap not e))
 
       gone : (d : Doubt) → Has now.doubts d → d.txn ≢ txn
-      gone d h e = let q = (filter_has (λ (d : Doubt). not (same_txn d.txn txn)) x.doubts d h).1 in clash d.txn txn q e
-        where
-          clash : (a b : TxnId) → not (same_txn a b) ≡ true → a ≢ b
-          clash a b q e = grind (arith, nat_tests, q, e)
+      gone d h e = let q = (filter_has (λ (d : Doubt). not (same_txn d.txn txn)) x.doubts d h).1 in same_txn-clash d.txn txn q e
 
       quiet : (o : Stepped) → o.site.id ≡ x.id → o.site.participant ≡ now → o.effects.messages ≡ [] → Comes given from (message.Outcome txn false) → P o
       quiet o i same ms c = record {

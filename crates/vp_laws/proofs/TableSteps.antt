@@ -1,5 +1,5 @@
 -- Where each live transaction, each request and each entry of a step comes from.
-use Rattle.std.proofs.Common.{◌≡◌, ◌≢◌, ◌∙◌, ap, sym, subst, ℕ, ◌+◌, ◌≤◌, Bool, true, false, List, [], ◌∷◌, ◌++◌, map, refl, arith, ⊎_elim, append-nil}
+use Rattle.std.proofs.Common.{◌≡◌, ◌≢◌, ◌∙◌, ap, sym, subst, ℕ, Bool, true, false, List, [], ◌∷◌, ◌++◌, map, refl, ⊎_elim, append-nil}
 use Rattle.std.specs.Prelude.{Some, None}
 use Rattle.vp_model.specs.Types.{TxnId, View, Sent, Commit, Input, Effects, Op, Answer, Pending, Live, Ending}
 use Rattle.vp_base.specs.declared.site.Ending.TheVariants.{Committed}
@@ -23,6 +23,7 @@ use Rattle.vp_laws.proofs.Rows.{step-keeps}
 use Rattle.vp_laws.proofs.LocalViews.{letter}
 use Rattle.vp_laws.proofs.TableLed.{Led}
 use Rattle.vp_laws.proofs.OnlyCoordinator.{Aside, OnCoordinator, Keeps, only_begins, only_table}
+use Rattle.vp_laws.proofs.Numbers.{one_above}
 
 -- the transaction with other sites missing; with an operation done; with a read or a write asked of other sites
 abbrev pub waiting : Live → Pending → List ℕ → Live
@@ -172,10 +173,7 @@ module _ (catalogue : Catalogue) (x : SiteState) (given : Input) (led : Led x) (
       entered e h = record { was = t; handled = n; decides = d; is = has_one_is entry e h }
 
   not_named : (t : Live) → Has x.live t → t.txn ≢ next_name x
-  not_named t h e = above t.txn.seq x.seq (led.names t h).2 (ap (λ (t : TxnId). t.seq) e)
-    where
-      above : (a b : ℕ) → a ≤ b → a ≡ b + 1 → ⊥
-      above a b h e = omega arith
+  not_named t h e = one_above t.txn.seq x.seq (led.names t h).2 (ap (λ (t : TxnId). t.seq) e)
 
   marks : (l : Lent) → given ≡ input.Tick → Closed x l → L l → R (record l.coordinator { live = map mark l.live }) l.effects.messages l.effects.commits
   marks l tick c r = record {

@@ -1,17 +1,15 @@
 -- What a step tells of operations: where each live transaction comes from, with what is reported of it, and that all other reports repeat
 -- kept answers.
-use Rattle.std.proofs.Common.{◌≡◌, ◌≢◌, ◌⊎◌, ◌∙◌, ap, sym, subst, ℕ, true, false, List, [], ◌∷◌, ◌++◌, map, refl, arith, inl, inr, ⊎_elim}
+use Rattle.std.proofs.Common.{◌≡◌, ◌≢◌, ◌⊎◌, ◌∙◌, ap, sym, subst, ℕ, true, false, List, [], ◌∷◌, ◌++◌, map, refl, inl, inr, ⊎_elim}
 use Rattle.std.specs.Prelude.{Option, Some, None, option_map, option_to_list, filter_map}
-use Rattle.std.proofs.lemmas.Bool.Decides.{nat_tests}
 use Rattle.std.proofs.lemmas.List.{map-append, append-nil}
 use Rattle.std.proofs.lemmas.List.Elements.{filter_map-append}
 use Rattle.vp_model.specs.Types.{TxnId, View, Op, Answer, Reply, Commit, Input, Pending, Live, Ending, Finished}
-use Rattle.vp_base.specs.declared.site.Ending.TheVariants.{Committed}
+use Rattle.vp_base.specs.declared.site.Ending.TheVariants.{Committed, Aborted, LockHeld, ViewChanged, TimedOut}
 use Rattle.vp_model.specs.Types.answer
 use Rattle.vp_model.specs.Types.call
 use Rattle.vp_model.specs.Types.input
 use Rattle.vp_model.specs.Types.op
-use Rattle.vp_model.specs.Words.{same_txn}
 use Rattle.vp_model.specs.Catalogue.{Catalogue}
 use Rattle.vp_model.specs.Site.{CoordinatorState, SiteState, Lent}
 use Rattle.vp_model.specs.Transactions.{answer_of, put_live, with_finished}
@@ -19,13 +17,11 @@ use Rattle.vp_model.specs.Calls.{begun}
 use Rattle.vp_model.specs.Answers.{with_acknowledged}
 use Rattle.vp_model.specs.Step.{mark, step}
 use Rattle.vp_model.specs.Told.{reported, is_early_refusal, told_by}
-use Rattle.vp_one_site.proofs.LockTables.{same_txn-self}
-use Rattle.vp_one_site.proofs.ToldLines.{Report}
-use Rattle.vp_one_site.proofs.KeptTold.{end_unreported, end_late}
+use Rattle.vp_laws.proofs.ToldLines.{Report}
 use Rattle.vp_laws.specs.Reports.{is_of_kind}
 use Rattle.vp_laws.proofs.Members.{Has, has_none, has_first, has_more, has_one_is, has_cases, map_has}
 use Rattle.vp_laws.proofs.Lists.{without_first_has}
-use Rattle.vp_laws.proofs.Apart.{Apart, named, change_cases}
+use Rattle.vp_laws.proofs.Apart.{Apart, named, change_cases, same_txn-self, same_txn-other}
 use Rattle.vp_laws.proofs.Table.{next_view, next_name, Reads, Writes, Completes}
 use Rattle.vp_laws.proofs.TableSteps.{done, waiting}
 use Rattle.vp_laws.proofs.TableKept.{kept_has}
@@ -43,8 +39,20 @@ pub record SaysDone (catalogue : Catalogue) (txn : TxnId) (p : Pending) (operati
   pub late : is_early_refusal words ≡ false
   pub kind : is_of_kind report p.call ≡ true
 
-same_txn-other : (t u : TxnId) → t ≢ u → same_txn t u ≡ false
-same_txn-other t u n = grind (arith, nat_tests, n)
+-- an end reports nothing
+pub end_unreported : (u txn : TxnId) (k : ℕ) (why : Ending) → reported u (answer_of txn k why) ≡ None
+end_unreported u txn k Committed = refl
+end_unreported u txn k Aborted = refl
+end_unreported u txn k (LockHeld name at holder) = refl
+end_unreported u txn k (ViewChanged at held now) = refl
+end_unreported u txn k (TimedOut at) = refl
+
+pub end_late : (txn : TxnId) (k : ℕ) (why : Ending) → is_early_refusal (answer_of txn k why) ≡ false
+end_late txn k Committed = refl
+end_late txn k Aborted = refl
+end_late txn k (LockHeld name at holder) = refl
+end_late txn k (ViewChanged at held now) = refl
+end_late txn k (TimedOut at) = refl
 
 read_says : (catalogue : Catalogue) (txn : TxnId) (p : Pending) (rec : ℕ) (value : List ℕ) (operation : Op) (words : Answer) → Reads catalogue p rec → operation ≡ op.Read rec value → words ≡ answer.Value txn p.number value → SaysDone catalogue txn p operation words
 read_says catalogue txn p rec value operation words r e f =

@@ -26,6 +26,7 @@ use Rattle.vp_laws.proofs.TableCopyAt.{CopiesAt, newest_each, replaced_not}
 use Rattle.vp_laws.proofs.TableCopyAt.{table as copies_table, starts as copies_start}
 use Rattle.vp_laws.proofs.Rows.{step-keeps}
 use Rattle.vp_laws.proofs.UpTo.{up_to_from}
+use Rattle.vp_laws.proofs.Numbers.{eq_not}
 
 -- none of the records under refresh is this one
 abbrev pub IsUnlisted : List Refreshing → ℕ → Type 0
@@ -161,12 +162,9 @@ module _ (catalogue : Catalogue) (x : SiteState) (given : Input) (tidy : Tidy x)
       more : List Refreshing
       more = put (λ (a : Refreshing) (b : Refreshing). a.rec == b.rec) (λ (a : Refreshing) (b : Refreshing). nat_lt a.rec b.rec) (record { rec = rec; answers = [] }) o.site.refresh
 
-      apart : (a b : ℕ) → a ≢ b → (a == b) ≡ false
-      apart a b n = grind (arith, nat_tests, n)
-
       stays_listed : (k : ℕ) (r : Refreshing) → Has o.site.refresh r → r.rec ≡ k → IsUnlisted more k → Has more r
       stays_listed k r g is none = put_old (λ (a : Refreshing) (b : Refreshing). a.rec == b.rec) (λ (a : Refreshing) (b : Refreshing). nat_lt a.rec b.rec) (record { rec = rec; answers = [] }) o.site.refresh r g
-          (apart rec r.rec (λ z. none (record { rec = rec; answers = [] }) (put_new (λ (a : Refreshing) (b : Refreshing). a.rec == b.rec) (λ (a : Refreshing) (b : Refreshing). nat_lt a.rec b.rec) (record { rec = rec; answers = [] }) o.site.refresh) (z ∙ is)))
+          (eq_not rec r.rec (λ z. none (record { rec = rec; answers = [] }) (put_new (λ (a : Refreshing) (b : Refreshing). a.rec == b.rec) (λ (a : Refreshing) (b : Refreshing). nat_lt a.rec b.rec) (record { rec = rec; answers = [] }) o.site.refresh) (z ∙ is)))
 
   ends_here : (from : ℕ) (txn : TxnId) (commit : Bool) (doubt : Option Doubt) → CopiesAt catalogue x given (end_here from txn commit doubt (begin_step x)) → P (end_here from txn commit doubt (begin_step x))
   unfolding end_here

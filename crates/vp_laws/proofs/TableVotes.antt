@@ -1,5 +1,5 @@
 -- Prepares and votes: a prepare speaks of a live transaction whose commit is pending, and a vote answers a prepare.
-use Rattle.std.proofs.Common.{◌≡◌, ◌∙◌, ap, sym, ℕ, ◌+◌, ◌≤◌, Bool, true, false, cond, List, [], ◌∷◌, ◌++◌, map, refl, arith, inl, inr, ⊎_elim, append-nil}
+use Rattle.std.proofs.Common.{◌≡◌, ◌∙◌, ap, sym, ℕ, Bool, true, false, cond, List, [], ◌∷◌, ◌++◌, map, refl, inl, inr, ⊎_elim, append-nil}
 use Rattle.std.specs.Prelude.{Option, Some, None, is_some, ◌==◌, not, filter}
 use Rattle.vp_model.specs.Types.{Change, ViewId, TxnId, View, Stored, Op, Answer, Message, Sent, Input, Part, Refreshing, Pending, Live, Ending, Doubt}
 use Rattle.vp_base.specs.declared.site.Ending.TheVariants.{Committed}
@@ -29,6 +29,7 @@ use Rattle.vp_laws.proofs.Rows.{step-keeps}
 use Rattle.vp_laws.proofs.LocalViews.{letter}
 use Rattle.vp_laws.proofs.TableLed.{Led}
 use Rattle.std.proofs.Common.{subst}
+use Rattle.vp_laws.proofs.Numbers.{one_above}
 
 -- the pending call is the same one, marked or with fewer sites missing
 abbrev pub SameCall : Option Pending → Option Pending → Type 0
@@ -256,12 +257,9 @@ module _ (catalogue : Catalogue) (x : SiteState) (given : Input) (led : Led x) (
   unfolding keep_writes
   keeps_writes t l q = hushed l _ refl refl q
 
-  -- the new name is above all others
+  -- the new name is one_above all others
   not_named : (t : Live) → Has x.live t → t.txn ≡ next_name x → ⊥
-  not_named t h e = above t.txn.seq x.seq (led.names t h).2 (ap (λ (t : TxnId). t.seq) e)
-    where
-      above : (a b : ℕ) → a ≤ b → a ≡ b + 1 → ⊥
-      above a b h e = omega arith
+  not_named t h e = one_above t.txn.seq x.seq (led.names t h).2 (ap (λ (t : TxnId). t.seq) e)
 
   begins_one : (port : ℕ) (view : View) → K (start_txn (next_name x) port view.id (lent_at x))
   unfolding start_txn

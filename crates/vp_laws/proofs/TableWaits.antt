@@ -1,7 +1,6 @@
 -- Whom the decisions wait for after a step: those of before but a site that acknowledges, and the parts that write of what is entered.
-use Rattle.std.proofs.Common.{◌≡◌, ◌≢◌, ◌⊎◌, ◌∙◌, ap, sym, ℕ, Bool, true, false, cond, List, [], ◌∷◌, ◌++◌, map, refl, arith, inl, inr, ⊎_elim}
+use Rattle.std.proofs.Common.{◌≡◌, ◌≢◌, ◌⊎◌, ◌∙◌, ap, sym, ℕ, Bool, true, false, cond, List, [], ◌∷◌, ◌++◌, map, refl, inl, inr, ⊎_elim}
 use Rattle.std.specs.Prelude.{filter, not, ◌==◌}
-use Rattle.std.proofs.lemmas.Bool.Decides.{nat_tests}
 use Rattle.vp_model.specs.Types.{TxnId, Sent, Commit, Input, Live, Ending, Decision}
 use Rattle.vp_base.specs.declared.site.Ending.TheVariants.{Committed}
 use Rattle.vp_model.specs.Types.message
@@ -15,12 +14,13 @@ use Rattle.vp_model.specs.Answers.{with_acknowledged}
 use Rattle.vp_model.specs.Step.{mark_calls, step}
 use Rattle.vp_laws.proofs.Members.{Has, has_none, has_one_is, filter_keeps}
 use Rattle.vp_laws.proofs.Lists.{mapped_has, put_new, put_old}
-use Rattle.vp_laws.proofs.Apart.{same_txn-is, same_txn-not}
+use Rattle.vp_laws.proofs.Apart.{same_txn-is, same_txn-not, same_txn-other}
 use Rattle.vp_laws.proofs.Frames.{Ends, close-ends, close-commits, decided-ends, decided-commits, decide-cases}
 use Rattle.vp_laws.proofs.Order.{same_site}
 use Rattle.vp_laws.proofs.Table.{Comes, lent_at, Handled, OfCoordinator}
 use Rattle.vp_laws.proofs.Rows.{step-keeps}
 use Rattle.vp_laws.proofs.OnlyCoordinator.{OnCoordinator, Keeps, only_begins, only_table}
+use Rattle.vp_laws.proofs.Numbers.{not_same}
 
 -- a decision on the transaction waits for the site
 abbrev pub IsWaited : List Decision → TxnId → ℕ → Type 0
@@ -60,10 +60,7 @@ module _ (catalogue : Catalogue) (x : SiteState) (given : Input) (settled : (d :
 
   -- a decision is kept beside the others
   differs : (t : Live) (n : Handled x t) (d : Decision) → Has x.decisions d → same_txn t.txn d.txn ≡ false
-  differs t n d h = unlike t.txn d.txn (λ e. settled d n.was h n.live (sym (ap (λ (t : Live). t.txn) n.same) ∙ e))
-    where
-      unlike : (a b : TxnId) → a ≢ b → same_txn a b ≡ false
-      unlike a b n = grind (arith, nat_tests, n)
+  differs t n d h = same_txn-other t.txn d.txn (λ e. settled d n.was h n.live (sym (ap (λ (t : Live). t.txn) n.same) ∙ e))
 
   decision_old : (t : Live) → Handled x t → (waiting : List ℕ) (txn : TxnId) (q : ℕ) → IsWaited x.decisions txn q → IsWaited (with_decision t.txn waiting x.decisions) txn q
   decision_old t n waiting txn q (d, h, same, w) = go (is_empty waiting)
@@ -100,9 +97,6 @@ module _ (catalogue : Catalogue) (x : SiteState) (given : Input) (settled : (d :
     where
       changed : Decision → Decision
       changed d = cond (same_txn d.txn txn) (record { txn = d.txn; waiting = filter (λ q. not (q == from)) d.waiting }) d
-
-      not_same : (a b : ℕ) → a ≢ b → not (a == b) ≡ true
-      not_same a b n = grind (arith, nat_tests, n)
 
       stays : (d : Decision) (q : ℕ) → Has d.waiting q → q ≢ from → (b : Bool) → (z : Decision) → cond b (record { txn = d.txn; waiting = filter (λ q. not (q == from)) d.waiting }) d ≡ z → (z.txn ≡ d.txn) × Has z.waiting q
       stays d q w n true z e = (ap (λ (d : Decision). d.txn) (sym e), rw (← (ap (λ (d : Decision). d.waiting) e)) (filter_keeps (λ (q : ℕ). not (q == from)) d.waiting q w (not_same q from n)))

@@ -1,10 +1,9 @@
 -- What the lines so far tell, in the world after them: of each live transaction its operations, and its pending call; of each entry its
 -- operations; of a name that was never given, nothing; and each answer that a site keeps was reported.
-use Rattle.std.proofs.Common.{◌≡◌, ◌≢◌, ◌∙◌, ap, subst, ℕ, Bool, true, false, List, [], ◌∷◌, refl, arith, length}
+use Rattle.std.proofs.Common.{◌≡◌, ◌≢◌, ◌∙◌, ap, subst, ℕ, Bool, true, false, List, [], ◌∷◌, refl, length}
 use Rattle.std.specs.Prelude.{Option, Some, None, is_some, ◌==◌, ◌&&◌, not}
 use Rattle.std.specs.Option.{option_map_or}
 use Rattle.std.specs.List.{list_any, cons_option}
-use Rattle.std.proofs.lemmas.Bool.Decides.{nat_tests}
 use Rattle.std.proofs.lemmas.Bool.{eqb-true}
 use Rattle.vp_model.specs.Types.{TxnId, Call, Answer, Reply, Commit, Event, Input, Line, Live}
 use Rattle.vp_model.specs.Types.call
@@ -16,7 +15,7 @@ use Rattle.vp_model.specs.Site.{SiteState}
 use Rattle.vp_model.specs.Refresh.{members_in, other_holders}
 use Rattle.vp_model.specs.World.{WorldState}
 use Rattle.vp_model.specs.Told.{answers_in, is_step, call_in, reported, put_first, is_early_refusal, is_call, takes}
-use Rattle.vp_one_site.proofs.ToldLines.{Report, IsReported, Tells, IsUnheard}
+use Rattle.vp_laws.proofs.ToldLines.{Report, IsReported, Tells, IsUnheard}
 use Rattle.vp_laws.proofs.Members.{Has, has_none, has_first, has_more, filter_keeps, both_true, any_false}
 use Rattle.vp_laws.proofs.Apart.{same_txn-is}
 use Rattle.vp_laws.proofs.Scenes.{Scene, plain_at}
@@ -31,6 +30,7 @@ use Rattle.vp_laws.proofs.TableTold.{IsKept, told_of}
 use Rattle.vp_laws.proofs.ToldCalls.{TellsCall}
 use Rattle.vp_laws.proofs.Occurs.{Gives}
 use Rattle.vp_laws.proofs.Tower.{Known}
+use Rattle.vp_laws.proofs.Numbers.{eq_not}
 
 pub record ToldAt (catalogue : Catalogue) (w : Scene) (lines : List Line) : Type 0 where
   pub base : Seventeenth catalogue w
@@ -125,10 +125,7 @@ has_holders catalogue w s x up k rec usable none =
     let members = members_in x.held in
     let q = in_force_holder catalogue rec members usable in
     let other : q.0 ≢ x.id = (λ z. not_copied rec x.copies none (holds_copy catalogue w s x up (k.views.site s x up).kept k.held rec (subst (Has (holders catalogue rec)) (z ∙ (k.views.site s x up).id) q.1))) in
-    first_of_some (other_holders catalogue x rec) q.0 (filter_keeps _ (holders catalogue rec) q.0 q.1 (both (has_test members q.0 q.2) (differs q.0 x.id other)))
+    first_of_some (other_holders catalogue x rec) q.0 (filter_keeps _ (holders catalogue rec) q.0 q.1 (both (has_test members q.0 q.2) (eq_not q.0 x.id other)))
   where
-    differs : (a b : ℕ) → a ≢ b → (a == b) ≡ false
-    differs a b n = grind (arith, nat_tests, n)
-
     both : {a b : Bool} → a ≡ true → b ≡ false → (a && not b) ≡ true
     both e f = rw (e, f) refl

@@ -1,5 +1,5 @@
 -- What one more line makes of what the lines tell of a live transaction, whose calls may wait for other sites.
-use Rattle.std.proofs.Common.{◌≡◌, ◌∙◌, ap, sym, subst, ℕ, ◌+◌, ◌≤◌, ◌<◌, Bool, true, false, cond, List, [], ◌∷◌, ◌++◌, refl, arith}
+use Rattle.std.proofs.Common.{◌≡◌, ◌∙◌, ap, sym, subst, ℕ, ◌+◌, ◌≤◌, ◌<◌, true, false, List, [], ◌∷◌, ◌++◌, refl, arith}
 use Rattle.std.specs.Prelude.{Option, Some, None, is_some, ◌==◌, nat_lt, filter_map, find, option_and_then}
 use Rattle.std.specs.List.{AllByRecursion}
 use Rattle.std.proofs.lemmas.Bool.{ne_eqb, le-ltb}
@@ -8,7 +8,7 @@ use Rattle.vp_model.specs.Types.{TxnId, Op, Call, Line, Pending}
 use Rattle.vp_model.specs.Words.{value_at, put_at}
 use Rattle.vp_model.specs.Catalogue.{Catalogue}
 use Rattle.vp_model.specs.Told.{put_first, reports, takes, taken_call, call_in, told_by}
-use Rattle.vp_one_site.proofs.ToldLines.{Report, find_last, Tells, TellsLive, tells_on}
+use Rattle.vp_laws.proofs.ToldLines.{Report, find_last, Tells, tells_on, find_kept, IsUnheard, tell, all_taken, told_same}
 
 -- the last number that a call has taken
 abbrev pub reach : ℕ → Option Pending → ℕ
@@ -23,17 +23,14 @@ pub record TellsCall (catalogue : Catalogue) (lines : List Line) (u : TxnId) (la
   pub taken : (p : Pending) → pending ≡ Some p → taken_call lines u (last + 1) ≡ Some p.call
   pub untaken : (k : ℕ) → reach last pending < k → find (takes u k) lines ≡ None
 
--- where no call is pending it is what one site alone tells
-pub idle : (catalogue : Catalogue) (lines : List Line) (u : TxnId) (last : ℕ) (ops : List Op) → TellsLive catalogue lines u last ops → TellsCall catalogue lines u last None ops
-idle catalogue lines u last ops h = record { so_far = h.so_far; below = h.below; taken = λ p e. cc; untaken = h.untaken }
-
-find_kept : {X : Type 0} (test : X → Bool) (xs ys : List X) (x : X) → find test xs ≡ Some x → find test (xs ++ ys) ≡ Some x
-find_kept test [] ys x e = cc
-find_kept test (y ∷ xs) ys x e = go (test y) e (λ q. find_kept test xs ys x q)
-  where
-    go : (b : Bool) → cond b (Some y) (find test xs) ≡ Some x → (find test xs ≡ Some x → find test (xs ++ ys) ≡ Some x) → cond b (Some y) (find test (xs ++ ys)) ≡ Some x
-    go true q i = q
-    go false q i = i q
+-- of a transaction that they are silent of they tell no operation
+pub begins : (catalogue : Catalogue) (lines : List Line) (u : TxnId) → IsUnheard lines u → TellsCall catalogue lines u 0 None []
+begins catalogue lines u h = record {
+  so_far = record { taken = rw h.unreported tt; tells = rw h.unreported refl };
+  below = rw h.unreported tt;
+  taken = λ p e. cc;
+  untaken = λ k l. h.untaken k;
+}
 
 -- a number that was taken stays so
 pub taken_on : (lines : List Line) (l : Line) (u : TxnId) (k : ℕ) (words : Call) → taken_call lines u k ≡ Some words → taken_call (lines ++ l ∷ []) u k ≡ Some words
@@ -121,9 +118,6 @@ all_weaker n (r ∷ rs) h = let l = h.0 in (omega arith, all_weaker n rs h.1)
 one_told : (f : Report → Option Op) (r : Report) (operation : Op) → f r ≡ Some operation → filter_map f (r ∷ []) ≡ operation ∷ []
 one_told f r operation e = rw e refl
 
-tell : Catalogue → List Line → TxnId → Report → Option Op
-tell catalogue lines u report = option_and_then (told_by catalogue report.1) (taken_call lines u report.0)
-
 -- an operation is done: the line reports it under the next number, which a call has taken by then
 pub record IsDoneNow (catalogue : Catalogue) (lines : List Line) (l : Line) (u : TxnId) (number : ℕ) (operation : Op) : Type 0 where
   pub report : Option (List ℕ)
@@ -138,33 +132,17 @@ pub record IsDoneNow (catalogue : Catalogue) (lines : List Line) (l : Line) (u :
   pub tells : told_by catalogue report words ≡ Some operation
 
 module _ (catalogue : Catalogue) (lines : List Line) (l : Line) (u : TxnId) where
-  taken_same : (k : ℕ) → is_some (taken_call lines u k) ≡ true → taken_call (lines ++ l ∷ []) u k ≡ taken_call lines u k
-  taken_same k h = go (taken_call lines u k) refl h
-    where
-      go : (o : Option Call) → taken_call lines u k ≡ o → is_some o ≡ true → taken_call (lines ++ l ∷ []) u k ≡ taken_call lines u k
-      go None e q = cc
-      go (Some words) e q = taken_on lines l u k words e ∙ sym e
-
-  all_taken : (rs : List Report) → AllByRecursion (λ (p : Report). is_some (taken_call lines u p.0) ≡ true) rs → AllByRecursion (λ (p : Report). is_some (taken_call (lines ++ l ∷ []) u p.0) ≡ true) rs
-  all_taken [] h = tt
-  all_taken (r ∷ rs) h = (rw (taken_same r.0 h.0) h.0, all_taken rs h.1)
-
-  told_same : (rs : List Report) → AllByRecursion (λ (p : Report). is_some (taken_call lines u p.0) ≡ true) rs → filter_map (tell catalogue (lines ++ l ∷ []) u) rs ≡ filter_map (tell catalogue lines u) rs
-  unfolding tell
-  told_same [] h = refl
-  told_same (r ∷ rs) h = rw (taken_same r.0 h.0, told_same rs h.1) refl
-
   pub done_next : (last : ℕ) (pending : Option Pending) (ops : List Op) (operation : Op) → TellsCall catalogue lines u last pending ops → IsDoneNow catalogue lines l u (last + 1) operation → TellsCall catalogue (lines ++ l ∷ []) u (last + 1) None (ops ++ operation ∷ [])
   unfolding tell
   done_next last pending ops operation h d =
       let now : reports (lines ++ l ∷ []) u ≡ reports lines u ++ (last + 1, d.report) ∷ [] = d.reports ∙ put_last last d.report (reports lines u) h.below in
       record {
         so_far = record {
-          taken = rw now (all_append (λ (p : Report). is_some (taken_call (lines ++ l ∷ []) u p.0) ≡ true) (reports lines u) (last + 1, d.report) (all_taken (reports lines u) h.so_far.taken) (rw d.taken refl));
+          taken = rw now (all_append (λ (p : Report). is_some (taken_call (lines ++ l ∷ []) u p.0) ≡ true) (reports lines u) (last + 1, d.report) (all_taken catalogue lines l u (reports lines u) h.so_far.taken) (rw d.taken refl));
           tells =
               ap (filter_map (tell catalogue (lines ++ l ∷ []) u)) now
               ∙ filter_map-append (tell catalogue (lines ++ l ∷ []) u) (reports lines u) ((last + 1, d.report) ∷ [])
-              ∙ ap (λ z. z ++ filter_map (tell catalogue (lines ++ l ∷ []) u) ((last + 1, d.report) ∷ [])) (told_same (reports lines u) h.so_far.taken ∙ h.so_far.tells)
+              ∙ ap (λ z. z ++ filter_map (tell catalogue (lines ++ l ∷ []) u) ((last + 1, d.report) ∷ [])) (told_same catalogue lines l u (reports lines u) h.so_far.taken ∙ h.so_far.tells)
               ∙ ap (λ z. ops ++ z) (one_told (tell catalogue (lines ++ l ∷ []) u) (last + 1, d.report) operation (ap (option_and_then (told_by catalogue d.report)) d.taken ∙ d.tells));
         };
         below = rw now (all_append (λ (p : Report). p.0 ≤ last + 1) (reports lines u) (last + 1, d.report) (all_weaker last (reports lines u) h.below) (omega arith));

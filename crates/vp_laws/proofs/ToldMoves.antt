@@ -13,9 +13,8 @@ use Rattle.vp_model.specs.Transactions.{answer_of}
 use Rattle.vp_model.specs.Step.{step}
 use Rattle.vp_model.specs.World.{WorldState, Moment}
 use Rattle.vp_model.specs.Told.{answers_in, call_in, reported, put_first, reports, is_call, takes, taken_call}
-use Rattle.vp_one_site.proofs.ToldLines.{Report, collected, reports-last, IsReported, reported_lasts, Tells, IsUnheard, begins, tells_on, unheard_on}
-use Rattle.vp_one_site.proofs.Play.{value_put}
-use Rattle.vp_one_site.proofs.KeptTold.{end_unreported}
+use Rattle.vp_laws.proofs.ToldLines.{Report, collected, reports-last, IsReported, reported_lasts, Tells, IsUnheard, tells_on, unheard_on}
+use Rattle.vp_laws.proofs.Play.{value_put}
 use Rattle.vp_laws.proofs.Members.{Has, has_none, has_cases, has_one_is, map_has}
 use Rattle.vp_laws.proofs.Lists.{mapped_has}
 use Rattle.vp_laws.proofs.Apart.{same_txn-is, same_txn-not, Apart, apart_unique}
@@ -24,7 +23,7 @@ use Rattle.vp_laws.proofs.TableLed.{Led}
 use Rattle.vp_laws.proofs.TableEndings.{NotLive, Settled}
 use Rattle.vp_laws.proofs.TableFinished.{EndsNow}
 use Rattle.vp_laws.proofs.TableCalls.{CallSays, call_said}
-use Rattle.vp_laws.proofs.TableTold.{SaysDone, completed_says, told_of, IsKept, Repeats, AreLate, LiveTold, ToldNow, told-step}
+use Rattle.vp_laws.proofs.TableTold.{SaysDone, completed_says, told_of, IsKept, Repeats, AreLate, LiveTold, ToldNow, told-step, end_unreported}
 use Rattle.vp_laws.proofs.Scenes.{Scene, scene_of, plain_at, kept_at, acted}
 use Rattle.vp_laws.proofs.Events.{Arrives}
 use Rattle.vp_laws.proofs.Worlds.{NowIs, now_is}
@@ -35,7 +34,7 @@ use Rattle.vp_laws.proofs.InvListed.{Seventeenth, listed_last}
 use Rattle.vp_laws.proofs.Tower.{Known, known, Does, does}
 use Rattle.vp_laws.proofs.Reasons.{Takes, IsDone, told_to}
 use Rattle.vp_laws.proofs.FairStep.{IsStep}
-use Rattle.vp_laws.proofs.ToldCalls.{reach, TellsCall, SameCall, idle, as_pending, call_on, call_taken, taken_on, taken_now, untaken_on, done_next}
+use Rattle.vp_laws.proofs.ToldCalls.{reach, TellsCall, SameCall, as_pending, call_on, call_taken, taken_on, taken_now, untaken_on, done_next, begins}
 use Rattle.vp_laws.proofs.ToldAt.{ToldAt, same_reports, taking, takes_now, call_of, gives_call, call_gives, has_holders}
 
 by_false : (b : Bool) → (b ≡ true → ⊥) → b ≡ false
@@ -248,7 +247,7 @@ module _ (catalogue : Catalogue) (world : WorldState) (lines : List Line) (m0 : 
       let name = next_name x in
       let unheard = told.fresh name (λ used. fresh w s x up ok.id name used refl) in
       let r : Repeats x name o.effects.replies = subst (λ (txn : TxnId). Repeats x txn o.effects.replies) (sym (ap (λ (t : Live). t.txn) made)) repeats in
-      let on = call_on catalogue lines line name 0 [] None (idle catalogue lines name 0 [] (begins catalogue lines name unheard)) (repeats_now name r) (λ j above. untaken_begin port c name j) in
+      let on = call_on catalogue lines line name 0 [] None (begins catalogue lines name unheard) (repeats_now name r) (λ j above. untaken_begin port c name j) in
       subst (λ (a : Live). TellsCall catalogue more a.txn (length a.answers) a.pending a.ops) made on
 
   -- other sites' transactions, and those that are not live

@@ -11,20 +11,17 @@ use Rattle.vp_model.specs.Step.{start, step}
 use Rattle.vp_model.specs.Told.{is_step, reports, told}
 use Rattle.vp_model.specs.Headline.{IsOneCopy}
 use Rattle.vp_model.specs.World.{WorldState, Moved, Run, Schedule, moment, next, one_step, site_of, site_step, start_world, lines_of, journal_of}
-use Rattle.vp_one_site.proofs.ToldLines.{reports-silent, reported_lasts, IsReported, tells_on, IsUnheard, unheard_on}
-use Rattle.vp_one_site.proofs.Invariant.{lines_in}
-use Rattle.vp_one_site.proofs.Called.{lines_last}
+use Rattle.vp_laws.proofs.ToldLines.{reports-silent, reported_lasts, IsReported, tells_on, IsUnheard, unheard_on, lines_in, lines_last}
 use Rattle.vp_laws.specs.Catalogues.{AreApart}
 use Rattle.vp_laws.proofs.Members.{Has, all_of}
 use Rattle.vp_laws.proofs.Scenes.{Scene, scene_of, plain_at, kept_at, acted}
 use Rattle.vp_laws.proofs.Events.{Arrives, crashed, restarted}
-use Rattle.vp_laws.proofs.Worlds.{Quiet, QuietIs, quiet_is, crash_quiet, restart_quiet, started, start_entered}
+use Rattle.vp_laws.proofs.Worlds.{Quiet, QuietIs, quiet_is, crash_quiet, restart_quiet, started, start_entered, no_live, no_finished, started_idle}
 use Rattle.vp_laws.proofs.InvNames.{UsedTxn, Grows, used_lasts, start_life}
 use Rattle.vp_laws.proofs.InvListed.{Seventeenth, listed_last}
 use Rattle.vp_laws.proofs.Tower.{known, Does, does}
 use Rattle.vp_laws.proofs.Occurs.{no_replies, Gives, Occurs, occurs, run-keeps}
 use Rattle.vp_laws.proofs.FairStep.{IsStep}
-use Rattle.vp_laws.proofs.FairMoves.{none_live, none_finished}
 use Rattle.vp_laws.proofs.FairTold.{refusals_justified}
 use Rattle.vp_laws.proofs.OneCopy.{one_copy_from}
 use Rattle.vp_laws.proofs.TableTold.{IsKept}
@@ -34,8 +31,8 @@ use Rattle.vp_laws.proofs.ToldMoves.{step_told}
 
 -- a site that starts keeps no answer
 pub starts_none : (catalogue : Catalogue) (s : ℕ) (d : DurableState) (a : Answer) → IsKept (start catalogue s d) a → ⊥
-starts_none catalogue s d a (IsKept.live t h there) = none_live catalogue s d t h
-starts_none catalogue s d a (IsKept.finished f h there) = none_finished catalogue s d f h
+starts_none catalogue s d a (IsKept.live t h there) = no_live catalogue s d t h
+starts_none catalogue s d a (IsKept.finished f h there) = no_finished catalogue s d f h
 
 -- a line that shows no step
 module _ (catalogue : Catalogue) (w new : Scene) (lines : List Line) (l : Line) (none : is_step l.shown ≡ false) (told_so_far : ToldAt catalogue w lines) where
@@ -78,7 +75,7 @@ module _ (catalogue : Catalogue) (w new : Scene) (lines : List Line) (l : Line) 
 
       live_at : (j : ℕ) (y : SiteState) (t : Live) → Has y.live t → QuietIs catalogue w s j y → TellsCall catalogue more t.txn (length t.answers) t.pending t.ops
       live_at j y t h (QuietIs.other n old) = still_told j y t old h
-      live_at j y t h (QuietIs.here e same) = absurd (none_live catalogue s (kept_at w s) t (subst (λ (y : SiteState). Has y.live t) (sym same) h))
+      live_at j y t h (QuietIs.here e same) = absurd (no_live catalogue s (kept_at w s) t (subst (λ (y : SiteState). Has y.live t) (sym same) h))
 
       kept_at_site : (j : ℕ) (y : SiteState) (a : Answer) → IsKept y a → QuietIs catalogue w s j y → IsReported more a
       kept_at_site j y a h (QuietIs.other n old) = still_kept j y a old h
@@ -132,7 +129,7 @@ one_step-told catalogue number e run h =
 pub start_told : (catalogue : Catalogue) → ToldAt catalogue (scene_of (start_world catalogue)) []
 start_told catalogue = record {
   base = (listed_last catalogue).starts;
-  live = λ s x t h k. absurd (none_live catalogue s (empty_durable (start_copies catalogue s)) t (subst (λ (x : SiteState). Has x.live t) (sym (started catalogue s x h)) k));
+  live = λ s x t h k. absurd (started_idle catalogue s x t h k);
   entries = λ e h. absurd (start_entered catalogue e h);
   fresh = λ u unused. record { unreported = refl; untaken = λ k. refl };
   kept = λ s x a h k. absurd (starts_none catalogue s (empty_durable (start_copies catalogue s)) a (subst (λ (x : SiteState). IsKept x a) (sym (started catalogue s x h)) k));

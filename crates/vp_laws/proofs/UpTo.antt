@@ -7,7 +7,7 @@ use Rattle.vp_model.specs.Types.{ViewId, Commit}
 use Rattle.vp_model.specs.Words.{same_view, view_before}
 use Rattle.vp_model.specs.OneCopy.{views_of, in_view, order}
 use Rattle.vp_laws.proofs.Members.{Has, has_first, has_more, has_cases, filter_has}
-use Rattle.vp_laws.proofs.Order.{AtMost, Precedes, AtMost-same, AtMost-along, Precedes-at_most, from_before, same_is}
+use Rattle.vp_laws.proofs.Order.{AtMost, Precedes, AtMost-same, AtMost-along, Precedes-at_most, from_before, same_is, not_before}
 use Rattle.vp_laws.proofs.Journal.{Rising, views_rising, flat_has}
 
 -- the entries of views up to this one
@@ -16,9 +16,6 @@ upto view es = filter (λ e. not (view_before view e.view)) es
 
 pub test_above : (a b : ViewId) → Precedes a b → view_before a b ≡ true
 test_above a b p = grind (arith, nat_tests, p)
-
-pub test_up_to : (a b : ViewId) → AtMost b a → view_before a b ≡ false
-test_up_to a b p = grind (arith, nat_tests, p)
 
 pub up_to_from : (a b : ViewId) → view_before a b ≡ false → AtMost b a
 up_to_from a b e = grind (arith, nat_tests, e)
@@ -32,7 +29,7 @@ filter_nothing test [] h = refl
 filter_nothing test (x ∷ xs) h = rw (h x (has_first x xs)) (filter_nothing test xs (λ y q. h y (has_more x xs y q)))
 
 pub upto_all : (d : ViewId) (es : List Commit) → ((f : Commit) → Has es f → AtMost f.view d) → upto d es ≡ es
-upto_all d es h = filter_all (λ (e : Commit). not (view_before d e.view)) es (λ f q. let t = test_up_to d f.view (h f q) in rw t refl)
+upto_all d es h = filter_all (λ (e : Commit). not (view_before d e.view)) es (λ f q. let t = not_before d f.view (h f q) in rw t refl)
 
 pub upto_none : (d : ViewId) (es : List Commit) → ((f : Commit) → Has es f → Precedes d f.view) → upto d es ≡ []
 upto_none d es h = filter_nothing (λ (e : Commit). not (view_before d e.view)) es (λ f q. let t = test_above d f.view (h f q) in rw t refl)

@@ -1,7 +1,7 @@
 -- Who each site is after an event, and how the world starts: what every invariant of all sites goes by.
-use Rattle.std.proofs.Common.{◌≡◌, ◌≢◌, ◌∙◌, ap, sym, ℕ, ◌+◌, ◌≤◌, [], map, refl, arith, ⊎_elim}
+use Rattle.std.proofs.Common.{◌≡◌, ◌≢◌, ◌∙◌, ap, sym, subst, ℕ, ◌+◌, ◌≤◌, [], map, refl, arith, ⊎_elim}
 use Rattle.std.specs.Prelude.{Option, Some, None, option_map}
-use Rattle.vp_model.specs.Types.{Stored, Sent, Commit, Input}
+use Rattle.vp_model.specs.Types.{Stored, Sent, Commit, Input, Refreshing, Live, Finished}
 use Rattle.vp_laws.proofs.Members.{Has, has_none, map_has}
 use Rattle.vp_model.specs.Words.{opening}
 use Rattle.vp_model.specs.Catalogue.{Catalogue, RecordEntry, sites_of, start_copies}
@@ -107,6 +107,27 @@ started catalogue s x h = go (place_of s (map (start_place catalogue) (sites_of 
     go : (o : Option Place) → place_of s (map (start_place catalogue) (sites_of catalogue)) ≡ o → up_in o ≡ Some x → start catalogue s (empty_durable (start_copies catalogue s)) ≡ x
     go None e up = cc
     go (Some p) e up = let all = start_at catalogue s (sites_of catalogue) p e in let a = ap (λ (p : Place). p.up) all.1 in cc
+
+-- a site that starts has no transaction and refreshes no copy, and so it is with each site as the world starts
+pub no_live : (catalogue : Catalogue) (s : ℕ) (d : DurableState) (t : Live) → Has (start catalogue s d).live t → ⊥
+unfolding start
+no_live catalogue s d t h = has_none t h
+
+pub no_finished : (catalogue : Catalogue) (s : ℕ) (d : DurableState) (f : Finished) → Has (start catalogue s d).finished f → ⊥
+unfolding start
+no_finished catalogue s d f h = has_none f h
+
+pub no_refresh : (catalogue : Catalogue) (s : ℕ) (d : DurableState) (r : Refreshing) → Has (start catalogue s d).refresh r → ⊥
+unfolding start
+no_refresh catalogue s d r h = has_none r h
+
+pub started_idle : (catalogue : Catalogue) (s : ℕ) (x : SiteState) (t : Live) → plain_at (scene_of (start_world catalogue)) s ≡ Some x → Has x.live t → ⊥
+started_idle catalogue s x t up h = no_live catalogue s (empty_durable (start_copies catalogue s)) t (subst (λ (x : SiteState). Has x.live t) (sym (started catalogue s x up)) h)
+
+-- one that has a live transaction after a quiet event is as it was
+pub live_still : (catalogue : Catalogue) (w : Scene) (s k : ℕ) (y : SiteState) (t : Live) → Has y.live t → QuietIs catalogue w s k y → plain_at w k ≡ Some y
+live_still catalogue w s k y t h (QuietIs.other n old) = old
+live_still catalogue w s k y t h (QuietIs.here z same) = absurd (no_live catalogue s (kept_at w s) t (subst (λ (y : SiteState). Has y.live t) (sym same) h))
 
 -- what it has kept then
 pub record StartKept (d : DurableState) : Type 0 where

@@ -1,5 +1,5 @@
 -- Playing operations on a map of values, and what the last writes make of it.
-use Rattle.std.proofs.Common.{◌≡◌, ◌<◌, ℕ, zero, suc, ◌∙◌, ap, sym, Bool, true, false, cond, List, [], ◌∷◌, ◌++◌, length, refl, arith, inl, inr, ◌⊎◌}
+use Rattle.std.proofs.Common.{◌≡◌, ◌<◌, ℕ, zero, suc, ◌∙◌, ap, sym, Bool, true, false, cond, List, [], ◌∷◌, ◌++◌, refl, arith, inl, inr, ◌⊎◌}
 use Rattle.std.specs.Prelude.{Option, Some, None, is_some, ◌==◌, nat_lt, slice_get, slice_set, option_map, option_and_then, find, fold}
 use Rattle.std.specs.Option.{option_map_or}
 use Rattle.std.specs.List.{AllByRecursion}
@@ -44,16 +44,6 @@ get_there m r k v e s = rw e (get_set m k v ∙ go (slice_get m k) s)
     go : (o : Option (List ℕ)) → is_some o ≡ true → option_map (λ (old : List ℕ). v) o ≡ Some v
     go None q = cc
     go (Some u) q = refl
-
-pub set_outside : (m : Values) (r : ℕ) (v : List ℕ) → slice_get m r ≡ None → slice_set m r v ≡ m
-set_outside [] r v e = refl
-set_outside (x ∷ m) zero v e = cc
-set_outside (x ∷ m) (suc r) v e = ap (λ z. x ∷ z) (set_outside m r v e)
-
-pub get_within : (m : Values) (r : ℕ) → r < length m → is_some (slice_get m r) ≡ true
-get_within [] r l = absurd (omega arith)
-get_within (x ∷ m) zero l = refl
-get_within (x ∷ m) (suc r) l = get_within m r (omega arith)
 
 -- lists of written values by record
 abbrev pub Write : Type 0
@@ -190,7 +180,7 @@ with_op-ascending : (operation : Op) (ws : List Write) → Ascending ws → Asce
 with_op-ascending (op.Read rec value) ws h = h
 with_op-ascending (op.Write rec value) ws h = put_ascending rec value ws h
 
-and_then : {A B : Type 0} (o : Option A) (f : A → Option B) (y : B) → option_and_then f o ≡ Some y → (x : A) × (o ≡ Some x) × (f x ≡ Some y)
+pub and_then : {A B : Type 0} (o : Option A) (f : A → Option B) (y : B) → option_and_then f o ≡ Some y → (x : A) × (o ≡ Some x) × (f x ≡ Some y)
 and_then None f y e = cc
 and_then (Some x) f y e = (x, refl, e)
 

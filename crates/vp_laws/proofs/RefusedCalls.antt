@@ -1,23 +1,20 @@
 -- The number of the call of a transaction that was refused: it is that of the first reply that tells of it, and stays so.
 use Rattle.std.proofs.Common.{◌≡◌, ◌∙◌, ◌≤◌, ap, ℕ, Bool, true, false, cond, List, [], ◌∷◌, ◌++◌, refl, append-nil, ⊎_elim}
-use Rattle.std.specs.Prelude.{Option, Some, None, ◌&&◌, ◌||◌, nat_le, filter_map, flat_map}
+use Rattle.std.specs.Prelude.{Option, Some, None, ◌||◌, nat_le, filter_map, flat_map}
 use Rattle.std.specs.List.{list_any}
-use Rattle.std.specs.Option.{option_map_or}
-use Rattle.std.proofs.lemmas.Bool.{and_parts, le-leb, leb-true}
+use Rattle.std.proofs.lemmas.Bool.{le-leb}
 use Rattle.std.proofs.lemmas.Grind.{flat_map-append}
 use Rattle.std.proofs.lemmas.List.Elements.{filter_map-append}
+use Rattle.std.proofs.lemmas.List.Folds.{list_any-append}
 use Rattle.vp_model.specs.Types.{TxnId, Answer, Ending}
 use Rattle.vp_base.specs.declared.site.Ending.TheVariants.{Committed, Aborted, LockHeld, ViewChanged, TimedOut}
-use Rattle.vp_model.specs.Types.answer
 use Rattle.vp_model.specs.Words.{first, same_txn}
 use Rattle.vp_model.specs.Transactions.{answer_of}
 use Rattle.vp_model.specs.World.{Moment}
 use Rattle.vp_model.specs.Told.{answers_in}
 use Rattle.vp_model.specs.Justified.{refused_number, refused_in, refused_once}
-use Rattle.vp_one_site.proofs.Members.{Has, has_none, has_first, has_more, has_cons}
-use Rattle.vp_one_site.proofs.Lists.{any_append}
-use Rattle.vp_one_site.proofs.LockTables.{same_txn_is}
-use Rattle.vp_one_site.proofs.Invariant.{end_of}
+use Rattle.vp_laws.proofs.Members.{Has, has_none, has_first, has_more, has_cons}
+use Rattle.vp_laws.proofs.Apart.{same_txn-is}
 
 -- the first of two lists
 first_left : (xs ys : List ℕ) (n : ℕ) → first xs ≡ Some n → first (xs ++ ys) ≡ Some n
@@ -80,13 +77,6 @@ pub record Refusal (moments : List Moment) (txn : TxnId) (number : ℕ) (test : 
   -- a moment passes the test
   pub once : list_any (test refused) moments ≡ true
 
-pub refusal_of : (moments : List Moment) (txn : TxnId) (number : ℕ) (test : ℕ → Moment → Bool) → refused_once moments txn number test ≡ true → Refusal moments txn number test
-refusal_of moments txn number test e = go (refused_in moments txn) refl e
-  where
-    go : (o : Option ℕ) → refused_in moments txn ≡ o → option_map_or (λ refused. nat_le refused number && list_any (test refused) moments) o false ≡ true → Refusal moments txn number test
-    go None f q = cc
-    go (Some n) f q = let p = and_parts (nat_le n number) (list_any (test n) moments) q in record { refused = n; first = f; up_to = leb-true n number p.0; once = p.1 }
-
 pub refusal_is : (moments : List Moment) (txn : TxnId) (number : ℕ) (test : ℕ → Moment → Bool) → Refusal moments txn number test → refused_once moments txn number test ≡ true
 refusal_is moments txn number test r = let z : nat_le r.refused number ≡ true = le-leb r.refused number r.up_to in rw (r.first, z) r.once
 
@@ -99,25 +89,20 @@ refusal_more moments more txn number test r = record {
   refused = r.refused;
   first = refused_more txn moments more r.refused r.first;
   up_to = r.up_to;
-  once = any_append (test r.refused) moments more ∙ or_left _ _ r.once;
+  once = list_any-append (test r.refused) moments more ∙ or_left _ _ r.once;
 }
 
--- such a reply ends the transaction, and by no commit
+-- a reply that tells of the transaction is its own, with its number
 its_own : (t txn : TxnId) (number n : ℕ) → cond (same_txn t txn) (Some number) None ≡ Some n → t ≡ txn
 its_own t txn number n e = go (same_txn t txn) refl e
   where
     go : (b : Bool) → same_txn t txn ≡ b → cond b (Some number) None ≡ Some n → t ≡ txn
-    go true q e = same_txn_is t txn q
+    go true q e = same_txn-is t txn q
     go false q e = cc
 
 its_number : (b : Bool) (number n : ℕ) → cond b (Some number) None ≡ Some n → number ≡ n
 its_number true number n e = cc
 its_number false number n e = cc
-
-pub refused_end : (txn : TxnId) (a : Answer) (n : ℕ) → refused_number txn a ≡ Some n → end_of a ≡ Some (txn, false)
-refused_end txn (answer.LockHeld t number name at holder) n e = ap (λ (u : TxnId). end_of (answer.LockHeld u number name at holder)) (its_own t txn number n e)
-refused_end txn (answer.ViewChanged t number at held now) n e = ap (λ (u : TxnId). end_of (answer.ViewChanged u number at held now)) (its_own t txn number n e)
-refused_end txn _ n e = cc
 
 -- an end that tells of a refused call
 pub refused_of : (u txn : TxnId) (number : ℕ) (why : Ending) (n : ℕ) → refused_number txn (answer_of u number why) ≡ Some n → (u ≡ txn) × (number ≡ n)
