@@ -1,112 +1,130 @@
 #!/usr/bin/env python3
-"""Compares `vpdb replay` with another program on random schedules of one site, and on mutated ones.
+"""Compares `vpdb replay` with the reference on random schedules of 1 to 16 sites, whole and mutated.
 
-usage: compare_replay.py PROGRAM OTHER [SEED [COUNT]]
+usage: compare_replay.py PROGRAM [SEED [COUNT [REFERENCE]]]
 
-PROGRAM is the built vpdb, OTHER the path of the reference program. Both are called with the word `replay`. An input has
-one site of any number, a few records and calls of all kinds: repeated, skipped, on unknown transactions and
-records, too many records, operations and transactions. One in two is mutated: cut, a byte changed or put in, lines swapped,
-a line twice, a line put in that is allowed with more sites or events. Bytes and statuses have to agree; but where the
-input is a schedule with another site or another event, PROGRAM has to answer status 13 and `unbuilt`.
+PROGRAM is the built vpdb, REFERENCE the folder of the reference implementation. Each seed makes one input: three in five are schedules of
+the reference's `fuzz`, which drives a world so that much of what it draws takes effect; one in five is such a schedule with one to three
+faults in its text; and one in five is made here, for many commits in several views, with crashes while transactions are in doubt. Bytes
+and exit statuses have to agree. Seeds are shared out over the processors; the first input that differs is printed, and ends the run.
 """
+import multiprocessing
+import os
+import random
+import subprocess
 import sys
 
-from comparison import compare, with_byte_changed, with_lines_moved
-
-NAMES = ["x", "y", "ab", "abcd", "r0", "r1", "a_long_name_of16"]
-FOREIGN = ["tick %d", "probe %d", "crash %d", "restart %d", "call %d regroup", "deliver 1", "flow 3", "events", "site 16 9", "record x 1 %d:1"]
+from comparison import arguments, modules
 
 
-class Client:
-    """Draws calls, and knows the next number of each transaction that it may have begun."""
+class Busy:
+    """A schedule whose transactions mostly commit, through views, cuts, crashes and restarts."""
 
-    def __init__(self, draw, site, names):
-        self.draw, self.site, self.names = draw, site, names
-        self.numbers = []
+    def __init__(self, draw):
+        self.draw = draw
+        self.sites = sorted(draw.sample(range(1, 17), draw.choice([2, 3, 3, 4, 5])))
+        self.names = ["x%d" % k for k in range(draw.choice([1, 2, 4]))]
+        self.lines = ["site %d %d" % (site, 7000 + site) for site in self.sites]
+        for name in self.names:
+            holders = sorted(draw.sample(self.sites, draw.randint(max(1, len(self.sites) - 2), len(self.sites))))
+            self.lines.append("record %s 0 %s" % (name, " ".join("%d:1" % site for site in holders)))
+        self.lines.append("events")
+        self.seq = {site: [1, 0] for site in self.sites}
 
-    def begin(self):
-        self.numbers.append(1)
-        return "call %d begin" % self.site
+    def transaction(self, site):
+        life, seq = self.seq[site][0], self.seq[site][1] + 1
+        self.seq[site][1] = seq
+        yield "call %d begin" % site
+        txn = "%d.%d.%d" % (site, life, seq)
+        count = self.draw.choice([1, 2, 3])
+        for number in range(1, count + 1):
+            name = self.draw.choice(self.names)
+            deed = "read %s" % name if self.draw.randrange(2) else "write %s %d" % (name, self.draw.randrange(100))
+            yield "call %d %s %d %s" % (site, txn, number, deed)
+            yield "flow %d" % self.draw.choice([20, 20, 20, 1, 2, 3])
+        yield "call %d %s %d commit" % (site, txn, count + 1)
+        yield "flow %d" % self.draw.choice([40, 40, 40, 1, 2, 3, 4, 5])
 
-    def deed(self):
-        name = self.draw.choice(self.names) if self.names and self.draw.randrange(25) else "none"
-        value = "".join(self.draw.choice("!~09az_#") for _ in range(self.draw.choice([1, 2, 64])))
-        return self.draw.choice(["read " + name] * 4 + ["write %s %s" % (name, value)] * 3 + ["commit"] * 2 + ["abort"])
+    def view(self):
+        site = self.draw.choice(self.sites)
+        yield "call %d regroup" % site
+        yield "flow 40"
+        yield "tick %d" % site
+        yield "flow 200"
 
-    def call(self, deed=None):
-        count = len(self.numbers)
-        place = self.draw.randint(max(1, count - self.draw.choice([3, 3, 40])), count)
-        number = max(1, self.numbers[place - 1] + self.draw.choice([0] * 15 + [-1, -1, 1]))
-        self.numbers[place - 1] = max(self.numbers[place - 1], number + 1)
-        life, shift = self.draw.choice([(1, 0)] * 30 + [(2, 0), (1, 1), (4294967295, 0)])
-        return "call %d %d.%d.%d %d %s" % (self.site, self.site, life, place + shift, number, deed or self.deed())
+    def fault(self):
+        site = self.draw.choice(self.sites)
+        if self.draw.randrange(3) and len(self.sites) > 1:
+            a, b = self.draw.sample(self.sites, 2)
+            yield "%s %d %d" % (self.draw.choice(["cut", "heal", "heal"]), a, b)
+        else:
+            yield "crash %d" % site
+            if self.draw.randrange(4):
+                yield "restart %d" % site
+                self.seq[site] = [self.seq[site][0] + 1, 0]
 
-    def busy(self):
-        """A transaction with more operations than are allowed."""
-        place = len(self.numbers) + 1
-        lines = [self.begin()]
-        lines += ["call %d %d.1.%d %d read %s" % (self.site, self.site, place, k, self.names[0]) for k in range(1, 67)]
-        self.numbers[-1] = 67
-        return lines
-
-    def flood(self):
-        """More transactions than may be live."""
-        return [self.begin() for _ in range(1026)]
-
-
-def catalogue(draw, site, names):
-    lines = ["site %d %d" % (site, draw.choice([1, 7001, 65535]))]
-    for name in names:
-        lines.append("record %s %d %d:%d" % (name, draw.randrange(99), site, draw.choice([1, 3, 65535])))
-    return lines
-
-
-def made(draw):
-    site = draw.choice([1, 1, 2, 9, 10, 16])
-    names = draw.sample(NAMES, draw.choice([0, 1, 1, 2, 4, 7]))
-    if draw.randrange(30) == 0:
-        names = ["n%d" % k for k in range(draw.choice([256, 257]))]
-    client = Client(draw, site, names)
-    lines = catalogue(draw, site, names) + ["events"]
-    for _ in range(draw.choice([0, 3, 10, 30, 100, 300])):
-        lines.append(client.begin() if draw.randrange(5) == 0 or not client.numbers else client.call())
-    if names and draw.randrange(10) == 0:
-        lines += client.busy()
-    if draw.randrange(40) == 0:
-        lines += client.flood()
-    return ("\n".join(lines) + "\n").encode()
-
-
-def mutated(draw, text):
-    kind = draw.randrange(6)
-    if kind < 3:
-        return with_byte_changed(draw, text, kind, b"0 \n19x:")
-    if kind < 5:
-        return with_lines_moved(draw, text, kind - 3)
-    lines = text.split(b"\n")
-    line = draw.choice(FOREIGN)
-    site = draw.choice([int(lines[0].split()[1]), 1, 16])
-    lines.insert(draw.randrange(len(lines)), (line % site if "%" in line else line).encode())
-    return b"\n".join(lines)
+    def text(self, rounds):
+        for _ in range(rounds):
+            kind = self.draw.randrange(12)
+            if kind < 7:
+                self.lines += self.transaction(self.draw.choice(self.sites))
+            elif kind < 9:
+                self.lines += self.view()
+            elif kind < 10:
+                self.lines += self.fault()
+            else:
+                self.lines += ["%s %d" % (self.draw.choice(["tick", "tick", "probe"]), site) for site in self.sites]
+                self.lines.append("flow 60")
+        return ("\n".join(self.lines) + "\n").encode()
 
 
-def drawn(draw):
-    text = made(draw)
-    return mutated(draw, text) if draw.randrange(2) else text
+def drawn(seed):
+    """The input of a seed."""
+    draw = random.Random(seed)
+    kind = draw.randrange(5)
+    if kind == 0:
+        return Busy(draw).text(draw.choice([5, 20, 40]))
+    plan = fuzz.Fuzz(seed, draw.choice([10, 40, 100, 200])).schedule()
+    text = "".join(line + "\n" for line in schedule.print_schedule(plan)).encode()
+    return fuzz.mutated(text, seed) if kind == 1 else text
 
 
-def is_served(text):
-    """Whether a schedule has one site and no other events than calls on transactions."""
-    head, _, events = text.partition(b"\nevents\n")
-    sites = [line for line in head.split(b"\n") if line.startswith(b"site ")]
-    return len(sites) == 1 and all(line.startswith(b"call ") and not line.endswith(b" regroup") for line in events.split(b"\n")[:-1])
+def right(text):
+    """The status and the bytes that the reference gives."""
+    out = []
+    try:
+        plan = schedule.read(text)
+        world = replay.run(plan, out)
+        out += replay.history_lines(plan.catalog, world.journal)
+        status = 0
+    except base.End as end:
+        out.append(end.line)
+        status = end.status
+    return status, "".join(line + "\n" for line in out).encode()
 
 
-def wanted(text, answer):
-    status, said = answer
-    refused = status == 1 or (status == 9 and said.startswith((b"limit records ", b"limit events ")))
-    return answer if refused or is_served(text) else (13, b"unbuilt\n")
+def differs(seed):
+    """What the program and the reference say of the input of a seed, where they differ; and the program's status, with the commits."""
+    text = drawn(seed)
+    done = subprocess.run([PROGRAM, "replay"], input=text, capture_output=True, timeout=120)
+    mine = done.returncode, done.stdout
+    wanted = right(text)
+    commits = mine[1].count(b"\ncommit ")
+    return (seed, text, mine, wanted) if mine != wanted else (seed, mine[0], commits)
 
+
+PROGRAM, SEED, COUNT, FOLDER = arguments(1000)
+base, fuzz, replay, schedule = modules(FOLDER, "base", "fuzz", "replay", "schedule")
 
 if __name__ == "__main__":
-    sys.exit(compare("replay", drawn, wanted))
+    ends, commits = {}, 0
+    with multiprocessing.Pool(int(os.environ.get("JOBS", os.cpu_count()))) as pool:
+        for found in pool.imap_unordered(differs, range(SEED, SEED + COUNT), 20):
+            if len(found) == 4:
+                print("differs at seed", found[0])
+                sys.stdout.buffer.write(found[1] + b"\n----\n" + found[2][1] + b"----\n" + found[3][1])
+                print(found[2][0], found[3][0])
+                sys.exit(1)
+            ends[found[1]] = ends.get(found[1], 0) + 1
+            commits += found[2]
+    print(f"{COUNT} inputs from seed {SEED} agree, with {commits} commits; by status: {dict(sorted(ends.items()))}")

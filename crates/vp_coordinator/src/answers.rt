@@ -6,6 +6,7 @@ ghost use Rattle.vp_model.specs.Calls.{answer_read, answer_write};
 ghost use Rattle.vp_model.specs.Answers.{count_in, read_answered, on_read_answer, write_answered, on_write_answer, on_refuse, voted, on_vote, on_ack, on_inquire, on_answer};
 ghost use Rattle.vp_model.specs.Transactions.{decide};
 ghost use Rattle.vp_coordinator.specs.Lent.{in_place};
+ghost use Rattle.vp_coordinator.specs.Waiting.{waits};
 ghost use Rattle.vp_coordinator.specs.Answered.{wanted_read, wanted_write, is_commit, refused_end, refusal, refusal_at};
 
 use crate::around::Around;
@@ -135,13 +136,14 @@ impl Lent {
         number: CallNo,
         value: &Value,
     ) -> Result<(), NoMemory>
+        requires { waits handled.live ≡ true }
         ensures { OnOk result (self.new ≡
             read_answered at.now.catalog.now from number value.now handled.live handled.pending handled.pending.call
             (in_place handled.live self.old)) }
     {
         match wanted_read(at.catalog, number, &handled.pending) {
             None => {
-                self.coordinator.put_live(handled.live);
+                self.put_back(handled);
                 Ok(())
             }
             Some(rec) => self.count_read(from, handled, rec, value),
@@ -180,7 +182,7 @@ impl Lent {
     {
         let missing = sites_without(&handled.pending.missing, from)?;
         if missing.as_slice().is_empty() {
-            self.answer_write(handled, rec, value)
+            self.answer_write(handled, rec, &value)
         } else {
             self.wait_for(handled, missing);
             Ok(())
@@ -195,13 +197,14 @@ impl Lent {
         handled: Handled,
         number: CallNo,
     ) -> Result<(), NoMemory>
+        requires { waits handled.live ≡ true }
         ensures { OnOk result (self.new ≡
             write_answered at.now.catalog.now from number handled.live handled.pending handled.pending.call
             (in_place handled.live self.old)) }
     {
         match wanted_write(at.catalog, number, &handled.pending)? {
             None => {
-                self.coordinator.put_live(handled.live);
+                self.put_back(handled);
                 Ok(())
             }
             Some((rec, value)) => self.count_write(from, handled, rec, value),
@@ -233,11 +236,12 @@ impl Lent {
         number: CallNo,
         why: &Obstacle,
     ) -> Result<(), NoMemory>
+        requires { waits handled.live ≡ true }
         ensures { OnOk result (self.new ≡ refusal_at at.now.id from number why.now handled.live handled.pending (in_place handled.live self.old)) }
     {
         match refusal(from, number, why, &handled)? {
             None => {
-                self.coordinator.put_live(handled.live);
+                self.put_back(handled);
                 Ok(())
             }
             Some(end) => self.close(at.id, handled.live, end),
@@ -292,7 +296,7 @@ impl Lent {
                 if is_commit(&handled.pending.call) {
                     return self.count_vote(at, from, handled);
                 }
-                self.coordinator.put_live(handled.live);
+                self.put_back(handled);
                 Ok(())
             }
         }

@@ -1,11 +1,12 @@
 //! What a client's call does: the tests before an operation, and the answers that were given.
 
-ghost use Rattle.std.specs.Prelude.{◌≡◌, ◌+◌, ◌<◌, ◌^◌, ◌-◌, OnOk, IfOk, Some, None, option_copied};
+ghost use Rattle.std.specs.Prelude.{◌≡◌, ◌+◌, ◌<◌, ◌^◌, ◌-◌, OnOk, IfOk, Some, None, true, option_copied};
 ghost use Rattle.vp_base.specs.declared.answer.Answer.TheVariants as answer;
 ghost use Rattle.vp_model.specs.Site.{lent_reply};
 ghost use Rattle.vp_model.specs.Words.{for_some};
 ghost use Rattle.vp_model.specs.Calls.{handled, next_txn, start_txn, begin_in, on_begin, new_call, kept_answer, live_call, on_txn_call, own_call};
 ghost use Rattle.vp_coordinator.specs.Lent.{in_place, around};
+ghost use Rattle.vp_coordinator.specs.Waiting.{waits};
 
 use crate::around::Around;
 use crate::lent::{Handled, Lent};
@@ -95,6 +96,7 @@ impl Lent {
 
     #[tactic(auto, unfolding(vp_model::specs::Calls::new_call), using(crate::proofs::Rows::in_places))]
     fn new_call(&mut self, at: &Around<'_>, handled: Handled, call: &Call) -> Result<(), NoMemory>
+        requires { waits handled.live ≡ true }
         ensures { OnOk result (self.new ≡
             new_call at.now.catalog.now at.now.id (option_copied at.now.held) handled.live handled.pending call.now (in_place handled.live self.old)) }
     {
@@ -104,7 +106,7 @@ impl Lent {
             Call::Commit { .. } => self.commit(at, handled),
             Call::Abort { .. } => self.close(at.id, handled.into_live(), Ending::Aborted),
             Call::Begin | Call::Regroup => {
-                self.coordinator.put_live(handled.live);
+                self.put_back(handled);
                 Ok(())
             }
         }
@@ -112,12 +114,13 @@ impl Lent {
 
     /// A call that was answered gets its answer again.
     fn repeat(&mut self, handled: Handled) -> Result<(), NoMemory>
+        requires { waits handled.live ≡ true }
         ensures { OnOk result (self.new ≡
             for_some (kept_answer handled.pending.number handled.live.answers) (λ answer. lent_reply answer handled.pending.port) (in_place handled.live self.old)) }
     {
         match told_again(handled.live.answers.as_slice(), handled.number())? {
             None => {
-                self.coordinator.put_live(handled.live);
+                self.put_back(handled);
                 Ok(())
             }
             Some(answer) => self.refuse(handled, answer),
@@ -126,7 +129,8 @@ impl Lent {
 
     #[tactic(auto, unfolding(vp_model::specs::Calls::live_call))]
     fn live_call(&mut self, at: &Around<'_>, handled: Handled, call: &Call) -> Result<(), NoMemory>
-        requires { call.now ≡ handled.pending.call }
+        requires call { call.now ≡ handled.pending.call }
+        requires waiting { waits handled.live ≡ true }
         ensures { OnOk result (self.new ≡
             live_call at.now.catalog.now at.now.id (option_copied at.now.held) handled.live handled.pending (in_place handled.live self.old)) }
     {

@@ -3,6 +3,10 @@
 ghost use Rattle.std.specs.Prelude.{◌≡◌, OnOk, IfOk, [], option_copied};
 ghost use Rattle.vp_model.specs.Calls.{own_call};
 ghost use Rattle.vp_model.specs.Answers.{on_answer};
+ghost use Rattle.vp_model.specs.Site.{Here as HereState};
+ghost use Rattle.vp_model.specs.Step.{time_out_calls, resend};
+ghost use Rattle.vp_model.specs.Views.{abandon};
+ghost use Rattle.vp_model.specs.Generated.{newest};
 ghost use Rattle.vp_coordinator.specs.Lent.{lent_of, around};
 
 use crate::around::Around;
@@ -12,7 +16,7 @@ use crate::transactions::Transactions;
 use std::alloc::Global;
 use std::marker::Model;
 use std::mem;
-use vp_base::{Call, CopyOf, Decisions, Effects, Message, NoMemory, SiteId, View, ViewId};
+use vp_base::{Call, CopyOf, Decisions, Effects, Message, Newest, NoMemory, SiteId, View, ViewId};
 use vp_catalog::Catalog;
 use vp_records::Durable;
 
@@ -99,9 +103,9 @@ impl Coordinator {
             promise,
         };
         let mut lent = take(&mut self.transactions, here, effects);
-        lent.own_call(&at, from, call)?;
+        let done = lent.own_call(&at, from, call);
         give_back(lent, &mut self.transactions, here, effects);
-        Ok(())
+        done
     }
 
     /// Does what a message does to the transactions of this site: an answer, a refusal, a vote, an acknowledgement or an
@@ -129,9 +133,53 @@ impl Coordinator {
             promise: ViewId { number: 0, site: 0 },
         };
         let mut lent = take(&mut self.transactions, here, effects);
-        lent.on_answer(&at, from, message)?;
+        let done = lent.on_answer(&at, from, message);
         give_back(lent, &mut self.transactions, here, effects);
-        Ok(())
+        done
+    }
+
+    /// Ends each transaction whose call was pending at the tick before, and marks the other pending calls. Without memory
+    /// the coordinator, what is here and the effects may only be dropped.
+    pub fn tick(&mut self, here: &mut Here, effects: &mut Effects) -> Result<(), NoMemory>
+        ensures row { OnOk result (lent_of self.new.coordinator here.new effects.new ≡
+            time_out_calls self.old.id (lent_of self.old.coordinator here.old effects.old)) }
+        ensures id { self.new.id ≡ self.old.id }
+        ensures life { self.new.life ≡ self.old.life }
+    {
+        let mut lent = take(&mut self.transactions, here, effects);
+        let done = lent.tick(self.id);
+        give_back(lent, &mut self.transactions, here, effects);
+        done
+    }
+
+    /// Tells each decision again to the sites that have not acknowledged it. Without memory the effects may only be dropped.
+    #[tactic(auto, using(crate::proofs::Ends::told_again))]
+    pub fn resend(&self, effects: &mut Effects) -> Result<(), NoMemory>
+        ensures { OnOk result ((here : HereState) → lent_of self.now.coordinator here effects.new ≡
+            resend self.now.id self.now.coordinator.decisions (lent_of self.now.coordinator here effects.old)) }
+    {
+        self.transactions.resend(self.id, effects)
+    }
+
+    /// Ends each live transaction, as the site leaves its view. Without memory the coordinator, what is here and the effects
+    /// may only be dropped.
+    pub fn leave(&mut self, here: &mut Here, effects: &mut Effects) -> Result<(), NoMemory>
+        ensures row { OnOk result (lent_of self.new.coordinator here.new effects.new ≡
+            abandon self.old.id (lent_of self.old.coordinator here.old effects.old)) }
+        ensures id { self.new.id ≡ self.old.id }
+        ensures life { self.new.life ≡ self.old.life }
+    {
+        let mut lent = take(&mut self.transactions, here, effects);
+        let done = lent.leave(self.id);
+        give_back(lent, &mut self.transactions, here, effects);
+        done
+    }
+
+    /// What a client would call next of the transaction that began last among the live ones.
+    pub fn newest(&self) -> Option<Newest>
+        ensures { result ≡ newest self.now.coordinator.live }
+    {
+        self.transactions.live.newest()
     }
 
     /// The decisions that some site has not acknowledged.

@@ -1,27 +1,41 @@
 //! How a transaction goes on after an operation, and how it ends.
 
-ghost use Rattle.std.specs.Prelude.{◌≡◌, ◌++◌, ◌∷◌, [], OnOk, Some, None};
-ghost use Rattle.vp_model.specs.Site.{lent_reply};
-ghost use Rattle.vp_model.specs.Transactions.{last_writes, complete, wait_for, close, keep_writes, decided, decide};
+ghost use Rattle.std.specs.Prelude.{◌≡◌, ◌++◌, ◌∷◌, [], OnOk, Some, None, true, false, if◌then◌else◌};
+ghost use Rattle.vp_model.specs.Words.{is_empty};
+ghost use Rattle.vp_base.specs.declared.message.Message.TheVariants as message;
+ghost use Rattle.vp_model.specs.Site.{lent_reply, with_reply, with_commit, with_messages};
+ghost use Rattle.vp_model.specs.Transactions.{entry_of, last_writes, complete, wait_for, close, keep_writes, decided, decide};
 ghost use Rattle.vp_coordinator.specs.Lent.{in_place};
+ghost use Rattle.vp_coordinator.specs.Waiting.{waits};
 
 use crate::around::Around;
 use crate::lent::{Handled, Lent};
+use crate::transactions::tell_outcome;
 use crate::writes::{last_writes, writes_held, writing_parts};
 use std::mem;
 use vp_base::{
-    Answer, Commit, CopyOf, Ending, Live, LogRecord, Message, NoMemory, Op, Ops, SiteId, Sites,
+    Answer, Commit, CopyOf, Effects, Ending, Live, LogRecord, NoMemory, Op, Ops, SiteId, Sites,
     Writes,
 };
 use vp_lists::write_copies;
 
 impl Lent {
+    /// The transaction goes back as it was.
+    pub fn put_back(&mut self, handled: Handled)
+        requires { waits handled.live ≡ true }
+        ensures { self.new ≡ in_place handled.live self.old }
+    {
+        self.coordinator.put_live(handled.live)
+    }
+
     /// The call gets this answer, which is not kept.
     pub fn refuse(&mut self, handled: Handled, answer: Answer) -> Result<(), NoMemory>
+        requires { waits handled.live ≡ true }
         ensures { OnOk result (self.new ≡ lent_reply answer handled.pending.port (in_place handled.live self.old)) }
     {
-        self.coordinator.put_live(handled.live);
-        self.effects.reply(handled.pending.port, answer)
+        let port = handled.pending.port;
+        self.put_back(handled);
+        self.effects.reply(port, answer)
     }
 
     /// The operation is done, and its answer is given and kept.
@@ -35,15 +49,15 @@ impl Lent {
         ensures { OnOk result (self.new ≡ complete handled.live handled.pending operation answer (in_place handled.live self.old)) }
     {
         let mut t = handled.live;
-        t.ops.push(operation)?;
-        t.answers.push(answer.copy_of()?)?;
-        t.pending = None;
+        let port = handled.pending.port;
+        answer_call(&mut t, port, operation, answer, &mut self.effects)?;
         self.coordinator.put_live(t);
-        self.effects.reply(handled.pending.port, answer)
+        Ok(())
     }
 
     /// The call waits for these sites.
     pub fn wait_for(&mut self, handled: Handled, sites: Sites)
+        requires { is_empty sites ≡ false }
         ensures { self.new ≡ wait_for handled.live handled.pending sites self.old }
     {
         let mut t = handled.live;
@@ -58,11 +72,7 @@ impl Lent {
     pub fn close(&mut self, id: SiteId, t: Live, why: Ending) -> Result<(), NoMemory>
         ensures { OnOk result (self.new ≡ close id t why self.old) }
     {
-        let told = Message::Outcome {
-            txn: t.txn,
-            commit: false,
-        };
-        self.effects.send_all(id, t.parts.as_slice(), &told)?;
+        tell_outcome(id, &t.txn, false, t.parts.as_slice(), &mut self.effects)?;
         self.here.locks.release(t.txn);
         self.coordinator.finish(t, why, &mut self.effects)
     }
@@ -85,23 +95,24 @@ impl Lent {
         self.coordinator.keep_decision(&t.txn, waiting)
     }
 
+    /// Where the transaction wrote, its decision is forced to the log.
+    fn keep_written(&mut self, at: &Around<'_>, t: &Live) -> Result<(), NoMemory>
+        ensures { OnOk result (self.new ≡
+            (if is_empty (last_writes t.now.ops) then self.old else keep_writes at.now.catalog.now at.now.id t.now self.old)) }
+    {
+        let writes = last_writes(t.ops.allocator(), t.ops.as_slice())?;
+        if writes.as_slice().is_empty() {
+            return Ok(());
+        }
+        self.keep_writes(at, t, &writes)
+    }
+
     #[tactic(auto, unfolding(vp_model::specs::Transactions::decided, vp_model::specs::Transactions::finish))]
     fn decided(&mut self, id: SiteId, t: Live) -> Result<(), NoMemory>
         ensures { OnOk result (self.new ≡ decided id t self.old) }
     {
         let mut t = t;
-        let none = Ops::new(t.ops.allocator());
-        let ops = mem::replace(&mut t.ops, none);
-        self.effects.commit(Commit {
-            txn: t.txn,
-            view: t.view,
-            ops,
-        })?;
-        let outcome = Message::Outcome {
-            txn: t.txn,
-            commit: true,
-        };
-        self.effects.send_all(id, t.parts.as_slice(), &outcome)?;
+        tell_commit(id, &mut t, &mut self.effects)?;
         self.here.locks.release(t.txn);
         self.coordinator
             .finish(t, Ending::Committed, &mut self.effects)
@@ -112,10 +123,39 @@ impl Lent {
     pub fn decide(&mut self, at: &Around<'_>, t: Live) -> Result<(), NoMemory>
         ensures { OnOk result (self.new ≡ decide at.now.catalog.now at.now.id t self.old) }
     {
-        let writes = last_writes(t.ops.allocator(), t.ops.as_slice())?;
-        if !writes.as_slice().is_empty() {
-            self.keep_writes(at, &t, &writes)?;
-        }
+        self.keep_written(at, &t)?;
         self.decided(at.id, t)
     }
+}
+
+/// The operation is done, and its answer is kept and given.
+fn answer_call(
+    t: &mut Live,
+    port: u16,
+    operation: Op,
+    answer: Answer,
+    effects: &mut Effects,
+) -> Result<(), NoMemory>
+    ensures live { OnOk result (t.new ≡ record t.old { ops = t.old.ops ++ operation ∷ []; answers = t.old.answers ++ answer ∷ []; pending = None }) }
+    ensures effects { OnOk result (effects.new ≡ with_reply answer port effects.old) }
+{
+    effects.reply(port, answer.copy_of()?)?;
+    t.answers.push(answer)?;
+    t.pending = None;
+    t.ops.push(operation)
+}
+
+/// The transaction is committed, which its parts are told; its operations go there.
+fn tell_commit(id: SiteId, t: &mut Live, effects: &mut Effects) -> Result<(), NoMemory>
+    ensures live { OnOk result (t.new ≡ record t.old { ops = [] }) }
+    ensures effects { OnOk result (effects.new ≡ with_messages id (message.Outcome t.old.txn true) t.old.parts (with_commit (entry_of t.old) effects.old)) }
+{
+    let none = Ops::new(t.ops.allocator());
+    let ops = mem::replace(&mut t.ops, none);
+    effects.commit(Commit {
+        txn: t.txn,
+        view: t.view,
+        ops,
+    })?;
+    tell_outcome(id, &t.txn, true, t.parts.as_slice(), effects)
 }

@@ -7,10 +7,12 @@
 mod answers;
 mod around;
 mod calls;
+mod closing;
 mod coordinator;
 mod endings;
 mod here;
 mod lent;
+mod live;
 mod operations;
 #[cfg(test)]
 mod tests;

@@ -4,14 +4,16 @@ ghost use Rattle.std.specs.Prelude.{◌≡◌, ◌++◌, ◌∷◌, [], OnOk, If
 ghost use Rattle.std.specs.Option.{option_map_or};
 ghost use Rattle.vp_base.specs.declared.answer.Answer.TheVariants as answer;
 ghost use Rattle.vp_base.specs.declared.site.Ending.TheVariants as ending;
-ghost use Rattle.vp_model.specs.Site.{with_each_message};
-ghost use Rattle.vp_model.specs.Words.{first, for_some, value_at};
+ghost use Rattle.vp_base.specs.declared.message.Message.TheVariants as message;
+ghost use Rattle.vp_model.specs.Site.{with_each_message, with_messages};
+ghost use Rattle.vp_model.specs.Words.{first, for_each, for_some, put_number, value_at, is_empty};
 ghost use Rattle.vp_model.specs.Refresh.{other_holders_in};
 ghost use Rattle.vp_model.specs.Transactions.{last_writes, close};
 ghost use Rattle.vp_model.specs.Calls.{handling, with_record, lock_here, answer_read, read_at, read, answer_write, write_at, write_elsewhere, write, prepare_for, prepare_parts, commit};
 ghost use Rattle.vp_coordinator.specs.Lent.{in_place, usable_as, usable_record};
+ghost use Rattle.vp_coordinator.specs.Waiting.{waits};
 
-use crate::around::{Around, first_of, is_usable, other_holders, put_all, weight_inside};
+use crate::around::{Around, first_of, is_usable, put_all, weight_inside};
 use crate::here::copy_here;
 use crate::lent::{Handled, Lent};
 use crate::writes::{last_writes, own_write, prepare_for};
@@ -86,15 +88,19 @@ impl Lent {
         &mut self,
         handled: Handled,
         rec: RecId,
-        value: Value,
+        value: &Value,
     ) -> Result<(), NoMemory>
-        ensures { OnOk result (self.new ≡ answer_write handled.live handled.pending rec value (in_place handled.live self.old)) }
+        ensures { OnOk result (self.new ≡ answer_write handled.live handled.pending rec value.now (in_place handled.live self.old)) }
     {
+        let operation = Op::Write {
+            rec,
+            value: value.copy_of()?,
+        };
         let answer = Answer::Written {
             txn: handled.txn(),
             number: handled.number(),
         };
-        self.complete(handled, Op::Write { rec, value }, answer)
+        self.complete(handled, operation, answer)
     }
 
     /// Another owner has the lock.
@@ -126,31 +132,28 @@ impl Lent {
     ) -> Result<(), NoMemory>
         ensures { OnOk result (self.new ≡ read_at id handled.live handled.pending rec site (in_place handled.live self.old)) }
     {
-        let mut live = handled.live;
-        let pending = handled.pending;
+        let mut handled = handled;
+        ask_one(&mut handled, rec, site)?;
         let request = Message::ReadRequest {
-            txn: live.txn,
-            view: live.view,
-            number: pending.number,
+            txn: handled.txn(),
+            view: handled.live.view,
+            number: handled.number(),
             rec,
         };
-        let mut asked = Sites::new(live.parts.allocator());
-        asked.push(site)?;
-        live.remote.push((site, rec))?;
-        put_in(&mut live.parts, site)?;
-        self.wait_for(Handled { live, pending }, asked);
+        self.coordinator.put_live(handled.into_live());
         self.effects.send(id, site, request)
     }
 
     /// The least holder in the view is asked.
     fn read_there(&mut self, at: &Around<'_>, handled: Handled, rec: RecId) -> Result<(), NoMemory>
+        requires { waits handled.live ≡ true }
         ensures { OnOk result (self.new ≡
             for_some (first (other_holders_in at.now.catalog.now at.now.id (option_copied at.now.held) rec)) (read_at at.now.id handled.live handled.pending rec) (in_place handled.live self.old)) }
     {
-        let asked = other_holders(handled.live.parts.allocator(), at, rec)?;
+        let asked = at.catalog.other_holders(at.id, at.held, rec)?;
         match first_of(asked.as_slice()) {
             None => {
-                self.coordinator.put_live(handled.live);
+                self.put_back(handled);
                 Ok(())
             }
             Some(site) => self.read_at(at.id, handled, rec, site),
@@ -185,6 +188,7 @@ impl Lent {
         name: &Name,
         rec: RecId,
     ) -> Result<(), NoMemory>
+        requires { waits handled.live ≡ true }
         ensures { OnOk result (self.new ≡
             read at.now.catalog.now at.now.id (option_copied at.now.held) handled.live handled.pending name.now rec (in_place handled.live self.old)) }
     {
@@ -205,6 +209,7 @@ impl Lent {
         handled: Handled,
         name: &Name,
     ) -> Result<(), NoMemory>
+        requires { waits handled.live ≡ true }
         ensures { OnOk result (self.new ≡
             with_record at.now.catalog.now (option_copied at.now.held) handled.live handled.pending name.now
             (read at.now.catalog.now at.now.id (option_copied at.now.held) handled.live handled.pending name.now) (in_place handled.live self.old)) }
@@ -223,19 +228,12 @@ impl Lent {
         rec: RecId,
         sites: Sites,
     ) -> Result<(), NoMemory>
+        requires { is_empty sites ≡ false }
         ensures { OnOk result (self.new ≡ write_at id handled.live handled.pending rec sites (in_place handled.live self.old)) }
     {
-        let mut live = handled.live;
-        let pending = handled.pending;
-        let request = Message::WriteRequest {
-            txn: live.txn,
-            view: live.view,
-            number: pending.number,
-            rec,
-        };
-        put_all(&mut live.parts, sites.as_slice())?;
-        self.effects.send_all(id, sites.as_slice(), &request)?;
-        self.wait_for(Handled { live, pending }, sites);
+        let mut handled = handled;
+        ask_all(id, &mut handled, rec, sites.as_slice(), &mut self.effects)?;
+        self.wait_for(handled, sites);
         Ok(())
     }
 
@@ -250,9 +248,9 @@ impl Lent {
         ensures { OnOk result (self.new ≡
             write_elsewhere at.now.catalog.now at.now.id (option_copied at.now.held) handled.live handled.pending rec value.now (in_place handled.live self.old)) }
     {
-        let asked = other_holders(handled.live.parts.allocator(), at, rec)?;
+        let asked = at.catalog.other_holders(at.id, at.held, rec)?;
         if asked.as_slice().is_empty() {
-            self.answer_write(handled, rec, value.copy_of()?)
+            self.answer_write(handled, rec, value)
         } else {
             self.write_at(at.id, handled, rec, asked)
         }
@@ -291,7 +289,7 @@ impl Lent {
             write at.now.catalog.now at.now.id (option_copied at.now.held) handled.live handled.pending name.now value.now rec (in_place handled.live self.old)) }
     {
         match own_write(&handled.live, rec)? {
-            Some(_) => self.answer_write(handled, rec, value.copy_of()?),
+            Some(_) => self.answer_write(handled, rec, value),
             None => match copy_here(&self.here, rec)? {
                 Some(_) => self.write_here(at, handled, name, value, rec),
                 None => self.write_elsewhere(at, handled, rec, value),
@@ -308,6 +306,7 @@ impl Lent {
         name: &Name,
         value: &Value,
     ) -> Result<(), NoMemory>
+        requires { waits handled.live ≡ true }
         ensures { OnOk result (self.new ≡
             with_record at.now.catalog.now (option_copied at.now.held) handled.live handled.pending name.now
             (write at.now.catalog.now at.now.id (option_copied at.now.held) handled.live handled.pending name.now value.now) (in_place handled.live self.old)) }
@@ -320,10 +319,10 @@ impl Lent {
 
     #[tactic(auto, unfolding(vp_model::specs::Calls::prepare_parts), using(crate::proofs::Rows::in_places))]
     fn prepare_parts(&mut self, at: &Around<'_>, handled: Handled) -> Result<(), NoMemory>
+        requires { is_empty handled.live.parts ≡ false }
         ensures { OnOk result (self.new ≡ prepare_parts at.now.catalog.now at.now.id handled.live handled.pending (in_place handled.live self.old)) }
     {
-        ask_parts(at, &handled, &mut self.effects)?;
-        let asked = handled.live.parts.copy_of()?;
+        let asked = ask_parts(at, &handled, &mut self.effects)?;
         self.wait_for(handled, asked);
         Ok(())
     }
@@ -340,9 +339,45 @@ impl Lent {
     }
 }
 
+/// The call waits for the site, which is to read the record and becomes a part.
+fn ask_one(handled: &mut Handled, rec: RecId, site: SiteId) -> Result<(), NoMemory>
+    ensures live { OnOk result (handled.new.live ≡ record handled.old.live { remote = handled.old.live.remote ++ (site, rec) ∷ []; parts = put_number site handled.old.live.parts }) }
+    ensures pending { OnOk result (handled.new.pending ≡ record handled.old.pending { missing = site ∷ [] }) }
+{
+    let mut asked = Sites::new(handled.live.parts.allocator());
+    asked.push(site)?;
+    handled.pending.missing = asked;
+    handled.live.remote.push((site, rec))?;
+    put_in(&mut handled.live.parts, site)
+}
+
+/// The sites are asked to lock the record for the write, and become parts.
+fn ask_all(
+    id: SiteId,
+    handled: &mut Handled,
+    rec: RecId,
+    sites: &[SiteId],
+    effects: &mut Effects,
+) -> Result<(), NoMemory>
+    ensures live { OnOk result (handled.new.live ≡ record handled.old.live { parts = for_each sites.now put_number handled.old.live.parts }) }
+    ensures pending { OnOk result (handled.new.pending ≡ handled.old.pending) }
+    ensures effects { OnOk result (effects.new ≡
+        with_messages id (message.WriteRequest handled.old.live.txn handled.old.live.view handled.old.pending.number rec) sites.now effects.old) }
+{
+    let request = Message::WriteRequest {
+        txn: handled.txn(),
+        view: handled.live.view,
+        number: handled.number(),
+        rec,
+    };
+    put_all(&mut handled.live.parts, sites)?;
+    effects.send_all(id, sites, &request)
+}
+
 /// Each part is asked for its vote.
-fn ask_parts(at: &Around<'_>, handled: &Handled, effects: &mut Effects) -> Result<(), NoMemory>
-    ensures { OnOk result (effects.new ≡ with_each_message at.now.id (prepare_for at.now.catalog.now handled.now.live handled.now.pending) handled.now.live.parts effects.old) }
+fn ask_parts(at: &Around<'_>, handled: &Handled, effects: &mut Effects) -> Result<Sites, NoMemory>
+    ensures asked { IfOk result (λ asked. asked ≡ handled.now.live.parts) }
+    ensures effects { OnOk result (effects.new ≡ with_each_message at.now.id (prepare_for at.now.catalog.now handled.now.live handled.now.pending) handled.now.live.parts effects.old) }
 {
     let t = &handled.live;
     let writes = last_writes(t.ops.allocator(), t.ops.as_slice())?;
@@ -350,5 +385,5 @@ fn ask_parts(at: &Around<'_>, handled: &Handled, effects: &mut Effects) -> Resul
         let request = prepare_for(at.catalog, t, &handled.pending, writes.as_slice(), *site)?;
         effects.send(at.id, *site, request)?;
     }
-    Ok(())
+    t.parts.copy_of()
 }

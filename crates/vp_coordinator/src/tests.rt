@@ -1,11 +1,8 @@
-//! A transaction that reads elsewhere, writes at three sites and commits.
+//! A transaction that reads elsewhere, writes at three sites and commits; a call that is late, and a view that is left.
 
 use crate::{Coordinator, Here};
 use std::alloc::Global;
-use vp_base::{
-    Answer, Call, CallNo, Effects, LogRecord, Message, Name, SiteId, Sites, TxnId, Value, View,
-    ViewId,
-};
+use vp_base::{Call, CallNo, CopyOf, Effects, Message, Name, SiteId, TxnId, Value, View, ViewId};
 use vp_catalog::Catalog;
 use vp_locks::Locks;
 
@@ -33,7 +30,7 @@ struct Bench {
 }
 
 impl Bench {
-    fn call(&mut self, call: &Call) -> bool {
+    fn does(&mut self, call: Call) -> bool {
         self.coordinator
             .call(
                 &self.catalog,
@@ -41,118 +38,78 @@ impl Bench {
                 ID,
                 &mut self.here,
                 7009,
-                call,
+                &call,
                 &mut self.effects,
             )
             .is_ok()
     }
 
-    fn hear(&mut self, from: SiteId, message: &Message) -> bool {
+    fn hears(&mut self, from: SiteId, message: Message) -> bool {
         self.coordinator
             .on_answer(
                 &self.catalog,
                 &mut self.here,
                 from,
-                message,
+                &message,
                 &mut self.effects,
             )
             .is_ok()
     }
 
-    fn sent(&self) -> usize {
-        self.effects.messages.as_slice().len()
+    fn ticks(&mut self) -> bool {
+        self.coordinator
+            .tick(&mut self.here, &mut self.effects)
+            .is_ok()
     }
 
-    fn has_begun(&self) -> bool {
-        matches!(
-            self.effects.replies.as_slice().last(),
-            Some(reply) if matches!(reply.answer, Answer::Begun { .. })
-        )
+    fn leaves(&mut self) -> bool {
+        self.coordinator
+            .leave(&mut self.here, &mut self.effects)
+            .is_ok()
     }
 
-    fn has_read(&self) -> bool {
-        matches!(
-            self.effects.replies.as_slice().last(),
-            Some(reply) if matches!(reply.answer, Answer::Value { .. })
-        )
+    fn resends(&mut self) -> bool {
+        self.coordinator.resend(&mut self.effects).is_ok()
     }
 
-    fn has_written(&self) -> bool {
-        matches!(
-            self.effects.replies.as_slice().last(),
-            Some(reply) if matches!(reply.answer, Answer::Written { .. })
-        )
+    /// Whether so many replies and messages have come out.
+    fn has_given(&self, replies: usize, messages: usize) -> bool {
+        self.effects.replies.as_slice().len() == replies
+            && self.effects.messages.as_slice().len() == messages
     }
-
-    fn has_committed(&self) -> bool {
-        matches!(
-            self.effects.replies.as_slice().last(),
-            Some(reply) if matches!(reply.answer, Answer::Committed { .. })
-        )
-    }
-
-    fn has_logged(&self) -> bool {
-        matches!(self.effects.records.as_slice(), [LogRecord::Commit { .. }])
-    }
-}
-
-fn three_sites(alloc: Global) -> Option<Sites> {
-    let mut sites = Sites::new(alloc);
-    sites.push(SiteId::of(1)).ok()?;
-    sites.push(SiteId::of(2)).ok()?;
-    sites.push(SiteId::of(3)).ok()?;
-    Some(sites)
-}
-
-fn view(alloc: Global) -> Option<View> {
-    Some(View {
-        id: ID,
-        members: three_sites(alloc)?,
-    })
-}
-
-fn here(alloc: Global, catalog: &Catalog) -> Option<Here> {
-    let copies = catalog.copies(SiteId::of(1)).ok()?;
-    Some(Here {
-        locks: Locks::new(alloc),
-        copies,
-    })
 }
 
 fn first_site(alloc: Global) -> Option<Bench> {
-    let held = view(alloc)?;
     let catalog = Catalog::read(alloc, TEXT).ok()?;
-    let here = here(alloc, &catalog)?;
+    let members = catalog.sites().copy_of().ok()?;
+    let copies = catalog.copies(SiteId::of(1)).ok()?;
     Some(Bench {
         catalog,
-        held,
+        held: View { id: ID, members },
         coordinator: Coordinator::start(alloc, SiteId::of(1), 1),
-        here,
+        here: Here {
+            locks: Locks::new(alloc),
+            copies,
+        },
         effects: Effects::none(alloc),
     })
 }
 
-fn read_call(alloc: Global) -> Option<Call> {
+fn reads(alloc: Global, site: &mut Bench) -> Option<bool> {
     let number = CallNo::new(1)?;
     let name = Name::read(alloc, b"y").ok()?;
-    Some(Call::Read {
-        txn: txn(),
-        number,
-        name,
-    })
+    let txn = txn();
+    Some(site.does(Call::Read { txn, number, name }))
 }
 
-fn read_answer(alloc: Global) -> Option<Message> {
+fn hears_value(alloc: Global, site: &mut Bench) -> Option<bool> {
     let number = CallNo::new(1)?;
     let value = Value::read(alloc, b"5").ok()?;
-    Some(Message::ReadAnswer {
-        txn: txn(),
-        number,
-        value,
-    })
+    let txn = txn();
+    Some(site.hears(SiteId::of(2), Message::ReadAnswer { txn, number, value }))
 }
 
-fn write_call(alloc: Global) -> Option<Call> {
+fn write_of(alloc: Global) -> Option<Call> {
     let number = CallNo::new(2)?;
     let name = Name::read(alloc, b"x").ok()?;
     let value = Value::read(alloc, b"6").ok()?;
@@ -164,70 +121,82 @@ fn write_call(alloc: Global) -> Option<Call> {
     })
 }
 
-fn write_answer() -> Option<Message> {
+fn hears_written(site: &mut Bench, from: SiteId) -> Option<bool> {
     let number = CallNo::new(2)?;
-    Some(Message::WriteAnswer { txn: txn(), number })
+    let txn = txn();
+    Some(site.hears(from, Message::WriteAnswer { txn, number }))
 }
 
-fn commit_call() -> Option<Call> {
+fn commits(site: &mut Bench) -> Option<bool> {
     let number = CallNo::new(3)?;
-    Some(Call::Commit { txn: txn(), number })
+    let txn = txn();
+    Some(site.does(Call::Commit { txn, number }))
 }
 
-/// Whether a transaction begins, and site 2 is asked for a record that is not here.
-fn begins_and_asks(site: &mut Bench, read: &Call) -> bool {
-    site.call(&Call::Begin) && site.has_begun() && site.call(read) && site.sent() == 1
-}
-
-/// Whether the answer of site 2 is told.
-fn reads(site: &mut Bench, answer: &Message) -> bool {
-    site.hear(SiteId::of(2), answer) && site.has_read()
-}
-
-/// Whether the write waits for both other holders.
-fn writes(site: &mut Bench, write: &Call, answer: &Message) -> bool {
-    site.call(write)
-        && site.sent() == 3
-        && site.hear(SiteId::of(2), answer)
-        && !site.has_written()
-        && site.hear(SiteId::of(3), answer)
-        && site.has_written()
-}
-
-/// Whether the commit waits for both votes, and is logged before it is told.
-fn commits(site: &mut Bench, commit: &Call) -> bool {
-    let vote = Message::Vote { txn: txn() };
-    site.call(commit)
-        && site.sent() == 5
-        && site.hear(SiteId::of(2), &vote)
-        && !site.has_committed()
-        && site.hear(SiteId::of(3), &vote)
-        && site.has_committed()
-}
-
+/// The record that is not here is asked for at site 2.
 fn read_runs(alloc: Global, site: &mut Bench) -> Option<bool> {
-    let call = read_call(alloc)?;
-    let answer = read_answer(alloc)?;
-    Some(begins_and_asks(site, &call) && reads(site, &answer))
+    let asked = site.does(Call::Begin) && reads(alloc, site)? && site.has_given(1, 1);
+    Some(asked && hears_value(alloc, site)? && site.has_given(2, 1))
 }
 
+/// The write waits for both other holders.
 fn write_runs(alloc: Global, site: &mut Bench) -> Option<bool> {
-    let call = write_call(alloc)?;
-    let answer = write_answer()?;
-    Some(writes(site, &call, &answer))
+    let write = write_of(alloc)?;
+    let asked = site.does(write) && hears_written(site, SiteId::of(2))? && site.has_given(2, 3);
+    Some(asked && hears_written(site, SiteId::of(3))? && site.has_given(3, 3))
 }
 
+/// The commit waits for both votes.
 fn commit_runs(site: &mut Bench) -> Option<bool> {
-    let call = commit_call()?;
-    Some(commits(site, &call) && site.has_logged())
+    let asked = commits(site)? && site.hears(SiteId::of(2), Message::Vote { txn: txn() });
+    let waits = asked && site.has_given(3, 5);
+    Some(waits && site.hears(SiteId::of(3), Message::Vote { txn: txn() }) && site.has_given(4, 7))
 }
 
-fn transaction_runs(alloc: Global) -> Option<bool> {
+/// The decision is told again until it is acknowledged.
+fn decision_is_told(site: &mut Bench) -> bool {
+    let told = site.resends() && site.has_given(4, 9);
+    let heard = told && site.hears(SiteId::of(2), Message::Ack { txn: txn() });
+    heard && site.resends() && site.has_given(4, 10)
+}
+
+fn transaction_runs(alloc: Global, site: &mut Bench) -> Option<bool> {
+    let written = read_runs(alloc, site)? && write_runs(alloc, site)?;
+    Some(written && commit_runs(site)? && decision_is_told(site))
+}
+
+/// The second tick ends the transaction whose call waits.
+fn call_is_late(alloc: Global, site: &mut Bench) -> Option<bool> {
+    let asked = site.does(Call::Begin) && reads(alloc, site)?;
+    let marked = asked && site.ticks() && site.has_given(1, 1);
+    Some(marked && site.ticks() && site.has_given(2, 2))
+}
+
+fn view_is_left(site: &mut Bench) -> bool {
+    let begun = site.does(Call::Begin) && site.coordinator.newest().is_some();
+    begun && site.leaves() && site.coordinator.newest().is_none()
+}
+
+fn commits_at_three_sites(alloc: Global) -> Option<bool> {
     let mut site = first_site(alloc)?;
-    Some(read_runs(alloc, &mut site)? && write_runs(alloc, &mut site)? && commit_runs(&mut site)?)
+    transaction_runs(alloc, &mut site)
+}
+
+fn late_and_left(alloc: Global, site: &mut Bench) -> Option<bool> {
+    Some(call_is_late(alloc, site)? && view_is_left(site))
+}
+
+fn ends_late_and_by_leaving(alloc: Global) -> Option<bool> {
+    let mut site = first_site(alloc)?;
+    late_and_left(alloc, &mut site)
 }
 
 #[test]
 fn a_transaction_reads_writes_and_commits(rt: HostRuntime) {
-    assert_eq!(rt; transaction_runs(rt.alloc()), Some(true));
+    assert_eq!(rt; commits_at_three_sites(rt.alloc()), Some(true));
+}
+
+#[test]
+fn a_late_call_ends_its_transaction_and_leaving_all(rt: HostRuntime) {
+    assert_eq!(rt; ends_late_and_by_leaving(rt.alloc()), Some(true));
 }

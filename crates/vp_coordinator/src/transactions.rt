@@ -1,33 +1,38 @@
 //! The transactions that a site began, and how they end.
 
-ghost use Rattle.std.specs.Prelude.{◌≡◌, ◌&&◌, ◌<◌, ◌-◌, ◌^◌, ◌++◌, ◌∷◌, [], OnOk, IfOk, Some, None, nat_le, if◌then◌else◌, length, option_copied};
+ghost use Rattle.std.specs.Prelude.{◌≡◌, ◌&&◌, ◌<◌, ◌-◌, ◌^◌, ◌++◌, ◌∷◌, [], OnOk, IfOk, IfSome, true, filter, Some, None, nat_le, if◌then◌else◌, length, option_copied};
 ghost use Rattle.std.specs.Option.{option_map_or};
 ghost use Rattle.vp_base.specs.declared.answer.Answer.TheVariants as answer;
-ghost use Rattle.vp_model.specs.Words.{same_txn, has, change_first, without_first};
-ghost use Rattle.vp_model.specs.Site.{with_reply};
+ghost use Rattle.vp_model.specs.Words.{same_txn, has, at_most};
+ghost use Rattle.vp_base.specs.declared.message.Message.TheVariants as message;
+ghost use Rattle.vp_model.specs.Site.{with_reply, with_messages};
 ghost use Rattle.vp_model.specs.Transactions.{live_of, finished_of, put_live, without_live, answer_of, answers_after, with_pending_reply, with_end, with_finished, with_kept};
 ghost use Rattle.vp_model.specs.Calls.{kept_answer, begun, with_begun};
 ghost use Rattle.vp_model.specs.Answers.{waits_for, with_acknowledged, is_live, is_decided};
 ghost use Rattle.vp_coordinator.specs.Lent.{told_by, told_after};
+ghost use Rattle.vp_model.specs.Step.{is_marked_call, with_marks};
 ghost use Rattle.vp_coordinator.specs.Answered.{pending_for, waiting_call};
+ghost use Rattle.vp_coordinator.specs.Waiting.{waits, all_wait, with_outcomes};
 
-use crate::around::has_site;
 use crate::lent::Handled;
+use crate::live::LiveTxns;
 use std::alloc::Global;
 use std::collections::VecDeque;
 use std::marker::Model;
+use std::mem;
 use vp_base::{
-    Answer, CallNo, CopyOf, Decision, Decisions, Effects, Ending, Finished, Live, NoMemory, Ops,
-    Pending, Seq, SiteId, Sites, TxnId, ViewId,
+    Answer, CallNo, CopyOf, Decision, Decisions, Effects, Ending, Finished, Live, Message,
+    NoMemory, Pending, SiteId, Sites, TxnId, ViewId,
 };
-use vp_lists::{OfTxn, is_same_txn, put_in, replace_txn, take_txn};
+use vp_catalog::has_site;
+use vp_lists::{OfTxn, is_same_txn, put_in};
 use vp_records::acknowledge;
 
 /// The live transactions, the ends of those that have ended, and the decisions that some site has not acknowledged.
 #[derive(Drop)]
 pub struct Transactions {
     pub seq: u32,
-    pub live: Vec<Live>,
+    pub live: LiveTxns,
     pub finished: VecDeque<Finished>,
     pub decisions: Decisions,
 }
@@ -37,7 +42,7 @@ impl Model for Transactions {
 
     ghost Value = { CoordinatorState };
 
-    ghost view = { λ c. record { seq = c.seq; live = c.live.items; finished = c.finished.items; decisions = c.decisions } };
+    ghost view = { λ c. record { seq = c.seq; live = c.live; finished = c.finished.items; decisions = c.decisions } };
 }
 
 /// The answer that an ending gives to a call.
@@ -100,53 +105,20 @@ pub fn told_again(answers: &[Answer], number: CallNo) -> Result<Option<Answer>, 
     }
 }
 
-/// A transaction without operations.
-fn new_live(alloc: Global, txn: &TxnId, view: ViewId) -> Live
-    ensures { result ≡ begun txn.now view }
-{
-    Live {
-        txn: *txn,
-        view,
-        ops: Ops::new(alloc),
-        remote: Seq::new(alloc),
-        parts: Sites::new(alloc),
-        answers: Seq::new(alloc),
-        pending: None,
-    }
-}
-
-/// Takes the transaction into the hands of a method, where there is one: an empty one of its name keeps its place.
-fn lift(live: &mut Vec<Live>, txn: &TxnId) -> Option<Live>
-    ensures lifted { result ≡ live_of txn.now live.old.items }
-    ensures back { option_map_or (λ t. change_first (λ u. same_txn u.txn t.txn) (λ u. t) live.new.items) result live.new.items ≡ live.old.items }
-{
-    let alloc = *live.allocator();
-    let empty = new_live(alloc, txn, ViewId { number: 0, site: 0 });
-    replace_txn(live, txn, empty)
-}
-
-/// The transaction goes back into its place.
-fn lay_down(live: &mut Vec<Live>, t: Live)
-    ensures { live.new.items ≡ change_first (λ u. same_txn u.txn t.txn) (λ u. t) live.old.items }
-{
-    let txn = t.txn;
-    let _ = replace_txn(live, &txn, t);
-}
-
 impl Transactions {
     pub fn new(alloc: Global) -> Transactions
         ensures { result ≡ record { seq = 0; live = []; finished = []; decisions = [] } }
     {
         Transactions {
             seq: 0,
-            live: Vec::new(alloc),
+            live: LiveTxns::new(alloc),
             finished: VecDeque::new(alloc),
             decisions: Decisions::new(alloc),
         }
     }
 
     pub fn allocator(&self) -> Global {
-        *self.live.allocator()
+        self.live.allocator()
     }
 
     /// The next transaction begins.
@@ -154,8 +126,7 @@ impl Transactions {
         requires { self.old.seq < 2 ^ 32 - 1 }
         ensures { OnOk result (self.new ≡ with_begun (begun txn.now view) self.old) }
     {
-        let t = new_live(self.allocator(), txn, view);
-        self.live.push(t)?;
+        self.live.begin(txn, view)?;
         self.seq += 1;
         Ok(())
     }
@@ -164,14 +135,16 @@ impl Transactions {
     pub fn take_up(&mut self, txn: &TxnId) -> Option<Live>
         ensures lifted { result ≡ live_of txn.now self.old.live }
         ensures back { option_map_or (λ t. put_live t self.new) result self.new ≡ self.old }
+        ensures waiting { IfSome result (λ t. waits t ≡ true) }
     {
-        lift(&mut self.live, txn)
+        self.live.take_up(txn)
     }
 
     /// Takes the transaction with its pending call, where that waits for the site.
     pub fn take_waiting(&mut self, txn: &TxnId, from: SiteId) -> Result<Option<Handled>, NoMemory>
         ensures taken { IfOk result (λ taken. taken ≡ waiting_call txn.now from self.old.live) }
         ensures back { IfOk result (λ taken. option_map_or (λ h. put_live h.live self.new) taken self.new ≡ self.old) }
+        ensures waiting { IfOk result (λ taken. IfSome taken (λ h. waits h.live ≡ true)) }
     {
         match self.take_up(txn) {
             None => Ok(None),
@@ -205,7 +178,7 @@ impl Transactions {
     pub fn is_live(&self, txn: &TxnId) -> bool
         ensures { result ≡ is_live txn.now self.now.live }
     {
-        self.live.iter().any(|t| is_same_txn(&t.txn, txn))
+        self.live.has(txn)
     }
 
     pub fn is_decided(&self, txn: &TxnId) -> bool
@@ -219,15 +192,47 @@ impl Transactions {
 
     /// The transaction goes back into its place.
     pub fn put_live(&mut self, t: Live)
+        requires { waits t ≡ true }
         ensures { self.new ≡ put_live t self.old }
     {
-        lay_down(&mut self.live, t)
+        self.live.put(t)
+    }
+
+    /// Takes all live transactions out.
+    pub fn take_all(&mut self) -> Vec<Live>
+        ensures taken { result.items ≡ self.old.live }
+        ensures rest { self.new ≡ record self.old { live = [] } }
+    {
+        let none = LiveTxns::new(self.live.allocator());
+        mem::replace(&mut self.live, none).into_vec()
+    }
+
+    /// Copies of the live transactions whose calls were pending at the tick before.
+    pub fn late(&self) -> Result<Vec<Live>, NoMemory>
+        ensures late { IfOk result (λ late. late.items ≡ filter (λ t. is_marked_call t.pending) self.now.live) }
+        ensures waiting { all_wait self.now.live ≡ true }
+    {
+        self.live.late()
+    }
+
+    /// A tick has seen the calls that are pending.
+    pub fn mark(&mut self)
+        ensures { self.new ≡ with_marks self.old }
+    {
+        self.live.mark()
+    }
+
+    /// Tells each decision again to the sites that it waits for.
+    pub fn resend(&self, id: SiteId, effects: &mut Effects) -> Result<(), NoMemory>
+        ensures { OnOk result (effects.new ≡ with_outcomes id self.now.decisions effects.old) }
+    {
+        resend(id, self.decisions.as_slice(), effects)
     }
 
     fn drop_live(&mut self, txn: &TxnId)
         ensures { self.new ≡ without_live txn.now self.old }
     {
-        drop_txn(&mut self.live, txn)
+        self.live.remove(txn)
     }
 
     /// The end of the transaction is kept, beside those of the 1,023 that ended last before it.
@@ -238,15 +243,12 @@ impl Transactions {
         let mut t = t;
         answer_pending(&mut t, &why, effects)?;
         self.drop_live(&t.txn);
-        self.finished.push_back(Finished {
+        let end = Finished {
             txn: t.txn,
             answers: t.answers,
             ending: why,
-        })?;
-        if self.finished.len() > 1024 {
-            let _ = self.finished.pop_front();
-        }
-        Ok(())
+        };
+        keep_end(&mut self.finished, end)
     }
 
     pub fn keep_decision(&mut self, txn: &TxnId, waiting: Sites) -> Result<(), NoMemory>
@@ -266,6 +268,35 @@ impl Transactions {
     }
 }
 
+/// The parts of the transaction are told how it ended.
+pub fn tell_outcome(
+    id: SiteId,
+    txn: &TxnId,
+    commit: bool,
+    parts: &[SiteId],
+    effects: &mut Effects,
+) -> Result<(), NoMemory>
+    ensures { OnOk result (effects.new ≡ with_messages id (message.Outcome txn.now commit) parts.now effects.old) }
+{
+    let outcome = Message::Outcome { txn: *txn, commit };
+    effects.send_all(id, parts, &outcome)
+}
+
+fn resend(id: SiteId, decisions: &[Decision], effects: &mut Effects) -> Result<(), NoMemory>
+    ensures { OnOk result (effects.new ≡ with_outcomes id decisions.now effects.old) }
+{
+    for decision in decisions {
+        tell_outcome(
+            id,
+            &decision.txn,
+            true,
+            decision.waiting.as_slice(),
+            effects,
+        )?;
+    }
+    Ok(())
+}
+
 fn is_waiting(decision: &Decision, txn: &TxnId, site: SiteId) -> bool
     ensures { result ≡ (same_txn decision.now.txn txn.now && has decision.now.waiting site) }
 {
@@ -280,6 +311,16 @@ fn pending_for(t: &Live, from: SiteId) -> Result<Option<Pending>, NoMemory>
         Some(p) if has_site(p.missing.as_slice(), from) => Ok(Some(p.copy_of()?)),
         _ => Ok(None),
     }
+}
+
+fn keep_end(finished: &mut VecDeque<Finished>, end: Finished) -> Result<(), NoMemory>
+    ensures { OnOk result (finished.new.items ≡ at_most 1024 (finished.old.items ++ end ∷ [])) }
+{
+    finished.push_back(end)?;
+    if finished.len() > 1024 {
+        let _ = finished.pop_front();
+    }
+    Ok(())
 }
 
 fn find_finished<'a>(finished: &'a VecDeque<Finished>, txn: &TxnId) -> Option<&'a Finished>
@@ -309,10 +350,4 @@ fn told_by(f: &Finished, number: CallNo) -> Result<Option<Answer>, NoMemory>
         return Ok(Some(answer_to(&f.txn, number, &f.ending)?));
     }
     told_again(answers, number)
-}
-
-fn drop_txn(live: &mut Vec<Live>, txn: &TxnId)
-    ensures { live.new.items ≡ without_first (λ u. same_txn u.txn txn.now) live.old.items }
-{
-    let _ = take_txn(live, txn);
 }

@@ -7,7 +7,6 @@ ghost use Rattle.vp_model.specs.Catalogue.{holders};
 ghost use Rattle.vp_model.specs.Transactions.{with_op, last_writes, writes_held, writing_parts};
 ghost use Rattle.vp_model.specs.Calls.{records_read_at, prepare_for};
 
-use crate::around::is_holder;
 use std::alloc::Global;
 use vp_base::{
     CopyOf, Live, Message, NoMemory, Op, Pending, RecId, Recs, SiteId, Sites, Value, Writes,
@@ -57,7 +56,7 @@ pub fn writes_held(
 {
     let mut held = Vec::new(alloc);
     for write in writes {
-        if is_holder(catalog, write.0, site) {
+        if catalog.is_holder(write.0, site) {
             held.push(write.copy_of()?)?;
         }
     }
@@ -67,7 +66,7 @@ pub fn writes_held(
 fn holds_some(catalog: &Catalog, site: SiteId, writes: &[(RecId, Value)]) -> bool
     ensures { result ≡ list_any (λ w. has (holders catalog.now w.0) site) writes.now }
 {
-    writes.iter().any(|write| is_holder(catalog, write.0, site))
+    writes.iter().any(|write| catalog.is_holder(write.0, site))
 }
 
 fn has_write(catalog: &Catalog, site: SiteId, writes: &[(RecId, Value)]) -> bool

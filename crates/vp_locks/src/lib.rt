@@ -1,7 +1,7 @@
 //! The lock table of a site. A contract sees the list of its locks, in the order in which they were taken.
 #![tactic(auto)]
 
-ghost use Rattle.std.specs.Prelude.{◌≡◌, ◌++◌, ◌∷◌, ◌≤◌, [], is_ok, length, slice_get, not, ◌&&◌, ◌||◌, Some, option_copied, if◌then◌else◌, map, true, false};
+ghost use Rattle.std.specs.Prelude.{◌≡◌, ◌++◌, ◌∷◌, ◌≤◌, [], is_ok, length, slice_get, not, ◌&&◌, ◌||◌, Some, option_copied, if◌then◌else◌, map, filter, true, false};
 ghost use Rattle.std.specs.Option.{option_map_or};
 ghost use Rattle.vp_base.specs.declared.entry.Owner.TheVariants as owner;
 ghost use Rattle.vp_locks.specs.Faults.{holder_in};
@@ -29,6 +29,17 @@ impl From<NoMemory> for LockFault {
     fn from(_e: NoMemory) -> LockFault {
         LockFault::NoMemory
     }
+}
+
+/// What decides which locks stay.
+pub trait Keeps {
+    ghost use Rattle.std.specs.Prelude.{Bool};
+    ghost use Rattle.vp_base.specs.declared.site.Lock.{Lock};
+
+    ghost keeps: { Self → Lock → Bool };
+
+    fn keeps(&self, lock: &Lock) -> bool
+        ensures { result ≡ keeps self.now lock.now };
 }
 
 /// The lesser of the best owner so far and another.
@@ -151,7 +162,8 @@ impl Locks {
         Ok(())
     }
 
-    fn add(&mut self, rec: RecId, exclusive: bool, owner: &Owner) -> Result<(), NoMemory>
+    /// One more lock, behind the others, whoever has one on the record.
+    pub fn add(&mut self, rec: RecId, exclusive: bool, owner: &Owner) -> Result<(), NoMemory>
         ensures { self.new ≡ (if is_ok result then self.old ++ (record { rec = rec; exclusive = exclusive; owner = owner.now }) ∷ [] else self.old) }
     {
         self.recs.reserve(1)?;
@@ -246,6 +258,14 @@ impl Locks {
     {
         let owner = Owner::Txn(txn);
         self.items.retain(|lock| lock.exclusive || !is_same_owner(&lock.owner, &owner));
+        read_records(&mut self.recs, &self.items);
+    }
+
+    /// The locks that are not kept go.
+    pub fn retain<K: Keeps>(&mut self, kept: &K)
+        ensures { self.new ≡ filter (K.keeps kept.now) self.old }
+    {
+        self.items.retain(|lock| kept.keeps(lock));
         read_records(&mut self.recs, &self.items);
     }
 }

@@ -1,4 +1,3 @@
 pub mod Refusals
 pub mod Doubts
 pub mod Ballots
-pub mod Leaving

@@ -1,15 +1,14 @@
 //! The list of transactions in doubt, and their locks.
 
-ghost use Rattle.std.specs.Prelude.{◌≡◌, OnOk, true};
-ghost use Rattle.std.specs.List.{list_any, list_all};
-ghost use Rattle.vp_base.specs.declared.entry.Owner.TheVariants as owner;
+ghost use Rattle.std.specs.Prelude.{◌≡◌, ◌++◌, OnOk, true, flat_map};
+ghost use Rattle.std.specs.List.{list_any};
 ghost use Rattle.vp_model.specs.Words.{for_each, has, keys, put_txn};
 ghost use Rattle.vp_model.specs.Durable.{doubt_of, put_doubt, without_doubt};
-ghost use Rattle.vp_model.specs.Locks.{holds};
 ghost use Rattle.vp_model.specs.Views.{has_doubt};
-ghost use Rattle.vp_participant.specs.Doubts.{is_written, with_locks_on, with_locks_of};
+ghost use Rattle.vp_model.specs.Step.{locks_in_doubt};
+ghost use Rattle.vp_participant.specs.Doubts.{is_written};
 
-use vp_base::{CopyOf, Doubt, NoMemory, Part, RecId, TxnId, Value, Writes};
+use vp_base::{CopyOf, Doubt, NoMemory, Owner, Part, RecId, TxnId, Value, Writes};
 use vp_lists::{is_same_txn, put, take_txn};
 use vp_locks::Locks;
 
@@ -58,22 +57,22 @@ pub fn take_doubt(doubts: &mut Vec<Doubt>, txn: &TxnId) -> Option<Doubt>
     doubt
 }
 
-/// The transaction has the exclusive lock on each record that it writes.
-fn lock_writes(locks: &mut Locks, txn: &TxnId, writes: &[(RecId, Value)]) -> Result<(), NoMemory>
-    ensures { OnOk result (locks.new ≡ with_locks_on txn.now (keys writes.now) locks.old) }
+/// The exclusive lock on each record that the transaction writes.
+fn lock_writes(locks: &mut Locks, doubt: &Doubt) -> Result<(), NoMemory>
+    ensures { OnOk result (locks.new ≡ locks.old ++ locks_in_doubt doubt.now) }
 {
-    for write in writes {
-        locks.hold(write.0, *txn)?;
+    for write in doubt.writes.as_slice() {
+        locks.add(write.0, true, &Owner::Txn(doubt.txn))?;
     }
     Ok(())
 }
 
-/// Each transaction in doubt has its exclusive locks, whoever else has a lock on the record.
+/// The exclusive locks of each transaction in doubt, whoever else has a lock on the record.
 pub fn lock_doubts(locks: &mut Locks, doubts: &[Doubt]) -> Result<(), NoMemory>
-    ensures { OnOk result (locks.new ≡ with_locks_of doubts.now locks.old) }
+    ensures { OnOk result (locks.new ≡ locks.old ++ flat_map locks_in_doubt doubts.now) }
 {
     for doubt in doubts {
-        lock_writes(locks, &doubt.txn, doubt.writes.as_slice())?;
+        lock_writes(locks, doubt)?;
     }
     Ok(())
 }

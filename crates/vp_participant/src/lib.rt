@@ -7,7 +7,6 @@
 mod doubts;
 mod fault;
 mod held;
-mod leaving;
 mod participant;
 mod parts;
 #[cfg(test)]

@@ -1,33 +1,31 @@
 //! The participant of a site.
 
-ghost use Rattle.std.specs.Prelude.{◌≡◌, [], OnOk, IfOk, IfSome, is_ok, is_some, if◌then◌else◌, option_copied, option_map, filter, true, false};
+ghost use Rattle.std.specs.Prelude.{◌≡◌, ◌++◌, [], flat_map, OnOk, IfOk, IfSome, is_ok, is_some, if◌then◌else◌, option_copied, option_map, filter, true, false};
 ghost use Rattle.std.specs.List.{list_all};
 ghost use Rattle.vp_base.specs.declared.entry.Owner.TheVariants as owner;
 ghost use Rattle.vp_locks.specs.Faults.{holder_in};
 ghost use Rattle.vp_model.specs.Words.{keys, has_txn};
 ghost use Rattle.vp_base.specs.declared.entry.LogRecord.TheVariants as entry;
 ghost use Rattle.vp_model.specs.Locks.{conflict, holds, with_lock, without_owner};
-ghost use Rattle.vp_model.specs.Views.{without_parts};
+ghost use Rattle.vp_model.specs.Views.{without_parts, outlasts};
 ghost use Rattle.vp_model.specs.Messages.{with_part, has_all_locks, with_vote, with_new_doubt, with_ended};
-ghost use Rattle.vp_model.specs.Step.{known};
+ghost use Rattle.vp_model.specs.Step.{known, locks_in_doubt};
 ghost use Rattle.vp_participant.specs.Refusals.{lock_refusal, lock_refused, vote_refusal, vote_refused};
-ghost use Rattle.vp_participant.specs.Doubts.{doubt_ended, is_written, with_locks_of};
+ghost use Rattle.vp_participant.specs.Doubts.{doubt_ended, is_written};
 ghost use Rattle.vp_participant.specs.Ballots.{ballot, ballot_of, first_ballot};
-ghost use Rattle.vp_participant.specs.Leaving.{stays};
 
 use crate::doubts::{add_doubt, add_doubted, is_in_doubt, is_written, lock_doubts, take_doubt};
 use crate::fault::{PartFault, PrepareFault};
 use crate::held::{id_of, is_held};
-use crate::leaving::{release_parts, release_shared};
 use crate::parts::{drop_part, has_part, mark_voted, part_of, txns_of};
 use std::alloc::Global;
 use std::marker::Model;
 use vp_base::{
-    CopyOf, Doubt, InDoubt, LogRecord, NoMemory, Part, RecId, Recs, TxnId, Txns, Value, View,
-    ViewId, Writes,
+    CopyOf, Doubt, InDoubt, Lock, LogRecord, NoMemory, Owner, Part, RecId, Recs, TxnId, Txns,
+    Value, View, ViewId, Writes,
 };
 use vp_lists::{copy_all, is_same_txn, put};
-use vp_locks::{LockFault, Locks};
+use vp_locks::{Keeps, LockFault, Locks};
 use vp_records::Durable;
 
 /// A vote: yes, with what is to be forced to the log before it is sent, or none.
@@ -71,15 +69,15 @@ impl CopyOf for Participant {
 }
 
 impl Participant {
-    /// The participant of a site that starts: the transactions in doubt have their exclusive locks, also where two of them
-    /// write one record, as a log from outside may have it.
+    /// The participant of a site that starts: the exclusive locks of the transactions in doubt stand behind those that the
+    /// table has, also where two of them write one record, as a log from outside may have it.
     pub fn restore(
         alloc: Global,
         durable: &Durable,
         locks: &mut Locks,
     ) -> Result<Participant, NoMemory>
         ensures participant { IfOk result (λ p. p ≡ record { parts = []; doubts = durable.now.doubts; ended = [] }) }
-        ensures locks { OnOk result (locks.new ≡ with_locks_of durable.now.doubts locks.old) }
+        ensures locks { OnOk result (locks.new ≡ locks.old ++ flat_map locks_in_doubt durable.now.doubts) }
     {
         let doubts = durable.doubts().as_slice();
         lock_doubts(locks, doubts)?;
@@ -304,15 +302,29 @@ impl Participant {
         Ok(Txns::from_vec(txns))
     }
 
-    /// The site leaves its view: the transactions in doubt stay, with their exclusive locks, and all else goes.
+    /// The site leaves its view: the transactions in doubt stay, with their exclusive locks, and the other parts go. The locks
+    /// of refreshes go here too, so that the site only has to end its list of them.
     pub fn leave(&mut self, locks: &mut Locks)
         ensures parts { self.new ≡ without_parts self.old }
-        ensures locks { locks.new ≡ filter (stays self.old) locks.old }
+        ensures locks { locks.new ≡ filter (outlasts self.old) locks.old }
     {
-        release_parts(locks, &self.parts, &self.doubts);
-        release_shared(locks, &self.doubts);
+        locks.retain(self);
         self.parts.clear();
         self.ended.clear();
+    }
+}
+
+impl Keeps for Participant {
+    ghost use Rattle.vp_model.specs.Views.{outlasts};
+
+    ghost keeps = { outlasts };
+
+    fn keeps(&self, lock: &Lock) -> bool {
+        match &lock.owner {
+            Owner::Refresh => false,
+            Owner::Txn(txn) if is_in_doubt(&self.doubts, txn) => lock.exclusive,
+            Owner::Txn(txn) => !has_part(&self.parts, txn),
+        }
     }
 }
 

@@ -61,6 +61,32 @@ impl Durable {
         }
     }
 
+    /// The durable part of these.
+    pub fn new(
+        promise: ViewId,
+        life: u32,
+        copies: Copies,
+        doubts: InDoubt,
+        decisions: Decisions,
+    ) -> Durable
+        ensures { result ≡ record { promise = promise; life = life; copies = copies; doubts = doubts; decisions = decisions } }
+    {
+        Durable {
+            promise,
+            life,
+            copies,
+            doubts,
+            decisions,
+        }
+    }
+
+    /// The copies alone.
+    pub fn into_copies(self) -> Copies
+        ensures { result ≡ self.copies }
+    {
+        self.copies
+    }
+
     /// The highest view that the site has promised to.
     pub fn promise(&self) -> ViewId
         ensures { result ≡ self.now.promise }

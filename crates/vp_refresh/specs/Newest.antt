@@ -1,9 +1,9 @@
 -- Which of several copies is the newest.
 use Rattle.std.specs.Prelude.{ℕ, ◌≡◌, ◌<◌, ◌≤◌, true, false, List, Some}
 use Rattle.std.specs.List.{All, AllPairs, Contains}
-use Rattle.vp_model.specs.Types.{Stored}
+use Rattle.vp_model.specs.Types.{Stored, Refreshing}
 use Rattle.vp_model.specs.Words.{same_view, view_before}
-use Rattle.vp_refresh.specs.Asking.{Asking, asking_of}
+use Rattle.vp_model.specs.Refresh.{refreshing_of}
 
 -- the answers ascend by site
 abbrev pub Ascends : List (ℕ × Stored) → Type 0
@@ -23,7 +23,7 @@ pub record IsNewest (own : Stored) (answers : List (ℕ × Stored)) (copy : Stor
   pub else_an_answer : same_view own.date copy.date ≡ false → IsLeastAnswer answers copy
 
 -- the copy is the newest of the own one and the answers for the record
-pub record IsNewestIn (rec : ℕ) (own : Stored) (listed : List Asking) (copy : Stored) : Type 0 where
-  pub asking : Asking
-  pub found : asking_of rec listed ≡ Some asking
-  pub newest : IsNewest own asking.refreshing.answers copy
+pub record IsNewestIn (rec : ℕ) (own : Stored) (refresh : List Refreshing) (copy : Stored) : Type 0 where
+  pub refreshing : Refreshing
+  pub found : refreshing_of rec refresh ≡ Some refreshing
+  pub newest : IsNewest own refreshing.answers copy

@@ -1,37 +1,33 @@
-//! A copy under refresh: who is asked for it, and what has come.
+//! A copy under refresh, with what has come for it.
 
-ghost use Rattle.std.specs.Prelude.{◌≡◌, ◌==◌, [], OnOk, IfOk, IfSome, Some, None};
-ghost use Rattle.std.specs.List.{list_all};
-ghost use Rattle.vp_model.specs.Words.{has, keys, is_empty};
-ghost use Rattle.vp_refresh.specs.Asking.{missing, keeping, newest_of, with_requests};
+ghost use Rattle.std.specs.Prelude.{◌≡◌, ◌==◌, [], OnOk, IfOk, option_copied};
+ghost use Rattle.vp_model.specs.Words.{has, keys};
+ghost use Rattle.vp_model.specs.Refresh.{newest};
+ghost use Rattle.vp_model.specs.Messages.{with_answer};
+ghost use Rattle.vp_refresh.specs.Asking.{missing_of};
 ghost use Rattle.vp_refresh.specs.Newest.{IsNewest};
 
 use crate::newest::newest;
 use std::alloc::Global;
 use std::marker::Model;
 use std::mem;
-use vp_base::{
-    CopyOf, Effects, Message, NoMemory, RecId, Refreshing, Seq, SiteId, Sites, Stored, ViewId,
-};
-use vp_lists::put_in;
+use vp_base::{CopyOf, NoMemory, RecId, Refreshing, Seq, SiteId, Sites, Stored, View};
+use vp_catalog::Catalog;
+use vp_lists::{Keyed, put_in};
 
-/// A copy under refresh: the site that asks, its view, the other holders of the record in that view, and the copies
-/// that have come.
+/// A copy under refresh, with the copies of other sites that have come, ascending by site.
 #[derive(Drop)]
 pub struct Asked {
-    from: SiteId,
-    view: ViewId,
-    others: Sites,
     refreshing: Refreshing,
 }
 
 impl Model for Asked {
-    ghost use Rattle.vp_refresh.specs.Asking.{Asking};
+    ghost use Rattle.vp_model.specs.Types.{Refreshing};
     ghost use Rattle.vp_refresh.specs.Newest.{Ascends};
 
-    ghost Value = { Asking };
+    ghost Value = { Refreshing };
 
-    ghost view = { λ a. record { from = a.from; view = a.view; others = a.others; refreshing = a.refreshing } };
+    ghost view = { λ a. a.refreshing };
 
     ghost invariant = { λ a. Ascends a.refreshing.answers };
 }
@@ -39,23 +35,33 @@ impl Model for Asked {
 impl CopyOf for Asked {
     fn copy_of(&self) -> Result<Asked, NoMemory> {
         Ok(Asked {
-            from: self.from,
-            view: self.view,
-            others: self.others.copy_of()?,
             refreshing: self.refreshing.copy_of()?,
         })
     }
 }
 
+impl Keyed for Asked {
+    ghost use Rattle.std.specs.Prelude.{nat_eq, nat_lt};
+
+    ghost same = { λ a b. nat_eq a.rec b.rec };
+
+    ghost before = { λ a b. nat_lt a.rec b.rec };
+
+    fn is_same(&self, other: &Asked) -> bool {
+        self.refreshing.is_same(&other.refreshing)
+    }
+
+    fn comes_before(&self, other: &Asked) -> bool {
+        self.refreshing.comes_before(&other.refreshing)
+    }
+}
+
 impl Asked {
-    /// A copy for which no answer has come.
-    pub fn new(alloc: Global, from: SiteId, view: ViewId, rec: RecId, others: Sites) -> Asked
-        ensures { result ≡ record { from = from; view = view; others = others; refreshing = record { rec = rec; answers = [] } } }
+    /// A copy for which nothing has come.
+    pub(crate) fn new(alloc: Global, rec: RecId) -> Asked
+        ensures { result ≡ record { rec = rec; answers = [] } }
     {
         Asked {
-            from,
-            view,
-            others,
             refreshing: Refreshing {
                 rec,
                 answers: Seq::new(alloc),
@@ -63,14 +69,20 @@ impl Asked {
         }
     }
 
-    pub fn is_of(&self, rec: RecId) -> bool
-        ensures { result ≡ (self.now.refreshing.rec == rec) }
+    pub fn rec(&self) -> RecId
+        ensures { result ≡ self.now.rec }
+    {
+        self.refreshing.rec
+    }
+
+    pub(crate) fn is_of(&self, rec: RecId) -> bool
+        ensures { result ≡ (self.now.rec == rec) }
     {
         self.refreshing.rec == rec
     }
 
     fn has_answer(&self, site: SiteId) -> bool
-        ensures { result ≡ has (keys self.now.refreshing.answers) site }
+        ensures { result ≡ has (keys self.now.answers) site }
     {
         self.refreshing
             .answers
@@ -80,49 +92,28 @@ impl Asked {
             .any(|other| other == site)
     }
 
-    /// The sites that have not answered.
-    fn missing(&self) -> Result<Sites, NoMemory>
-        ensures { IfOk result (λ sites. sites ≡ missing self.now) }
+    /// The other holders in the view that have not answered, ascending; none where no view is held.
+    pub fn missing(
+        &self,
+        catalog: &Catalog,
+        id: SiteId,
+        held: Option<&View>,
+    ) -> Result<Sites, NoMemory>
+        ensures { IfOk result (λ sites. sites ≡ missing_of catalog.now id (option_copied held.entry) self.now) }
     {
-        let sites = self
-            .others
+        let others = catalog.other_holders(id, held, self.refreshing.rec)?;
+        let sites = others
             .as_slice()
             .iter()
             .copied()
             .filter(|site| !self.has_answer(*site))
-            .collect(self.others.allocator())?;
+            .collect(others.allocator())?;
         Ok(Sites::from_vec(sites))
     }
 
-    /// Whether the site is asked and has not answered.
-    pub fn awaits(&self, site: SiteId) -> bool
-        ensures { result ≡ has (missing self.now) site }
-    {
-        self.others
-            .as_slice()
-            .iter()
-            .filter(|other| !self.has_answer(**other))
-            .any(|other| *other == site)
-    }
-
-    fn has_all_answers(&self) -> bool
-        ensures { result ≡ list_all (has (keys self.now.refreshing.answers)) self.now.others }
-    {
-        self.others
-            .as_slice()
-            .iter()
-            .all(|other| self.has_answer(*other))
-    }
-
-    fn is_complete(&self) -> bool
-        ensures { result ≡ is_empty (missing self.now) }
-    {
-        self.has_all_answers()
-    }
-
-    /// The answer of the site is kept where the record is this one. Without memory the answers may be lost.
-    pub fn keep(&mut self, rec: RecId, from: SiteId, stored: &Stored) -> Result<(), NoMemory>
-        ensures { OnOk result (self.new ≡ keeping rec from stored.now self.old) }
+    /// The copy of the site is kept where the record is this one. Without memory those that have come may be lost.
+    pub(crate) fn keep(&mut self, from: SiteId, rec: RecId, stored: &Stored) -> Result<(), NoMemory>
+        ensures { OnOk result (self.new ≡ with_answer rec from stored.now self.old) }
     {
         if self.refreshing.rec == rec {
             let stored = stored.copy_of()?;
@@ -134,28 +125,11 @@ impl Asked {
         Ok(())
     }
 
-    /// The newest of the own copy and the answers, once all are there.
-    pub fn newest(&self, own: &Stored) -> Result<Option<Stored>, NoMemory>
-        ensures copy { IfOk result (λ copy. copy ≡ newest_of own.now self.now) }
-        ensures newest { IfOk result (λ copy. IfSome copy (λ copy. IsNewest own.now self.now.refreshing.answers copy)) }
+    /// The newest of the own copy and those that have come.
+    pub(crate) fn newest(&self, own: &Stored) -> Result<Stored, NoMemory>
+        ensures copy { IfOk result (λ copy. copy ≡ newest own.now self.now.answers) }
+        ensures newest { IfOk result (λ copy. IsNewest own.now self.now.answers copy) }
     {
-        if self.is_complete() {
-            let copy = newest(own, self.refreshing.answers.as_slice()).copy_of()?;
-            Ok(Some(copy))
-        } else {
-            Ok(None)
-        }
-    }
-
-    /// A request to each site that has not answered.
-    pub fn request(&self, effects: &mut Effects) -> Result<(), NoMemory>
-        ensures { OnOk result (effects.new ≡ with_requests self.now effects.old) }
-    {
-        let missing = self.missing()?;
-        let message = Message::RefreshRequest {
-            view: self.view,
-            rec: self.refreshing.rec,
-        };
-        effects.send_all(self.from, missing.as_slice(), &message)
+        newest(own, self.refreshing.answers.as_slice()).copy_of()
     }
 }

@@ -1,1 +1,4 @@
 pub mod Starting
+pub mod Lifted
+pub mod Requests
+pub mod Ballots

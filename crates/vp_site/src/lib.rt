@@ -4,10 +4,15 @@
 //! what a row does to a part of the site is a method of that part, in the crates below.
 #![tactic(auto)]
 
+mod calls;
 mod fault;
+mod messages;
+mod parts;
+mod refresh;
 mod site;
 mod stepped;
-mod told;
+mod tick;
+mod views;
 
 pub use fault::StartFault;
 pub use site::Site;

@@ -1,17 +1,24 @@
 //! A site that is up.
 
-ghost use Rattle.std.specs.Prelude.{◌≡◌, IfOk};
-ghost use Rattle.vp_model.specs.Step.{step, durable_of};
+ghost use Rattle.std.specs.Prelude.{◌≡◌, ◌<◌, ◌-◌, ◌^◌, IfOk, option_copied, option_map};
+ghost use Rattle.vp_model.specs.Generated.{newest};
+ghost use Rattle.vp_model.specs.Step.{start, step, durable_of};
 ghost use Rattle.vp_site.specs.Starting.{Starts};
 
 use crate::fault::StartFault;
+use crate::stepped::Stepped;
 use std::marker::Model;
-use vp_base::{Effects, Input, LogRecord, NoMemory, SiteId};
+use vp_base::{CopyOf, Effects, Input, LogRecord, Newest, NoMemory, SiteId, View, ViewId};
 use vp_catalog::Catalog;
 use vp_coordinator::{Coordinator, Here};
+use vp_locks::Locks;
 use vp_participant::Participant;
 use vp_records::Durable;
+use vp_refresh::Refresh;
 use vp_views::Views;
+
+/// The identifier of the view that all sites begin in.
+const OPENING: ViewId = ViewId { number: 0, site: 0 };
 
 /// A site that is up.
 #[derive(Drop)]
@@ -19,11 +26,12 @@ pub struct Site {
     pub(crate) views: Views,
     pub(crate) here: Here,
     pub(crate) participant: Participant,
+    pub(crate) refresh: Refresh,
     pub(crate) coordinator: Coordinator,
 }
 
 impl Model for Site {
-    ghost use Rattle.std.specs.Prelude.{◌≡◌, []};
+    ghost use Rattle.std.specs.Prelude.{◌≡◌};
     ghost use Rattle.vp_model.specs.Site.{SiteState};
 
     ghost Value = { SiteState };
@@ -34,7 +42,7 @@ impl Model for Site {
         views = s.views.views;
         here = s.here;
         participant = s.participant;
-        refresh = [];
+        refresh = s.refresh;
         coordinator = s.coordinator.coordinator;
     } };
 
@@ -54,20 +62,73 @@ impl Site {
         if durable.life() == u32::MAX {
             return Err(StartFault::LivesSpent { life: u32::MAX });
         }
-        Err(StartFault::NoMemory)
+        let life = durable.life() + 1;
+        let site = Site::live(catalog, id, durable)?;
+        Ok((site, LogRecord::Start { life }))
+    }
+
+    /// The site as it is in its next life.
+    #[tactic(auto, unfolding(vp_model::specs::Step::start))]
+    fn live(catalog: &Catalog, id: SiteId, durable: Durable) -> Result<Site, NoMemory>
+        requires { durable.life < 2 ^ 32 - 1 }
+        ensures { IfOk result (λ site. site ≡ start catalog.now id durable) }
+    {
+        let alloc = catalog.sites().allocator();
+        let is_opening = durable.life() == 0 && durable.promise() == OPENING;
+        let mut locks = Locks::new(alloc);
+        Ok(Site {
+            views: Views::start(catalog, id, durable.promise(), is_opening)?,
+            participant: Participant::restore(alloc, &durable, &mut locks)?,
+            refresh: Refresh::none(alloc),
+            coordinator: Coordinator::restore(alloc, id, durable.life() + 1, &durable)?,
+            here: Here {
+                locks,
+                copies: durable.into_copies(),
+            },
+        })
     }
 
     /// What the input does to the site. Without memory the site is gone, as in a crash.
+    #[tactic(auto, unfolding(vp_model::specs::Step::step))]
     pub fn step(self, catalog: &Catalog, input: &Input) -> Result<(Site, Effects), NoMemory>
         ensures { IfOk result (λ r. record { site = r.0; effects = r.1 } ≡ step catalog.now self input.now) }
     {
-        Err(NoMemory)
+        let mut stepped = Stepped::begin(catalog.sites().allocator(), self);
+        stepped.on_input(catalog, input)?;
+        Ok((stepped.site, stepped.effects))
     }
 
     /// What the site has after a crash at this moment, once its records are forced.
     pub fn durable(&self) -> Result<Durable, NoMemory>
         ensures { IfOk result (λ d. d ≡ durable_of self.now) }
     {
-        Err(NoMemory)
+        Ok(Durable::new(
+            self.views.promise(),
+            self.coordinator.life(),
+            self.here.copies.copy_of()?,
+            self.participant.in_doubt()?,
+            self.coordinator.decisions()?,
+        ))
+    }
+
+    /// The view that the site holds.
+    pub fn held(&self) -> Option<&View>
+        ensures { option_copied result ≡ self.now.held }
+    {
+        self.views.held()
+    }
+
+    /// The identifier that the site invites to.
+    pub fn inviting(&self) -> Option<ViewId>
+        ensures { result ≡ option_map (λ inviting. inviting.0) self.now.inviting }
+    {
+        self.views.inviting()
+    }
+
+    /// The newest live transaction, where there is one.
+    pub fn newest(&self) -> Option<Newest>
+        ensures { result ≡ newest self.now.live }
+    {
+        self.coordinator.newest()
     }
 }

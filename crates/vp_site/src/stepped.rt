@@ -1,8 +1,15 @@
 //! A site in a step.
 
+ghost use Rattle.std.specs.Prelude.{◌≡◌, OnOk, IfOk, option_map, option_copied};
+ghost use Rattle.vp_model.specs.Site.{begin_step, force, send, reply};
+ghost use Rattle.vp_model.specs.Messages.{holds_view, held_id};
+ghost use Rattle.vp_model.specs.Words.{value_at};
+
 use crate::site::Site;
+use std::alloc::Global;
 use std::marker::Model;
-use vp_base::Effects;
+use vp_base::{Answer, CopyOf, Effects, LogRecord, Message, NoMemory, RecId, SiteId, Stored, ViewId};
+use vp_lists::value_at;
 
 /// A site with what its step has given so far. After want of memory both may only be dropped.
 #[derive(Drop)]
@@ -17,4 +24,68 @@ impl Model for Stepped {
     ghost Value = { SteppedState };
 
     ghost view = { λ o. record { site = o.site; effects = o.effects } };
+}
+
+impl Stepped {
+    pub fn begin(alloc: Global, site: Site) -> Stepped
+        ensures { result ≡ begin_step site }
+    {
+        Stepped {
+            site,
+            effects: Effects::none(alloc),
+        }
+    }
+
+    pub fn id(&self) -> SiteId
+        ensures { result ≡ self.now.site.id }
+    {
+        self.site.coordinator.id()
+    }
+
+    /// The record is to be forced to the log.
+    pub fn force(&mut self, entry: LogRecord) -> Result<(), NoMemory>
+        ensures { OnOk result (self.new ≡ force entry self.old) }
+    {
+        self.effects.force(entry)
+    }
+
+    pub fn send(&mut self, to: SiteId, message: Message) -> Result<(), NoMemory>
+        ensures { OnOk result (self.new ≡ send message to self.old) }
+    {
+        let id = self.id();
+        self.effects.send(id, to, message)
+    }
+
+    /// Answers the client at the port.
+    pub fn reply(&mut self, to: u16, answer: Answer) -> Result<(), NoMemory>
+        ensures { OnOk result (self.new ≡ reply answer to self.old) }
+    {
+        self.effects.reply(to, answer)
+    }
+
+    /// The identifier of the held view.
+    pub fn held_id(&self) -> Option<ViewId>
+        ensures { result ≡ held_id self.now.site }
+    {
+        self.site.views.held().map(|view| view.id)
+    }
+
+    pub fn holds_view(&self, id: ViewId) -> bool
+        ensures { result ≡ holds_view self.now.site id }
+    {
+        match self.site.views.held() {
+            None => false,
+            Some(view) => view.id == id,
+        }
+    }
+
+    /// The copy of the record here.
+    pub fn copy_here(&self, rec: RecId) -> Result<Option<Stored>, NoMemory>
+        ensures { IfOk result (λ stored. stored ≡ value_at rec self.now.site.copies) }
+    {
+        match value_at(self.site.here.copies.as_slice(), rec) {
+            None => Ok(None),
+            Some(stored) => Ok(Some(stored.copy_of()?)),
+        }
+    }
 }

@@ -1,4 +1,3 @@
 pub mod Ending
-pub mod OneSite
-pub mod Replaying
+pub mod Turns
 pub mod Values

@@ -12,4 +12,3 @@ code_of status.SourceFault = 4
 code_of status.SinkFault = 5
 code_of status.Limit = 9
 code_of status.Differs = 10
-code_of status.Unbuilt = 13

@@ -1,7 +1,7 @@
 pub mod Codes
 pub mod Commands
-pub mod Alone
 pub mod Refused
+pub mod Played
 pub mod Replayed
 pub mod Checked
 pub mod Program

@@ -15,9 +15,8 @@ most_bytes = 16777216
 -- The text that a command defines for its input at each status; other statuses are none of the command's.
 abbrev pub IsAnswer : Command → List ℕ → Status → List ℕ → Type 0
 IsAnswer commands.Replay bytes status.Done text = IsReplayed bytes status.Done text
-IsAnswer commands.Replay bytes status.Unbuilt text = IsReplayed bytes status.Unbuilt text
 IsAnswer commands.Replay bytes status.BadLine text = IsRefused bytes status.BadLine text
-IsAnswer commands.Replay bytes status.Limit text = IsRefused bytes status.Limit text
+IsAnswer commands.Replay bytes status.Limit text = IsReplayed bytes status.Limit text ⊎ IsRefused bytes status.Limit text
 IsAnswer commands.Replay bytes _ text = ⊥
 IsAnswer commands.Check bytes status.Done text = IsChecked bytes status.Done text
 IsAnswer commands.Check bytes status.Differs text = IsChecked bytes status.Differs text

@@ -12,7 +12,7 @@ twice_text line = codes "twice line " ++ (decimal line ++ 10 ∷ [])
 
 -- what there may be so many of
 abbrev pub limited : ℕ → List ℕ
-limited limit = if limit == 256 then codes "records " else codes "events "
+limited limit = if limit == 256 then codes "records " else (if limit == 2000000 then codes "messages " else codes "events ")
 
 abbrev pub limit_text : ℕ → List ℕ
 limit_text limit = codes "limit " ++ (limited limit ++ (decimal limit ++ 10 ∷ []))

@@ -1,27 +1,35 @@
 -- What the replay of a schedule prints.
-use Rattle.std.specs.Prelude.{◌≡◌, ℕ, List, ◌++◌, codes, Ok, Err}
+use Rattle.std.specs.Prelude.{◌≡◌, ℕ, List, ◌++◌, Some, None, Ok, Err}
+use Rattle.vp_model.specs.Types.{Counted}
 use Rattle.vp_model.specs.World.{Schedule}
 use Rattle.vp_model.specs.Headline.{IsOneCopy}
+use Rattle.vp_model.specs.Limits.{world_limits, limit_reached, trace_text_within}
 use Rattle.vp_model.specs.Texts.Trace.{trace_text}
 use Rattle.vp_model.specs.Texts.History.{history_text}
 use Rattle.vp_schedule.specs.Document.{Answered, IsOnly}
 use Rattle.vp_schedule.specs.declared.fault.ScheduleFault.{ScheduleFault}
 use Rattle.vp_schedule.specs.declared.fault.ScheduleFault.TheVariants as faults
-use Rattle.vp_top.specs.Alone.{IsServed}
 use Rattle.vp_top.specs.Refused.{bad_line_text, twice_text, limit_text}
 use Rattle.vp_top.specs.declared.status.Status.{Status}
 use Rattle.vp_top.specs.declared.status.Status.TheVariants as status
+use Rattle.vp_world.specs.Limits.{limit_of}
 
--- The schedule is served, what is printed is its trace and then its history, and it is one copy.
-pub record IsServing (s : Schedule) (text : List ℕ) : Type 0 where
-  pub served : IsServed s
+-- No limit is reached, what is printed is the schedule's trace and then its history, and the schedule is one copy.
+pub record IsDone (s : Schedule) (text : List ℕ) : Type 0 where
+  pub whole : limit_reached world_limits s ≡ None
   pub printed : text ≡ trace_text s ++ history_text s
   pub one_copy : IsOneCopy s
 
+-- A limit of the world ends the schedule: what is printed is the trace of the steps before, and the limit.
+pub record IsLimited (s : Schedule) (text : List ℕ) : Type 0 where
+  pub counted : Counted
+  pub reached : limit_reached world_limits s ≡ Some counted
+  pub printed : text ≡ trace_text_within world_limits s ++ limit_text (limit_of counted)
+
 -- what a schedule gives
 abbrev pub Gives : Schedule → Status → List ℕ → Type 0
-Gives s status.Done text = IsServing s text
-Gives s status.Unbuilt text = (IsServed s → ⊥) × (text ≡ codes "unbuilt\n")
+Gives s status.Done text = IsDone s text
+Gives s status.Limit text = IsLimited s text
 Gives s _ text = ⊥
 
 -- the bytes are the text of this schedule and of no other, and this is what it gives

@@ -2,11 +2,10 @@
 #![tactic(auto)]
 
 mod check;
-mod only_site;
+mod playing;
 mod program;
 mod refusal;
 mod replay;
-mod served;
 mod status;
 mod words;
 
@@ -16,3 +15,5 @@ pub use words::Command;
 
 #[cfg(test)]
 mod tests;
+#[cfg(test)]
+mod worked_tests;

@@ -32,6 +32,8 @@ fn limited(limit: u32) -> &'static [u8]
 {
     if limit == 256 {
         b"records "
+    } else if limit == 2_000_000 {
+        b"messages "
     } else {
         b"events "
     }

@@ -19,12 +19,11 @@ pub enum Status {
     SourceFault = 4,
     /// The sink failed. What was printed is a prefix of what is defined.
     SinkFault = 5,
-    /// The input has more than 16,777,216 bytes.
+    /// The input has more than 16,777,216 bytes, 256 records or 100,000 events, or the next step would make more than 100,000 steps or
+    /// 2,000,000 messages.
     Limit = 9,
     /// A history has a read of another value than its one copy kept.
     Differs = 10,
-    /// The input is no schedule that is served yet.
-    Unbuilt = 13,
 }
 
 impl Status {
@@ -60,13 +59,6 @@ pub fn limit_line(alloc: Global) -> Result<Vec<u8>, AllocError>
     ensures { IfOk result (λ text. text.items ≡ codes "limit bytes 16777216\n") }
 {
     copied(alloc, b"limit bytes 16777216\n")
-}
-
-/// The line for a schedule that is not served yet.
-pub fn unbuilt_line(alloc: Global) -> Result<Vec<u8>, AllocError>
-    ensures { IfOk result (λ text. text.items ≡ codes "unbuilt\n") }
-{
-    copied(alloc, b"unbuilt\n")
 }
 
 fn copied(alloc: Global, text: &[u8]) -> Result<Vec<u8>, AllocError>

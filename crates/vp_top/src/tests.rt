@@ -28,94 +28,117 @@ fn run_on(
 
 const HEAD: &str = "site 1 7001\nrecord x 10 1:1\nevents\n";
 
-/// Schedules with their statuses and what is printed.
-const RUNS: [(&str, Status, &str); 16] = [
-    (
-        "site 1 7001\nrecord x 10 1:1\nevents\n",
-        Status::Done,
-        "history\nstart x 10\nend 0\n",
-    ),
-    (
-        "site 1 7001\nrecord x 10 1:1\nevents\ncall 1 begin\ncall 1 1.1.1 1 read x\ncall 1 1.1.1 2 write x 11\ncall 1 1.1.1 3 commit\ncall 1 begin\ncall 1 1.1.2 1 read x\ncall 1 1.1.2 2 commit\n",
-        Status::Done,
-        "1 call 1 begin\n reply begun 1.1.1 0@0\n2 call 1 1.1.1 1 read x\n reply value 1.1.1 1 10\n3 call 1 1.1.1 2 write x 11\n reply written 1.1.1 2\n4 call 1 1.1.1 3 commit\n commit 1.1.1 0@0\n reply committed 1.1.1 3\n5 call 1 begin\n reply begun 1.1.2 0@0\n6 call 1 1.1.2 1 read x\n reply value 1.1.2 1 11\n7 call 1 1.1.2 2 commit\n commit 1.1.2 0@0\n reply committed 1.1.2 2\nhistory\nstart x 10\ncommit 1.1.1 0@0 r x 10 w x 11\ncommit 1.1.2 0@0 r x 11\nend 2\n",
-    ),
-    (
-        "site 1 7001\nrecord x 10 1:1\nevents\ncall 1 begin\ncall 1 begin\ncall 1 1.1.1 1 write x 11\ncall 1 1.1.2 1 read x\ncall 1 1.1.2 2 commit\ncall 1 1.1.3 1 commit\n",
-        Status::Done,
-        "1 call 1 begin\n reply begun 1.1.1 0@0\n2 call 1 begin\n reply begun 1.1.2 0@0\n3 call 1 1.1.1 1 write x 11\n reply written 1.1.1 1\n4 call 1 1.1.2 1 read x\n reply lockheld 1.1.2 1 x at 1 by 1.1.1\n5 call 1 1.1.2 2 commit\n reply lockheld 1.1.2 2 x at 1 by 1.1.1\n6 call 1 1.1.3 1 commit\n reply unknown 1.1.3\nhistory\nstart x 10\nend 0\n",
-    ),
-    (
-        "site 1 7001\nrecord x 10 1:1\nevents\ncall 1 begin\ncall 1 1.1.1 1 abort\ncall 1 1.1.1 2 read x\n",
-        Status::Done,
-        "1 call 1 begin\n reply begun 1.1.1 0@0\n2 call 1 1.1.1 1 abort\n reply aborted 1.1.1 1\n3 call 1 1.1.1 2 read x\n reply aborted 1.1.1 2\nhistory\nstart x 10\nend 0\n",
-    ),
-    (
-        "site 12 7001\nrecord x 10 12:2\nrecord y 5 12:65535\nevents\ncall 12 begin\ncall 12 12.1.9 1 commit\ncall 12 12.1.1 2 read x\ncall 12 12.1.1 1 read z\ncall 12 12.1.1 1 write y 11\ncall 12 12.1.1 1 write y 11\ncall 12 12.1.1 2 abort\n",
-        Status::Done,
-        "1 call 12 begin\n reply begun 12.1.1 0@0\n2 call 12 12.1.9 1 commit\n reply unknown 12.1.9\n3 call 12 12.1.1 2 read x\n reply skipped 12.1.1 expected 1\n4 call 12 12.1.1 1 read z\n reply norecord 12.1.1 1\n5 call 12 12.1.1 1 write y 11\n reply written 12.1.1 1\n6 call 12 12.1.1 1 write y 11\n reply written 12.1.1 1\n7 call 12 12.1.1 2 abort\n reply aborted 12.1.1 2\nhistory\nstart x 10\nstart y 5\nend 0\n",
-    ),
-    (
-        "site 1 7001\nsite 2 7002\nrecord x 10 1:1 2:1\nevents\n",
-        Status::Unbuilt,
-        "unbuilt\n",
-    ),
-    (
-        "site 1 7001\nrecord x 10 1:1\nevents\ncall 1 begin\ncall 1 regroup\n",
-        Status::Unbuilt,
-        "unbuilt\n",
-    ),
-    (
-        "site 1 7001\nevents\ntick 1\n",
-        Status::Unbuilt,
-        "unbuilt\n",
-    ),
-    ("", Status::BadLine, "bad line 1 at 1\n"),
-    (
-        "site 1 7001\nrecord x 10 1:1\n",
-        Status::BadLine,
-        "bad line 3 at 1\n",
-    ),
-    (
-        "site 1 7001\nrecord x 10 1:1\nrecord x 1 1:1\nevents\n",
-        Status::BadLine,
-        "twice line 3\n",
-    ),
-    (
-        "site 1 7001\nsite 2 7001\nevents\n",
-        Status::BadLine,
-        "twice line 2\n",
-    ),
-    (
-        "site 1 7001\nsite 2 7002\nsite 3 7003\nrecord x 10 1:1 2:1 3:1\nevents\ncall 9 begin\n",
-        Status::BadLine,
-        "bad line 6 at 6\n",
-    ),
-    (
-        "site 1 7001\nsite 2 7002\nsite 3 7003\nrecord x 10 1:1 2:1 3:1\nevents\ncall 1 1.1.1 1 read aaaaaaaaaaaaaaaaa\n",
-        Status::BadLine,
-        "bad line 6 at 37\n",
-    ),
-    (
-        "site 1 7001\nsite 2 7002\nsite 3 7003\nrecord x 10 1:1 2:1 3:1\nevents\ncall 1 beg",
-        Status::BadLine,
-        "bad line 6 at 11\n",
-    ),
-    (
-        "site 1 7001\nsite 2 7002\nsite 3 7003\nrecord x 10 1:1 2:1 3:1\nevents\nflew 1\n",
-        Status::BadLine,
-        "bad line 6 at 3\n",
-    ),
-];
+const TWO_TRANSACTIONS: &str = "\
+site 1 7001
+record x 10 1:1
+events
+call 1 begin
+call 1 1.1.1 1 read x
+call 1 1.1.1 2 write x 11
+call 1 1.1.1 3 commit
+call 1 begin
+call 1 1.1.2 1 read x
+call 1 1.1.2 2 commit
+";
+
+const TWO_TRANSACTIONS_PRINTED: &str = "\
+1 call 1 begin
+ reply begun 1.1.1 0@0
+2 call 1 1.1.1 1 read x
+ reply value 1.1.1 1 10
+3 call 1 1.1.1 2 write x 11
+ reply written 1.1.1 2
+4 call 1 1.1.1 3 commit
+ commit 1.1.1 0@0
+ reply committed 1.1.1 3
+5 call 1 begin
+ reply begun 1.1.2 0@0
+6 call 1 1.1.2 1 read x
+ reply value 1.1.2 1 11
+7 call 1 1.1.2 2 commit
+ commit 1.1.2 0@0
+ reply committed 1.1.2 2
+history
+start x 10
+commit 1.1.1 0@0 r x 10 w x 11
+commit 1.1.2 0@0 r x 11
+end 2
+";
+
+const NO_SUCH_CALL: &str = "\
+site 12 7001
+record x 10 12:2
+record y 5 12:65535
+events
+call 12 begin
+call 12 12.1.9 1 commit
+call 12 12.1.1 2 read x
+call 12 12.1.1 1 read z
+call 12 12.1.1 1 write y 11
+call 12 12.1.1 1 write y 11
+call 12 12.1.1 2 abort
+";
+
+const NO_SUCH_CALL_PRINTED: &str = "\
+1 call 12 begin
+ reply begun 12.1.1 0@0
+2 call 12 12.1.9 1 commit
+ reply unknown 12.1.9
+3 call 12 12.1.1 2 read x
+ reply skipped 12.1.1 expected 1
+4 call 12 12.1.1 1 read z
+ reply norecord 12.1.1 1
+5 call 12 12.1.1 1 write y 11
+ reply written 12.1.1 1
+6 call 12 12.1.1 1 write y 11
+ reply written 12.1.1 1
+7 call 12 12.1.1 2 abort
+ reply aborted 12.1.1 2
+history
+start x 10
+start y 5
+end 0
+";
+
+/// Whether the command answers the input with this status, and prints this text.
+pub fn answers(
+    alloc: Global,
+    command: &str,
+    input: &str,
+    status: Status,
+    text: &str,
+) -> Result<bool, AllocError> {
+    let mut sink = SureSink::new(alloc);
+    let end = run_on(alloc, command, input, &mut sink)?;
+    Ok(end == status && sink.bytes() == text.as_bytes())
+}
+
+/// Whether the schedule is replayed, and this is printed.
+pub fn is_printed(alloc: Global, input: &str, text: &str) -> Result<bool, AllocError> {
+    answers(alloc, "replay", input, Status::Done, text)
+}
+
+/// Whether the input is no schedule, and this is told.
+fn is_bad(alloc: Global, input: &str, text: &str) -> Result<bool, AllocError> {
+    answers(alloc, "replay", input, Status::BadLine, text)
+}
 
 #[test]
-fn inputs_give_their_status_and_text(rt: HostRuntime) -> Result<(), Fail> {
-    for (input, status, text) in RUNS {
-        let mut sink = SureSink::new(rt.alloc());
-        let end = run_on(rt.alloc(), "replay", input, &mut sink)?;
-        assert!(rt; end == status, "{input}");
-        assert!(rt; sink.bytes() == text.as_bytes(), "{input}");
-    }
+fn schedules_of_one_site_are_replayed(rt: HostRuntime) -> Result<(), Fail> {
+    assert!(rt; is_printed(rt.alloc(), HEAD, "history\nstart x 10\nend 0\n")?);
+    assert!(rt; is_printed(rt.alloc(), TWO_TRANSACTIONS, TWO_TRANSACTIONS_PRINTED)?);
+    assert!(rt; is_printed(rt.alloc(), NO_SUCH_CALL, NO_SUCH_CALL_PRINTED)?);
+    Ok(())
+}
+
+#[test]
+fn other_texts_are_no_schedules(rt: HostRuntime) -> Result<(), Fail> {
+    assert!(rt; is_bad(rt.alloc(), "", "bad line 1 at 1\n")?);
+    assert!(rt; is_bad(rt.alloc(), "site 1 7001\nrecord x 10 1:1\n", "bad line 3 at 1\n")?);
+    assert!(rt; is_bad(rt.alloc(), "site 1 7001\nsite 2 7001\nevents\n", "twice line 2\n")?);
+    assert!(rt; is_bad(rt.alloc(), "site 1 7001\nevents\ncall 9 begin\n", "bad line 3 at 6\n")?);
+    assert!(rt; is_bad(rt.alloc(), "site 1 7001\nevents\ncall 1 beg", "bad line 3 at 11\n")?);
+    assert!(rt; is_bad(rt.alloc(), "site 1 7001\nevents\nflew 1\n", "bad line 3 at 3\n")?);
     Ok(())
 }
 
@@ -195,56 +218,14 @@ fn too_many_events_are_refused(rt: HostRuntime) -> Result<(), Fail> {
     Ok(())
 }
 
-/// Histories with their statuses and what is printed.
-const CHECKS: [(&str, Status, &str); 10] = [
-    ("", Status::BadLine, "bad line 1 at 1\n"),
-    ("abc\n", Status::BadLine, "bad line 2 at 1\n"),
-    (
-        "history\nstart x 10\ncommit 1.1.1 0@0 r y 10",
-        Status::BadLine,
-        "bad line 3 at 20\n",
-    ),
-    (
-        "history\nstart x 10\nstart x 11\n",
-        Status::BadLine,
-        "twice line 3\n",
-    ),
-    (
-        "history\nstart x 10\ncommit 1.1.1 1@2\ncommit 2.1.1 0@0\n",
-        Status::BadLine,
-        "bad line 4 at 14\n",
-    ),
-    (
-        "history\nstart x 10\nend 1\n",
-        Status::BadLine,
-        "bad line 3 at 5\n",
-    ),
-    ("history\nend 0\n\n", Status::BadLine, "bad line 3 at 1\n"),
-    (
-        "history\nstart x 10\ncommit 1.1.1 0@0 w x 11\ncommit 1.1.2 0@0 r x 10\nend 2\n",
-        Status::Differs,
-        "differs 1.1.2 1 x kept 11 read 10\n",
-    ),
-    (
-        "1 call 1 begin\n reply begun 1.1.1 0@0\nhistory\nstart x 10\ncommit 1.1.1 0@0 r x 10 w x 11\ncommit 1.1.2 0@0 r x 11\nend 2\n",
-        Status::Done,
-        "serial 2\nx 11\n",
-    ),
-    (
-        "history\nstart x 10\nstart y 5\nend 0\n",
-        Status::Done,
-        "serial 0\nx 10\ny 5\n",
-    ),
-];
-
 #[test]
 fn histories_give_their_verdict(rt: HostRuntime) -> Result<(), Fail> {
-    for (input, status, text) in CHECKS {
-        let mut sink = SureSink::new(rt.alloc());
-        let end = run_on(rt.alloc(), "check", input, &mut sink)?;
-        assert!(rt; end == status, "{input}");
-        assert!(rt; sink.bytes() == text.as_bytes(), "{input}");
-    }
+    let serial = "history\nstart x 10\ncommit 1.1.1 0@0 r x 10 w x 11\ncommit 1.1.2 0@0 r x 11\nend 2\n";
+    assert!(rt; answers(rt.alloc(), "check", serial, Status::Done, "serial 2\nx 11\n")?);
+    let differs = "history\nstart x 10\ncommit 1.1.1 0@0 w x 11\ncommit 1.1.2 0@0 r x 10\nend 2\n";
+    assert!(rt; answers(rt.alloc(), "check", differs, Status::Differs, "differs 1.1.2 1 x kept 11 read 10\n")?);
+    let falls = "history\nstart x 10\ncommit 1.1.1 1@2\ncommit 2.1.1 0@0\n";
+    assert!(rt; answers(rt.alloc(), "check", falls, Status::BadLine, "bad line 4 at 14\n")?);
     Ok(())
 }
 

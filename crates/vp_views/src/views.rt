@@ -140,7 +140,8 @@ impl Views {
         effects: &mut Effects,
     ) -> Result<ViewId, InviteFault>
         requires { IsApart self.old.views }
-        ensures { Invites catalog.now result (viewed self.old effects.old) (viewed self.new effects.new) }
+        ensures row { Invites catalog.now result (viewed self.old effects.old) (viewed self.new effects.new) }
+        ensures id { self.new.id ≡ self.old.id }
     {
         let id = self.invitable()?;
         let accepted = only(catalog.sites().allocator(), self.id)?;
@@ -161,6 +162,7 @@ impl Views {
         requires { view_before self.old.promise id ≡ true → IsApart self.old.views }
         ensures accepted { IfOk result (λ accepted. accepted ≡ view_before self.old.promise id) }
         ensures row { OnOk result (viewed self.new effects.new ≡ invited from id (viewed self.old effects.old)) }
+        ensures id { self.new.id ≡ self.old.id }
     {
         if view_comes_before(&self.promise, &id) {
             effects.force(LogRecord::Promise { view: id })?;
@@ -175,7 +177,8 @@ impl Views {
 
     /// An acceptance of `id` comes.
     pub fn on_accept(&mut self, from: SiteId, id: ViewId) -> Result<(), NoMemory>
-        ensures { OnOk result (self.new ≡ change (with_accepted from id) self.old) }
+        ensures row { OnOk result (self.new ≡ change (with_accepted from id) self.old) }
+        ensures id { self.new.id ≡ self.old.id }
     {
         if self.promise == id {
             self.standing.accept(from)?;
@@ -194,6 +197,7 @@ impl Views {
     pub fn fix(&mut self, effects: &mut Effects) -> Result<bool, NoMemory>
         ensures inviting { IfOk result (λ was. was ≡ is_some self.old.inviting) }
         ensures row { OnOk result (viewed self.new effects.new ≡ fixed (viewed self.old effects.old)) }
+        ensures id { self.new.id ≡ self.old.id }
     {
         match self.accepted()? {
             None => Ok(false),
@@ -216,7 +220,8 @@ impl Views {
     /// The invitation ends with these members.
     fn fix_as(&mut self, members: Sites, effects: &mut Effects) -> Result<(), NoMemory>
         requires { self.old.monitor ≡ None }
-        ensures { OnOk result (viewed self.new effects.new ≡ fixing (self.old.promise, members) (viewed self.old effects.old)) }
+        ensures row { OnOk result (viewed self.new effects.new ≡ fixing (self.old.promise, members) (viewed self.old effects.old)) }
+        ensures id { self.new.id ≡ self.old.id }
     {
         let others = others_of(&members, self.id)?;
         let message = Message::ViewCommit {
@@ -232,6 +237,7 @@ impl Views {
     pub fn on_commit(&mut self, view: &View) -> Result<bool, NoMemory>
         ensures joined { IfOk result (λ joined. joined ≡ joins view.now self.old) }
         ensures views { OnOk result (self.new ≡ (if joins view.now self.old then change (with_view view.now) self.old else self.old)) }
+        ensures id { self.new.id ≡ self.old.id }
     {
         if self.standing.is_waiting()
             && self.promise == view.id
@@ -298,7 +304,8 @@ impl Views {
 
     /// A probe of the site has come.
     pub fn heard(&mut self, site: SiteId) -> Result<(), NoMemory>
-        ensures { OnOk result (self.new ≡ hearing site self.old) }
+        ensures row { OnOk result (self.new ≡ hearing site self.old) }
+        ensures id { self.new.id ≡ self.old.id }
     {
         self.standing.hear(site)
     }
@@ -318,7 +325,8 @@ impl Views {
 
     /// Probes every other site of the catalogue for the held view, where there is one; who answers is heard from here on.
     pub fn probe(&mut self, catalog: &Catalog, effects: &mut Effects) -> Result<(), NoMemory>
-        ensures { OnOk result (viewed self.new effects.new ≡ probing catalog.now (viewed self.old effects.old)) }
+        ensures row { OnOk result (viewed self.new effects.new ≡ probing catalog.now (viewed self.old effects.old)) }
+        ensures id { self.new.id ≡ self.old.id }
     {
         match self.standing.listen() {
             None => Ok(()),

@@ -1,0 +1,266 @@
+//! What a site does for the transactions of other sites.
+
+ghost use Rattle.std.specs.Prelude.{◌≡◌, OnOk, IfOk, IfSome, is_some, if◌then◌else◌};
+ghost use Rattle.vp_base.specs.declared.entry.Owner.TheVariants as owner;
+ghost use Rattle.vp_base.specs.declared.message.Message.TheVariants as message;
+ghost use Rattle.vp_model.specs.Words.{◌|>◌, keys};
+ghost use Rattle.vp_model.specs.Durable.{doubt_of};
+ghost use Rattle.vp_model.specs.Locks.{with_lock, without_owner};
+ghost use Rattle.vp_model.specs.Site.{send, change_locks, change_participant};
+ghost use Rattle.vp_model.specs.Messages.{holds_view, with_part, refuse_view, on_read_request, on_write_request, on_prepare, end_doubt, with_ended, acknowledge, on_outcome};
+ghost use Rattle.vp_participant.specs.Doubts.{doubt_ended};
+ghost use Rattle.vp_participant.specs.Refusals.{lock_refusal, lock_refused};
+ghost use Rattle.vp_site.specs.Requests.{asked};
+ghost use Rattle.vp_site.specs.Ballots.{told};
+
+use crate::stepped::Stepped;
+use vp_base::{
+    CallNo, LogRecord, Message, NoMemory, Obstacle, RecId, Recs, SiteId, TxnId, ViewId, Writes,
+};
+use vp_catalog::Catalog;
+use vp_lists::write_copies;
+use vp_participant::{PartFault, PrepareFault, Settled, Voted};
+
+/// A transaction's request for a lock on a record, in its view, as its call of this number.
+#[derive(Clone, Copy, Drop)]
+pub struct Request {
+    pub txn: TxnId,
+    pub view: ViewId,
+    pub number: CallNo,
+    pub rec: RecId,
+}
+
+impl Request {
+    pub fn new(txn: TxnId, view: ViewId, number: CallNo, rec: RecId) -> Request
+        ensures { result ≡ record { txn = txn; view = view; number = number; rec = rec } }
+    {
+        Request {
+            txn,
+            view,
+            number,
+            rec,
+        }
+    }
+}
+
+/// What a transaction asks its part to vote on: what it read and what it writes here.
+#[derive(Clone, Copy, Drop)]
+pub struct Prepare<'a> {
+    pub txn: TxnId,
+    pub view: ViewId,
+    pub number: CallNo,
+    pub reads: &'a Recs,
+    pub writes: &'a Writes,
+}
+
+impl Stepped {
+    fn refuse(
+        &mut self,
+        txn: TxnId,
+        number: CallNo,
+        why: Obstacle,
+        to: SiteId,
+    ) -> Result<(), NoMemory>
+        ensures { OnOk result (self.new ≡ send (message.Refuse txn number why) to self.old) }
+    {
+        self.send(to, Message::Refuse { txn, number, why })
+    }
+
+    /// The site holds another view than the transaction's, or none.
+    fn refuse_view(&mut self, txn: TxnId, number: CallNo, to: SiteId) -> Result<(), NoMemory>
+        ensures { OnOk result (self.new ≡ refuse_view txn number to self.old) }
+    {
+        let now = self.held_id();
+        self.refuse(txn, number, Obstacle::OtherView { now }, to)
+    }
+
+    /// The transaction gets the lock and a part here.
+    fn lock(&mut self, request: &Request, exclusive: bool) -> Result<(), PartFault>
+        ensures told { lock_refused result ≡ lock_refusal self.old.site.held request.now.txn request.now.view request.now.rec exclusive self.old.site.participant self.old.site.locks }
+        ensures granted { OnOk result (self.new ≡ self.old |> change_locks (with_lock request.now.rec exclusive (owner.Txn request.now.txn)) |> change_participant (with_part request.now.txn request.now.view)) }
+        ensures refused { IfSome (lock_refused result) (λ why. self.new ≡ self.old) }
+    {
+        let site = &mut self.site;
+        let locks = &mut site.here.locks;
+        let held = site.views.held();
+        let Request { txn, view, rec, .. } = *request;
+        if exclusive {
+            site.participant.write_request(locks, held, txn, view, rec)
+        } else {
+            site.participant.read_request(locks, held, txn, view, rec)
+        }
+    }
+
+    /// The answer goes to the site that asks where the lock is granted.
+    #[tactic(auto, unfolding(vp_model::specs::Messages::grant))]
+    fn grant(
+        &mut self,
+        request: &Request,
+        exclusive: bool,
+        answer: Message,
+        from: SiteId,
+    ) -> Result<(), NoMemory>
+        ensures { OnOk result (self.new ≡ asked request.now exclusive answer from self.old) }
+    {
+        let why = match self.lock(request, exclusive) {
+            Ok(()) => return self.send(from, answer),
+            Err(PartFault::Ended) => return Ok(()),
+            Err(PartFault::NoMemory) => return Err(NoMemory),
+            Err(PartFault::OtherView { now }) => Obstacle::OtherView { now },
+            Err(PartFault::Held { owner }) => Obstacle::Held { owner },
+        };
+        self.refuse(request.txn, request.number, why, from)
+    }
+
+    /// There is no copy of the record here.
+    fn pass_over(&mut self, request: &Request, from: SiteId) -> Result<(), NoMemory>
+        ensures { OnOk result (self.new ≡ (if holds_view self.old.site request.now.view then self.old else refuse_view request.now.txn request.now.number from self.old)) }
+    {
+        if self.holds_view(request.view) {
+            return Ok(());
+        }
+        self.refuse_view(request.txn, request.number, from)
+    }
+
+    /// Another site asks for a shared lock on its copy of the record here, and for the value.
+    #[tactic(auto, unfolding(vp_model::specs::Messages::on_read_request, vp_model::specs::Messages::on_request, vp_model::specs::Messages::lock_copy))]
+    pub fn on_read_request(&mut self, from: SiteId, request: &Request) -> Result<(), NoMemory>
+        ensures { OnOk result (self.new ≡ on_read_request from request.now.txn request.now.view request.now.number request.now.rec self.old) }
+    {
+        let Request { txn, number, .. } = *request;
+        match self.copy_here(request.rec)? {
+            None => self.pass_over(request, from),
+            Some(stored) => {
+                let value = stored.value;
+                self.grant(request, false, Message::ReadAnswer { txn, number, value }, from)
+            }
+        }
+    }
+
+    /// Another site asks for an exclusive lock on the copy of the record here.
+    #[tactic(auto, unfolding(vp_model::specs::Messages::on_write_request, vp_model::specs::Messages::on_request, vp_model::specs::Messages::lock_copy))]
+    pub fn on_write_request(&mut self, from: SiteId, request: &Request) -> Result<(), NoMemory>
+        ensures { OnOk result (self.new ≡ on_write_request from request.now.txn request.now.view request.now.number request.now.rec self.old) }
+    {
+        let Request { txn, number, .. } = *request;
+        match self.copy_here(request.rec)? {
+            None => self.pass_over(request, from),
+            Some(_) => self.grant(request, true, Message::WriteAnswer { txn, number }, from),
+        }
+    }
+
+    /// A vote that the part has given.
+    fn cast(&mut self, txn: TxnId, voted: Voted, from: SiteId) -> Result<(), NoMemory>
+        ensures { OnOk result (self.new ≡ told txn from voted self.old) }
+    {
+        match voted {
+            Voted::Silent => Ok(()),
+            Voted::Yes { forced } => {
+                if let Some(entry) = forced {
+                    self.force(entry)?;
+                }
+                self.send(from, Message::Vote { txn })
+            }
+        }
+    }
+
+    /// A transaction asks for the vote of its part here.
+    #[tactic(auto, unfolding(vp_model::specs::Messages::on_prepare), using(crate::proofs::Voting::prepare_row))]
+    pub fn on_prepare(&mut self, from: SiteId, asked: &Prepare<'_>) -> Result<(), NoMemory>
+        ensures { OnOk result (self.new ≡ on_prepare from asked.now.txn asked.now.view asked.now.number asked.now.reads.now asked.now.writes.now self.old) }
+    {
+        let site = &mut self.site;
+        let voted = site.participant.prepare(
+            &site.here.locks,
+            site.views.held(),
+            asked.txn,
+            asked.view,
+            asked.reads,
+            asked.writes,
+        );
+        match voted {
+            Ok(voted) => self.cast(asked.txn, voted, from),
+            Err(PrepareFault::Ended) => Ok(()),
+            Err(PrepareFault::NoMemory) => Err(NoMemory),
+            Err(PrepareFault::OtherView { now }) => self.refuse(
+                asked.txn,
+                asked.number,
+                Obstacle::OtherView { now },
+                from,
+            ),
+        }
+    }
+
+    /// The part of the transaction ends, with its locks.
+    fn end_here(&mut self, txn: TxnId, commit: bool) -> Result<Settled, NoMemory>
+        ensures part { OnOk result (self.new ≡ self.old |> change_participant (with_ended (is_some self.old.site.held) txn) |> change_locks (without_owner (owner.Txn txn))) }
+        ensures doubt { IfOk result (λ settled. settled.doubt ≡ doubt_ended txn self.old.site.doubts) }
+    {
+        let site = &mut self.site;
+        let held = site.views.held();
+        site.participant
+            .outcome(&mut site.here.locks, held, txn, commit)
+    }
+
+    /// What the transaction was in doubt of ends: a commit makes its writes copies.
+    fn end_doubt(
+        &mut self,
+        txn: TxnId,
+        commit: bool,
+        doubt: &(ViewId, Writes),
+    ) -> Result<(), NoMemory>
+        ensures { OnOk result (self.new ≡ end_doubt txn commit (record { txn = txn; view = doubt.now.0; writes = doubt.now.1 }) self.old) }
+    {
+        if commit {
+            write_copies(
+                &mut self.site.here.copies,
+                &doubt.0,
+                doubt.1.as_slice(),
+            )?;
+        }
+        self.force(LogRecord::Outcome { txn, commit })
+    }
+
+    /// A commit is acknowledged to the site that decided it.
+    fn acknowledge(&mut self, from: SiteId, txn: TxnId, commit: bool) -> Result<(), NoMemory>
+        ensures { OnOk result (self.new ≡ acknowledge from txn commit self.old) }
+    {
+        if commit {
+            self.send(from, Message::Ack { txn })
+        } else {
+            Ok(())
+        }
+    }
+
+    /// The outcome of a transaction comes: the records that it was in doubt of may end their refresh.
+    #[tactic(auto, unfolding(vp_model::specs::Messages::on_outcome, vp_model::specs::Messages::end_part, vp_model::specs::Messages::end_here))]
+    pub fn on_outcome(
+        &mut self,
+        catalog: &Catalog,
+        from: SiteId,
+        txn: TxnId,
+        commit: bool,
+    ) -> Result<(), NoMemory>
+        ensures { OnOk result (self.new ≡ on_outcome catalog.now from txn commit self.old) }
+    {
+        match self.end_here(txn, commit)?.doubt {
+            None => self.acknowledge(from, txn, commit),
+            Some(doubt) => {
+                self.end_doubt(txn, commit, &doubt)?;
+                self.acknowledge(from, txn, commit)?;
+                self.settle_all(catalog, &recs_of(&doubt.1)?)
+            }
+        }
+    }
+}
+
+/// The records that are written.
+fn recs_of(writes: &Writes) -> Result<Vec<RecId>, NoMemory>
+    ensures { IfOk result (λ recs. recs.items ≡ keys writes.now) }
+{
+    Ok(writes
+        .as_slice()
+        .iter()
+        .map(|write| write.0)
+        .collect(writes.allocator())?)
+}

@@ -1,0 +1,227 @@
+//! How the copies of a site are refreshed in the view that it holds.
+
+ghost use Rattle.std.specs.Prelude.{◌≡◌, ◌&&◌, not, false, OnOk, IfOk, option_map};
+ghost use Rattle.std.specs.Option.{option_map_or};
+ghost use Rattle.vp_model.specs.Words.{◌|>◌, for_some, has, is_empty, replace_at};
+ghost use Rattle.vp_model.specs.Refresh.{is_doubtful, is_open, refreshing_of, unanswered, newest, take_newer, unlist, settle, settle_all, start_refresh, start_refresh_all};
+ghost use Rattle.vp_model.specs.Views.{usable_here, refresh_here};
+ghost use Rattle.vp_model.specs.Messages.{on_refresh_request, on_refresh_answer};
+
+use crate::stepped::Stepped;
+use std::mem;
+use vp_base::{
+    Copies, CopyOf, LogRecord, Message, NoMemory, RecId, SiteId, Sites, Stored, View, ViewId,
+};
+use vp_catalog::{Catalog, has_site, members_of};
+use vp_lists::{replace_at, view_comes_before};
+
+/// The copy of another site, as it answers to a refresh in the view.
+#[derive(Clone, Copy, Drop)]
+pub struct RefreshAnswer<'a> {
+    pub view: ViewId,
+    pub rec: RecId,
+    pub stored: &'a Stored,
+}
+
+impl Stepped {
+    /// Whether a transaction in doubt here writes the record.
+    fn is_doubtful(&self, rec: RecId) -> bool
+        ensures { result ≡ is_doubtful self.now.site rec }
+    {
+        self.site.participant.doubts(rec)
+    }
+
+    /// The other holders in the view that have not answered for the copy under refresh.
+    fn unanswered(&self, catalog: &Catalog, rec: RecId) -> Result<Option<Sites>, NoMemory>
+        ensures { IfOk result (λ sites. sites ≡ option_map (unanswered catalog.now self.now.site) (refreshing_of rec self.now.site.refresh)) }
+    {
+        let site = &self.site;
+        site.refresh
+            .missing(catalog, self.id(), site.views.held(), rec)
+    }
+
+    /// Whether the copy is under refresh, and the site has been asked and has not answered.
+    fn awaits(&self, catalog: &Catalog, rec: RecId, from: SiteId) -> Result<bool, NoMemory>
+        ensures { IfOk result (λ awaits. awaits ≡ option_map_or (λ r. has (unanswered catalog.now self.now.site r) from) (refreshing_of rec self.now.site.refresh) false) }
+    {
+        Ok(match self.unanswered(catalog, rec)? {
+            None => false,
+            Some(missing) => has_site(missing.as_slice(), from),
+        })
+    }
+
+    /// Whether the copy is under refresh, and no answer is missing.
+    fn has_all_answers(&self, catalog: &Catalog, rec: RecId) -> Result<bool, NoMemory>
+        ensures { IfOk result (λ all. all ≡ option_map_or (λ r. is_empty (unanswered catalog.now self.now.site r)) (refreshing_of rec self.now.site.refresh) false) }
+    {
+        Ok(match self.unanswered(catalog, rec)? {
+            None => false,
+            Some(missing) => missing.as_slice().is_empty(),
+        })
+    }
+
+    /// A copy that is newer than the own one takes its place.
+    #[tactic(auto, unfolding(vp_model::specs::Refresh::take_newer))]
+    fn take_newer(&mut self, rec: RecId, own: &Stored, best: Stored) -> Result<(), NoMemory>
+        ensures { OnOk result (self.new ≡ take_newer rec own.now best self.old) }
+    {
+        if !view_comes_before(&own.date, &best.date) {
+            return Ok(());
+        }
+        replace_copy(&mut self.site.here.copies, rec, &best)?;
+        self.force(LogRecord::Copy { rec, stored: best })
+    }
+
+    /// The record is unlocked, and no more under refresh.
+    #[tactic(auto, unfolding(vp_model::specs::Refresh::unlist))]
+    fn unlist(&mut self, rec: RecId)
+        ensures { self.new ≡ unlist rec self.old }
+    {
+        self.site.here.locks.unguard(rec);
+        self.site.refresh.unlist(rec);
+    }
+
+    /// The refresh of the copy ends with the newest of the own copy and the answers.
+    fn end_refresh(&mut self, rec: RecId, own: &Stored) -> Result<(), NoMemory>
+        ensures { OnOk result (self.new ≡ for_some (refreshing_of rec self.old.site.refresh) (λ r o. o |> take_newer rec own.now (newest own.now r.answers) |> unlist rec) self.old) }
+    {
+        match self.site.refresh.newest(rec, own)? {
+            None => Ok(()),
+            Some(best) => {
+                self.take_newer(rec, own, best)?;
+                self.unlist(rec);
+                Ok(())
+            }
+        }
+    }
+
+    /// The refresh of the copy ends where every other holder in the view has answered and no transaction in doubt writes the
+    /// record.
+    #[tactic(auto, unfolding(vp_model::specs::Refresh::settle, vp_model::specs::Refresh::settle_one, vp_model::specs::Refresh::end_refresh), using(crate::proofs::Refreshes::refreshing_rec))]
+    fn settle(&mut self, catalog: &Catalog, rec: RecId) -> Result<(), NoMemory>
+        ensures { OnOk result (self.new ≡ settle catalog.now rec self.old) }
+    {
+        if !self.has_all_answers(catalog, rec)? || self.is_doubtful(rec) {
+            return Ok(());
+        }
+        match self.copy_here(rec)? {
+            None => Ok(()),
+            Some(own) => self.end_refresh(rec, &own),
+        }
+    }
+
+    pub fn settle_all(&mut self, catalog: &Catalog, recs: &[RecId]) -> Result<(), NoMemory>
+        ensures { OnOk result (self.new ≡ settle_all catalog.now recs.now self.old) }
+    {
+        for rec in recs {
+            self.settle(catalog, *rec)?;
+        }
+        Ok(())
+    }
+
+    /// The copy is locked, and the other holders in the view are asked.
+    #[tactic(auto, unfolding(vp_model::specs::Refresh::start_refresh))]
+    fn start_refresh(&mut self, catalog: &Catalog, view: &View, rec: RecId) -> Result<(), NoMemory>
+        ensures { OnOk result (self.new ≡ start_refresh catalog.now view.now rec self.old) }
+    {
+        let id = self.id();
+        let site = &mut self.site;
+        site.here.locks.guard(rec)?;
+        site.refresh.begin(rec)?;
+        let others = catalog.other_holders(id, site.views.held(), rec)?;
+        let request = Message::RefreshRequest { view: view.id, rec };
+        self.effects.send_all(id, others.as_slice(), &request)
+    }
+
+    fn start_refresh_all(
+        &mut self,
+        catalog: &Catalog,
+        view: &View,
+        recs: &[RecId],
+    ) -> Result<(), NoMemory>
+        ensures { OnOk result (self.new ≡ start_refresh_all catalog.now view.now recs.now self.old) }
+    {
+        for rec in recs {
+            self.start_refresh(catalog, view, *rec)?;
+        }
+        Ok(())
+    }
+
+    fn is_open(&self, catalog: &Catalog, rec: RecId) -> bool
+        ensures { result ≡ is_open catalog.now self.now.site rec }
+    {
+        let none = Sites::new(catalog.sites().allocator());
+        catalog.accessible(rec, members_of(self.site.views.held(), &none))
+    }
+
+    /// The records with a copy here that may be used in the held view.
+    fn usable_here(&self, catalog: &Catalog) -> Result<Vec<RecId>, NoMemory>
+        ensures { IfOk result (λ recs. recs.items ≡ usable_here catalog.now self.now.site) }
+    {
+        let copies = &self.site.here.copies;
+        Ok(copies
+            .as_slice()
+            .iter()
+            .map(|copy| copy.0)
+            .filter(|rec| self.is_open(catalog, *rec))
+            .collect(copies.allocator())?)
+    }
+
+    /// The copies are refreshed before they are used in the view.
+    #[tactic(auto, unfolding(vp_model::specs::Views::refresh_here))]
+    pub fn refresh_here(&mut self, catalog: &Catalog, view: &View) -> Result<(), NoMemory>
+        ensures { OnOk result (self.new ≡ refresh_here catalog.now view.now self.old) }
+    {
+        let recs = self.usable_here(catalog)?;
+        self.start_refresh_all(catalog, view, &recs)?;
+        self.settle_all(catalog, &recs)
+    }
+
+    /// Another site asks for the copy of the record, to refresh its own.
+    #[tactic(auto, unfolding(vp_model::specs::Messages::on_refresh_request))]
+    pub fn on_refresh_request(
+        &mut self,
+        from: SiteId,
+        view: ViewId,
+        rec: RecId,
+    ) -> Result<(), NoMemory>
+        ensures { OnOk result (self.new ≡ on_refresh_request from view rec self.old) }
+    {
+        if !self.holds_view(view) || self.is_doubtful(rec) {
+            return Ok(());
+        }
+        match self.copy_here(rec)? {
+            None => Ok(()),
+            Some(stored) => self.send(from, Message::RefreshAnswer { view, rec, stored }),
+        }
+    }
+
+    /// The copy of another site comes.
+    #[tactic(auto, unfolding(vp_model::specs::Messages::on_refresh_answer))]
+    pub fn on_refresh_answer(
+        &mut self,
+        catalog: &Catalog,
+        from: SiteId,
+        answer: &RefreshAnswer<'_>,
+    ) -> Result<(), NoMemory>
+        ensures { OnOk result (self.new ≡ on_refresh_answer catalog.now from answer.now.view answer.now.rec answer.now.stored.now self.old) }
+    {
+        let rec = answer.rec;
+        if !self.holds_view(answer.view) || !self.awaits(catalog, rec, from)? {
+            return Ok(());
+        }
+        self.site.refresh.on_answer(from, rec, answer.stored)?;
+        self.settle(catalog, rec)
+    }
+}
+
+/// The copy of the record is replaced, where there is one. Without memory some copies may be lost.
+fn replace_copy(copies: &mut Copies, rec: RecId, stored: &Stored) -> Result<(), NoMemory>
+    ensures { OnOk result (copies.new ≡ replace_at rec stored.now copies.old) }
+{
+    let none = Copies::new(copies.allocator());
+    let mut items = mem::replace(copies, none).into_vec();
+    replace_at(&mut items, rec, stored)?;
+    *copies = Copies::from_vec(items);
+    Ok(())
+}
