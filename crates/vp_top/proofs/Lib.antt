@@ -1,3 +1,4 @@
 pub mod Ending
 pub mod Turns
 pub mod Values
+pub mod Replays

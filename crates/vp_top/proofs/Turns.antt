@@ -5,17 +5,21 @@ use Rattle.std.proofs.lemmas.List.{map-append}
 use Rattle.std.proofs.lemmas.List.Folds.{list_any-append, find-append}
 use Rattle.std.proofs.Math.Seq.{drop-append_seam}
 use Rattle.std.proofs.lemmas.Grind.{flat_map-append}
-use Rattle.std.specs.Prelude.{Option, Some, None, is_some, not, ◌-◌, ◌||◌, find, take, option_and_then, get_or}
+use Rattle.std.specs.Prelude.{Result, Ok, Err, Option, Some, None, is_some, not, ◌-◌, ◌||◌, find, take, option_and_then, get_or}
 use Rattle.std.specs.Option.{option_or}
 use Rattle.std.specs.List.{list_any, before_first, position_or_len, flat_map}
 use Rattle.vp_model.specs.Types.{Event, Line, Counted}
 use Rattle.vp_model.specs.Types.event
 use Rattle.vp_model.specs.Words.{for_some}
 use Rattle.vp_model.specs.Catalogue.{Catalogue}
-use Rattle.vp_model.specs.World.{WorldState, Moment, Run, Schedule, flowing, one_step, flow, one_event, run_from, run_of, start_run, start_world, moments_of}
+use Rattle.vp_model.specs.World.{WorldState, Moment, Run, Schedule, next, flowing, one_step, flow, one_event, run_from, run_of, start_run, start_world, moments_of}
 use Rattle.vp_model.specs.Texts.Trace.{own_line, line_text}
-use Rattle.vp_model.specs.Limits.{world_limits, exceeded, is_over, limit_in, limit_reached, lines_within_from, lines_within, trace_text_within}
-use Rattle.vp_top.specs.Played.{run_in, lines_text, steps_text}
+use Rattle.vp_model.specs.Limits.{world_limits, exceeded, refused, is_over, limit_in, limit_reached, lines_within_from, lines_within, trace_text_within}
+use Rattle.vp_world.specs.Known.{Known}
+use Rattle.vp_world.specs.Limits.{Ends, limit_of}
+use Rattle.vp_world.specs.declared.end.WorldEnd.{WorldEnd}
+use Rattle.vp_world.specs.declared.end.WorldEnd.TheVariants as end
+use Rattle.vp_top.specs.Played.{run_in, lines_text, steps_text, Prints, Plays}
 
 abbrev over : Moment → Bool
 over = is_over world_limits
@@ -342,3 +346,102 @@ module _ (s : Schedule) (i : ℕ) (now : WorldState) (old new : List ℕ) (p : P
             ∙ ap (λ (any : Bool). new ++ lines_text s.catalogue (own_line (i + 1) x ++ (map (λ (m : Moment). (m.number, m.line)) (before_first over added.moments) ++ cond any [] rest_within))) (sym some)
             ∙ printed_after;
       }
+
+-- ---- one step
+
+abbrev pub stepped : Catalogue → ℕ → Event → WorldState → Run
+stepped catalogue n e w = one_step catalogue n e (run_in w)
+
+abbrev pub line_of : Catalogue → Event → WorldState → Line
+line_of catalogue e w = record { event = e; shown = (next catalogue e w).shown }
+
+-- a step that exceeds no limit
+pub step_within : (catalogue : Catalogue) (n : ℕ) (e : Event) (w : WorldState) → refused world_limits catalogue e w ≡ None → list_any over (stepped catalogue n e w).moments ≡ false
+unfolding one_step
+step_within catalogue n e w none = rw none refl
+
+pub step_text : (catalogue : Catalogue) (n : ℕ) (e : Event) (w : WorldState) → steps_text catalogue (stepped catalogue n e w).moments ≡ line_text catalogue (n, line_of catalogue e w)
+unfolding one_step
+step_text catalogue n e w = append-nil (line_text catalogue (n, line_of catalogue e w))
+
+pub step_world : (catalogue : Catalogue) (n : ℕ) (e : Event) (w : WorldState) → (stepped catalogue n e w).world ≡ (next catalogue e w).world
+unfolding one_step
+step_world catalogue n e w = refl
+
+-- a step that exceeds one
+pub step_is_cut : (catalogue : Catalogue) (n : ℕ) (e : Event) (w : WorldState) (counted : Counted) (text : List ℕ) → refused world_limits catalogue e w ≡ Some counted → IsCutShort catalogue (stepped catalogue n e w).moments counted text text
+unfolding one_step
+step_is_cut catalogue n e w counted text some = record { limit = rw some some; printed = rw some (sym (append-nil text)) }
+
+-- what is answered of a step
+pub step_ends : (catalogue : Catalogue) (n : ℕ) (e : Event) (w : WorldState) (why : WorldEnd) (text : List ℕ) → Ends {A = Unit {0}} (refused world_limits catalogue e w) (Err why) → Prints catalogue (stepped catalogue n e w) (Err why) text text
+step_ends catalogue n e w (end.Limit what limit) text h = let cut = step_is_cut catalogue n e w what text h.0 in (cut.limit, h.1, cut.printed)
+step_ends catalogue n e w end.NoMemory text h = tt
+
+pub step_prints : (catalogue : Catalogue) (n : ℕ) (e : Event) (w : WorldState) (known : Known) (line : Line) (old new : List ℕ) → refused world_limits catalogue e w ≡ None → known ≡ record { catalogue = catalogue; world = (next catalogue e w).world } → line ≡ line_of catalogue e w → new ≡ old ++ line_text catalogue (n, line) → Prints catalogue (stepped catalogue n e w) (Ok known) old new
+step_prints catalogue n e w known line old new none is line_is printed = (
+  step_within catalogue n e w none,
+  is ∙ ap (λ (after : WorldState). record { catalogue = catalogue; world = after }) (sym (step_world catalogue n e w)),
+  printed ∙ ap (λ (l : Line). old ++ line_text catalogue (n, l)) line_is ∙ ap (λ t. old ++ t) (sym (step_text catalogue n e w)),
+)
+
+-- ---- what is answered of a flow
+
+module _ (catalogue : Catalogue) (n count : ℕ) (w : WorldState) (i : ℕ) (known : Known) (old new : List ℕ) (same : known.catalogue ≡ catalogue) (so_far : Flowing catalogue n count w i known.world old new) where
+  pub flow_prints : flow catalogue n count (run_in w) ≡ so_far.run → Prints catalogue (flow catalogue n count (run_in w)) (Ok known) old new
+  flow_prints e =
+      subst (λ (run : Run). Prints catalogue run (Ok known) old new) (sym e)
+      (so_far.within, ap (λ c. record { catalogue = c; world = known.world }) same ∙ ap (λ (after : WorldState). record { catalogue = catalogue; world = after }) so_far.world, so_far.printed)
+
+  pub flow_turns_on : (k : ℕ) (after : Known) (text : List ℕ) → i < count → flowing known.world ≡ Some k → Prints known.catalogue (stepped known.catalogue n (event.Deliver k) known.world) (Ok after) new text → (after.catalogue ≡ catalogue) × Flowing catalogue n count w (i + 1) after.world old text
+  flow_turns_on k after text lt some h =
+      let g = subst (λ c. Prints c (stepped c n (event.Deliver k) known.world) (Ok after) new text) same h in
+      let turn = flow_turns catalogue n count w i known.world old new so_far k lt some text g.0 g.2 in
+      (ap (λ (a : Known). a.catalogue) g.1, subst (λ (a : WorldState). Flowing catalogue n count w (i + 1) a old text) (sym (ap (λ (a : Known). a.world) g.1)) (subst (λ j. Flowing catalogue n count w j (stepped catalogue n (event.Deliver k) known.world).world old text) (next_is i) turn))
+    where
+      next_is : (i : ℕ) → suc i ≡ i + 1
+      next_is i = omega arith
+
+  pub flow_ends : (k : ℕ) (why : WorldEnd) (text : List ℕ) → i < count → flowing known.world ≡ Some k → Prints known.catalogue (stepped known.catalogue n (event.Deliver k) known.world) (Err why) new text → Prints catalogue (flow catalogue n count (run_in w)) (Err why) old text
+  flow_ends k (end.Limit what limit) text lt some h =
+      let g = subst (λ c. Prints c (stepped c n (event.Deliver k) known.world) (Err (end.Limit what limit)) new text) same h in
+      let cut = flow_is_cut catalogue n count w i known.world old new so_far k lt some what text g.0 g.2 in
+      (cut.limit, g.1, cut.printed)
+  flow_ends k end.NoMemory text lt some h = tt
+
+-- ---- what is answered of a schedule
+
+pub play_is_over : (s : Schedule) (i : ℕ) (known : Known) (old new : List ℕ) → known.catalogue ≡ s.catalogue → Played s i known.world old new → i ≡ length s.events → Plays s (Ok known) old new
+play_is_over s i known old new same so_far e =
+    let h = play_ends s i known.world old new so_far e in (
+      h.none,
+      ap (λ c. record { catalogue = c; world = known.world }) same ∙ ap (λ (w : WorldState). record { catalogue = s.catalogue; world = w }) h.world,
+      h.printed,
+    )
+
+module _ (s : Schedule) (i number : ℕ) (known : Known) (old new : List ℕ) (same : known.catalogue ≡ s.catalogue) (counted : number ≡ i) (so_far : Played s i known.world old new) (x : Event) (lt : i < length s.events) (at : x ≡ get_or s.events i x) where
+  abbrev pub Answers : Result Known WorldEnd → List ℕ → Type 0
+  Answers result text = Prints known.catalogue (one_event known.catalogue (number + 1) x (run_in known.world)) result (new ++ lines_text known.catalogue (own_line (number + 1) x)) text
+
+  answers_so : (result : Result Known WorldEnd) (text : List ℕ) → Answers result text → Prints s.catalogue (one_event s.catalogue (i + 1) x (run_in known.world)) result (new ++ lines_text s.catalogue (own_line (i + 1) x)) text
+  answers_so result text h =
+      subst (λ j. Prints s.catalogue (one_event s.catalogue (j + 1) x (run_in known.world)) result (new ++ lines_text s.catalogue (own_line (j + 1) x)) text) counted
+      (subst (λ c. Prints c (one_event c (number + 1) x (run_in known.world)) result (new ++ lines_text c (own_line (number + 1) x)) text) same h)
+
+  pub play_goes_on : (after : Known) (text : List ℕ) → Answers (Ok after) text → (after.catalogue ≡ s.catalogue) × Played s (i + 1) after.world old text
+  play_goes_on after text h =
+      let g = answers_so (Ok after) text h in
+      let turn = play_turns s i known.world old new so_far x lt at text g.0 g.2 in (
+        ap (λ (a : Known). a.catalogue) g.1,
+        subst (λ (a : WorldState). Played s (i + 1) a old text) (sym (ap (λ (a : Known). a.world) g.1)) (subst (λ j. Played s j (one_event s.catalogue (i + 1) x (run_in known.world)).world old text) (next_is i) turn),
+      )
+    where
+      next_is : (i : ℕ) → suc i ≡ i + 1
+      next_is i = omega arith
+
+  pub play_is_ended : (why : WorldEnd) (text : List ℕ) → Answers (Err why) text → Plays s (Err why) old text
+  play_is_ended (end.Limit what limit) text h =
+      let g = answers_so (Err (end.Limit what limit)) text h in
+      let ended = play_is_cut s i known.world old new so_far x lt at what text (record { limit = g.0; printed = g.2 }) in
+      (ended.some, g.1, ended.printed)
+  play_is_ended end.NoMemory text h = tt

@@ -11,6 +11,9 @@ use Rattle.vp_world.specs.Limits.{limit_of}
 use Rattle.vp_world.specs.declared.end.WorldEnd.{WorldEnd}
 use Rattle.vp_world.specs.declared.end.WorldEnd.TheVariants as end
 
+abbrev pub schedule_of : Catalogue → List Event → Schedule
+schedule_of catalogue events = record { catalogue = catalogue; events = events }
+
 -- a run that begins in this world
 abbrev pub run_in : WorldState → Run
 run_in w = record { moments = []; world = w }

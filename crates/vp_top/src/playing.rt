@@ -3,7 +3,7 @@
 ghost use Rattle.std.specs.Prelude.{◌≡◌, ◌++◌, ◌≤◌, OnOk, length};
 ghost use Rattle.vp_model.specs.World.{one_step, flow, one_event};
 ghost use Rattle.vp_model.specs.Texts.Trace.{own_line};
-ghost use Rattle.vp_top.specs.Played.{Prints, Plays, run_in, lines_text};
+ghost use Rattle.vp_top.specs.Played.{Prints, Plays, run_in, lines_text, schedule_of};
 
 use vp_base::{Event, Line, NoMemory, Shown};
 use vp_catalog::Catalog;
@@ -19,9 +19,13 @@ fn play_step(
 ) -> Result<World, WorldEnd>
     ensures { Prints world.catalogue (one_step world.catalogue number event.now (run_in world.world)) result out.old.items out.new.items }
 {
-    let (world, line) = world.next(event)?;
-    print_line(number, &line, world.catalog(), out)?;
-    Ok(world)
+    match world.next(event) {
+        Err(end) => Err(end),
+        Ok((world, line)) => {
+            print_line(number, &line, world.catalog(), out)?;
+            Ok(world)
+        }
+    }
 }
 
 /// Delivers up to `count` messages, each time the lowest one that may be delivered and never was, and appends the lines.
@@ -62,6 +66,8 @@ fn print_own_line(
     print_line(number, &line, catalog, out)
 }
 
+/// Does the steps of the event, and appends their lines.
+#[tactic(auto, unfolding(vp_model::specs::World::one_event))]
 fn play_event(
     number: u32,
     event: &Event,
@@ -82,7 +88,7 @@ fn play_event(
 /// in `out`.
 pub fn play(catalog: Catalog, events: &[Event], out: &mut Vec<u8>) -> Result<World, WorldEnd>
     requires { length events.now ≤ 100000 }
-    ensures { Plays (record { catalogue = catalog; events = events.now }) result out.old.items out.new.items }
+    ensures { Plays (schedule_of catalog events.now) result out.old.items out.new.items }
 {
     let mut world = World::new(catalog)?;
     let mut number = 0;

@@ -35,18 +35,23 @@ fn serve(alloc: Global, schedule: Schedule) -> Result<Defined, NoMemory>
 {
     let Schedule { catalog, events } = schedule;
     let mut text = Vec::new(alloc);
-    let status = match play(catalog, events.as_slice(), &mut text) {
+    match play(catalog, events.as_slice(), &mut text) {
         Ok(world) => {
             print_end(alloc, &world, &mut text)?;
-            Status::Done
+            Ok(Defined {
+                status: Status::Done,
+                text,
+            })
         }
         Err(WorldEnd::Limit { limit, .. }) => {
             print_limit(limit, &mut text)?;
-            Status::Limit
+            Ok(Defined {
+                status: Status::Limit,
+                text,
+            })
         }
-        Err(WorldEnd::NoMemory) => return Err(NoMemory),
-    };
-    Ok(Defined { status, text })
+        Err(WorldEnd::NoMemory) => Err(NoMemory),
+    }
 }
 
 /// What is told of an input that is no schedule.
