@@ -1,14 +1,15 @@
 //! A site of the world, up or down.
 
-ghost use Rattle.std.specs.Prelude.{◌≡◌, ◌==◌, ◌-◌, ◌^◌, ◌&&◌, not, OnOk, IfOk, is_some, if◌then◌else◌, option_map, option_to_list, option_copied, Some, None};
+ghost use Rattle.std.specs.Prelude.{◌≡◌, ◌==◌, ◌-◌, ◌^◌, ◌&&◌, not, OnOk, IfOk, is_some, if◌then◌else◌, option_map, option_to_list, option_copied, option_and_then, Some, None};
 ghost use Rattle.std.specs.Option.{option_map_or};
 ghost use Rattle.vp_model.specs.Durable.{apply_all};
+ghost use Rattle.vp_model.specs.Generated.{newest};
 ghost use Rattle.vp_model.specs.Step.{step};
 ghost use Rattle.vp_model.specs.World.{start_place, after_step};
 ghost use Rattle.vp_world.specs.Steps.{newly_agreed, taken, stepped_place, BeginsLife, crashed_place, restarted_place, restart_line};
 
 use std::marker::Model;
-use vp_base::{CopyOf, Effects, Input, LogRecord, NoMemory, Shown, SiteId, View, ViewId};
+use vp_base::{CopyOf, Effects, Input, LogRecord, Newest, NoMemory, Shown, SiteId, View, ViewId};
 use vp_catalog::Catalog;
 use vp_lists::is_same_view;
 use vp_records::Durable;
@@ -87,6 +88,16 @@ impl Place {
         ensures { result ≡ is_some self.now.up }
     {
         self.up.is_some()
+    }
+
+    /// The newest live transaction of the site, where it is up and has one.
+    pub fn newest(&self) -> Option<Newest>
+        ensures { result ≡ option_and_then (λ site. newest site.live) self.now.up }
+    {
+        match &self.up {
+            None => None,
+            Some(site) => site.newest(),
+        }
     }
 
     /// The site goes down.

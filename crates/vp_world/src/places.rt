@@ -1,10 +1,11 @@
 //! The sites of the world.
 
-ghost use Rattle.std.specs.Prelude.{◌≡◌, ◌==◌, ◌<◌, OnOk, IfOk, IfSome, is_some, if◌then◌else◌, length, map, option_map, option_copied, None};
+ghost use Rattle.std.specs.Prelude.{◌≡◌, ◌==◌, ◌<◌, OnOk, IfOk, IfSome, is_some, if◌then◌else◌, length, map, option_map, option_copied, option_and_then, None};
 ghost use Rattle.std.specs.Option.{option_map_or};
 ghost use Rattle.std.specs.List.{position};
 ghost use Rattle.vp_base.specs.declared.event.Shown.TheVariants as shown;
 ghost use Rattle.vp_model.specs.Catalogue.{sites_of};
+ghost use Rattle.vp_model.specs.Generated.{newest};
 ghost use Rattle.vp_model.specs.Step.{step};
 ghost use Rattle.vp_model.specs.World.{start_place, place_of, change_place};
 ghost use Rattle.vp_world.specs.Steps.{site_in, taken, stepped_place, crashed_place, restarted_place, restart_line};
@@ -12,7 +13,7 @@ ghost use Rattle.vp_world.specs.Steps.{site_in, taken, stepped_place, crashed_pl
 use crate::place::{Place, Taken};
 use std::alloc::Global;
 use std::marker::Model;
-use vp_base::{Input, NoMemory, Shown, SiteId};
+use vp_base::{Input, Newest, NoMemory, Shown, SiteId};
 use vp_catalog::Catalog;
 use vp_site::StartFault;
 
@@ -117,6 +118,16 @@ impl Places {
         match find_place(&self.items, id) {
             None => false,
             Some(place) => place.is_up(),
+        }
+    }
+
+    /// The newest live transaction of the site, where it is up and has one.
+    pub fn newest(&self, id: SiteId) -> Option<Newest>
+        ensures { result ≡ option_and_then (λ site. newest site.live) (site_in id self.now) }
+    {
+        match find_place(&self.items, id) {
+            None => None,
+            Some(place) => place.newest(),
         }
     }
 

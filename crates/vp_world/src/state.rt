@@ -1,11 +1,12 @@
 //! What the world keeps, and what an event does to it.
 
-ghost use Rattle.std.specs.Prelude.{◌≡◌, ◌≤◌, ◌<◌, ◌+◌, ◌++◌, ◌∷◌, [], OnOk, IfOk, IsSome, Some, None, is_some, if◌then◌else◌, length, map, option_to_list};
+ghost use Rattle.std.specs.Prelude.{◌≡◌, ◌≤◌, ◌<◌, ◌+◌, ◌++◌, ◌∷◌, [], OnOk, IfOk, IsSome, Some, None, is_some, if◌then◌else◌, length, map, option_to_list, option_and_then};
 ghost use Rattle.vp_base.specs.declared.event.Event.TheVariants as event;
 ghost use Rattle.vp_base.specs.declared.event.Input.TheVariants as input;
 ghost use Rattle.vp_base.specs.declared.event.Shown.TheVariants as shown;
 ghost use Rattle.vp_model.specs.Catalogue.{Catalogue};
-ghost use Rattle.vp_model.specs.World.{start_world, flowing, message_at, is_cut, shows, at_site, deliver, crash, cut, heal, restart, happens, next};
+ghost use Rattle.vp_model.specs.Generated.{newest};
+ghost use Rattle.vp_model.specs.World.{start_world, site_of, flowing, message_at, is_cut, shows, at_site, deliver, crash, cut, heal, restart, happens, next};
 ghost use Rattle.vp_model.specs.Limits.{world_limits, refused};
 ghost use Rattle.vp_world.specs.Limits.{Ends, Does, too_many, too_many_steps};
 ghost use Rattle.vp_world.specs.Known.{message_in, IsWithinLimits};
@@ -20,7 +21,7 @@ use crate::places::Places;
 use std::alloc::Global;
 use std::marker::Model;
 use vp_base::{
-    Call, Commit, Commits, CopyOf, Counted, Effects, Event, Input, NoMemory, Sent, Shown, SiteId,
+    Call, Commit, Commits, CopyOf, Counted, Effects, Event, Input, Newest, NoMemory, Sent, Shown, SiteId,
     View, ViewId,
 };
 use vp_catalog::Catalog;
@@ -138,6 +139,13 @@ impl State {
         ensures { result.now ≡ self.now.journal }
     {
         &self.journal
+    }
+
+    /// The newest live transaction of the site, where it is up and has one.
+    pub fn newest(&self, site: SiteId) -> Option<Newest>
+        ensures { result ≡ option_and_then (λ site. newest site.live) (site_of self.now site) }
+    {
+        self.places.newest(site)
     }
 
     /// Whether the receiver of the pair is up and the pair is not cut.

@@ -1,14 +1,15 @@
 //! The world of a schedule.
 
-ghost use Rattle.std.specs.Prelude.{◌≡◌, IfOk};
+ghost use Rattle.std.specs.Prelude.{◌≡◌, IfOk, option_and_then};
 ghost use Rattle.vp_model.specs.Limits.{world_limits, refused};
-ghost use Rattle.vp_model.specs.World.{start_world, next, flowing};
+ghost use Rattle.vp_model.specs.Generated.{newest};
+ghost use Rattle.vp_model.specs.World.{start_world, site_of, next, flowing};
 ghost use Rattle.vp_world.specs.Limits.{Ends};
 
 use crate::end::WorldEnd;
 use crate::state::State;
 use std::marker::Model;
-use vp_base::{Commits, CopyOf, Event, Line, NoMemory};
+use vp_base::{Commits, CopyOf, Event, Line, Newest, NoMemory, SiteId};
 use vp_catalog::Catalog;
 
 /// The sites of a catalogue, with their messages.
@@ -59,6 +60,13 @@ impl World {
         ensures { result ≡ flowing self.now.world }
     {
         self.state.flowing()
+    }
+
+    /// The newest live transaction of the site: none where the site is down or has no live one.
+    pub fn newest(&self, site: SiteId) -> Option<Newest>
+        ensures { result ≡ option_and_then (λ site. newest site.live) (site_of self.now.world site) }
+    {
+        self.state.newest(site)
     }
 
     /// The transactions that were committed, in the order of the steps.
