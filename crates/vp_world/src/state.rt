@@ -21,8 +21,8 @@ use crate::places::Places;
 use std::alloc::Global;
 use std::marker::Model;
 use vp_base::{
-    Call, Commit, Commits, CopyOf, Counted, Effects, Event, Input, Newest, NoMemory, Sent, Shown, SiteId,
-    View, ViewId,
+    Call, Commit, Commits, CopyOf, Counted, Effects, Event, Input, Newest, NoMemory, Sent, Shown,
+    SiteId, View, ViewId,
 };
 use vp_catalog::Catalog;
 
