@@ -11,6 +11,8 @@ mod parts;
 mod refresh;
 mod site;
 mod stepped;
+#[cfg(test)]
+mod tests;
 mod tick;
 mod views;
 
