@@ -16,4 +16,6 @@ pub use words::Command;
 #[cfg(test)]
 mod tests;
 #[cfg(test)]
-mod worked_tests;
+mod transaction_tests;
+#[cfg(test)]
+mod view_tests;
