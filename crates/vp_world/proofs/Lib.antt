@@ -4,3 +4,4 @@ pub mod Limited
 pub mod Waiting
 pub mod Least
 pub mod Queued
+pub mod Rising

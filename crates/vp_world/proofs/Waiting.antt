@@ -3,7 +3,7 @@ use Rattle.std.proofs.Common.{◌≡◌, ◌≤◌, ◌<◌, ◌+◌, ◌==◌, 
 use Rattle.std.proofs.lemmas.Bool.Decides.{nat_tests}
 use Rattle.vp_model.specs.Types.{Sent}
 use Rattle.vp_model.specs.Words.{has, first}
-use Rattle.vp_world.specs.Queues.{pair_of, waiting, without, IsOnce}
+use Rattle.vp_world.specs.Queues.{pair_of, waiting, without}
 
 has_push : (D : List ℕ) (k j : ℕ) → has (D ++ k ∷ []) j ≡ (has D j || (k == j))
 has_push [] k j = grind (arith, nat_tests)
@@ -35,16 +35,6 @@ module _ (pair : ℕ) where
       let other : (k == m) ≡ false = grind (arith, nat_tests, h) in
       rw (has_other D k m other, fresh D k (m + 1) xs (omega arith)) refl
 
-  above : (D : List ℕ) (n : ℕ) (xs : List Sent) (k : ℕ) → k < n → without k (waiting pair D n xs) ≡ waiting pair D n xs
-  above D n [] k h = refl
-  above D n (s ∷ xs) k h =
-      let other : (n == k) ≡ false = grind (arith, nat_tests, h) in
-      above_cases ((pair_of s.from s.to == pair) && not (has D n)) n k _ other (above D (n + 1) xs k (omega arith))
-    where
-      above_cases : (b : Bool) (n k : ℕ) (w : List ℕ) → (n == k) ≡ false → without k w ≡ w → without k (if b then n ∷ w else w) ≡ (if b then n ∷ w else w)
-      above_cases true n k w other e = rw (other, e) refl
-      above_cases false n k w other e = e
-
   -- a message of the pair is delivered
   pub delivered_without : (D : List ℕ) (k n : ℕ) (xs : List Sent) → waiting pair (D ++ k ∷ []) n xs ≡ without k (waiting pair D n xs)
   delivered_without D k n [] = refl
@@ -70,19 +60,6 @@ module _ (pair : ℕ) where
   delivered_other D k n (suc i) (x ∷ xs) s at is other =
       let apart : (k == n) ≡ false = grind (arith, nat_tests, is) in
       rw (has_other D k n apart, delivered_other D k (n + 1) i xs s at (omega arith) other) refl
-
-  -- the first one is there once
-  once_cases : (D : List ℕ) (n : ℕ) (xs : List Sent) (k : ℕ) (rest : List ℕ) (b : Bool) → IsOnce k (waiting pair D (n + 1) xs) → (if b then n ∷ waiting pair D (n + 1) xs else waiting pair D (n + 1) xs) ≡ k ∷ rest → without k rest ≡ rest
-  once_cases D n xs k rest true h e =
-      let first_is : n ≡ k = cc in
-      let rest_is : waiting pair D (n + 1) xs ≡ rest = cc in
-      rw (← rest_is) (above D (n + 1) xs k (omega arith))
-  once_cases D n xs k rest false h e = h rest e
-
-  pub once : (D : List ℕ) (n : ℕ) (xs : List Sent) (k : ℕ) → IsOnce k (waiting pair D n xs)
-  once D n [] k rest e = cc
-  once D n (s ∷ xs) k rest e =
-      once_cases D n xs k rest ((pair_of s.from s.to == pair) && not (has D n)) (once D (n + 1) xs k) e
 
   -- none is lower than where they begin
   weaker : (n : ℕ) (o : Option ℕ) → IfSome o (λ j. n + 1 ≤ j) → IfSome o (λ j. n ≤ j)

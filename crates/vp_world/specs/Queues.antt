@@ -19,9 +19,10 @@ waiting pair delivered k (sent ∷ rest) =
 abbrev pub without : ℕ → List ℕ → List ℕ
 without k numbers = filter (λ j. not (j == k)) numbers
 
--- the number is there once, where it comes first
-abbrev pub IsOnce : ℕ → List ℕ → Type 0
-IsOnce k numbers = (rest : List ℕ) → numbers ≡ k ∷ rest → without k rest ≡ rest
+-- the numbers ascend, from n on
+abbrev pub Rises : ℕ → List ℕ → Type 0
+Rises n [] = Unit {0}
+Rises n (k ∷ numbers) = (n ≤ k) × Rises (k + 1) numbers
 
 pub record AreSites (from to : ℕ) : Type 0 where
   pub from_least : 1 ≤ from

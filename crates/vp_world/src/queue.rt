@@ -1,8 +1,8 @@
 //! The messages of a pair of sites that were never delivered.
 
-ghost use Rattle.std.specs.Prelude.{◌≡◌, ◌==◌, ◌++◌, ◌∷◌, [], not, filter, OnOk, OnErr};
+ghost use Rattle.std.specs.Prelude.{◌≡◌, ◌++◌, ◌∷◌, [], OnOk, OnErr};
 ghost use Rattle.vp_model.specs.Words.{first};
-ghost use Rattle.vp_world.specs.Queues.{without, IsOnce};
+ghost use Rattle.vp_world.specs.Queues.{without, Rises};
 
 use std::alloc::Global;
 use std::collections::VecDeque;
@@ -21,12 +21,6 @@ impl Model for Queue {
     ghost Value = { List ℕ };
 
     ghost view = { λ q. q.numbers.items };
-}
-
-fn drop_number(numbers: &mut VecDeque<u32>, number: u32)
-    ensures { numbers.new.items ≡ without number numbers.old.items }
-{
-    numbers.retain(|other| *other != number);
 }
 
 impl Queue {
@@ -53,15 +47,13 @@ impl Queue {
         Ok(())
     }
 
-    /// The message is delivered: mostly it is the first one.
+    /// The message is delivered, for the first time or again: it waits no more.
     pub fn take(&mut self, number: u32)
-        requires { IsOnce number self.old }
+        requires { Rises 1 self.old }
         ensures { self.new ≡ without number self.old }
     {
-        if self.first() == Some(number) {
-            let _ = self.numbers.pop_front();
-        } else {
-            drop_number(&mut self.numbers, number);
+        if let Ok(place) = self.numbers.binary_search(&number) {
+            let _ = self.numbers.remove(place);
         }
     }
 }
