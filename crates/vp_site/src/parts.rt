@@ -132,7 +132,12 @@ impl Stepped {
             None => self.pass_over(request, from),
             Some(stored) => {
                 let value = stored.value;
-                self.grant(request, false, Message::ReadAnswer { txn, number, value }, from)
+                self.grant(
+                    request,
+                    false,
+                    Message::ReadAnswer { txn, number, value },
+                    from,
+                )
             }
         }
     }
@@ -212,11 +217,7 @@ impl Stepped {
         ensures { OnOk result (self.new ≡ end_doubt txn commit (record { txn = txn; view = doubt.now.0; writes = doubt.now.1 }) self.old) }
     {
         if commit {
-            write_copies(
-                &mut self.site.here.copies,
-                &doubt.0,
-                doubt.1.as_slice(),
-            )?;
+            write_copies(&mut self.site.here.copies, &doubt.0, doubt.1.as_slice())?;
         }
         self.force(LogRecord::Outcome { txn, commit })
     }
@@ -258,9 +259,11 @@ impl Stepped {
 fn recs_of(writes: &Writes) -> Result<Vec<RecId>, NoMemory>
     ensures { IfOk result (λ recs. recs.items ≡ keys writes.now) }
 {
-    Ok(writes
-        .as_slice()
-        .iter()
-        .map(|write| write.0)
-        .collect(writes.allocator())?)
+    Ok(
+        writes
+            .as_slice()
+            .iter()
+            .map(|write| write.0)
+            .collect(writes.allocator())?,
+    )
 }

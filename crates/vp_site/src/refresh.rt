@@ -159,12 +159,14 @@ impl Stepped {
         ensures { IfOk result (λ recs. recs.items ≡ usable_here catalog.now self.now.site) }
     {
         let copies = &self.site.here.copies;
-        Ok(copies
-            .as_slice()
-            .iter()
-            .map(|copy| copy.0)
-            .filter(|rec| self.is_open(catalog, *rec))
-            .collect(copies.allocator())?)
+        Ok(
+            copies
+                .as_slice()
+                .iter()
+                .map(|copy| copy.0)
+                .filter(|rec| self.is_open(catalog, *rec))
+                .collect(copies.allocator())?,
+        )
     }
 
     /// The copies are refreshed before they are used in the view.

@@ -37,13 +37,13 @@ impl Model for Site {
     ghost Value = { SiteState };
 
     ghost view = { λ s. record {
-        id = s.coordinator.id;
-        life = s.coordinator.life;
-        views = s.views.views;
-        here = s.here;
-        participant = s.participant;
-        refresh = s.refresh;
-        coordinator = s.coordinator.coordinator;
+      id = s.coordinator.id;
+      life = s.coordinator.life;
+      views = s.views.views;
+      here = s.here;
+      participant = s.participant;
+      refresh = s.refresh;
+      coordinator = s.coordinator.coordinator;
     } };
 
     ghost invariant = { λ s. s.views.id ≡ s.coordinator.id };

@@ -8,7 +8,9 @@ ghost use Rattle.vp_model.specs.Words.{value_at};
 use crate::site::Site;
 use std::alloc::Global;
 use std::marker::Model;
-use vp_base::{Answer, CopyOf, Effects, LogRecord, Message, NoMemory, RecId, SiteId, Stored, ViewId};
+use vp_base::{
+    Answer, CopyOf, Effects, LogRecord, Message, NoMemory, RecId, SiteId, Stored, ViewId,
+};
 use vp_lists::value_at;
 
 /// A site with what its step has given so far. After want of memory both may only be dropped.

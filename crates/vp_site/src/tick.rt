@@ -49,8 +49,7 @@ impl Stepped {
         ensures { OnOk result (self.new ≡ time_out catalog.now view.now self.old) }
     {
         self.time_out_calls()?;
-        self.site
-            .ask_again_all(catalog, view.id, &mut self.effects)
+        self.site.ask_again_all(catalog, view.id, &mut self.effects)
     }
 
     /// The part of a tick that depends on where the site stands among views.

@@ -11,12 +11,7 @@ use vp_schedule::print_line;
 use vp_world::{World, WorldEnd};
 
 /// Does one step, and appends its line.
-fn play_step(
-    number: u32,
-    event: &Event,
-    world: World,
-    out: &mut Vec<u8>,
-) -> Result<World, WorldEnd>
+fn play_step(number: u32, event: &Event, world: World, out: &mut Vec<u8>) -> Result<World, WorldEnd>
     ensures { Prints world.catalogue (one_step world.catalogue number event.now (run_in world.world)) result out.old.items out.new.items }
 {
     match world.next(event) {
@@ -29,12 +24,7 @@ fn play_step(
 }
 
 /// Delivers up to `count` messages, each time the lowest one that may be delivered and never was, and appends the lines.
-fn play_flow(
-    number: u32,
-    count: u32,
-    world: World,
-    out: &mut Vec<u8>,
-) -> Result<World, WorldEnd>
+fn play_flow(number: u32, count: u32, world: World, out: &mut Vec<u8>) -> Result<World, WorldEnd>
     ensures { Prints world.catalogue (flow world.catalogue number count (run_in world.world)) result out.old.items out.new.items }
 {
     let mut world = world;

@@ -134,11 +134,41 @@ fn schedules_of_one_site_are_replayed(rt: HostRuntime) -> Result<(), Fail> {
 #[test]
 fn other_texts_are_no_schedules(rt: HostRuntime) -> Result<(), Fail> {
     assert!(rt; is_bad(rt.alloc(), "", "bad line 1 at 1\n")?);
-    assert!(rt; is_bad(rt.alloc(), "site 1 7001\nrecord x 10 1:1\n", "bad line 3 at 1\n")?);
-    assert!(rt; is_bad(rt.alloc(), "site 1 7001\nsite 2 7001\nevents\n", "twice line 2\n")?);
-    assert!(rt; is_bad(rt.alloc(), "site 1 7001\nevents\ncall 9 begin\n", "bad line 3 at 6\n")?);
-    assert!(rt; is_bad(rt.alloc(), "site 1 7001\nevents\ncall 1 beg", "bad line 3 at 11\n")?);
-    assert!(rt; is_bad(rt.alloc(), "site 1 7001\nevents\nflew 1\n", "bad line 3 at 3\n")?);
+    assert!(rt;
+        is_bad(
+            rt.alloc(),
+            "site 1 7001\nrecord x 10 1:1\n",
+            "bad line 3 at 1\n"
+        )?
+    );
+    assert!(rt;
+        is_bad(
+            rt.alloc(),
+            "site 1 7001\nsite 2 7001\nevents\n",
+            "twice line 2\n"
+        )?
+    );
+    assert!(rt;
+        is_bad(
+            rt.alloc(),
+            "site 1 7001\nevents\ncall 9 begin\n",
+            "bad line 3 at 6\n"
+        )?
+    );
+    assert!(rt;
+        is_bad(
+            rt.alloc(),
+            "site 1 7001\nevents\ncall 1 beg",
+            "bad line 3 at 11\n"
+        )?
+    );
+    assert!(rt;
+        is_bad(
+            rt.alloc(),
+            "site 1 7001\nevents\nflew 1\n",
+            "bad line 3 at 3\n"
+        )?
+    );
     Ok(())
 }
 
@@ -220,12 +250,37 @@ fn too_many_events_are_refused(rt: HostRuntime) -> Result<(), Fail> {
 
 #[test]
 fn histories_give_their_verdict(rt: HostRuntime) -> Result<(), Fail> {
-    let serial = "history\nstart x 10\ncommit 1.1.1 0@0 r x 10 w x 11\ncommit 1.1.2 0@0 r x 11\nend 2\n";
-    assert!(rt; answers(rt.alloc(), "check", serial, Status::Done, "serial 2\nx 11\n")?);
+    let serial =
+        "history\nstart x 10\ncommit 1.1.1 0@0 r x 10 w x 11\ncommit 1.1.2 0@0 r x 11\nend 2\n";
+    assert!(rt;
+        answers(
+            rt.alloc(),
+            "check",
+            serial,
+            Status::Done,
+            "serial 2\nx 11\n"
+        )?
+    );
     let differs = "history\nstart x 10\ncommit 1.1.1 0@0 w x 11\ncommit 1.1.2 0@0 r x 10\nend 2\n";
-    assert!(rt; answers(rt.alloc(), "check", differs, Status::Differs, "differs 1.1.2 1 x kept 11 read 10\n")?);
+    assert!(rt;
+        answers(
+            rt.alloc(),
+            "check",
+            differs,
+            Status::Differs,
+            "differs 1.1.2 1 x kept 11 read 10\n"
+        )?
+    );
     let falls = "history\nstart x 10\ncommit 1.1.1 1@2\ncommit 2.1.1 0@0\n";
-    assert!(rt; answers(rt.alloc(), "check", falls, Status::BadLine, "bad line 4 at 14\n")?);
+    assert!(rt;
+        answers(
+            rt.alloc(),
+            "check",
+            falls,
+            Status::BadLine,
+            "bad line 4 at 14\n"
+        )?
+    );
     Ok(())
 }
 

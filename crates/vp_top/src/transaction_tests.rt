@@ -75,7 +75,13 @@ end 2
 
 #[test]
 fn a_held_lock_is_named(rt: HostRuntime) -> Result<(), Fail> {
-    assert!(rt; is_printed(rt.alloc(), A_HELD_LOCK_IS_NAMED, A_HELD_LOCK_IS_NAMED_PRINTED)?);
+    assert!(rt;
+        is_printed(
+            rt.alloc(),
+            A_HELD_LOCK_IS_NAMED,
+            A_HELD_LOCK_IS_NAMED_PRINTED
+        )?
+    );
     Ok(())
 }
 
@@ -141,7 +147,13 @@ end 1
 
 #[test]
 fn messages_come_twice_and_out_of_order(rt: HostRuntime) -> Result<(), Fail> {
-    assert!(rt; is_printed(rt.alloc(), MESSAGES_COME_TWICE_AND_OUT_OF_ORDER, MESSAGES_COME_TWICE_AND_OUT_OF_ORDER_PRINTED)?);
+    assert!(rt;
+        is_printed(
+            rt.alloc(),
+            MESSAGES_COME_TWICE_AND_OUT_OF_ORDER,
+            MESSAGES_COME_TWICE_AND_OUT_OF_ORDER_PRINTED
+        )?
+    );
     Ok(())
 }
 
@@ -392,7 +404,13 @@ end 2
 
 #[test]
 fn a_site_crashes_after_its_decision(rt: HostRuntime) -> Result<(), Fail> {
-    assert!(rt; is_printed(rt.alloc(), A_SITE_CRASHES_AFTER_ITS_DECISION, A_SITE_CRASHES_AFTER_ITS_DECISION_PRINTED)?);
+    assert!(rt;
+        is_printed(
+            rt.alloc(),
+            A_SITE_CRASHES_AFTER_ITS_DECISION,
+            A_SITE_CRASHES_AFTER_ITS_DECISION_PRINTED
+        )?
+    );
     Ok(())
 }
 
@@ -450,7 +468,13 @@ end 0
 
 #[test]
 fn a_site_crashes_before_its_decision(rt: HostRuntime) -> Result<(), Fail> {
-    assert!(rt; is_printed(rt.alloc(), A_SITE_CRASHES_BEFORE_ITS_DECISION, A_SITE_CRASHES_BEFORE_ITS_DECISION_PRINTED)?);
+    assert!(rt;
+        is_printed(
+            rt.alloc(),
+            A_SITE_CRASHES_BEFORE_ITS_DECISION,
+            A_SITE_CRASHES_BEFORE_ITS_DECISION_PRINTED
+        )?
+    );
     Ok(())
 }
 
@@ -512,7 +536,13 @@ end 1
 
 #[test]
 fn an_inquiry_comes_after_the_acknowledgement(rt: HostRuntime) -> Result<(), Fail> {
-    assert!(rt; is_printed(rt.alloc(), AN_INQUIRY_COMES_AFTER_THE_ACKNOWLEDGEMENT, AN_INQUIRY_COMES_AFTER_THE_ACKNOWLEDGEMENT_PRINTED)?);
+    assert!(rt;
+        is_printed(
+            rt.alloc(),
+            AN_INQUIRY_COMES_AFTER_THE_ACKNOWLEDGEMENT,
+            AN_INQUIRY_COMES_AFTER_THE_ACKNOWLEDGEMENT_PRINTED
+        )?
+    );
     Ok(())
 }
 
@@ -576,7 +606,13 @@ end 1
 
 #[test]
 fn an_inquiry_comes_before_the_decision(rt: HostRuntime) -> Result<(), Fail> {
-    assert!(rt; is_printed(rt.alloc(), AN_INQUIRY_COMES_BEFORE_THE_DECISION, AN_INQUIRY_COMES_BEFORE_THE_DECISION_PRINTED)?);
+    assert!(rt;
+        is_printed(
+            rt.alloc(),
+            AN_INQUIRY_COMES_BEFORE_THE_DECISION,
+            AN_INQUIRY_COMES_BEFORE_THE_DECISION_PRINTED
+        )?
+    );
     Ok(())
 }
 

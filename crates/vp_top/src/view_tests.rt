@@ -70,7 +70,13 @@ end 0
 
 #[test]
 fn two_of_three_sites_go_on(rt: HostRuntime) -> Result<(), Fail> {
-    assert!(rt; is_printed(rt.alloc(), TWO_OF_THREE_SITES_GO_ON, TWO_OF_THREE_SITES_GO_ON_PRINTED)?);
+    assert!(rt;
+        is_printed(
+            rt.alloc(),
+            TWO_OF_THREE_SITES_GO_ON,
+            TWO_OF_THREE_SITES_GO_ON_PRINTED
+        )?
+    );
     Ok(())
 }
 
@@ -134,7 +140,13 @@ end 0
 
 #[test]
 fn half_of_the_weight_is_not_enough(rt: HostRuntime) -> Result<(), Fail> {
-    assert!(rt; is_printed(rt.alloc(), HALF_OF_THE_WEIGHT_IS_NOT_ENOUGH, HALF_OF_THE_WEIGHT_IS_NOT_ENOUGH_PRINTED)?);
+    assert!(rt;
+        is_printed(
+            rt.alloc(),
+            HALF_OF_THE_WEIGHT_IS_NOT_ENOUGH,
+            HALF_OF_THE_WEIGHT_IS_NOT_ENOUGH_PRINTED
+        )?
+    );
     Ok(())
 }
 
@@ -189,7 +201,13 @@ end 0
 
 #[test]
 fn the_view_changes_before_the_vote(rt: HostRuntime) -> Result<(), Fail> {
-    assert!(rt; is_printed(rt.alloc(), THE_VIEW_CHANGES_BEFORE_THE_VOTE, THE_VIEW_CHANGES_BEFORE_THE_VOTE_PRINTED)?);
+    assert!(rt;
+        is_printed(
+            rt.alloc(),
+            THE_VIEW_CHANGES_BEFORE_THE_VOTE,
+            THE_VIEW_CHANGES_BEFORE_THE_VOTE_PRINTED
+        )?
+    );
     Ok(())
 }
 
@@ -271,7 +289,13 @@ end 2
 
 #[test]
 fn an_old_view_reads_on(rt: HostRuntime) -> Result<(), Fail> {
-    assert!(rt; is_printed(rt.alloc(), AN_OLD_VIEW_READS_ON, AN_OLD_VIEW_READS_ON_PRINTED)?);
+    assert!(rt;
+        is_printed(
+            rt.alloc(),
+            AN_OLD_VIEW_READS_ON,
+            AN_OLD_VIEW_READS_ON_PRINTED
+        )?
+    );
     Ok(())
 }
 
@@ -318,7 +342,13 @@ end 0
 
 #[test]
 fn a_view_comes_again_after_a_restart(rt: HostRuntime) -> Result<(), Fail> {
-    assert!(rt; is_printed(rt.alloc(), A_VIEW_COMES_AGAIN_AFTER_A_RESTART, A_VIEW_COMES_AGAIN_AFTER_A_RESTART_PRINTED)?);
+    assert!(rt;
+        is_printed(
+            rt.alloc(),
+            A_VIEW_COMES_AGAIN_AFTER_A_RESTART,
+            A_VIEW_COMES_AGAIN_AFTER_A_RESTART_PRINTED
+        )?
+    );
     Ok(())
 }
 
@@ -401,6 +431,12 @@ end 0
 
 #[test]
 fn the_monitor_wants_a_view(rt: HostRuntime) -> Result<(), Fail> {
-    assert!(rt; is_printed(rt.alloc(), THE_MONITOR_WANTS_A_VIEW, THE_MONITOR_WANTS_A_VIEW_PRINTED)?);
+    assert!(rt;
+        is_printed(
+            rt.alloc(),
+            THE_MONITOR_WANTS_A_VIEW,
+            THE_MONITOR_WANTS_A_VIEW_PRINTED
+        )?
+    );
     Ok(())
 }
