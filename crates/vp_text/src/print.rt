@@ -3,6 +3,7 @@
 ghost use Rattle.std.specs.Prelude.{◌≡◌, ◌++◌, OnOk, OnErr};
 ghost use Rattle.std.specs.Fmt.{decimal};
 
+use itoa::Buffer;
 use std::alloc::AllocError;
 
 /// Appends the number in decimal digits. Without memory the bytes stay as they are.
@@ -10,8 +11,6 @@ pub fn print_number(out: &mut Vec<u8>, number: u64) -> Result<(), AllocError>
     ensures ok { OnOk result (out.new.items ≡ out.old.items ++ decimal number) }
     ensures err { OnErr result (out.new.items ≡ out.old.items) }
 {
-    let alloc = *out.allocator();
-    let text = number.to_string(alloc)?;
-    out.extend_from_slice(text.as_bytes())?;
-    Ok(())
+    let mut digits = Buffer::new();
+    out.extend_from_slice(digits.format(number).as_bytes())
 }
