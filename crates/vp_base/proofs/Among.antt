@@ -13,7 +13,8 @@ use Rattle.vp_text.specs.Classes.{has}
 use Rattle.vp_text.specs.declared.class.Class.TheVariants as classes
 use Rattle.vp_text.proofs.Exact.{Exact}
 use Rattle.vp_text.proofs.Scan.{scan_exact, scan_on, scan_off}
-use Rattle.vp_text.proofs.Words.{chose, chose_none, all_at}
+use Rattle.vp_text.proofs.Items.{all_at}
+use Rattle.vp_text.proofs.Words.{chose, chose_none}
 use Rattle.vp_text.proofs.Choices.{GoesOn}
 use Rattle.vp_base.specs.Words.{IsName, IsPlace}
 use Rattle.vp_base.specs.Reading.{starts_any, place_of, place_step, among_at}

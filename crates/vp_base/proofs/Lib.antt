@@ -1,4 +1,5 @@
 pub mod Words
+pub mod Newlines
 pub mod Views
 pub mod Txns
 pub mod Among

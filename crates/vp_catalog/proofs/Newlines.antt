@@ -1,15 +1,11 @@
 -- Each line of a catalogue has one newline, at its end, so none begins another.
-use Rattle.std.proofs.Common.{◌≡◌, ◌≢◌, ℕ, ◌^◌, ◌<◌, List, [], ◌∷◌, ◌++◌, Bool, true, refl, sym, ap, subst, ◌∙◌, arith, append_assoc}
-use Rattle.std.specs.Prelude.{codes, flat_map, nat_lt, ◌&&◌}
+use Rattle.std.proofs.Common.{ℕ, List, [], ◌∷◌, ◌++◌, refl, sym, ap, subst, ◌∙◌, arith, append_assoc}
+use Rattle.std.specs.Prelude.{codes, flat_map}
 use Rattle.std.specs.Fmt.{decimal}
-use Rattle.std.specs.List.{AllByRecursion}
 use Rattle.std.proofs.lemmas.List.Concat.{flat_map-cons}
-use Rattle.std.proofs.lemmas.Bool.{false≢true, and_parts, ltb-true}
-use Rattle.vp_text.specs.Classes.{has}
-use Rattle.vp_text.specs.declared.class.Class.TheVariants as classes
-use Rattle.vp_text.proofs.Lists.{IsLine}
-use Rattle.vp_text.proofs.Numbers.{IsDigit, decimal_digits}
-use Rattle.vp_base.specs.Words.{IsName, IsValue}
+use Rattle.vp_text.specs.Documents.{HasNoNewline, IsLine}
+use Rattle.vp_text.proofs.Newlines.{both, decimal_clean, key_clean, last_line, line_push}
+use Rattle.vp_base.proofs.Newlines.{name_clean, value_clean}
 use Rattle.vp_model.specs.Catalogue.{Catalogue, sites_of}
 use Rattle.vp_model.specs.Texts.Schedule.{weight_text}
 use Rattle.vp_catalog.specs.declared.entry.Entry.{Entry}
@@ -17,41 +13,6 @@ use Rattle.vp_catalog.specs.declared.entry.Entry.TheVariants.{Site, Record}
 use Rattle.vp_catalog.specs.Sites.{AllSites}
 use Rattle.vp_catalog.specs.Entries.{IsWeight, AreWeights, EntryText}
 use Rattle.vp_catalog.proofs.Sites.{site_range}
-
-abbrev pub HasNoNewline : List ℕ → Type 0
-HasNoNewline bytes = AllByRecursion (λ c. c ≡ 10 → ⊥) bytes
-
-pub both : (a b : List ℕ) → HasNoNewline a → HasNoNewline b → HasNoNewline (a ++ b)
-both [] b h k = k
-both (c ∷ a) b h k = (h.0, both a b h.1 k)
-
-pub line_push : (p l : List ℕ) → HasNoNewline p → IsLine l → IsLine (p ++ l)
-line_push p l h k = (p ++ k.0, both p k.0 h k.1, ap (λ (x : List ℕ). p ++ x) k.2 ∙ sym (append_assoc p k.0 (10 ∷ [])))
-
-pub last_line : IsLine (10 ∷ [])
-last_line = ([], tt, refl)
-
-from_all : (P : ℕ → Type 0) (t : List ℕ) → ((c : ℕ) → P c → c ≢ 10) → AllByRecursion P t → HasNoNewline t
-from_all P [] f h = tt
-from_all P (c ∷ t) f h = (f c h.0, from_all P t f h.1)
-
-pub name_clean : (w : List ℕ) → IsName w w → HasNoNewline w
-name_clean w h = from_all (λ c. has classes.Name c ≡ true) w (λ c e same. false≢true (sym (ap (has classes.Name) same) ∙ e)) h.each
-
-pub value_clean : (w : List ℕ) → IsValue w w → HasNoNewline w
-value_clean w h = from_all (λ c. has classes.Value c ≡ true) w (λ c e same. false≢true (sym (ap (has classes.Value) same) ∙ e)) h.each
-
-pub decimal_clean : (n : ℕ) → n < 2 ^ 64 → HasNoNewline (decimal n)
-decimal_clean n fits = from_all IsDigit (decimal n) (λ c d same. omega arith) (decimal_digits n fits)
-
-abbrev pub clean : List ℕ → Bool
-clean [] = true
-clean (c ∷ key) = nat_lt 10 c && clean key
-
--- a short text without newlines
-pub key_clean : (key : List ℕ) → clean key ≡ true → HasNoNewline key
-key_clean [] e = tt
-key_clean (c ∷ key) e = let h = and_parts (nat_lt 10 c) (clean key) e in (λ same. let lt = ltb-true 10 c h.0 in omega arith, key_clean key h.1)
 
 weight_clean : (sites : List ℕ) (above : ℕ) (w : ℕ × ℕ) → AllSites sites → IsWeight sites above w → HasNoNewline (weight_text w)
 weight_clean sites above w all h =

@@ -7,7 +7,7 @@ use Rattle.std.proofs.lemmas.Fmt.{decimal_injective, decimal_step, decimal_digit
 use Rattle.std.proofs.lemmas.Bool.{false≢true, lt-ltb, ltb-true, eqb-true, eq-eqb, cases_eq, or_cases, le-leb, and_from}
 use Rattle.vp_text.specs.Reading.{is_digit}
 use Rattle.vp_text.proofs.Exact.{Exact, Made, made_exact, exact_as}
-use Rattle.vp_text.proofs.Words.{all_at}
+use Rattle.vp_text.proofs.Items.{all_at}
 use Rattle.vp_text.proofs.Numbers.{IsDigit, decimal_digits}
 use Rattle.vp_text.proofs.Choices.{GoesOn}
 use Rattle.vp_base.specs.Words.{IsPlace}

@@ -7,6 +7,7 @@ use Rattle.std.proofs.lemmas.Bool.{false≢true, leb-false, leb-true, ltb-false,
 use Rattle.std.proofs.lemmas.List.{length-append, append-nil, nil_from_length}
 use Rattle.std.proofs.lemmas.List.Concat.{flat_map-cons}
 use Rattle.vp_text.specs.Documents.{reached, LinesText, IsFaultyLine}
+use Rattle.vp_text.proofs.Items.{all_push}
 use Rattle.vp_text.proofs.Lists.{Readable, SoFar, so_far_start, so_far_exact, so_far_shorter, so_far_more, so_far_bad, so_far_faulty, fault_no_line, longest_in_line}
 use Rattle.vp_text.proofs.Whole.{fault_longest}
 use Rattle.vp_model.specs.Words.{keys}
@@ -44,10 +45,6 @@ last_from-push above (s ∷ sites) site = last_from-push s.0 sites site
 sites_push : (above : ℕ) (sites : List (ℕ × ℕ)) (site : ℕ × ℕ) → AreSites above sites → IsSite (last_from above sites) site → AreSites above (sites ++ site ∷ [])
 sites_push above [] site h s = (s, tt)
 sites_push above (x ∷ sites) site h s = (h.0, sites_push x.0 sites site h.1 s)
-
-all_push : {X : Type 0} (P : X → Type 0) (xs : List X) (x : X) → AllByRecursion P xs → P x → AllByRecursion P (xs ++ x ∷ [])
-all_push P [] x h p = (p, tt)
-all_push P (y ∷ xs) x h p = (h.0, all_push P xs x h.1 p)
 
 or_none : (x y : Bool) → (x || y) ≡ false → (x ≡ false) × (y ≡ false)
 or_none false y e = (refl, e)

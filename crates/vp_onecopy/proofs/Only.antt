@@ -2,8 +2,9 @@
 use Rattle.std.proofs.Common.{◌≡◌, ◌≢◌, ◌⊎◌, ℕ, zero, suc, ◌+◌, ◌^◌, ◌<◌, List, [], ◌∷◌, ◌++◌, length, Result, Ok, Err, refl, sym, ap, subst, ◌∙◌, append_assoc, arith, inl, inr}
 use Rattle.std.specs.Prelude.{codes}
 use Rattle.std.proofs.lemmas.List.{append-nil, length-append}
-use Rattle.vp_text.specs.Documents.{reached, LinesText, IsBadLine, IsFaultyLine}
-use Rattle.vp_text.proofs.Words.{all_at}
+use Rattle.vp_text.specs.Documents.{HasNoNewline, IsLine, reached, LinesText, IsBadLine, IsFaultyLine}
+use Rattle.vp_text.proofs.Items.{all_at}
+use Rattle.vp_text.proofs.Newlines.{key_clean}
 use Rattle.vp_text.proofs.Determined.{Plain, plain, Divided, IsLast, Stops, last_same, bad_same, faulty_divided, faulty_last, faulty_same, bad_not_faulty}
 use Rattle.vp_onecopy.specs.declared.line.Line.{Line}
 use Rattle.vp_onecopy.specs.declared.line.Line.TheVariants as kind
@@ -11,9 +12,8 @@ use Rattle.vp_onecopy.specs.declared.map.History.{History}
 use Rattle.vp_onecopy.specs.declared.fault.HistoryFault.{HistoryFault}
 use Rattle.vp_onecopy.specs.declared.fault.HistoryFault.TheVariants as faults
 use Rattle.vp_onecopy.specs.History.{empty, after, Allowed, Onward, NamesAgain, IsHistory, IsTooLong}
-use Rattle.vp_onecopy.specs.Passing.{HasNoNewline, IsLine, history_line, Passed, Behind, IsMissing, AnsweredAll, IsOnly}
+use Rattle.vp_onecopy.specs.Passing.{history_line, Passed, Behind, IsMissing, AnsweredAll, IsOnly}
 use Rattle.vp_onecopy.proofs.Steps.{reads, readable}
-use Rattle.vp_onecopy.proofs.Newlines.{key_clean}
 
 -- ---- the lines behind the line `history`
 

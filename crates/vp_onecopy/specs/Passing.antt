@@ -1,20 +1,12 @@
 -- The lines before the line `history`.
-use Rattle.std.specs.Prelude.{◌≡◌, ◌≢◌, ◌+◌, ⊤, ℕ, zero, suc, List, [], ◌∷◌, ◌++◌, length, codes, Result, Ok, Err, ◌⊎◌}
-use Rattle.std.specs.List.{AllByRecursion}
-use Rattle.vp_text.specs.Documents.{IsBadLine, IsFaultyLine}
+use Rattle.std.specs.Prelude.{◌≡◌, ◌≢◌, ◌+◌, ⊤, ℕ, zero, suc, List, [], ◌++◌, length, codes, Result, Ok, Err, ◌⊎◌}
+use Rattle.vp_text.specs.Documents.{HasNoNewline, IsLine, IsBadLine, IsFaultyLine}
 use Rattle.vp_model.specs.Texts.History.{history_lines}
 pub use Rattle.vp_onecopy.specs.Whole.{IsWhole}
 use Rattle.vp_onecopy.specs.declared.map.History.{History}
 use Rattle.vp_onecopy.specs.declared.fault.HistoryFault.{HistoryFault}
 use Rattle.vp_onecopy.specs.declared.fault.HistoryFault.TheVariants as faults
 use Rattle.vp_onecopy.specs.History.{empty, after, Allowed, Onward, NamesAgain, IsHistory, IsTooLong}
-
-abbrev pub HasNoNewline : List ℕ → Type 0
-HasNoNewline bytes = AllByRecursion (λ c. c ≡ 10 → ⊥) bytes
-
--- bytes without a newline, and a newline
-abbrev pub IsLine : List ℕ → Type 0
-IsLine line = (body : List ℕ) × HasNoNewline body × (line ≡ body ++ 10 ∷ [])
 
 abbrev pub history_line : List ℕ
 history_line = codes "history\n"

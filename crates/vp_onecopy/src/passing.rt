@@ -1,7 +1,8 @@
 //! The lines before a history.
 
 ghost use Rattle.std.specs.Prelude.{◌≤◌, ◌<◌, ◌^◌, ◌+◌, length, take, MatchOption, MatchResult};
-ghost use Rattle.vp_onecopy.specs.Passing.{HasNoNewline, IsLine, Passes};
+ghost use Rattle.vp_text.specs.Documents.{HasNoNewline, IsLine};
+ghost use Rattle.vp_onecopy.specs.Passing.{Passes};
 
 use vp_text::Cursor;
 

@@ -4,7 +4,7 @@ use Rattle.std.proofs.lemmas.Bool.{eq-eqb, cases_eq}
 use Rattle.std.proofs.Math.Bool.{or-true}
 use Rattle.std.proofs.lemmas.List.{length-map}
 use Rattle.vp_text.proofs.Exact.{Exact}
-use Rattle.vp_text.proofs.Lists.{IsLine}
+use Rattle.vp_text.specs.Documents.{IsLine}
 use Rattle.vp_model.specs.Words.{keys}
 use Rattle.vp_model.specs.Catalogue.{sites_of}
 use Rattle.vp_model.specs.Texts.Schedule.{catalogue_text}

@@ -3,10 +3,12 @@ use Rattle.std.proofs.Common.{◌≡◌, ℕ, List, [], ◌∷◌, ◌++◌, tru
 use Rattle.std.specs.Prelude.{codes}
 use Rattle.std.specs.Fmt.{decimal}
 use Rattle.std.proofs.lemmas.Bool.{ne_eqb}
+use Rattle.vp_text.specs.Documents.{HasNoNewline, IsLine}
 use Rattle.vp_text.proofs.Choices.{GoesOn}
-use Rattle.vp_text.proofs.Lists.{IsLine}
-use Rattle.vp_text.proofs.Words.{all_at}
-use Rattle.vp_base.specs.Identifiers.{IsTxn, txn_text}
+use Rattle.vp_text.proofs.Items.{all_at}
+use Rattle.vp_text.proofs.Newlines.{both, decimal_clean, clean, key_clean, last_line, line_push}
+use Rattle.vp_base.specs.Identifiers.{txn_text}
+use Rattle.vp_base.proofs.Newlines.{name_clean, value_clean, txn_clean}
 use Rattle.vp_model.specs.Types.{TxnId, Call, Event}
 use Rattle.vp_model.specs.Types.call
 use Rattle.vp_model.specs.Types.event
@@ -14,24 +16,15 @@ use Rattle.vp_model.specs.Texts.Calls.{call_text, event_text}
 use Rattle.vp_model.specs.Texts.Fields.{call_name_text}
 use Rattle.vp_catalog.specs.Sites.{AllSites}
 use Rattle.vp_catalog.proofs.Sites.{site_range}
-use Rattle.vp_catalog.proofs.Newlines.{HasNoNewline, both, line_push, last_line, name_clean, value_clean, decimal_clean, clean, key_clean}
 use Rattle.vp_base.specs.Calls.{IsNumbered, IsCall}
 use Rattle.vp_schedule.specs.Events.{IsListed, IsEvent, IsEventText}
 use Rattle.vp_schedule.proofs.Exact.{in_line}
 
-pub key_line : (key : List ℕ) → clean key ≡ true → IsLine (key ++ 10 ∷ [])
-key_line key e = line_push key (10 ∷ []) (key_clean key e) last_line
-
 -- ---- calls
-
-txn_clean : (v : TxnId) → IsTxn v → HasNoNewline (txn_text v)
-txn_clean v a =
-    both (decimal v.site) (46 ∷ (decimal v.life ++ 46 ∷ decimal v.seq)) (decimal_clean v.site (omega (arith, a.site_fits)))
-    (λ e. omega arith, both (decimal v.life) (46 ∷ decimal v.seq) (decimal_clean v.life (omega (arith, a.life_fits))) (λ e. omega arith, decimal_clean v.seq (omega (arith, a.seq_fits))))
 
 numbered_clean : (txn : TxnId) (number : ℕ) → IsNumbered txn number → (deed : List ℕ) → HasNoNewline deed → HasNoNewline (call_name_text txn number ++ deed)
 numbered_clean txn number h deed d =
-    both (call_name_text txn number) deed (both (txn_text txn) (32 ∷ decimal number) (txn_clean txn h.txn_is) (λ e. omega arith, decimal_clean number (omega (arith, h.fits)))) d
+    both (call_name_text txn number) deed (both (txn_text txn) (32 ∷ decimal number) (txn_clean txn (txn_text txn) (record { is = refl; allowed = h.txn_is })) (λ e. omega arith, decimal_clean number (omega (arith, h.fits)))) d
 
 call_clean : (words : Call) → IsCall words → HasNoNewline (call_text words)
 call_clean call.Begin h = key_clean (codes "begin") refl

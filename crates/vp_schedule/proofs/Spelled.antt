@@ -5,6 +5,7 @@ use Rattle.std.specs.List.{AllByRecursion}
 use Rattle.std.proofs.lemmas.Bool.{false≢true}
 use Rattle.std.proofs.lemmas.List.{length-append, append-nil, flat_map_more}
 use Rattle.std.proofs.lemmas.List.Concat.{flat_map-cons}
+use Rattle.vp_text.proofs.Items.{all_push}
 use Rattle.vp_model.specs.Types.{Event}
 use Rattle.vp_model.specs.Catalogue.{Catalogue, sites_of}
 use Rattle.vp_model.specs.World.{Schedule}
@@ -26,10 +27,6 @@ abbrev draft_of : Catalogue → List Event → Bool → Draft
 draft_of c events opened = record { schedule = record { catalogue = c; events = events }; opened = opened }
 
 -- ---- what the lines say
-
-all_push : (P : Event → Type 0) (events : List Event) (event : Event) → AllByRecursion P events → P event → AllByRecursion P (events ++ event ∷ [])
-all_push P [] event h k = (k, tt)
-all_push P (e ∷ events) event h k = (h.0, all_push P events event h.1 k)
 
 -- the line `events` behind a catalogue
 opened_spelled : (c : Catalogue) (front : List ℕ) → IsCatalogue c → catalogue_text c ≡ front → IsScheduleText (record { catalogue = c; events = [] }) (front ++ codes "events\n")

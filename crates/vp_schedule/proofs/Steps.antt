@@ -2,9 +2,10 @@
 use Rattle.std.proofs.Common.{◌≡◌, ℕ, ◌+◌, ◌≤◌, ◌<◌, List, [], ◌∷◌, ◌++◌, length, refl, sym, ap, subst, ◌∙◌, Ok, Err, true, false}
 use Rattle.std.specs.Prelude.{codes}
 use Rattle.std.proofs.lemmas.Bool.{false≢true}
-use Rattle.vp_text.specs.Documents.{reached, LinesText}
+use Rattle.vp_text.specs.Documents.{IsLine, reached, LinesText}
 use Rattle.vp_text.proofs.Exact.{Exact}
-use Rattle.vp_text.proofs.Lists.{IsLine, Readable, SoFar, so_far_start, so_far_exact, so_far_shorter, so_far_bad}
+use Rattle.vp_text.proofs.Lists.{Readable, SoFar, so_far_start, so_far_exact, so_far_shorter, so_far_bad}
+use Rattle.vp_text.proofs.Newlines.{key_line}
 use Rattle.vp_model.specs.Catalogue.{Catalogue, sites_of}
 use Rattle.vp_catalog.specs.declared.entry.Entry.{Entry}
 use Rattle.vp_catalog.specs.Entries as entries
@@ -17,7 +18,7 @@ use Rattle.vp_schedule.specs.LineReading.{line_at}
 use Rattle.vp_catalog.proofs.Steps as catalogue
 use Rattle.vp_schedule.proofs.Catalogues.{entries_exact, entries_line, entries_sites, entries_few}
 use Rattle.vp_schedule.proofs.EventTexts.{IsSites}
-use Rattle.vp_schedule.proofs.Newlines.{key_line, event_is_line}
+use Rattle.vp_schedule.proofs.Newlines.{event_is_line}
 use Rattle.vp_schedule.proofs.LineTexts.{line_exact}
 
 -- what some lines say

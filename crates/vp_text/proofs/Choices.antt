@@ -5,7 +5,7 @@ use Rattle.std.proofs.lemmas.Bool.{false≢true, eq-eqb, cases_lt, and_from, le-
 use Rattle.vp_text.specs.Tokens.{IsLiteral, IsWord, IsNumber, Either}
 use Rattle.vp_text.specs.Reading.{either, is_digit}
 use Rattle.vp_text.proofs.Exact.{Parts, IsRight, IsOne, one_value, Exact, right, exact_from, Then, Made, Follows, done, cut}
-use Rattle.vp_text.proofs.Words.{all_at}
+use Rattle.vp_text.proofs.Items.{all_at}
 use Rattle.vp_text.proofs.Fields.{IsOutside, parts_outside}
 use Rattle.vp_text.proofs.Numbers.{digit_on, number_exact}
 

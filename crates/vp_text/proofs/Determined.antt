@@ -3,9 +3,9 @@ use Rattle.std.proofs.Common.{◌≡◌, ℕ, ◌≤◌, ◌<◌, List, [], ◌�
 use Rattle.std.proofs.lemmas.List.{append-nil, length-append}
 use Rattle.std.proofs.lemmas.Bool.{cases_lt}
 use Rattle.vp_text.specs.Meaning.{IsLongest}
-use Rattle.vp_text.specs.Documents.{first_line, reached, LinesText, IsBadLine, IsFaultyLine}
+use Rattle.vp_text.specs.Documents.{IsLine, first_line, reached, LinesText, IsBadLine, IsFaultyLine}
 use Rattle.vp_text.proofs.Exact.{IsOne, one_value, cut}
-use Rattle.vp_text.proofs.Lists.{IsLine, no_prefix, Readable}
+use Rattle.vp_text.proofs.Lists.{no_prefix, Readable}
 
 no_more : (t w : List ℕ) → IsLine t → IsLine (t ++ w) → w ≡ []
 no_more t [] h k = refl

@@ -5,7 +5,8 @@ use Rattle.std.proofs.lemmas.Bool.{false≢true, and_from, le-leb}
 use Rattle.vp_text.specs.Tokens.{IsLiteral, IsWord, IsNumber}
 use Rattle.vp_text.specs.Reading.{◌>>=◌, literal_at, word_at, number_at, is_digit}
 use Rattle.vp_text.proofs.Exact.{Parts, Exact, Then, Made, then_exact}
-use Rattle.vp_text.proofs.Words.{literal_exact, word_exact, all_at}
+use Rattle.vp_text.proofs.Items.{all_at}
+use Rattle.vp_text.proofs.Words.{literal_exact, word_exact}
 use Rattle.vp_text.proofs.Numbers.{number_exact, digit_on}
 
 -- The text begins with a byte that the test doesn't admit.

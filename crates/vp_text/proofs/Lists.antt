@@ -1,19 +1,14 @@
 -- Lines read one after the other.
 use Rattle.std.proofs.Common.{◌≡◌, ◌≢◌, ◌⊎◌, ℕ, zero, suc, take, ◌+◌, ◌-◌, ◌≤◌, ◌<◌, List, [], ◌∷◌, ◌++◌, length, Result, Ok, Err, refl, sym, ap, subst, ◌∙◌, append_assoc, arith, inl, inr}
-use Rattle.std.specs.List.{AllByRecursion}
 use Rattle.std.proofs.lemmas.List.{length-append, length-take}
 use Rattle.std.proofs.lemmas.Bool.{cases_eq, eq-eqb, ne_eqb}
 use Rattle.vp_text.specs.Meaning.{Begins, IsLongest}
-use Rattle.vp_text.specs.Documents.{first_line, reached, LinesText, IsBadLine, IsFaultyLine}
+use Rattle.vp_text.specs.Documents.{HasNoNewline, IsLine, first_line, reached, LinesText, IsBadLine, IsFaultyLine}
 use Rattle.vp_text.proofs.Exact.{Exact, Parts, IsFault, cut}
-use Rattle.vp_text.proofs.Words.{all_at}
+use Rattle.vp_text.proofs.Items.{all_at}
 use Rattle.vp_text.proofs.Whole.{fault_longest, fault_left}
 
--- one newline, at the end
-abbrev pub IsLine : List ℕ → Type 0
-IsLine line = (body : List ℕ) × AllByRecursion (λ c. c ≡ 10 → ⊥) body × (line ≡ body ++ 10 ∷ [])
-
-in_body : (body s : List ℕ) (x : ℕ) (r : List ℕ) → AllByRecursion (λ c. c ≡ 10 → ⊥) (body ++ s) → 10 ∷ x ∷ r ≡ s ++ 10 ∷ [] → ⊥
+in_body : (body s : List ℕ) (x : ℕ) (r : List ℕ) → HasNoNewline (body ++ s) → 10 ∷ x ∷ r ≡ s ++ 10 ∷ [] → ⊥
 in_body body [] x r h e = omega (arith, ap length e)
 in_body body (c ∷ s) x r h e = all_at (λ c. c ≡ 10 → ⊥) body c s h (let head : 10 ≡ c = cc in sym head)
 
@@ -22,7 +17,7 @@ pub no_prefix : (t : List ℕ) (x : ℕ) (r : List ℕ) → IsLine t → IsLine 
 no_prefix t x r h k =
     let e : h.0 ++ (10 ∷ x ∷ r) ≡ k.0 ++ 10 ∷ [] = sym (append_assoc h.0 (10 ∷ []) (x ∷ r)) ∙ ap (λ (z : List ℕ). z ++ x ∷ r) (sym h.2) ∙ k.2 in
     elim (cut h.0 (10 ∷ x ∷ r) k.0 (10 ∷ []) e) [
-      | inl w ↦ in_body h.0 w.0 x r (subst (λ (b : List ℕ). AllByRecursion (λ c. c ≡ 10 → ⊥) b) w.1 k.1) w.2
+      | inl w ↦ in_body h.0 w.0 x r (subst HasNoNewline w.1 k.1) w.2
       | inr w ↦ omega (arith, ap length w.3, length-append (w.0 ∷ w.1) (10 ∷ x ∷ r))
     ]
 
@@ -42,11 +37,11 @@ fault_no_line L lines rest left f e t r l at =
 
 -- ---- what is longest in the rest is longest in its first line
 
-line_tail_at : (c : ℕ) (t body : List ℕ) → c ≢ 10 → AllByRecursion (λ c. c ≡ 10 → ⊥) body → c ∷ t ≡ body ++ 10 ∷ [] → IsLine t
+line_tail_at : (c : ℕ) (t body : List ℕ) → c ≢ 10 → HasNoNewline body → c ∷ t ≡ body ++ 10 ∷ [] → IsLine t
 line_tail_at c t [] other h e = absurd (other (let head : c ≡ 10 = cc in head))
 line_tail_at c t (x ∷ body) other h e = (body, h.1, let tail : t ≡ body ++ 10 ∷ [] = cc in tail)
 
-line_alone_at : (t body : List ℕ) → AllByRecursion (λ c. c ≡ 10 → ⊥) body → 10 ∷ t ≡ body ++ 10 ∷ [] → t ≡ []
+line_alone_at : (t body : List ℕ) → HasNoNewline body → 10 ∷ t ≡ body ++ 10 ∷ [] → t ≡ []
 line_alone_at t [] h e = let tail : t ≡ [] = cc in tail
 line_alone_at t (x ∷ body) h e = absurd (h.0 (let head : 10 ≡ x = cc in sym head))
 

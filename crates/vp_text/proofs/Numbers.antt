@@ -12,7 +12,8 @@ use Rattle.vp_text.specs.Tokens.{IsNumber}
 use Rattle.vp_text.specs.Reading.{meets, begins_number, is_digit, number_step, number_done, number_at}
 use Rattle.vp_text.proofs.Exact.{Exact, exact_as}
 use Rattle.vp_text.proofs.Scan.{scan_exact}
-use Rattle.vp_text.proofs.Words.{chose, chose_none, all_push, all_at}
+use Rattle.vp_text.proofs.Items.{all_append, all_push, all_back, all_at}
+use Rattle.vp_text.proofs.Words.{chose, chose_none}
 
 -- the number that decimal digits stand for, behind the digits of n
 abbrev pub decimal_value : ℕ → List ℕ → ℕ
@@ -109,14 +110,6 @@ pad_is (suc k) n q lt =
     let rest = pad_is k (n * 10 + q / tens k) (q % tens k) (mod-lt q (omega arith)) in
     let digit : 48 + q / tens k - 48 ≡ q / tens k = omega arith in
     (((omega arith, omega arith), rest.0), ap (λ (d : ℕ). decimal_value (n * 10 + d) (pad k (q % tens k))) digit ∙ rest.1 ∙ omega (arith, div-add-mod q (tens k)))
-
-all_append : (P : ℕ → Type 0) (p q : List ℕ) → AllByRecursion P p → AllByRecursion P q → AllByRecursion P (p ++ q)
-all_append P [] q h k = k
-all_append P (c ∷ p) q h k = (h.0, all_append P p q h.1 k)
-
-all_back : (P : ℕ → Type 0) (p q : List ℕ) → AllByRecursion P (p ++ q) → AllByRecursion P q
-all_back P [] q h = h
-all_back P (c ∷ p) q h = all_back P p q h.1
 
 -- the first digit isn't 0
 Leads : List ℕ → Type 0

@@ -7,6 +7,7 @@ use Rattle.vp_text.specs.Meaning.{Begins}
 use Rattle.vp_text.specs.Tokens.{IsLiteral, IsWord}
 use Rattle.vp_text.specs.Reading.{literal_step, literal_done, literal_at, word_step, word_done, word_at}
 use Rattle.vp_text.proofs.Exact.{Exact}
+use Rattle.vp_text.proofs.Items.{all_at, all_push}
 use Rattle.vp_text.proofs.Scan.{scan_exact}
 
 -- what a test that chose `Some` says, and one that chose `None`
@@ -52,18 +53,6 @@ literal_exact literal = scan_exact (record {
 }) literal (let at : literal ≡ [] ++ literal = refl in at)
 
 -- ---- words: the state is what was read
-
-all_front : (P : ℕ → Type 0) (p q : List ℕ) → AllByRecursion P (p ++ q) → AllByRecursion P p
-all_front P [] q h = tt
-all_front P (c ∷ p) q h = (h.0, all_front P p q h.1)
-
-pub all_at : (P : ℕ → Type 0) (p : List ℕ) (c : ℕ) (q : List ℕ) → AllByRecursion P (p ++ c ∷ q) → P c
-all_at P [] c q h = h.0
-all_at P (x ∷ p) c q h = all_at P p c q h.1
-
-pub all_push : (P : ℕ → Type 0) (p : List ℕ) (c : ℕ) → AllByRecursion P p → P c → AllByRecursion P (p ++ c ∷ [])
-all_push P [] c h k = (k, tt)
-all_push P (x ∷ p) c h k = (h.0, all_push P p c h.1 k)
 
 record Front (has : ℕ → Bool) (most : ℕ) (s p : List ℕ) : Type 0 where
   is : s ≡ p

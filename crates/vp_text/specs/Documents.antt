@@ -1,7 +1,15 @@
 -- Texts of lines, each allowed after the lines before it: a state begins at `first`, `Line s e text` says that the line e is
 -- allowed in the state s and that this is its text, `after s e` is the state behind it, and `Onward s e` that a line may follow.
 use Rattle.std.specs.Prelude.{◌≡◌, ℕ, ◌+◌, List, [], ◌∷◌, ◌++◌, length, ◌==◌, if◌then◌else◌}
+use Rattle.std.specs.List.{AllByRecursion}
 use Rattle.vp_text.specs.Meaning.{IsLongest}
+
+abbrev pub HasNoNewline : List ℕ → Type 0
+HasNoNewline bytes = AllByRecursion (λ c. c ≡ 10 → ⊥) bytes
+
+-- bytes without a newline, and a newline
+abbrev pub IsLine : List ℕ → Type 0
+IsLine line = (body : List ℕ) × HasNoNewline body × (line ≡ body ++ 10 ∷ [])
 
 -- a text's first line, its newline included
 abbrev pub first_line : List ℕ → List ℕ
