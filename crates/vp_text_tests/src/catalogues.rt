@@ -1,9 +1,9 @@
 //! Catalogues that are read, printed and refused.
 
-use crate::{Catalog, CatalogFault, take_site};
 use std::alloc::Global;
 use std::test::Fail;
 use vp_base::{RecId, SiteId, Sites};
+use vp_catalog::{Catalog, CatalogFault, take_site};
 use vp_text::{Cursor, print_number};
 
 fn catalog(alloc: Global, text: &[u8]) -> Result<Catalog, Fail> {
