@@ -2,3 +2,8 @@ pub mod Ending
 pub mod Turns
 pub mod Values
 pub mod Replays
+mod Numbers
+mod Operands
+mod Parsing
+pub mod Spelling
+pub mod Texts

@@ -1,5 +1,6 @@
 pub mod Codes
 pub mod Commands
+pub mod Parsed
 pub mod Refused
 pub mod Played
 pub mod Replayed

@@ -19,3 +19,5 @@ mod tests;
 mod transaction_tests;
 #[cfg(test)]
 mod view_tests;
+#[cfg(test)]
+mod words_tests;
