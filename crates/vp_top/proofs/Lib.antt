@@ -7,3 +7,8 @@ mod Operands
 mod Parsing
 pub mod Spelling
 pub mod Texts
+pub mod GeneratedCatalogue
+pub mod Making
+pub mod Shaped
+pub mod Counting
+pub mod Bounds

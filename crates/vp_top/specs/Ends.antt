@@ -1,11 +1,10 @@
 -- How a run ends: what was taken of the source, what the sink got, and which count rose.
-use Rattle.std.specs.Prelude.{◌≡◌, ◌⊎◌, ℕ, Bool, true, List, [], Option, IsSome}
+use Rattle.std.specs.Prelude.{◌≡◌, ◌⊎◌, ℕ, Bool, true, List, [], Option}
 use Rattle.std.specs.Io.KnownBytes.{Appends, IsAtEnd}
 use Rattle.vp_outside.specs.Causes.{Rose}
 use Rattle.vp_outside.specs.Input.{Takes}
 use Rattle.vp_outside.specs.Output.{AppendsPrefix}
-use Rattle.vp_top.specs.Commands.{command_of}
-use Rattle.vp_top.specs.Program.{IsDefined}
+use Rattle.vp_top.specs.Program.{AreReader, IsDefined}
 use Rattle.vp_top.specs.declared.status.Status.{Status}
 use Rattle.vp_top.specs.declared.status.Status.TheVariants as status
 
@@ -56,7 +55,7 @@ IsSilent k = Appends k.held k.held_after []
 
 -- what the status of a run says
 abbrev pub Ends : List (List ℕ) → Sourced → Sunk → Status → Type 0
-Ends words s k status.SourceFault = IsSome (command_of words) × Rose s.faults s.faults_after × IsSilent k
+Ends words s k status.SourceFault = AreReader words × Rose s.faults s.faults_after × IsSilent k
 Ends words s k status.SinkFault = Rose k.faults k.faults_after × IsCut words s k
 Ends words s k status.NoMemory = IsCut words s k ⊎ IsSilent k
 Ends words s k end = IsPrinted words s k end

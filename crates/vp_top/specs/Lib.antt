@@ -4,6 +4,8 @@ pub mod Parsed
 pub mod Refused
 pub mod Played
 pub mod Replayed
+pub mod Summary
+pub mod Generated
 pub mod Checked
 pub mod Program
 pub mod Ends

@@ -2,13 +2,19 @@
 #![tactic(auto)]
 
 mod check;
+mod drawing;
+mod generated_catalogue;
+mod generating;
+mod observer;
 mod playing;
 mod program;
 mod refusal;
 mod replay;
+mod soaking;
 mod status;
 mod words;
 
+pub use generating::generate;
 pub use program::{MOST_BYTES, run};
 pub use status::Status;
 pub use words::Command;

@@ -1,14 +1,16 @@
 //! The top call: from the words and the source to the sink and the status.
 
-ghost use Rattle.std.specs.Prelude.{◌≡◌, IfOk, IsErrOf, IsSome};
+ghost use Rattle.std.specs.Prelude.{◌≡◌, ◌≤◌, ◌<◌, IfOk, IfSome, IsErrOf, None, true, ℕ, List, codes, length};
+ghost use Rattle.std.specs.Io.KnownBytes.{IsAtEnd};
+ghost use Rattle.vp_outside.specs.Input.{Takes};
+ghost use Rattle.vp_top.specs.declared.status.Status.TheVariants as status;
 ghost use Rattle.vp_outside.specs.Causes.{Rose};
-ghost use Rattle.vp_top.specs.Commands.{command_of};
-ghost use Rattle.vp_top.specs.Program.{IsAnswer};
+ghost use Rattle.vp_top.specs.Program.{AreReader};
 ghost use Rattle.vp_top.specs.Ends.{Defines, Ends};
 
 use crate::status::{Defined, Status, limit_line, usage_line};
 use crate::words::Command;
-use crate::{check, replay};
+use crate::{check, generating, replay, soaking};
 use std::alloc::{AllocError, Global};
 use vp_base::{NoMemory, Word};
 use vp_outside::{InputFault, OutFault, Sink, Source, read_to_end, write_all};
@@ -63,6 +65,7 @@ pub fn run<S: Source, K: Sink>(
         })
         (record { held = K.held sink.old; held_after = K.held sink.new; faults = K.faults sink.old; faults_after = K.faults sink.new })
         result }
+    ensures uncalled { (AreReader words.now → ⊥) → source.new ≡ source.old }
 {
     match define(alloc, words, source) {
         Ok(defined) => match write_all(sink, &defined.text) {
@@ -88,31 +91,52 @@ fn define<S: Source>(alloc: Global, words: &[Word], source: &mut S) -> Result<De
           faults_after = S.faults source.new;
         })
         defined.status defined.text.items) }
-    ensures source { IsErrOf result Stop.SourceFault → IsSome (command_of words.now) × Rose (S.faults source.old) (S.faults source.new) }
+    ensures source { IsErrOf result Stop.SourceFault → AreReader words.now × Rose (S.faults source.old) (S.faults source.new) }
+    ensures uncalled { (AreReader words.now → ⊥) → source.new ≡ source.old }
 {
-    let Some(command) = Command::of(words) else {
+    let Some(command) = Command::of(alloc, words)? else {
         return Ok(Defined {
             status: Status::Usage,
             text: usage_line(alloc)?,
         });
     };
+    match command {
+        Command::Replay => match input_of(alloc, source)? {
+            Some(input) => Ok(replay::answer(alloc, &input)?),
+            None => Ok(too_long(alloc)?),
+        },
+        Command::Check => match input_of(alloc, source)? {
+            Some(input) => Ok(check::answer(alloc, &input)?),
+            None => Ok(too_long(alloc)?),
+        },
+        Command::Generate { seed, count } => Ok(generating::answer(alloc, seed, count)?),
+        Command::Soak { seed, count } => Ok(soaking::answer(alloc, seed, count)?),
+    }
+}
+
+/// The input, read to its end; none where it is too long.
+fn input_of<S: Source>(alloc: Global, source: &mut S) -> Result<Option<Vec<u8>>, Stop>
+    ensures whole { IfOk result (λ found. IfSome found (λ input. (length input.items ≤ 16777216)
+        × IsAtEnd (S.left source.new) × (S.ended source.new ≡ true)
+        × Takes input.items (S.left source.old) (S.left source.new) (S.taken source.old) (S.taken source.new))) }
+    ensures too_long { IfOk result (λ found. found ≡ None → ((bytes : List ℕ) × (16777216 < length bytes)
+        × Takes bytes (S.left source.old) (S.left source.new) (S.taken source.old) (S.taken source.new))) }
+    ensures cause { IsErrOf result Stop.SourceFault → Rose (S.faults source.old) (S.faults source.new) }
+{
     match read_to_end(alloc, source, MOST_BYTES) {
-        Ok(input) => Ok(answer(alloc, command, &input)?),
+        Ok(input) => Ok(Some(input)),
         Err(InputFault::Failed) => Err(Stop::SourceFault),
-        Err(InputFault::TooLong) => Ok(Defined {
-            status: Status::Limit,
-            text: limit_line(alloc)?,
-        }),
+        Err(InputFault::TooLong) => Ok(None),
         Err(InputFault::NoMemory) => Err(Stop::NoMemory),
     }
 }
 
-/// The status and the text that are defined for the input of a command.
-fn answer(alloc: Global, command: Command, input: &[u8]) -> Result<Defined, NoMemory>
-    ensures { IfOk result (λ defined. IsAnswer command input.now defined.status defined.text.items) }
+/// What is told of an input that is too long.
+fn too_long(alloc: Global) -> Result<Defined, NoMemory>
+    ensures { IfOk result (λ defined. (defined.status ≡ status.Limit) × (defined.text.items ≡ codes "limit bytes 16777216\n")) }
 {
-    match command {
-        Command::Replay => replay::answer(alloc, input),
-        Command::Check => check::answer(alloc, input),
-    }
+    Ok(Defined {
+        status: Status::Limit,
+        text: limit_line(alloc)?,
+    })
 }

@@ -9,6 +9,7 @@ ghost use Rattle.vp_top.specs.Replayed.{Gives, Tells};
 ghost use Rattle.vp_top.specs.Program.{IsAnswer};
 ghost use Rattle.vp_top.specs.declared.words.Command.TheVariants as commands;
 
+use crate::observer::TraceText;
 use crate::playing::play;
 use crate::refusal::{print_bad_line, print_limit, print_twice};
 use crate::status::{Defined, Status};
@@ -34,8 +35,12 @@ fn serve(alloc: Global, schedule: Schedule) -> Result<Defined, NoMemory>
     ensures { IfOk result (λ defined. Gives schedule defined.status defined.text.items) }
 {
     let Schedule { catalog, events } = schedule;
-    let mut text = Vec::new(alloc);
-    match play(catalog, events.as_slice(), &mut text) {
+    let mut trace = TraceText {
+        bytes: Vec::new(alloc),
+    };
+    let played = play(catalog, events.as_slice(), &mut trace);
+    let mut text = trace.bytes;
+    match played {
         Ok(world) => {
             print_end(alloc, &world, &mut text)?;
             Ok(Defined {

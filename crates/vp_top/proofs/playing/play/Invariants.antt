@@ -4,8 +4,8 @@ use Rattle.vp_top.proofs.Turns.{Played}
 use Rattle.vp_top.proofs.playing.play.Given as goal
 
 abbrev pub invariant-loop-event : goal.invariant-loop-event
-invariant-loop-event l = record {
+invariant-loop-event g l = record {
   catalogue : l.world.catalogue ≡ l.fn.catalog;
   count : l.number ≡ l.event-index;
-  so_far : Played (schedule_of l.fn.catalog l.events) l.event-index l.world.world l.fn.out.items l.out.items;
+  so_far : Played g.O.Observer.seen (schedule_of l.fn.catalog l.events) l.event-index l.world.world l.fn.observer l.observer;
 }

@@ -3,7 +3,7 @@ use Rattle.vp_top.proofs.Turns.{Flowing}
 use Rattle.vp_top.proofs.playing.play_flow.Given as goal
 
 abbrev pub invariant-loop : goal.invariant-loop
-invariant-loop l = record {
+invariant-loop g l = record {
   catalogue : l.world.catalogue ≡ l.fn.world.catalogue;
-  so_far : Flowing l.fn.world.catalogue l.fn.number l.fn.count l.fn.world.world l.counter l.world.world l.fn.out.items l.out.items;
+  so_far : Flowing g.O.Observer.seen l.fn.world.catalogue l.fn.number l.fn.count l.fn.world.world l.counter l.world.world l.fn.observer l.observer;
 }
