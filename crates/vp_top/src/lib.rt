@@ -18,12 +18,3 @@ pub use generating::generate;
 pub use program::{MOST_BYTES, run};
 pub use status::Status;
 pub use words::Command;
-
-#[cfg(test)]
-mod tests;
-#[cfg(test)]
-mod transaction_tests;
-#[cfg(test)]
-mod view_tests;
-#[cfg(test)]
-mod words_tests;

@@ -53,7 +53,7 @@ pub fn run<S: Source, K: Sink>(
     source: &mut S,
     sink: &mut K,
 ) -> Status
-    ensures { Ends words.now
+    ensures ends { Ends words.now
         (record {
           left = S.left source.old;
           left_after = S.left source.new;

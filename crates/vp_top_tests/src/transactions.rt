@@ -1,6 +1,6 @@
 //! Worked schedules of transactions over several sites, byte for byte.
 
-use crate::tests::is_printed;
+use crate::runs::is_printed;
 use std::test::Fail;
 
 const A_HELD_LOCK_IS_NAMED: &str = "\

@@ -1,8 +1,8 @@
 //! Words of command lines, and the command that each list of them is.
 
-use crate::Command;
 use std::alloc::Global;
 use vp_base::{NoMemory, Word};
+use vp_top::Command;
 
 fn command_of(alloc: Global, texts: &[&[u8]]) -> Result<Option<Command>, NoMemory> {
     let mut words = Vec::new(alloc);

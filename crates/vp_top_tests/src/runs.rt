@@ -1,11 +1,11 @@
 //! Runs of the program over sources and sinks in memory.
 
-use crate::{Status, run};
 use std::alloc::{AllocError, Global};
 use std::test::Fail;
 use vp_base::Word;
 use vp_outside::{SureSink, SureSource, TextSink, TextSource};
 use vp_text::print_number;
+use vp_top::{MOST_BYTES, Status, run};
 
 fn words(alloc: Global, texts: &[&str]) -> Result<Vec<Word>, AllocError> {
     let mut words = Vec::new(alloc);
@@ -324,7 +324,7 @@ fn too_many_bytes_are_refused(rt: HostRuntime) -> Result<(), Fail> {
     let alloc = rt.alloc();
     let words = words(alloc, &["replay"])?;
     let mut bytes = Vec::new(alloc);
-    bytes.resize(crate::MOST_BYTES + 1, b'a')?;
+    bytes.resize(MOST_BYTES + 1, b'a')?;
     let mut source = SureSource::new(bytes);
     let mut sink = SureSink::new(alloc);
     assert!(rt; run(alloc, &words, &mut source, &mut sink) == Status::Limit);

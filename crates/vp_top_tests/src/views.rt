@@ -1,6 +1,6 @@
 //! Worked schedules of several sites that change their views, byte for byte.
 
-use crate::tests::is_printed;
+use crate::runs::is_printed;
 use std::test::Fail;
 
 const TWO_OF_THREE_SITES_GO_ON: &str = "\

@@ -1,0 +1,69 @@
+//! Schedules of the generator, and soaks: each takes nothing of the source.
+
+use std::alloc::{AllocError, Global};
+use std::test::Fail;
+use vp_base::Word;
+use vp_outside::{SureSink, SureSource};
+use vp_top::{Status, generate, run};
+
+/// What the program prints for the words, where it is done.
+fn printed(alloc: Global, command: &str, seed: &str, count: &str) -> Result<SureSink, AllocError> {
+    let mut words = Vec::new(alloc);
+    for text in [command, seed, count] {
+        words.push(Word::from_vec(Vec::from_slice(alloc, text.as_bytes())?))?;
+    }
+    let mut source = SureSource::new(Vec::from_slice(alloc, b"left alone")?);
+    let mut sink = SureSink::new(alloc);
+    if run(alloc, &words, &mut source, &mut sink) != Status::Done {
+        return Ok(SureSink::new(alloc));
+    }
+    Ok(sink)
+}
+
+#[test]
+fn a_schedule_is_its_catalogue_and_its_events(rt: HostRuntime) -> Result<(), Fail> {
+    let sink = printed(rt.alloc(), "generate", "1", "2")?;
+    let text = sink.bytes();
+    assert!(rt;
+        text.starts_with(
+            b"site 1 7001\nsite 2 7002\nsite 3 7003\nsite 4 7004\nsite 5 7005\nrecord r0 100 1:1 2:1 3:1\n"
+        )
+    );
+    assert!(rt;
+        text.ends_with(b"record r39 100 1:1 2:1 5:1\nevents\ncall 4 begin\ncall 1 begin\n")
+    );
+    Ok(())
+}
+
+#[test]
+fn soaks_are_counted(rt: HostRuntime) -> Result<(), Fail> {
+    let none = printed(rt.alloc(), "soak", "1", "0")?;
+    assert!(rt;
+        none.bytes()
+            == b"events 0\nmessages 0\nbegun 0\ncommitted 0\nrefused 0\nserial 0\n".as_slice()
+    );
+    let short = printed(rt.alloc(), "soak", "1", "2")?;
+    assert!(rt;
+        short.bytes()
+            == b"events 2\nmessages 0\nbegun 2\ncommitted 0\nrefused 0\nserial 0\n".as_slice()
+    );
+    let long = printed(rt.alloc(), "soak", "7", "300")?;
+    assert!(rt;
+        long.bytes()
+            == b"events 300\nmessages 58\nbegun 6\ncommitted 0\nrefused 33\nserial 0\n".as_slice()
+    );
+    Ok(())
+}
+
+#[test]
+fn a_schedule_is_appended(rt: HostRuntime) -> Result<(), Fail> {
+    let mut text = Vec::from_slice(rt.alloc(), b"before\n")?;
+    let end = match generate(1, 1, &mut text) {
+        Ok(end) => end.is_none(),
+        Err(_) => false,
+    };
+    assert!(rt; end);
+    assert!(rt; text.starts_with(b"before\nsite 1 7001\n"));
+    assert!(rt; text.ends_with(b"events\ncall 4 begin\n"));
+    Ok(())
+}
