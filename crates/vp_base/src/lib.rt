@@ -17,8 +17,6 @@ mod numbers;
 mod places;
 mod seq;
 mod site;
-#[cfg(test)]
-mod tests;
 mod text;
 mod txn_text;
 mod view_text;

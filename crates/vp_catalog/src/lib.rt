@@ -19,6 +19,3 @@ pub use majority::majorities_share_a_holder;
 pub use placed::{Placed, has_site};
 pub use reading::take_entry;
 pub use site::take_site;
-
-#[cfg(test)]
-mod tests;

@@ -58,8 +58,6 @@ pub wait_in_place : (t : Live) (p : Pending) (sites : List ℕ) (l : Lent) → w
 wait_in_place t p sites l =
     ap (λ live. record { coordinator = record l.coordinator { live = live }; here = l.here; effects = l.effects }) (put_live_again t (record t { pending = Some (record p { missing = sites }) }) l.coordinator.live refl)
 
-pub ruleset own_places = (complete_in_place, wait_in_place, close_own, decide_own)
-
 pub ruleset in_places = (complete_in_place, read_at_in_place, write_at_in_place, prepare_in_place, close_in_place, decide_in_place)
 
 -- the record of a read or a write is looked for first

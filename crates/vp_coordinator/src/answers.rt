@@ -106,21 +106,21 @@ fn refusal(
 
 impl Lent {
     /// The site has read; where no other site is missing, the read is done.
-    #[tactic(auto, using(crate::proofs::Rows::own_places))]
+    #[tactic(auto, using(crate::proofs::Rows::wait_in_place))]
     fn count_read(
         &mut self,
         from: SiteId,
         handled: Handled,
         rec: RecId,
-        value: &Value,
+        value: Value,
     ) -> Result<(), NoMemory>
         ensures { OnOk result (self.new ≡
-            count_in from handled.live handled.pending (answer_read handled.live handled.pending rec value.now)
+            count_in from handled.live handled.pending (answer_read handled.live handled.pending rec value)
             (in_place handled.live self.old)) }
     {
         let missing = sites_without(&handled.pending.missing, from)?;
         if missing.as_slice().is_empty() {
-            self.answer_read(handled, rec, value.copy_of()?)
+            self.answer_read(handled, rec, value)
         } else {
             self.wait_for(handled, missing);
             Ok(())
@@ -146,7 +146,10 @@ impl Lent {
                 self.put_back(handled);
                 Ok(())
             }
-            Some(rec) => self.count_read(from, handled, rec, value),
+            Some(rec) => {
+                let value = value.copy_of()?;
+                self.count_read(from, handled, rec, value)
+            }
         }
     }
 
@@ -168,7 +171,7 @@ impl Lent {
     }
 
     /// The site has the lock for the write; where no other site is missing, the write is done.
-    #[tactic(auto, using(crate::proofs::Rows::own_places))]
+    #[tactic(auto, using(crate::proofs::Rows::wait_in_place))]
     fn count_write(
         &mut self,
         from: SiteId,

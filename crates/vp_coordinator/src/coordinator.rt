@@ -37,17 +37,6 @@ impl Model for Coordinator {
 }
 
 impl Coordinator {
-    /// A coordinator without transactions and decisions, which takes no memory.
-    pub fn start(alloc: Global, id: SiteId, life: u32) -> Coordinator
-        ensures { result ≡ record { id = id; life = life; coordinator = record { seq = 0; live = []; finished = []; decisions = [] } } }
-    {
-        Coordinator {
-            id,
-            life,
-            transactions: Transactions::new(alloc),
-        }
-    }
-
     /// The coordinator of a site that starts a life with this durable part: it keeps the decisions, and has no transaction.
     pub fn restore(
         alloc: Global,

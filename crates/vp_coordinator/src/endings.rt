@@ -1,6 +1,6 @@
 //! How a transaction goes on after an operation, and how it ends.
 
-ghost use Rattle.std.specs.Prelude.{◌≡◌, ◌++◌, ◌∷◌, [], OnOk, Some, None, true, false, if◌then◌else◌};
+ghost use Rattle.std.specs.Prelude.{◌≡◌, ◌++◌, ◌∷◌, [], OnOk, IfOk, Some, None, true, false, if◌then◌else◌};
 ghost use Rattle.vp_model.specs.Words.{is_empty};
 ghost use Rattle.vp_base.specs.declared.message.Message.TheVariants as message;
 ghost use Rattle.vp_model.specs.Site.{lent_reply, with_reply, with_commit, with_messages};
@@ -48,10 +48,9 @@ impl Lent {
     ) -> Result<(), NoMemory>
         ensures { OnOk result (self.new ≡ complete handled.live handled.pending operation answer (in_place handled.live self.old)) }
     {
-        let mut t = handled.live;
-        let port = handled.pending.port;
-        answer_call(&mut t, port, operation, answer, &mut self.effects)?;
-        self.coordinator.put_live(t);
+        reply_with(handled.pending.port, &answer, &mut self.effects)?;
+        let done = with_answer(handled.live, operation, answer)?;
+        self.coordinator.put_live(done);
         Ok(())
     }
 
@@ -128,21 +127,21 @@ impl Lent {
     }
 }
 
-/// The operation is done, and its answer is kept and given.
-fn answer_call(
-    t: &mut Live,
-    port: u16,
-    operation: Op,
-    answer: Answer,
-    effects: &mut Effects,
-) -> Result<(), NoMemory>
-    ensures live { OnOk result (t.new ≡ record t.old { ops = t.old.ops ++ operation ∷ []; answers = t.old.answers ++ answer ∷ []; pending = None }) }
-    ensures effects { OnOk result (effects.new ≡ with_reply answer port effects.old) }
+/// The call gets a copy of this answer.
+fn reply_with(port: u16, answer: &Answer, effects: &mut Effects) -> Result<(), NoMemory>
+    ensures { OnOk result (effects.new ≡ with_reply answer.now port effects.old) }
 {
-    effects.reply(port, answer.copy_of()?)?;
-    t.answers.push(answer)?;
-    t.pending = None;
-    t.ops.push(operation)
+    effects.reply(port, answer.copy_of()?)
+}
+
+/// The transaction where the operation is done, and its answer is kept.
+fn with_answer(t: Live, operation: Op, answer: Answer) -> Result<Live, NoMemory>
+    ensures { IfOk result (λ done. done ≡ record t { ops = t.ops ++ operation ∷ []; answers = t.answers ++ answer ∷ []; pending = None }) }
+{
+    let mut done = Live { pending: None, ..t };
+    done.ops.push(operation)?;
+    done.answers.push(answer)?;
+    Ok(done)
 }
 
 /// The transaction is committed, which its parts are told; its operations go there.

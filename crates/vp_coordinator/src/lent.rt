@@ -48,8 +48,9 @@ impl Handled {
     pub fn into_live(self) -> Live
         ensures { result ≡ handling self.live self.pending }
     {
-        let mut t = self.live;
-        t.pending = Some(self.pending);
-        t
+        Live {
+            pending: Some(self.pending),
+            ..self.live
+        }
     }
 }

@@ -6,8 +6,9 @@ ghost use Rattle.vp_base.specs.declared.answer.Answer.TheVariants as answer;
 ghost use Rattle.vp_base.specs.declared.site.Ending.TheVariants as ending;
 ghost use Rattle.vp_base.specs.declared.message.Message.TheVariants as message;
 ghost use Rattle.vp_model.specs.Site.{with_each_message, with_messages};
-ghost use Rattle.vp_model.specs.Words.{first, for_each, for_some, put_number, value_at, is_empty};
-ghost use Rattle.vp_model.specs.Refresh.{other_holders_in};
+ghost use Rattle.vp_model.specs.Words.{first, for_some, put_number, value_at, is_empty};
+ghost use Rattle.vp_model.specs.Catalogue.{inside, total};
+ghost use Rattle.vp_model.specs.Refresh.{members_in, other_holders_in};
 ghost use Rattle.vp_model.specs.Transactions.{last_writes, close};
 ghost use Rattle.vp_model.specs.Calls.{handling, with_record, lock_here, answer_read, read_at, read, answer_write, write_at, write_elsewhere, write, prepare_for, prepare_parts, commit};
 ghost use Rattle.vp_coordinator.specs.Lent.{in_place, usable_as, usable_record};
@@ -17,9 +18,10 @@ use crate::around::{Around, first_of, is_usable, put_all, weight_inside};
 use crate::here::copy_here;
 use crate::lent::{Handled, Lent};
 use crate::writes::{last_writes, own_write, prepare_for};
+use std::alloc::Global;
 use vp_base::{
-    Answer, CopyOf, Effects, Ending, Message, Name, NoMemory, Op, Owner, RecId, SiteId, Sites,
-    Value,
+    Answer, CopyOf, Effects, Ending, Live, Message, Name, NoMemory, Op, Owner, RecId, SiteId,
+    Sites, Value,
 };
 use vp_lists::put_in;
 use vp_locks::LockFault;
@@ -41,13 +43,25 @@ fn usable_as(
     if is_usable(alloc, at, rec) {
         return Ok(Ok(rec));
     }
-    Ok(Err(Answer::Inaccessible {
-        txn,
-        number,
+    Ok(Err(inaccessible(at, handled, name, rec)?))
+}
+
+/// The answer that the weight of the record's copies in the view is too small.
+fn inaccessible(
+    at: &Around<'_>,
+    handled: &Handled,
+    name: &Name,
+    rec: RecId,
+) -> Result<Answer, NoMemory>
+    ensures { IfOk result (λ told. told ≡ answer.Inaccessible handled.now.live.txn handled.now.pending.number name.now (inside at.now.catalog.now rec (members_in (option_copied at.now.held))) (total at.now.catalog.now rec)) }
+{
+    Ok(Answer::Inaccessible {
+        txn: handled.txn(),
+        number: handled.number(),
         name: name.copy_of()?,
-        inside: weight_inside(alloc, at, rec),
+        inside: weight_inside(handled.live.ops.allocator(), at, rec),
         total: at.catalog.total(rec),
-    }))
+    })
 }
 
 /// The record of the name, where the transaction may use it; else the answer that refuses it.
@@ -92,15 +106,12 @@ impl Lent {
     ) -> Result<(), NoMemory>
         ensures { OnOk result (self.new ≡ answer_write handled.live handled.pending rec value.now (in_place handled.live self.old)) }
     {
-        let operation = Op::Write {
-            rec,
-            value: value.copy_of()?,
-        };
+        let value = value.copy_of()?;
         let answer = Answer::Written {
             txn: handled.txn(),
             number: handled.number(),
         };
-        self.complete(handled, operation, answer)
+        self.complete(handled, Op::Write { rec, value }, answer)
     }
 
     /// Another owner has the lock.
@@ -133,14 +144,15 @@ impl Lent {
         ensures { OnOk result (self.new ≡ read_at id handled.live handled.pending rec site (in_place handled.live self.old)) }
     {
         let mut handled = handled;
-        ask_one(&mut handled, rec, site)?;
+        let asked = only(handled.live.parts.allocator(), site)?;
+        add_reader(&mut handled.live, rec, site)?;
         let request = Message::ReadRequest {
             txn: handled.txn(),
             view: handled.live.view,
             number: handled.number(),
             rec,
         };
-        self.coordinator.put_live(handled.into_live());
+        self.wait_for(handled, asked);
         self.effects.send(id, site, request)
     }
 
@@ -231,8 +243,9 @@ impl Lent {
         requires { is_empty sites ≡ false }
         ensures { OnOk result (self.new ≡ write_at id handled.live handled.pending rec sites (in_place handled.live self.old)) }
     {
+        ask_to_write(id, &handled, rec, sites.as_slice(), &mut self.effects)?;
         let mut handled = handled;
-        ask_all(id, &mut handled, rec, sites.as_slice(), &mut self.effects)?;
+        put_all(&mut handled.live.parts, sites.as_slice())?;
         self.wait_for(handled, sites);
         Ok(())
     }
@@ -339,38 +352,40 @@ impl Lent {
     }
 }
 
-/// The call waits for the site, which is to read the record and becomes a part.
-fn ask_one(handled: &mut Handled, rec: RecId, site: SiteId) -> Result<(), NoMemory>
-    ensures live { OnOk result (handled.new.live ≡ record handled.old.live { remote = handled.old.live.remote ++ (site, rec) ∷ []; parts = put_number site handled.old.live.parts }) }
-    ensures pending { OnOk result (handled.new.pending ≡ record handled.old.pending { missing = site ∷ [] }) }
+/// The site alone.
+fn only(alloc: Global, site: SiteId) -> Result<Sites, NoMemory>
+    ensures { IfOk result (λ sites. sites ≡ site ∷ []) }
 {
-    let mut asked = Sites::new(handled.live.parts.allocator());
-    asked.push(site)?;
-    handled.pending.missing = asked;
-    handled.live.remote.push((site, rec))?;
-    put_in(&mut handled.live.parts, site)
+    let mut sites = Sites::new(alloc);
+    sites.push(site)?;
+    Ok(sites)
 }
 
-/// The sites are asked to lock the record for the write, and become parts.
-fn ask_all(
+/// The site, which is to read the record, becomes a part.
+fn add_reader(t: &mut Live, rec: RecId, site: SiteId) -> Result<(), NoMemory>
+    ensures { OnOk result (t.new ≡ record t.old { remote = t.old.remote ++ (site, rec) ∷ []; parts = put_number site t.old.parts }) }
+{
+    t.remote.push((site, rec))?;
+    put_in(&mut t.parts, site)
+}
+
+/// The sites are asked to lock the record for the write.
+fn ask_to_write(
     id: SiteId,
-    handled: &mut Handled,
+    handled: &Handled,
     rec: RecId,
     sites: &[SiteId],
     effects: &mut Effects,
 ) -> Result<(), NoMemory>
-    ensures live { OnOk result (handled.new.live ≡ record handled.old.live { parts = for_each sites.now put_number handled.old.live.parts }) }
-    ensures pending { OnOk result (handled.new.pending ≡ handled.old.pending) }
-    ensures effects { OnOk result (effects.new ≡
-        with_messages id (message.WriteRequest handled.old.live.txn handled.old.live.view handled.old.pending.number rec) sites.now effects.old) }
+    ensures { OnOk result (effects.new ≡
+        with_messages id (message.WriteRequest handled.now.live.txn handled.now.live.view handled.now.pending.number rec) sites.now effects.old) }
 {
     let request = Message::WriteRequest {
-        txn: handled.txn(),
+        txn: handled.live.txn,
         view: handled.live.view,
-        number: handled.number(),
+        number: handled.pending.number,
         rec,
     };
-    put_all(&mut handled.live.parts, sites)?;
     effects.send_all(id, sites, &request)
 }
 

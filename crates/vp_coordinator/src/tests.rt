@@ -2,9 +2,12 @@
 
 use crate::{Coordinator, Here};
 use std::alloc::Global;
-use vp_base::{Call, CallNo, CopyOf, Effects, Message, Name, SiteId, TxnId, Value, View, ViewId};
+use vp_base::{
+    Call, CallNo, Copies, CopyOf, Effects, Message, Name, SiteId, TxnId, Value, View, ViewId,
+};
 use vp_catalog::Catalog;
 use vp_locks::Locks;
+use vp_records::Durable;
 
 const ID: ViewId = ViewId { number: 1, site: 1 };
 
@@ -83,10 +86,11 @@ fn first_site(alloc: Global) -> Option<Bench> {
     let catalog = Catalog::read(alloc, TEXT).ok()?;
     let members = catalog.sites().copy_of().ok()?;
     let copies = catalog.copies(SiteId::of(1)).ok()?;
+    let durable = Durable::empty(Copies::new(alloc));
     Some(Bench {
         catalog,
         held: View { id: ID, members },
-        coordinator: Coordinator::start(alloc, SiteId::of(1), 1),
+        coordinator: Coordinator::restore(alloc, SiteId::of(1), 1, &durable).ok()?,
         here: Here {
             locks: Locks::new(alloc),
             copies,

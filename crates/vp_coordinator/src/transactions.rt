@@ -50,29 +50,29 @@ fn answer_to(txn: &TxnId, number: CallNo, why: &Ending) -> Result<Answer, NoMemo
     ensures { IfOk result (λ answer. answer ≡ answer_of txn.now number why.now) }
 {
     let txn = *txn;
-    Ok(match why {
-        Ending::Committed => Answer::Committed { txn, number },
-        Ending::Aborted => Answer::Aborted { txn, number },
-        Ending::LockHeld { name, at, owner } => Answer::LockHeld {
+    match why {
+        Ending::Committed => Ok(Answer::Committed { txn, number }),
+        Ending::Aborted => Ok(Answer::Aborted { txn, number }),
+        Ending::LockHeld { name, at, owner } => Ok(Answer::LockHeld {
             txn,
             number,
             name: name.copy_of()?,
             at: *at,
             owner: *owner,
-        },
-        Ending::ViewChanged { at, held, now } => Answer::ViewChanged {
+        }),
+        Ending::ViewChanged { at, held, now } => Ok(Answer::ViewChanged {
             txn,
             number,
             at: *at,
             held: *held,
             now: *now,
-        },
-        Ending::TimedOut { at } => Answer::TimedOut {
+        }),
+        Ending::TimedOut { at } => Ok(Answer::TimedOut {
             txn,
             number,
             at: *at,
-        },
-    })
+        }),
+    }
 }
 
 /// A pending call is answered by the ending.
@@ -308,8 +308,19 @@ fn pending_for(t: &Live, from: SiteId) -> Result<Option<Pending>, NoMemory>
     ensures { IfOk result (λ p. p ≡ pending_for from t.now) }
 {
     match &t.pending {
-        Some(p) if has_site(p.missing.as_slice(), from) => Ok(Some(p.copy_of()?)),
-        _ => Ok(None),
+        None => Ok(None),
+        Some(p) => copy_if_missing(p, from),
+    }
+}
+
+/// The call, where it waits for the site.
+fn copy_if_missing(p: &Pending, from: SiteId) -> Result<Option<Pending>, NoMemory>
+    ensures { IfOk result (λ copy. copy ≡ (if has p.now.missing from then Some p.now else None)) }
+{
+    if has_site(p.missing.as_slice(), from) {
+        Ok(Some(p.copy_of()?))
+    } else {
+        Ok(None)
     }
 }
 

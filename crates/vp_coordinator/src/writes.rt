@@ -19,7 +19,10 @@ fn add_op(writes: &mut Vec<(RecId, Value)>, op: &Op) -> Result<(), NoMemory>
 {
     match op {
         Op::Read { .. } => Ok(()),
-        Op::Write { rec, value } => put(writes, (*rec, value.copy_of()?)),
+        Op::Write { rec, value } => {
+            let value = value.copy_of()?;
+            put(writes, (*rec, value))
+        }
     }
 }
 
@@ -45,6 +48,12 @@ pub fn own_write(t: &Live, rec: RecId) -> Result<Option<Value>, NoMemory>
     }
 }
 
+fn copy_of_write(write: &(RecId, Value)) -> Result<(RecId, Value), NoMemory>
+    ensures { IfOk result (λ copy. copy ≡ write.now) }
+{
+    Ok((write.0, write.1.copy_of()?))
+}
+
 /// The writes of the records that the site holds.
 pub fn writes_held(
     alloc: Global,
@@ -57,7 +66,7 @@ pub fn writes_held(
     let mut held = Vec::new(alloc);
     for write in writes {
         if catalog.is_holder(write.0, site) {
-            held.push(write.copy_of()?)?;
+            held.push(copy_of_write(write)?)?;
         }
     }
     Ok(Writes::from_vec(held))

@@ -15,8 +15,6 @@ mod passing;
 mod playing;
 mod printing;
 mod reading;
-#[cfg(test)]
-mod tests;
 
 pub use checking::{Verdict, check};
 pub use document::read_history;

@@ -15,11 +15,7 @@ mod messages;
 mod printing;
 mod reading;
 mod schedule;
-#[cfg(test)]
-mod tests;
 mod trace;
-#[cfg(test)]
-mod trace_tests;
 
 pub use answers::print_answer;
 pub use calls::{print_call, print_event};

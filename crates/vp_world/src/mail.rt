@@ -85,6 +85,13 @@ impl Mail {
         })
     }
 
+    /// How many messages were sent.
+    pub fn count(&self) -> usize
+        ensures { result ≡ length self.now.sent }
+    {
+        self.sent.len()
+    }
+
     /// The lowest message of the pair that was never delivered.
     pub fn first_waiting(&self, pair: usize) -> Option<u32>
         requires { pair < 256 }

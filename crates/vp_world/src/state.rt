@@ -90,17 +90,6 @@ fn put_commits(journal: &mut Commits, commits: &[Commit]) -> Result<(), NoMemory
     Ok(())
 }
 
-/// The least of both.
-fn lesser(a: Option<u32>, b: Option<u32>) -> Option<u32>
-    ensures { result ≡ lesser a b }
-{
-    match (a, b) {
-        (None, _) => b,
-        (_, None) => a,
-        (Some(m), Some(n)) => { if n < m { b } else { a } }
-    }
-}
-
 /// The line of a step whose first message has this number.
 fn step_line(effects: Effects, first: u32) -> Shown
     ensures { result ≡ shown.Step effects.commits first effects.messages effects.replies }
@@ -148,6 +137,24 @@ impl State {
         self.places.newest(site)
     }
 
+    pub fn is_up(&self, site: SiteId) -> bool
+        ensures { result ≡ is_some (site_of self.now site) }
+    {
+        self.places.is_up(site)
+    }
+
+    pub fn is_cut(&self, a: SiteId, b: SiteId) -> bool
+        ensures { result ≡ is_cut self.now a b }
+    {
+        self.cuts.has(a, b)
+    }
+
+    pub fn messages(&self) -> usize
+        ensures { result ≡ length self.now.sent }
+    {
+        self.mail.count()
+    }
+
     /// Whether the receiver of the pair is up and the pair is not cut.
     fn is_open(&self, pair: usize) -> bool
         requires { pair < 256 }
@@ -158,17 +165,22 @@ impl State {
         self.places.is_up(to) && !self.cuts.has(from, to)
     }
 
-    /// The lowest message of the pair that may be delivered now and never was.
-    fn head(&self, pair: usize) -> Option<u32>
+    /// The lesser of the least number so far and the pair's lowest message that may be delivered now and never was.
+    fn lower(&self, least: Option<u32>, pair: usize) -> Option<u32>
         requires { pair < 256 }
-        ensures head { result ≡ head_of self.now pair }
+        ensures lesser { result ≡ lesser least (head_of self.now pair) }
         ensures sited { AreSited self.now.sent }
     {
-        let first = self.mail.first_waiting(pair);
-        if first.is_some() && self.is_open(pair) {
-            first
-        } else {
-            None
+        match (self.mail.first_waiting(pair), least) {
+            (None, _) => least,
+            (Some(first), Some(found)) if found <= first => least,
+            (first, _) => {
+                if self.is_open(pair) {
+                    first
+                } else {
+                    least
+                }
+            }
         }
     }
 
@@ -176,9 +188,9 @@ impl State {
     pub fn flowing(&self) -> Option<u32>
         ensures { result ≡ flowing self.now }
     {
-        let mut least = self.head(0);
+        let mut least = self.lower(None, 0);
         for pair in 1..PAIRS {
-            least = lesser(least, self.head(pair));
+            least = self.lower(least, pair);
         }
         least
     }

@@ -1,9 +1,9 @@
 //! The world of a schedule.
 
-ghost use Rattle.std.specs.Prelude.{◌≡◌, IfOk, option_and_then};
+ghost use Rattle.std.specs.Prelude.{◌≡◌, IfOk, is_some, length, option_and_then};
 ghost use Rattle.vp_model.specs.Limits.{world_limits, refused};
 ghost use Rattle.vp_model.specs.Generated.{newest};
-ghost use Rattle.vp_model.specs.World.{start_world, site_of, next, flowing};
+ghost use Rattle.vp_model.specs.World.{start_world, site_of, is_cut, next, flowing};
 ghost use Rattle.vp_world.specs.Limits.{Ends};
 
 use crate::end::WorldEnd;
@@ -67,6 +67,26 @@ impl World {
         ensures { result ≡ option_and_then (λ site. newest site.live) (site_of self.now.world site) }
     {
         self.state.newest(site)
+    }
+
+    pub fn is_up(&self, site: SiteId) -> bool
+        ensures { result ≡ is_some (site_of self.now.world site) }
+    {
+        self.state.is_up(site)
+    }
+
+    /// Whether the pair is cut, whichever of the two is named first.
+    pub fn is_cut(&self, a: SiteId, b: SiteId) -> bool
+        ensures { result ≡ is_cut self.now.world a b }
+    {
+        self.state.is_cut(a, b)
+    }
+
+    /// How many messages were sent.
+    pub fn messages(&self) -> usize
+        ensures { result ≡ length self.now.world.sent }
+    {
+        self.state.messages()
     }
 
     /// The transactions that were committed, in the order of the steps.

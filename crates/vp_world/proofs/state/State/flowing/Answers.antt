@@ -4,13 +4,13 @@ use Rattle.vp_world.proofs.Least.{least_flows}
 use Rattle.vp_world.proofs.state.State.flowing.Goals as goal
 
 pub loop-pair-init : goal.loop-pair-init
-loop-pair-init c = c.head-least.ensures.head
+loop-pair-init c = c.lower-least.ensures.lesser
 
 pub loop-pair-preserved : goal.loop-pair-preserved
 loop-pair-preserved c =
-    rw (add-one, c.lesser-least.ensures, c.loop-pair.invariant, c.head.ensures.head) refl
+    rw (add-one, c.lower-least-in-loop-pair.ensures.lesser, c.loop-pair.invariant) refl
 
 pub returns : goal.returns
 returns c =
     let last : c.loop-pair.pair ≡ 256 = omega (arith, c.loop-pair-test.false) in
-    c.loop-pair.invariant ∙ ap (least_below (head_of c.args.self.now)) last ∙ least_flows c.args.self.now c.head-least.ensures.sited
+    c.loop-pair.invariant ∙ ap (least_below (head_of c.args.self.now)) last ∙ least_flows c.args.self.now c.lower-least.ensures.sited

@@ -1,6 +1,8 @@
-use crate::{ScheduleFault, print, print_call, read, read_call};
+//! Calls and schedules that are read, printed and refused.
+
 use std::alloc::Global;
 use vp_base::{Call, NameFault, NoMemory};
+use vp_schedule::{ScheduleFault, print, print_call, read, read_call};
 
 /// The place of the fault, where there is one. Want of memory is no case of these tests.
 fn place_of(read: Result<Call, NameFault>) -> Option<usize> {

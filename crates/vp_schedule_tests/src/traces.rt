@@ -1,6 +1,5 @@
 //! Each kind of message and of line, as a trace shows it.
 
-use crate::{print_line, print_message};
 use std::alloc::Global;
 use std::test::Fail;
 use vp_base::{
@@ -8,6 +7,7 @@ use vp_base::{
     Recs, Replies, Reply, Sent, Shown, SiteId, Sites, Stored, TxnId, Value, ViewId, Writes,
 };
 use vp_catalog::Catalog;
+use vp_schedule::{print_line, print_message};
 
 const OPENING: ViewId = ViewId { number: 0, site: 0 };
 

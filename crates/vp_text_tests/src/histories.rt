@@ -1,9 +1,11 @@
-use crate::{
-    History, HistoryFault, Map, PlayFault, Verdict, check, order, play, print_history, read_history,
-};
+//! Histories that are made, read, printed, refused and checked.
+
 use vp_base::{
     Commit, CopyOf, Name, NameFault, Names, NoMemory, Op, Ops, RecId, Seq, SiteId, TxnId, Value,
     ViewId,
+};
+use vp_onecopy::{
+    History, HistoryFault, Map, PlayFault, Verdict, check, order, play, print_history, read_history,
 };
 
 fn value(rt: &HostRuntime, text: &[u8]) -> Result<Value, NameFault> {

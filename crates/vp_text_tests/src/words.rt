@@ -1,4 +1,6 @@
-use crate::{Name, NameFault, NoMemory, SiteId, TxnId, Value, ViewId, place, take_place};
+//! Names, values, views and transactions that are read, printed and refused.
+
+use vp_base::{Name, NameFault, NoMemory, SiteId, TxnId, Value, ViewId, place, take_place};
 use vp_text::Cursor;
 
 /// The place of the fault, where there is one. Want of memory is no case of these tests.

@@ -1,9 +1,9 @@
 //! Catalogues that are read, printed and refused.
 
-use crate::{Catalog, CatalogFault, take_site};
 use std::alloc::Global;
 use std::test::Fail;
 use vp_base::{RecId, SiteId, Sites};
+use vp_catalog::{Catalog, CatalogFault, take_site};
 use vp_text::{Cursor, print_number};
 
 fn catalog(alloc: Global, text: &[u8]) -> Result<Catalog, Fail> {
@@ -17,20 +17,31 @@ fn site(number: u8) -> Result<SiteId, Fail> {
     Ok(SiteId::new(number).ok_or("no site")?)
 }
 
+/// The weight inside these members, and whether the record is accessible there.
+fn weighed(catalog: &Catalog, rec: RecId, members: &Sites) -> (u32, bool) {
+    (
+        catalog.inside(rec, members),
+        catalog.accessible(rec, members),
+    )
+}
+
 #[test]
 fn half_of_the_weight_is_not_enough(rt: HostRuntime) -> Result<(), Fail> {
-    let alloc = rt.alloc();
     let text = b"site 1 7001\nsite 2 7002\nsite 3 7003\nrecord y 5 1:2 2:1 3:1\n";
-    let catalog = catalog(alloc, text)?;
-    let y = RecId::new(0);
-    let mut members = Sites::new(alloc);
-    members.push(site(1)?)?;
-    assert_eq!(rt; catalog.inside(y, &members), 2);
-    assert_eq!(rt; catalog.total(y), 4);
-    assert!(rt; !catalog.accessible(y, &members));
-    members.push(site(2)?)?;
-    assert!(rt; catalog.accessible(y, &members));
-    assert_eq!(rt; catalog.weight(y, site(1)?), 2);
+    let catalog = catalog(rt.alloc(), text)?;
+    let mut members = Sites::new(rt.alloc());
+    members.push(SiteId::of(1))?;
+    assert!(rt; weighed(&catalog, RecId::new(0), &members) == (2, false));
+    members.push(SiteId::of(2))?;
+    assert!(rt; weighed(&catalog, RecId::new(0), &members) == (3, true));
+    Ok(())
+}
+
+#[test]
+fn weights_are_those_of_the_text(rt: HostRuntime) -> Result<(), Fail> {
+    let catalog = three_records(rt.alloc())?;
+    assert_eq!(rt; catalog.weight(RecId::new(2), SiteId::of(1)), 3);
+    assert_eq!(rt; catalog.total(RecId::new(0)), 2);
     Ok(())
 }
 
@@ -176,22 +187,48 @@ fn what_was_read_is_printed(rt: HostRuntime) -> Result<(), Fail> {
     Ok(())
 }
 
+/// Two sites and three records, of which site 1 has a copy of the first and the last.
+fn three_records(alloc: Global) -> Result<Catalog, Fail> {
+    catalog(
+        alloc,
+        b"site 1 7001\nsite 2 7002\nrecord x 10 1:1 2:1\nrecord y 5 2:1\nrecord z 7 1:3\n",
+    )
+}
+
+/// The records of which the site has a copy, and 255 for each copy of another view than the opening one.
+fn starting(alloc: Global, catalog: &Catalog, site: SiteId) -> Result<Vec<u8>, Fail> {
+    let mut recs = Vec::new(alloc);
+    for (rec, stored) in catalog.copies(site)?.as_slice() {
+        recs.push(if stored.date.number == 0 {
+            rec.get()
+        } else {
+            255
+        })?;
+    }
+    Ok(recs)
+}
+
 #[test]
-fn copies_start_with_their_values(rt: HostRuntime) -> Result<(), Fail> {
-    let alloc = rt.alloc();
-    let text = b"site 1 7001\nsite 2 7002\nrecord x 10 1:1 2:1\nrecord y 5 2:1\nrecord z 7 1:3\n";
-    let catalog = catalog(alloc, text)?;
+fn copies_start_in_the_opening_view(rt: HostRuntime) -> Result<(), Fail> {
+    let catalog = three_records(rt.alloc())?;
+    let recs = starting(rt.alloc(), &catalog, SiteId::of(1))?;
+    assert_eq!(rt; recs.as_slice(), [0u8, 2].as_slice());
+    Ok(())
+}
+
+#[test]
+fn each_record_has_a_name_and_a_value(rt: HostRuntime) -> Result<(), Fail> {
+    let catalog = three_records(rt.alloc())?;
     assert_eq!(rt; catalog.names()?.as_slice().len(), 3);
     assert_eq!(rt; catalog.start_values()?.len(), 3);
-    let copies = catalog.copies(site(1)?)?;
-    let mut places = Vec::new(alloc);
-    for (rec, stored) in copies.as_slice() {
-        places.push(rec.get())?;
-        assert_eq!(rt; stored.date.number, 0);
-    }
-    assert_eq!(rt; places.as_slice(), [0u8, 2].as_slice());
-    assert_eq!(rt; catalog.is_holder(RecId::new(1), site(1)?), false);
-    let others = catalog.other_holders(site(1)?, None, RecId::new(0))?;
+    Ok(())
+}
+
+#[test]
+fn without_a_view_there_are_no_other_holders(rt: HostRuntime) -> Result<(), Fail> {
+    let catalog = three_records(rt.alloc())?;
+    assert!(rt; !catalog.is_holder(RecId::new(1), SiteId::of(1)));
+    let others = catalog.other_holders(SiteId::of(1), None, RecId::new(0))?;
     assert_eq!(rt; others.as_slice().len(), 0);
     Ok(())
 }

@@ -1,0 +1,9 @@
+//! The tests of words, catalogues and histories, outside the crates that read and print them: a crate with tests is proved twice.
+#![tactic(auto)]
+
+#[cfg(test)]
+mod catalogues;
+#[cfg(test)]
+mod histories;
+#[cfg(test)]
+mod words;
