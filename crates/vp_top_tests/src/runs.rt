@@ -101,7 +101,7 @@ end 0
 ";
 
 /// Whether the command answers the input with this status, and prints this text.
-pub fn answers(
+pub(crate) fn answers(
     alloc: Global,
     command: &str,
     input: &str,
@@ -114,7 +114,7 @@ pub fn answers(
 }
 
 /// Whether the schedule is replayed, and this is printed.
-pub fn is_printed(alloc: Global, input: &str, text: &str) -> Result<bool, AllocError> {
+pub(crate) fn is_printed(alloc: Global, input: &str, text: &str) -> Result<bool, AllocError> {
     answers(alloc, "replay", input, Status::Done, text)
 }
 
