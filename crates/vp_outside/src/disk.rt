@@ -57,6 +57,6 @@ pub trait Disk {
         requires attached { IsTrue (state self.old).attached }
         ensures { Syncs (state self.old) (state self.new) result };
 
-    /// It is one.
+    /// What holds of each disk holds of it.
     ghost is_disk: { (disk : Self) → IsDisk (state disk) };
 }
