@@ -1,7 +1,9 @@
-use crate::{Body, Frame, WireFault, decode, encode};
+//! The bytes of frames.
+
 use bytes::BytesMut;
 use std::alloc::Global;
 use vp_base::{Answer, Call, CopyOf, Message, NoMemory, RecId, Stored, Value, ViewId};
+use vp_wire::{Body, Frame, WireFault, decode, encode};
 
 #[test]
 fn a_tick_has_its_bytes(rt: HostRuntime) -> Result<(), NoMemory> {
