@@ -1,10 +1,10 @@
 //! Two sites that agree on a view, and a site that hears too little.
 
-use crate::Views;
 use std::alloc::Global;
 use std::test::Fail;
 use vp_base::{Effects, SiteId, Sites, View, ViewId};
 use vp_catalog::Catalog;
+use vp_views::Views;
 
 const OPENING: ViewId = ViewId { number: 0, site: 0 };
 
