@@ -10,12 +10,8 @@ mod decisions;
 mod doubts;
 mod fields;
 mod lists;
-#[cfg(test)]
-mod range_tests;
 mod ranges;
 mod reading;
-#[cfg(test)]
-mod tests;
 mod txn_ranges;
 mod words;
 

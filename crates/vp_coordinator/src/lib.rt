@@ -14,8 +14,6 @@ mod here;
 mod lent;
 mod live;
 mod operations;
-#[cfg(test)]
-mod tests;
 mod transactions;
 mod writes;
 

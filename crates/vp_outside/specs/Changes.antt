@@ -2,7 +2,7 @@
 use Rattle.std.specs.Prelude.{◌≡◌, ◌⊎◌, ℕ, ◌≤◌, if◌then◌else◌, List, [], ◌∷◌, length, take, Option, Some, None, Bool}
 use Rattle.std.specs.Option.{option_eq}
 use Rattle.std.specs.Str.{bytes_eq}
-use Rattle.vp_outside.specs.Disk.{Halves, InHalf, in_half, written, Torn, MaybeCut}
+use Rattle.vp_outside.specs.Disk.{Halves, InHalf, in_half, written, Torn, MaybeCut, DiskState}
 use Rattle.vp_outside.specs.declared.changes.Change.{Change}
 use Rattle.vp_outside.specs.declared.changes.Change.TheVariants.{Attached, Wrote, Cut, Synced, Laid}
 
@@ -48,3 +48,18 @@ MayLeave (Laid first second ∷ earlier) image = image ≡ (first, second)
 abbrev pub MightHaveLeft : Option (List ℕ) → ℕ → List Change → Halves → Type 0
 MightHaveLeft log since [] image = (since ≤ 0) × MayLeave [] image
 MightHaveLeft log since (change ∷ earlier) image = ((since ≤ length (change ∷ earlier)) × MayLeave (changes_of log (change ∷ earlier)) image) ⊎ MightHaveLeft log since earlier image
+
+-- ---- the disk
+
+-- what a disk in memory tells after these changes
+abbrev pub state_after : List Change → Bool → ℕ → DiskState
+state_after changes attached faults = record {
+  logs = λ log. Some (content_of (changes_of log changes));
+  asked = asked_of changes;
+  attached = attached;
+  honest = Unit {0};
+  may_leave = λ log. MayLeave (changes_of log changes);
+  moment = length changes;
+  left_since = λ log since. MightHaveLeft log since changes;
+  faults = faults;
+}

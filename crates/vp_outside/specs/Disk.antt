@@ -57,30 +57,65 @@ Becomes step None None = Unit {0}
 abbrev pub Gives : {E : Type 0} → List ℕ → ℕ → List ℕ → List ℕ → Result ℕ E → Type 0
 Gives half at old new result = IfOk result (λ n. (n ≡ min (length old) (length half - at)) × (new ≡ take n (drop at half) ++ drop n old))
 
--- ---- which log it is
+-- What a disk tells.
+pub record DiskState : Type 1 where
+  -- What a read gives of the log of each name, where the disk tells it. A log that isn't there is told as empty. No name is that of the
+  -- log that was attached as the disk was made.
+  pub logs : Option (List ℕ) → Option Halves
+  -- the name last given to `attach`
+  pub asked : Option (List ℕ)
+  -- whether a log is attached
+  pub attached : Bool
+  -- whether a sync is kept
+  pub honest : Type 0
+  -- what a crash at this moment may leave of a log
+  pub may_leave : Option (List ℕ) → Halves → Type 0
+  -- the moment, as a number that doesn't fall
+  pub moment : ℕ
+  -- what a crash at some moment from that one on might have left of a log, during a call or between two
+  pub left_since : Option (List ℕ) → ℕ → Halves → Type 0
+  -- how often it failed; the count stands still at 2^64 - 1
+  pub faults : ℕ
+
+-- the log that the calls speak of
+abbrev pub log_of : DiskState → Option Halves
+log_of disk = disk.logs disk.asked
+
+-- What holds of each disk.
+pub record IsDisk (disk : DiskState) : Type 0 where
+  -- a crash may leave what a read gives
+  pub as_read : (log : Option (List ℕ)) (content : Halves) → disk.logs log ≡ Some content → disk.may_leave log content
+  -- this moment is one of those since an earlier one
+  pub counts_now : (log : Option (List ℕ)) (since : ℕ) (image : Halves) → since ≤ disk.moment → disk.may_leave log image → disk.left_since log since image
+  -- since this moment there is no other
+  pub only_now : (log : Option (List ℕ)) (image : Halves) → disk.left_since log disk.moment image → disk.may_leave log image
+
+-- ---- what a call leaves
 
 -- The log that the calls speak of stays.
-pub record StaysAttached (asked asked' : Option (List ℕ)) (attached attached' : Bool) : Type 0 where
-  pub same_name : asked' ≡ asked
-  pub same_attached : attached' ≡ attached
-
--- ---- the images that a crash may leave
+pub record StaysAttached (old new : DiskState) : Type 0 where
+  pub same_name : new.asked ≡ old.asked
+  pub same_attached : new.attached ≡ old.attached
 
 -- The log is told as before, and a crash leaves nothing of it that it might not have left before.
-pub record Untouched (log : Option (List ℕ)) (logs logs' : Option (List ℕ) → Option Halves) (images images' : Option (List ℕ) → Halves → Type 0) : Type 0 where
-  pub same : logs' log ≡ logs log
-  pub no_other : (image : Halves) → images' log image → images log image
+pub record Untouched (log : Option (List ℕ)) (old new : DiskState) : Type 0 where
+  pub same : new.logs log ≡ old.logs log
+  pub no_other : (image : Halves) → new.may_leave log image → old.may_leave log image
 
--- each image after a call is one from before it after this step
-abbrev pub Follows : (Halves → Halves → Type 0) → (Halves → Type 0) → (Halves → Type 0) → Type 0
-Follows step before after = (image : Halves) → after image → (old : Halves) × before old × step old image
+-- The attached log takes this step where it is told.
+abbrev pub Steps : (Halves → Halves → Type 0) → DiskState → DiskState → Type 0
+Steps step old new = Becomes step (old.logs old.asked) (new.logs old.asked)
+
+-- each image of that log after a call is one from before it after this step
+abbrev pub Follows : (Halves → Halves → Type 0) → Option (List ℕ) → DiskState → DiskState → Type 0
+Follows step log old new = (image : Halves) → new.may_leave log image → (before : Halves) × old.may_leave log before × step before image
 
 -- a crash leaves this and nothing else
 abbrev pub Only : Halves → (Halves → Type 0) → Type 0
 Only log images = (image : Halves) → images image → image ≡ log
 
--- Time goes on: a crash since a moment might have left what it might have left before, or what it may leave now.
-pub record Elapses (before now : ℕ) (past since : ℕ → Halves → Type 0) (may_leave : Halves → Type 0) : Type 0 where
-  pub later : before ≤ now
-  pub nothing_else : (moment : ℕ) (image : Halves) → moment ≤ before → since moment image → past moment image ⊎ may_leave image
-  pub keeps : (moment : ℕ) (image : Halves) → moment ≤ before → past moment image → since moment image
+-- Time goes on: a crash since a moment might have left of that log what it might have left before, or one of these images.
+pub record Elapses (log : Option (List ℕ)) (old new : DiskState) (images : Halves → Type 0) : Type 0 where
+  pub later : old.moment ≤ new.moment
+  pub nothing_else : (moment : ℕ) (image : Halves) → moment ≤ old.moment → new.left_since log moment image → old.left_since log moment image ⊎ images image
+  pub keeps : (moment : ℕ) (image : Halves) → moment ≤ old.moment → old.left_since log moment image → new.left_since log moment image

@@ -1,8 +1,8 @@
--- The laws of a disk in memory: what a read gives is one of the images, and which moments there are.
-use Rattle.std.proofs.Common.{◌≡◌, ◌∙◌, inl, inr, ℕ, zero, suc, ◌+◌, ◌-◌, ◌≤◌, min, max, List, [], ◌∷◌, ◌++◌, length, take, drop, replicate, refl, subst, ap, arith, Option, Some, length-append, append_assoc}
+-- A disk in memory is a disk: what a read gives is one of the images, and its moments are the lengths of its record.
+use Rattle.std.proofs.Common.{◌≡◌, ◌∙◌, inl, inr, Bool, ℕ, zero, suc, ◌+◌, ◌-◌, ◌≤◌, min, max, List, [], ◌∷◌, ◌++◌, length, take, drop, replicate, refl, subst, ap, arith, Option, Some, length-append, append_assoc}
 use Rattle.std.proofs.lemmas.List.{drop_at, take-append-le, length-take-le, length-drop, length-replicate, take-take, take_min}
-use Rattle.vp_outside.specs.Disk.{Halves, InHalf, in_half, written, Torn, MaybeCut}
-use Rattle.vp_outside.specs.Changes.{changes_of, content_of, MayLeave, MightHaveLeft}
+use Rattle.vp_outside.specs.Disk.{Halves, InHalf, in_half, written, Torn, MaybeCut, IsDisk}
+use Rattle.vp_outside.specs.Changes.{changes_of, content_of, MayLeave, MightHaveLeft, state_after}
 use Rattle.vp_outside.specs.declared.changes.Change.{Change}
 use Rattle.vp_outside.specs.declared.changes.Change.TheVariants.{Attached, Wrote, Cut, Synced, Laid}
 
@@ -46,7 +46,7 @@ MayLeave-content (Cut half n ∷ earlier) =
 MayLeave-content (Synced ∷ earlier) = refl
 MayLeave-content (Laid first second ∷ earlier) = refl
 
-pub MayLeave-told : (changes : List Change) (content : Halves) → Some (content_of changes) ≡ Some content → MayLeave changes content
+MayLeave-told : (changes : List Change) (content : Halves) → Some (content_of changes) ≡ Some content → MayLeave changes content
 MayLeave-told changes content told = let same : content_of changes ≡ content = cc in subst (MayLeave changes) same (MayLeave-content changes)
 
 -- ---- moments
@@ -56,11 +56,18 @@ MightHaveLeft-since log since [] image left = left.0
 MightHaveLeft-since log since (change ∷ earlier) image (inl now) = now.0
 MightHaveLeft-since log since (change ∷ earlier) image (inr past) = let le = MightHaveLeft-since log since earlier image past in omega arith
 
-pub MightHaveLeft-now : (log : Option (List ℕ)) (since : ℕ) (changes : List Change) (image : Halves) → since ≤ length changes → MayLeave (changes_of log changes) image → MightHaveLeft log since changes image
+MightHaveLeft-now : (log : Option (List ℕ)) (since : ℕ) (changes : List Change) (image : Halves) → since ≤ length changes → MayLeave (changes_of log changes) image → MightHaveLeft log since changes image
 MightHaveLeft-now log since [] image le now = (le, now)
 MightHaveLeft-now log since (change ∷ earlier) image le now = inl (le, now)
 
-pub MightHaveLeft-only_now : (log : Option (List ℕ)) (changes : List Change) (image : Halves) → MightHaveLeft log (length changes) changes image → MayLeave (changes_of log changes) image
+MightHaveLeft-only_now : (log : Option (List ℕ)) (changes : List Change) (image : Halves) → MightHaveLeft log (length changes) changes image → MayLeave (changes_of log changes) image
 MightHaveLeft-only_now log [] image left = left.1
 MightHaveLeft-only_now log (change ∷ earlier) image (inl now) = now.1
 MightHaveLeft-only_now log (change ∷ earlier) image (inr past) = absurd (let le = MightHaveLeft-since log (length (change ∷ earlier)) earlier image past in omega arith)
+
+pub IsDisk-after : (changes : List Change) (attached : Bool) (faults : ℕ) → IsDisk (state_after changes attached faults)
+IsDisk-after changes attached faults = record {
+  as_read = λ log content told. MayLeave-told (changes_of log changes) content told;
+  counts_now = λ log since image. MightHaveLeft-now log since changes image;
+  only_now = λ log image. MightHaveLeft-only_now log changes image;
+}

@@ -2,10 +2,11 @@
 
 ghost use Rattle.std.specs.Prelude.{◌≡◌, ◌⊎◌, ◌+◌, ◌<◌, ◌≤◌, ◌^◌, ◌∷◌, [], IfOk, IsErr, IsErrOf, List, ℕ, OnErr, OnOk, Some, false, is_ok, length};
 ghost use Rattle.vp_outside.specs.Causes.{HasCause};
-ghost use Rattle.vp_outside.specs.Disk.{Gives, Untouched, half_of};
+ghost use Rattle.vp_outside.specs.Disk.{Gives, Torn, Written, half_of};
+ghost use Rattle.vp_outside.specs.DiskCalls.{Changes, Syncs};
 ghost use Rattle.std.specs.declared.option.Option.{Option};
-ghost use Rattle.vp_outside.specs.Changes.{asked_of, changes_of, content_of, MayLeave, MightHaveLeft};
-ghost use Rattle.vp_outside.specs.DiskLaws.{MayLeave-told, MightHaveLeft-now, MightHaveLeft-only_now};
+ghost use Rattle.vp_outside.specs.Changes.{state_after};
+ghost use Rattle.vp_outside.specs.DiskLaws.{IsDisk-after};
 
 use crate::disk::Disk;
 use crate::fault_plan::FaultPlan;
@@ -68,27 +69,9 @@ impl Disk for MemDisk {
     ghost use Rattle.vp_outside.specs.Plans.{CountsCall, FailsNext, GoesByPlan};
     ghost use Rattle.vp_outside.specs.declared.changes.Change.TheVariants.{Attached, Wrote, Cut, Synced};
 
-    ghost logs = { λ d log. Some (content_of (changes_of log d.disk)) };
+    ghost state = { λ d. state_after d.disk d.attached d.plan.faults };
 
-    ghost asked = { λ d. asked_of d.disk };
-
-    ghost attached = { λ d. d.attached };
-
-    ghost honest = { λ _. Unit {0} };
-
-    ghost may_leave = { λ d log. MayLeave (changes_of log d.disk) };
-
-    ghost moment = { λ d. length d.disk };
-
-    ghost left_since = { λ d log since. MightHaveLeft log since d.disk };
-
-    ghost faults = { λ d. d.plan.faults };
-
-    ghost as_read = { λ d log content told. MayLeave-told (changes_of log d.disk) content told };
-
-    ghost counts_now = { λ d log since image. MightHaveLeft-now log since d.disk image };
-
-    ghost only_now = { λ d log image. MightHaveLeft-only_now log d.disk image };
+    ghost is_disk = { λ d. IsDisk-after d.disk d.attached d.plan.faults };
 
     fn faults(&self) -> u64 {
         self.plan.faults
@@ -138,6 +121,7 @@ impl Disk for MemDisk {
     }
 
     fn write_at(&mut self, half: u8, at: u64, piece: &[u8]) -> Result<(), OutFault>
+        ensures written { Changes half (Written at piece.now) (Torn at (length piece.now)) (⟦<MemDisk as Disk>⟧.state self.old) (⟦<MemDisk as Disk>⟧.state self.new) result }
         ensures done { OnOk result (record_of self.new ≡ Wrote half at piece.now ∷ record_of self.old) }
         ensures fits { OnOk result (at + length piece.now ≤ 2 ^ 62) }
         ensures not_done { OnErr result (record_of self.new ≡ record_of self.old) }
@@ -173,7 +157,7 @@ impl Disk for MemDisk {
     fn sync(&mut self) -> Result<(), OutFault>
         ensures done { OnOk result (record_of self.new ≡ Synced ∷ record_of self.old) }
         ensures not_done { OnErr result (record_of self.new ≡ record_of self.old) }
-        ensures untouched { (log : Option (List ℕ)) → Untouched log (⟦<MemDisk as Disk>⟧.logs self.old) (⟦<MemDisk as Disk>⟧.logs self.new) (⟦<MemDisk as Disk>⟧.may_leave self.old) (⟦<MemDisk as Disk>⟧.may_leave self.new) }
+        ensures syncs { Syncs (⟦<MemDisk as Disk>⟧.state self.old) (⟦<MemDisk as Disk>⟧.state self.new) result }
         ensures attached { is_attached self.new ≡ is_attached self.old }
         ensures plan { GoesByPlan self.old.plan self.new.plan result }
         ensures planned { IsErrOf result OutFault.Failed → FailsNext self.old.plan }

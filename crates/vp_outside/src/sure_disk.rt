@@ -3,8 +3,8 @@
 ghost use Rattle.std.specs.Prelude.{◌≡◌, ◌∷◌, [], ◌+◌, ◌≤◌, ◌^◌, IfOk, OnErr, OnOk, Some, length, true};
 ghost use Rattle.std.specs.Io.{ReadsAtMost};
 ghost use Rattle.vp_outside.specs.Disk.{half_of};
-ghost use Rattle.vp_outside.specs.Changes.{asked_of, changes_of, content_of, MayLeave, MightHaveLeft};
-ghost use Rattle.vp_outside.specs.DiskLaws.{MayLeave-told, MightHaveLeft-now, MightHaveLeft-only_now};
+ghost use Rattle.vp_outside.specs.Changes.{asked_of, changes_of, content_of, state_after};
+ghost use Rattle.vp_outside.specs.DiskLaws.{IsDisk-after};
 ghost use Rattle.vp_outside.specs.declared.changes.Change.TheVariants.{Attached, Wrote, Cut, Synced, Laid};
 
 use crate::changes::Change;
@@ -144,27 +144,9 @@ impl SureDisk {
 }
 
 impl Disk for SureDisk {
-    ghost logs = { λ disk log. Some (content_of (changes_of log disk)) };
+    ghost state = { λ disk. state_after disk true 0 };
 
-    ghost asked = { λ disk. asked_of disk };
-
-    ghost attached = { λ _. true };
-
-    ghost honest = { λ _. Unit {0} };
-
-    ghost may_leave = { λ disk log. MayLeave (changes_of log disk) };
-
-    ghost moment = { λ disk. length disk };
-
-    ghost left_since = { λ disk log since. MightHaveLeft log since disk };
-
-    ghost faults = { λ _. 0 };
-
-    ghost as_read = { λ disk log content told. MayLeave-told (changes_of log disk) content told };
-
-    ghost counts_now = { λ disk log since image. MightHaveLeft-now log since disk image };
-
-    ghost only_now = { λ disk log image. MightHaveLeft-only_now log disk image };
+    ghost is_disk = { λ disk. IsDisk-after disk true 0 };
 
     fn faults(&self) -> u64 {
         0

@@ -197,7 +197,7 @@ fn word(alloc: Global, text: &[u8]) -> Result<Word, AllocError> {
 
 /// The length of half 0 and how many of its bytes were read, through the trait.
 fn measure<D: Disk>(disk: &mut D, buf: &mut [u8]) -> Result<(u64, usize), Failed>
-    requires { IsTrue (D.attached disk.old) }
+    requires { IsTrue (D.state disk.old).attached }
 {
     let length = disk.length(0)?;
     let count = disk.read(0, 0, buf)?;

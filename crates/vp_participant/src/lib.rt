@@ -9,8 +9,6 @@ mod fault;
 mod held;
 mod participant;
 mod parts;
-#[cfg(test)]
-mod tests;
 
 pub use fault::{PartFault, PrepareFault};
 pub use participant::{Participant, Settled, Voted};

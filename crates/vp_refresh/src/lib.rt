@@ -8,8 +8,6 @@
 mod asked;
 mod newest;
 mod refresh;
-#[cfg(test)]
-mod tests;
 
 pub use asked::Asked;
 pub use refresh::Refresh;

@@ -11,8 +11,6 @@ mod parts;
 mod refresh;
 mod site;
 mod stepped;
-#[cfg(test)]
-mod tests;
 mod tick;
 mod views;
 

@@ -4,11 +4,15 @@ use Rattle.std.specs.Prelude.{IfSome, OnErr, Result, Ok, Err}
 use Rattle.std.specs.declared.option.Option.{Option}
 use Rattle.std.specs.declared.option.Option.TheVariants.{Some, None}
 use Rattle.vp_base.specs.declared.entry.LogRecord.{LogRecord}
-use Rattle.vp_outside.specs.Disk.{Halves, InHalf, Written, Torn, Becomes, Only, Elapses}
+use Rattle.vp_outside.specs.Disk.{Halves, InHalf, Written, Torn, Becomes, DiskState, log_of, IsDisk, Steps, Only, Elapses}
 use Rattle.vp_stable.specs.Log.{CanStand, measured, IsLog}
 use Rattle.vp_stable.specs.Moments.{IsSettled, Gains, MayGain, LeavesOnly, TornFrom}
 use Rattle.vp_stable.proofs.Tears.{torn_behind, written_behind, torn_gate, written_gate}
-use Rattle.vp_stable.proofs.Times.{elapses_as, elapses_then, leaves_only}
+use Rattle.vp_stable.proofs.Times.{elapses_none, elapses_as, elapses_then, leaves_only}
+
+if_some : {P Q : Halves → Type 0} (o : Option Halves) → ((log : Halves) → P log → Q log) → IfSome o P → IfSome o Q
+if_some None f h = tt
+if_some (Some log) f h = f log h
 
 pub on_err : {T E P : Type 0} (result : Result T E) → P → OnErr result P
 on_err (Ok x) p = tt
@@ -64,6 +68,11 @@ kept_gained batch from to (Some a) None before after settled gains only = tt
 kept_gained batch from to None (Some b) before after settled gains only = absurd gains
 kept_gained batch from to None None before after settled gains only = tt
 
+-- the log that the calls speak of has this name
+pub kept_as : (place : ℕ) (disk : DiskState) (name : Option (List ℕ)) → disk.asked ≡ name → IfSome (disk.logs name) (λ log. IsSettled place log (disk.may_leave name))
+    → IfSome (log_of disk) (λ log. IsSettled place log (disk.may_leave disk.asked))
+kept_as place disk name is settled = subst (λ (n : Option (List ℕ)). IfSome (disk.logs n) (λ log. IsSettled place log (disk.may_leave n))) (sym is) settled
+
 -- ---- what a crash leaves of it
 
 none_images : (batch : List LogRecord) (place : ℕ) (log : Halves) (images : Halves → Type 0) → Only log images → (image : Halves) → images image → MayGain batch place log image
@@ -73,32 +82,37 @@ first_images : (batch : List LogRecord) (place n : ℕ) (log : Halves) (images :
 first_images batch place n log images only image torn =
     first_torn batch place n log image (subst (λ (h : Halves). InHalf 0 (Torn (place + 1) n) h image) (only torn.0 torn.1) torn.2)
 
-module _ (batch : List LogRecord) (place now : ℕ) (past : ℕ → Halves → Type 0) (images : Halves → Type 0) (here : (image : Halves) → past now image → images image) where
+module _ (batch : List LogRecord) (place : ℕ) (old : DiskState) (is : IsDisk old) where
+  -- what a crash leaves at first
+  at_first : (log : Halves) → IsSettled place log (old.may_leave old.asked) → (image : Halves) → old.left_since old.asked old.moment image → MayGain batch place log image
+  at_first log settled image left = none_images batch place log (old.may_leave old.asked) settled.synced image (is.only_now old.asked image left)
+
   -- before the first write
-  pub none_leaves : (o : Option Halves) → Elapses now now past past (λ _. ⊥) → IfSome o (λ log. IsSettled place log images) → IfSome o (λ log. LeavesOnly now now past past (MayGain batch place log))
-  none_leaves None time settled = tt
-  none_leaves (Some log) time settled = leaves_only now now past past (MayGain batch place log) (elapses_as now now past past (λ _. ⊥) (MayGain batch place log) time (λ image none. absurd none))
-      (λ image left. none_images batch place log images settled.synced image (here image left))
+  pub none_leaves : IfSome (log_of old) (λ log. IsSettled place log (old.may_leave old.asked)) → IfSome (log_of old) (λ log. LeavesOnly old old (MayGain batch place log))
+  none_leaves settled = if_some (log_of old) (λ log settled. leaves_only old old (MayGain batch place log) (elapses_none old.asked old (MayGain batch place log)) (at_first log settled)) settled
 
   -- during the first write and its sync
-  pub first_leaves : (n later : ℕ) (since : ℕ → Halves → Type 0) (o : Option Halves) → Elapses now later past since (TornFrom (place + 1) n images)
-      → IfSome o (λ log. IsSettled place log images) → IfSome o (λ log. LeavesOnly now later past since (MayGain batch place log))
-  first_leaves n later since None time settled = tt
-  first_leaves n later since (Some log) time settled =
-      leaves_only now later past since (MayGain batch place log)
-      (elapses_as now later past since (TornFrom (place + 1) n images) (MayGain batch place log) time (first_images batch place n log images settled.synced))
-      (λ image left. none_images batch place log images settled.synced image (here image left))
+  pub first_leaves : (n : ℕ) (new : DiskState) → Elapses old.asked old new (TornFrom (place + 1) n (old.may_leave old.asked))
+      → IfSome (log_of old) (λ log. IsSettled place log (old.may_leave old.asked)) → IfSome (log_of old) (λ log. LeavesOnly old new (MayGain batch place log))
+  first_leaves n new time settled = if_some (log_of old)
+      (λ log settled. leaves_only old new (MayGain batch place log)
+      (elapses_as old.asked old new (TornFrom (place + 1) n (old.may_leave old.asked)) (MayGain batch place log) time (first_images batch place n log (old.may_leave old.asked) settled.synced))
+      (at_first log settled)) settled
 
   -- during the second write and its sync
-  pub second_leaves : (can : CanStand batch) (piece : List ℕ) → piece ≡ measured batch ++ 0 ∷ [] → (mid later : ℕ) (between since : ℕ → Halves → Type 0) (staged : Halves → Type 0) (o p : Option Halves)
-      → Elapses now mid past between (TornFrom (place + 1) (length piece) images) → Elapses mid later between since (TornFrom place 1 staged)
-      → Becomes (InHalf 0 (Written (place + 1) piece)) o p → IfSome p (λ log. Only log staged)
-      → IfSome o (λ log. IsSettled place log images) → IfSome o (λ log. LeavesOnly now later past since (MayGain batch place log))
-  second_leaves can piece is mid later between since staged None p first second written only settled = tt
-  second_leaves can piece is mid later between since staged (Some log) None first second written only settled = absurd written
-  second_leaves can piece is mid later between since staged (Some log) (Some log') first second written only settled =
-      leaves_only now later past since (MayGain batch place log)
-      (elapses_then now mid later past between since (TornFrom (place + 1) (length piece) images) (TornFrom place 1 staged) (MayGain batch place log) first second
-      (first_images batch place (length piece) log images settled.synced)
-      (λ image torn. second_torn batch can place piece is log log' image written (subst (λ (h : Halves). InHalf 0 (Torn place 1) h image) (only torn.0 torn.1) torn.2)))
-      (λ image left. none_images batch place log images settled.synced image (here image left))
+  pub second_leaves : (can : CanStand batch) (piece : List ℕ) → piece ≡ measured batch ++ 0 ∷ [] → (mid new : DiskState)
+      → Elapses old.asked old mid (TornFrom (place + 1) (length piece) (old.may_leave old.asked)) → Elapses old.asked mid new (TornFrom place 1 (mid.may_leave old.asked))
+      → Steps (InHalf 0 (Written (place + 1) piece)) old mid → IfSome (mid.logs old.asked) (λ log. Only log (mid.may_leave old.asked))
+      → IfSome (log_of old) (λ log. IsSettled place log (old.may_leave old.asked)) → IfSome (log_of old) (λ log. LeavesOnly old new (MayGain batch place log))
+  second_leaves can piece is_piece mid new first second = by (log_of old) (mid.logs old.asked)
+    where
+      by : (o p : Option Halves) → Becomes (InHalf 0 (Written (place + 1) piece)) o p → IfSome p (λ log. Only log (mid.may_leave old.asked))
+          → IfSome o (λ log. IsSettled place log (old.may_leave old.asked)) → IfSome o (λ log. LeavesOnly old new (MayGain batch place log))
+      by None p written only settled = tt
+      by (Some log) None written only settled = absurd written
+      by (Some log) (Some log') written only settled =
+          leaves_only old new (MayGain batch place log)
+          (elapses_then old.asked old mid new (TornFrom (place + 1) (length piece) (old.may_leave old.asked)) (TornFrom place 1 (mid.may_leave old.asked)) (MayGain batch place log) first second
+          (first_images batch place (length piece) log (old.may_leave old.asked) settled.synced)
+          (λ image torn. second_torn batch can place piece is_piece log log' image written (subst (λ (h : Halves). InHalf 0 (Torn place 1) h image) (only torn.0 torn.1) torn.2)))
+          (at_first log settled)

@@ -4,9 +4,9 @@ use Rattle.std.specs.Prelude.{IfSome}
 use Rattle.std.specs.declared.option.Option.{Option}
 use Rattle.std.specs.declared.option.Option.TheVariants.{Some, None}
 use Rattle.vp_base.specs.declared.entry.LogRecord.{LogRecord}
-use Rattle.vp_outside.specs.Disk.{Halves, InHalf, Written, Torn, Becomes, Only, Elapses}
+use Rattle.vp_outside.specs.Disk.{Halves, InHalf, Written, Torn, Becomes, DiskState, log_of, IsDisk, Only, Elapses}
 use Rattle.vp_stable.specs.Log.{opened, IsLog, HasBatches}
-use Rattle.vp_stable.specs.Moments.{ReadsAlike, LeavesOnly, TornFrom}
+use Rattle.vp_stable.specs.Moments.{ReadsAlike, LeavesOnly, TornFrom, Quiet}
 use Rattle.vp_stable.specs.Scans.{IsFound}
 use Rattle.vp_stable.proofs.Tears.{torn_written, torn_empty, written_empty}
 use Rattle.vp_stable.proofs.Times.{elapses_as, elapses_then, leaves_only}
@@ -70,24 +70,33 @@ found_old (Some log) place batches bytes found long told = subst (λ (l : List �
 
 -- ---- what a crash leaves of it
 
-module _ (before now : ℕ) (past since : ℕ → Halves → Type 0) (images : Halves → Type 0) (here : (image : Halves) → past before image → images image) where
+module _ (old new : DiskState) (is : IsDisk old) where
   -- before anything is written
-  pub quiet_leaves : (o : Option Halves) → Elapses before now past since images → IfSome o (λ log. LeavesOnly before now past since (λ image. images image ⊎ ReadsAlike log image))
-  quiet_leaves None time = tt
-  quiet_leaves (Some log) time =
-      leaves_only before now past since (λ image. images image ⊎ ReadsAlike log image)
-      (elapses_as before now past since images (λ image. images image ⊎ ReadsAlike log image) time (λ image left. inl left))
-      (λ image left. inl (here image left))
+  pub quiet_leaves : Quiet old new → IfSome (log_of old) (λ log. LeavesOnly old new (λ image. old.may_leave old.asked image ⊎ ReadsAlike log image))
+  quiet_leaves quiet = by (log_of old)
+    where
+      by : (o : Option Halves) → IfSome o (λ log. LeavesOnly old new (λ image. old.may_leave old.asked image ⊎ ReadsAlike log image))
+      by None = tt
+      by (Some log) =
+          leaves_only old new (λ image. old.may_leave old.asked image ⊎ ReadsAlike log image)
+          (elapses_as old.asked old new (old.may_leave old.asked) (λ image. old.may_leave old.asked image ⊎ ReadsAlike log image) (quiet.time old.asked) (λ image left. inl left))
+          (λ image left. inl (is.only_now old.asked image left))
 
   -- while a gate is written into a half of no more than 1 byte
-  pub torn_leaves : (o : Option Halves) (mid : ℕ) (between : ℕ → Halves → Type 0) (synced : Halves → Type 0) → Elapses before mid past between images → Elapses mid now between since (TornFrom 0 1 synced)
-      → IfSome o (λ log. Only log synced) → IfSome o (λ log. length log.0 ≤ 1) → IfSome o (λ log. LeavesOnly before now past since (λ image. images image ⊎ ReadsAlike log image))
-  torn_leaves None mid between synced first second only short = tt
-  torn_leaves (Some log) mid between synced first second only short =
-      leaves_only before now past since (λ image. images image ⊎ ReadsAlike log image)
-      (elapses_then before mid now past between since images (TornFrom 0 1 synced) (λ image. images image ⊎ ReadsAlike log image) first second (λ image left. inl left)
-      (λ image torn. inr (alike_torn log image short (subst (λ (h : Halves). InHalf 0 (Torn 0 1) h image) (only torn.0 torn.1) torn.2))))
-      (λ image left. inl (here image left))
+  pub torn_leaves : (mid : DiskState) → Quiet old mid → Elapses old.asked mid new (TornFrom 0 1 (mid.may_leave old.asked))
+      → IfSome (log_of old) (λ log. Only log (mid.may_leave old.asked)) → IfSome (log_of old) (λ log. length log.0 ≤ 1)
+      → IfSome (log_of old) (λ log. LeavesOnly old new (λ image. old.may_leave old.asked image ⊎ ReadsAlike log image))
+  torn_leaves mid quiet second = by (log_of old)
+    where
+      by : (o : Option Halves) → IfSome o (λ log. Only log (mid.may_leave old.asked)) → IfSome o (λ log. length log.0 ≤ 1)
+          → IfSome o (λ log. LeavesOnly old new (λ image. old.may_leave old.asked image ⊎ ReadsAlike log image))
+      by None only short = tt
+      by (Some log) only short =
+          leaves_only old new (λ image. old.may_leave old.asked image ⊎ ReadsAlike log image)
+          (elapses_then old.asked old mid new (old.may_leave old.asked) (TornFrom 0 1 (mid.may_leave old.asked)) (λ image. old.may_leave old.asked image ⊎ ReadsAlike log image) (quiet.time old.asked) second
+          (λ image left. inl left)
+          (λ image torn. inr (alike_torn log image short (subst (λ (h : Halves). InHalf 0 (Torn 0 1) h image) (only torn.0 torn.1) torn.2))))
+          (λ image left. inl (is.only_now old.asked image left))
 
 -- fewer images are still only this one
 pub only_fewer : (o : Option Halves) (images fewer : Halves → Type 0) → ((image : Halves) → fewer image → images image) → IfSome o (λ log. Only log images) → IfSome o (λ log. Only log fewer)

@@ -8,8 +8,6 @@
 mod fault;
 mod sites;
 mod standing;
-#[cfg(test)]
-mod tests;
 mod views;
 
 pub use fault::{InviteFault, Spent};

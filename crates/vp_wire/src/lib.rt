@@ -11,8 +11,6 @@ mod laws;
 mod read_answers;
 mod read_calls;
 mod read_messages;
-#[cfg(test)]
-mod tests;
 mod writing;
 
 pub use decoding::decode;

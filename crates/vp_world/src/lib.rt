@@ -11,8 +11,6 @@ mod place;
 mod places;
 mod queue;
 mod state;
-#[cfg(test)]
-mod tests;
 mod world;
 
 pub use end::WorldEnd;

@@ -174,13 +174,7 @@ impl State {
         match (self.mail.first_waiting(pair), least) {
             (None, _) => least,
             (Some(first), Some(found)) if found <= first => least,
-            (first, _) => {
-                if self.is_open(pair) {
-                    first
-                } else {
-                    least
-                }
-            }
+            (first, _) => { if self.is_open(pair) { first } else { least } }
         }
     }
 

@@ -10,12 +10,12 @@ use Rattle.vp_stable.proofs.half.fill.Goals as goal
 pub returns-in_err-count-clause-quiet : goal.returns-in_err-count-clause-quiet
 returns-in_err-count-clause-quiet g c =
     let e = c.read.ensures in
-    quiet_then c.loop-at.invariant.quiet e.stays e.honest e.untouched e.time
+    quiet_then c.loop-at.invariant.quiet e.leaves
 
 pub returns-then-count-eq0-clause-quiet : goal.returns-then-count-eq0-clause-quiet
 returns-then-count-eq0-clause-quiet g c =
     let e = c.read.ensures in
-    quiet_then c.loop-at.invariant.quiet e.stays e.honest e.untouched e.time
+    quiet_then c.loop-at.invariant.quiet e.leaves
 
 pub loop-at-preserved : goal.loop-at-preserved
 loop-at-preserved g c =
@@ -26,6 +26,6 @@ loop-at-preserved g c =
     record {
       within = grind (arith, common_steps);
       told = filled_more _ c.loop-at.buf old c.read.new.buf c.loop-at.at _ c.in_ok-count.count i.within (omega arith) i.told gives;
-      quiet = quiet_then i.quiet e.stays e.honest e.untouched e.time;
+      quiet = quiet_then i.quiet e.leaves;
       counted = grind (arith, common_steps);
     }

@@ -1,22 +1,25 @@
-use Rattle.vp_stable.proofs.Times.{elapses_as, elapses_then}
+use Rattle.vp_stable.proofs.Times.{elapses_as, elapses_then, quiet_one, others_quiet, others_one, others_join}
 use Rattle.vp_stable.proofs.half.write_synced.Goals as goal
 
 pub returns-in_err-write_at-clause-time : goal.returns-in_err-write_at-clause-time
 returns-in_err-write_at-clause-time g c =
-    let name = g.D.Disk.asked c.args.disk.now in
-    elapses_as _ _ _ _ _ _ (c.write_at.ensures.time name) (λ image left. c.write_at.ensures.crash image left)
+    let w = c.write_at.ensures.written in
+    let name = (g.D.Disk.state c.args.disk.now).asked in
+    elapses_as _ _ _ _ _ (w.goes_on.time name) (λ image left. w.crash image left)
 
 pub returns-clause-time : goal.returns-clause-time
 returns-clause-time g c =
-    let name = g.D.Disk.asked c.args.disk.now in
-    elapses_then _ _ _ _ _ _ _ _ _ (c.write_at.ensures.time name) (c.sync.ensures.time name) (λ image left. c.write_at.ensures.crash image left)
-    (λ image left. c.write_at.ensures.crash image ((c.sync.ensures.untouched name).no_other image left))
+    let w = c.write_at.ensures.written in
+    let name = (g.D.Disk.state c.args.disk.now).asked in
+    elapses_then _ _ _ _ _ _ _ (w.goes_on.time name) (c.sync.ensures.leaves.goes_on.time name) (λ image left. w.crash image left)
+    (λ image left. w.crash image ((c.sync.ensures.leaves.untouched name).no_other image left))
 
-pub returns-in_err-write_at-clause-any_moment_elsewhere : goal.returns-in_err-write_at-clause-any_moment_elsewhere
-returns-in_err-write_at-clause-any_moment_elsewhere g c log other =
-    elapses_as _ _ _ _ _ _ (c.write_at.ensures.time log) (λ image left. (c.write_at.ensures.elsewhere log other).no_other image left)
+pub returns-in_err-write_at-clause-others : goal.returns-in_err-write_at-clause-others
+returns-in_err-write_at-clause-others g c =
+    let w = c.write_at.ensures.written in
+    others_one w.stays w.goes_on w.elsewhere
 
-pub returns-clause-any_moment_elsewhere : goal.returns-clause-any_moment_elsewhere
-returns-clause-any_moment_elsewhere g c log other =
-    elapses_then _ _ _ _ _ _ _ _ _ (c.write_at.ensures.time log) (c.sync.ensures.time log) (λ image left. (c.write_at.ensures.elsewhere log other).no_other image left)
-    (λ image left. (c.write_at.ensures.elsewhere log other).no_other image ((c.sync.ensures.untouched log).no_other image left))
+pub returns-clause-others : goal.returns-clause-others
+returns-clause-others g c =
+    let w = c.write_at.ensures.written in
+    others_join (others_one w.stays w.goes_on w.elsewhere) (others_quiet (quiet_one c.sync.ensures.leaves))

@@ -1,5 +1,6 @@
-use Rattle.vp_outside.proofs.LogRecords.{Untouched-Synced}
+use Rattle.std.proofs.Common.{true, refl}
+use Rattle.vp_outside.proofs.LogRecords.{Syncs-recorded}
 use Rattle.vp_outside.proofs.sure_disk.SureDiskDisk.sync.Goals as goal
 
-pub returns-clause-untouched : goal.returns-clause-untouched
-returns-clause-untouched c = λ log. Untouched-Synced log c.args.self.now c.mark_synced.new.self c.in_ok-mark_synced.ensures.ok
+pub returns : goal.returns
+returns c = Syncs-recorded c.args.self.now c.mark_synced.new.self true 0 0 c.in_ok-mark_synced.ensures.ok refl

@@ -1,40 +1,36 @@
 use Rattle.std.proofs.Common.{◌≡◌, ◌<◌, ◌∙◌, length, arith}
 use Rattle.std.specs.Prelude.{IfSome}
 use Rattle.vp_stable.proofs.Recoveries.{becomes_alike, becomes_same, becomes_torn, short_half, found_new, found_old, quiet_leaves, torn_leaves, only_fewer}
-use Rattle.vp_stable.proofs.Times.{elapses_then, quiet_none, quiet_then, quiet_join, told_before}
+use Rattle.vp_stable.proofs.Times.{quiet_one, quiet_join, told_before, others_quiet, others_join}
 use Rattle.vp_stable.proofs.log.Log.recover.Goals as goal
 use Rattle.vp_stable.proofs.log.Log.recover.Goals.{then-len-lt2+in_ok-write_synced, else-len-lt2}
 
 -- a sync that fails
 pub returns-in_err-sync-clause-any_moment : goal.returns-in_err-sync-clause-any_moment
 returns-in_err-sync-clause-any_moment g c honest =
-    let name = g.D.Disk.asked c.args.disk.now in
-    let s = c.sync.ensures in
-    let quiet = quiet_then (quiet_none _ _ _ _ _ _ _) s.stays s.honest s.untouched s.time in
-    quiet_leaves _ _ _ _ _ (λ image left. g.met.D.Disk.only_now c.args.disk.now name image left) _ (quiet.time name)
+    let name = (g.D.Disk.state c.args.disk.now).asked in
+    let quiet = quiet_one c.sync.ensures.leaves in
+    quiet_leaves _ _ (g.met.D.Disk.is_disk c.args.disk.now) quiet
 
 -- a read that fails
 pub returns-in_err-bytes-clause-any_moment : goal.returns-in_err-bytes-clause-any_moment
 returns-in_err-bytes-clause-any_moment g c honest =
-    let name = g.D.Disk.asked c.args.disk.now in
-    let s = c.sync.ensures in
-    let quiet = quiet_join (quiet_then (quiet_none _ _ _ _ _ _ _) s.stays s.honest s.untouched s.time) c.read_half.ensures.quiet in
-    quiet_leaves _ _ _ _ _ (λ image left. g.met.D.Disk.only_now c.args.disk.now name image left) _ (quiet.time name)
+    let name = (g.D.Disk.state c.args.disk.now).asked in
+    let quiet = quiet_join (quiet_one c.sync.ensures.leaves) c.read_half.ensures.quiet in
+    quiet_leaves _ _ (g.met.D.Disk.is_disk c.args.disk.now) quiet
 
 -- bytes that are no log
 pub returns-in_err-gate-clause-any_moment : goal.returns-in_err-gate-clause-any_moment
 returns-in_err-gate-clause-any_moment g c honest =
-    let name = g.D.Disk.asked c.args.disk.now in
-    let s = c.sync.ensures in
-    let quiet = quiet_join (quiet_then (quiet_none _ _ _ _ _ _ _) s.stays s.honest s.untouched s.time) c.read_half.ensures.quiet in
-    quiet_leaves _ _ _ _ _ (λ image left. g.met.D.Disk.only_now c.args.disk.now name image left) _ (quiet.time name)
+    let name = (g.D.Disk.state c.args.disk.now).asked in
+    let quiet = quiet_join (quiet_one c.sync.ensures.leaves) c.read_half.ensures.quiet in
+    quiet_leaves _ _ (g.met.D.Disk.is_disk c.args.disk.now) quiet
 
 -- a gate that isn't written
 pub returns-in_err-write_synced-clause-alike : goal.returns-in_err-write_synced-clause-alike
 returns-in_err-write_synced-clause-alike g c =
-    let name = g.D.Disk.asked c.args.disk.now in
-    let s = c.sync.ensures in
-    let synced = quiet_then (quiet_none _ _ _ _ _ _ _) s.stays s.honest s.untouched s.time in
+    let name = (g.D.Disk.state c.args.disk.now).asked in
+    let synced = quiet_one c.sync.ensures.leaves in
     let quiet = quiet_join synced c.read_half.ensures.quiet in
     let told = told_before (λ o. IfSome o (λ log. c.in_ok-bytes.bytes.items ≡ log.0)) synced c.in_ok-bytes.ensures.told in
     let short : length c.in_ok-bytes.bytes.items < 2 = omega (arith, c.if-len-lt2.true, c.len.ensures, c.in_ok-bytes.bytes.ok) in
@@ -43,21 +39,19 @@ returns-in_err-write_synced-clause-alike g c =
 
 pub returns-in_err-write_synced-clause-any_moment : goal.returns-in_err-write_synced-clause-any_moment
 returns-in_err-write_synced-clause-any_moment g c honest =
-    let name = g.D.Disk.asked c.args.disk.now in
-    let s = c.sync.ensures in
-    let synced = quiet_then (quiet_none _ _ _ _ _ _ _) s.stays s.honest s.untouched s.time in
+    let name = (g.D.Disk.state c.args.disk.now).asked in
+    let synced = quiet_one c.sync.ensures.leaves in
     let quiet = quiet_join synced c.read_half.ensures.quiet in
     let told = told_before (λ o. IfSome o (λ log. c.in_ok-bytes.bytes.items ≡ log.0)) synced c.in_ok-bytes.ensures.told in
     let short : length c.in_ok-bytes.bytes.items < 2 = omega (arith, c.if-len-lt2.true, c.len.ensures, c.in_ok-bytes.bytes.ok) in
     let only = only_fewer _ _ _ (λ image left. (c.read_half.ensures.quiet.untouched name).no_other image left) (c.in_ok-sync.ensures.durable honest) in
-    torn_leaves _ _ _ _ _ (λ image left. g.met.D.Disk.only_now c.args.disk.now name image left) _ _ _ _ (quiet.time name) (rw quiet.stays.same_name at c.write_synced.ensures.time) only (short_half _ _ told short)
+    torn_leaves _ _ (g.met.D.Disk.is_disk c.args.disk.now) _ quiet (rw quiet.stays.same_name at c.write_synced.ensures.time) only (short_half _ _ told short)
 
 -- a log that is read, or made
 pub returns-clause-gate : goal.returns-clause-gate
 returns-clause-gate g c =
-    let name = g.D.Disk.asked c.args.disk.now in
-    let s = c.sync.ensures in
-    let synced = quiet_then (quiet_none _ _ _ _ _ _ _) s.stays s.honest s.untouched s.time in
+    let name = (g.D.Disk.state c.args.disk.now).asked in
+    let synced = quiet_one c.sync.ensures.leaves in
     let quiet = quiet_join synced c.read_half.ensures.quiet in
     let told = told_before (λ o. IfSome o (λ log. c.in_ok-bytes.bytes.items ≡ log.0)) synced c.in_ok-bytes.ensures.told in
     let found = rw c.deref.ensures.value at c.in_ok-gate.ensures.scanned in
@@ -71,9 +65,8 @@ returns-clause-gate g c =
 
 pub returns-clause-alike : goal.returns-clause-alike
 returns-clause-alike g c =
-    let name = g.D.Disk.asked c.args.disk.now in
-    let s = c.sync.ensures in
-    let synced = quiet_then (quiet_none _ _ _ _ _ _ _) s.stays s.honest s.untouched s.time in
+    let name = (g.D.Disk.state c.args.disk.now).asked in
+    let synced = quiet_one c.sync.ensures.leaves in
     let quiet = quiet_join synced c.read_half.ensures.quiet in
     let told = told_before (λ o. IfSome o (λ log. c.in_ok-bytes.bytes.items ≡ log.0)) synced c.in_ok-bytes.ensures.told in
     elim c.if-len-lt2.branch [
@@ -86,9 +79,8 @@ returns-clause-alike g c =
 
 pub returns-clause-any_moment : goal.returns-clause-any_moment
 returns-clause-any_moment g c honest =
-    let name = g.D.Disk.asked c.args.disk.now in
-    let s = c.sync.ensures in
-    let synced = quiet_then (quiet_none _ _ _ _ _ _ _) s.stays s.honest s.untouched s.time in
+    let name = (g.D.Disk.state c.args.disk.now).asked in
+    let synced = quiet_one c.sync.ensures.leaves in
     let quiet = quiet_join synced c.read_half.ensures.quiet in
     let told = told_before (λ o. IfSome o (λ log. c.in_ok-bytes.bytes.items ≡ log.0)) synced c.in_ok-bytes.ensures.told in
     let only = only_fewer _ _ _ (λ image left. (c.read_half.ensures.quiet.untouched name).no_other image left) (c.in_ok-sync.ensures.durable honest) in
@@ -96,44 +88,28 @@ returns-clause-any_moment g c honest =
       | then-len-lt2+in_ok-write_synced w ↦
           let short : length c.in_ok-bytes.bytes.items < 2 = omega (arith, w.if-len-lt2.true, c.len.ensures, c.in_ok-bytes.bytes.ok) in
           let time = rw quiet.stays.same_name at w.write_synced.ensures.time in
-          rw w.disk-is (torn_leaves _ _ _ _ _ (λ image left. g.met.D.Disk.only_now c.args.disk.now name image left) _ _ _ _ (quiet.time name) time only (short_half _ _ told short))
-      | else-len-lt2 w ↦ rw w.disk-is (quiet_leaves _ _ _ _ _ (λ image left. g.met.D.Disk.only_now c.args.disk.now name image left) _ (quiet.time name))
+          rw w.disk-is (torn_leaves _ _ (g.met.D.Disk.is_disk c.args.disk.now) _ quiet time only (short_half _ _ told short))
+      | else-len-lt2 w ↦ rw w.disk-is (quiet_leaves _ _ (g.met.D.Disk.is_disk c.args.disk.now) quiet)
     ]
 
 -- the other logs
-pub returns-in_err-sync-clause-any_moment_elsewhere : goal.returns-in_err-sync-clause-any_moment_elsewhere
-returns-in_err-sync-clause-any_moment_elsewhere g c log other =
-    let s = c.sync.ensures in
-    let synced = quiet_then (quiet_none _ _ _ _ _ _ _) s.stays s.honest s.untouched s.time in
-    synced.time log
+pub returns-in_err-sync-clause-others : goal.returns-in_err-sync-clause-others
+returns-in_err-sync-clause-others g c = others_quiet (quiet_one c.sync.ensures.leaves)
 
-pub returns-in_err-bytes-clause-any_moment_elsewhere : goal.returns-in_err-bytes-clause-any_moment_elsewhere
-returns-in_err-bytes-clause-any_moment_elsewhere g c log other =
-    let s = c.sync.ensures in
-    let synced = quiet_then (quiet_none _ _ _ _ _ _ _) s.stays s.honest s.untouched s.time in
-    let quiet = quiet_join synced c.read_half.ensures.quiet in
-    quiet.time log
+pub returns-in_err-bytes-clause-others : goal.returns-in_err-bytes-clause-others
+returns-in_err-bytes-clause-others g c = others_quiet (quiet_join (quiet_one c.sync.ensures.leaves) c.read_half.ensures.quiet)
 
-pub returns-in_err-gate-clause-any_moment_elsewhere : goal.returns-in_err-gate-clause-any_moment_elsewhere
-returns-in_err-gate-clause-any_moment_elsewhere g c log other =
-    let s = c.sync.ensures in
-    let synced = quiet_then (quiet_none _ _ _ _ _ _ _) s.stays s.honest s.untouched s.time in
-    let quiet = quiet_join synced c.read_half.ensures.quiet in
-    quiet.time log
+pub returns-in_err-gate-clause-others : goal.returns-in_err-gate-clause-others
+returns-in_err-gate-clause-others g c = others_quiet (quiet_join (quiet_one c.sync.ensures.leaves) c.read_half.ensures.quiet)
 
-pub returns-in_err-write_synced-clause-any_moment_elsewhere : goal.returns-in_err-write_synced-clause-any_moment_elsewhere
-returns-in_err-write_synced-clause-any_moment_elsewhere g c log other =
-    let s = c.sync.ensures in
-    let synced = quiet_then (quiet_none _ _ _ _ _ _ _) s.stays s.honest s.untouched s.time in
-    let quiet = quiet_join synced c.read_half.ensures.quiet in
-    elapses_then _ _ _ _ _ _ _ _ _ (quiet.time log) (c.write_synced.ensures.any_moment_elsewhere log (λ same. other (same ∙ quiet.stays.same_name))) (λ image left. left) (λ image left. (quiet.untouched log).no_other image left)
+pub returns-in_err-write_synced-clause-others : goal.returns-in_err-write_synced-clause-others
+returns-in_err-write_synced-clause-others g c =
+    others_join (others_quiet (quiet_join (quiet_one c.sync.ensures.leaves) c.read_half.ensures.quiet)) c.write_synced.ensures.others
 
-pub returns-clause-any_moment_elsewhere : goal.returns-clause-any_moment_elsewhere
-returns-clause-any_moment_elsewhere g c log other =
-    let s = c.sync.ensures in
-    let synced = quiet_then (quiet_none _ _ _ _ _ _ _) s.stays s.honest s.untouched s.time in
-    let quiet = quiet_join synced c.read_half.ensures.quiet in
+pub returns-clause-others : goal.returns-clause-others
+returns-clause-others g c =
+    let quiet = quiet_join (quiet_one c.sync.ensures.leaves) c.read_half.ensures.quiet in
     elim c.if-len-lt2.branch [
-      | then-len-lt2+in_ok-write_synced w ↦ rw w.disk-is (elapses_then _ _ _ _ _ _ _ _ _ (quiet.time log) (w.write_synced.ensures.any_moment_elsewhere log (λ same. other (same ∙ quiet.stays.same_name))) (λ image left. left) (λ image left. (quiet.untouched log).no_other image left))
-      | else-len-lt2 w ↦ rw w.disk-is (quiet.time log)
+      | then-len-lt2+in_ok-write_synced w ↦ rw w.disk-is (others_join (others_quiet quiet) w.write_synced.ensures.others)
+      | else-len-lt2 w ↦ rw w.disk-is (others_quiet quiet)
     ]

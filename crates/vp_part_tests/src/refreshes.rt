@@ -1,10 +1,10 @@
 //! Who is asked, and which copy is taken, at site 1 of three sites in the view.
 
-use crate::Refresh;
 use std::alloc::Global;
 use std::test::Fail;
 use vp_base::{CopyOf, RecId, SiteId, Sites, Stored, Value, View, ViewId};
 use vp_catalog::Catalog;
+use vp_refresh::Refresh;
 
 const X: u8 = 0;
 

@@ -5,16 +5,16 @@ ghost use Rattle.vp_base.specs.Identifiers.{IsTxn};
 ghost use Rattle.vp_base.specs.Reading.{txn_of};
 ghost use Rattle.vp_bytes.specs.Ranges.{last_rank, next_rank};
 
-use crate::{
-    put_copies, put_decisions, put_doubts, take_ascending_txn, take_copies, take_decisions,
-    take_doubts, take_sites, take_txn, take_txn_between, take_u16_within, take_u32_within,
-    take_view,
-};
 use bytes::BytesMut;
 use std::alloc::Global;
 use vp_base::{
     Decision, Doubt, LineFault, NoMemory, RecId, SiteId, Sites, Stored, TxnId, Value, ViewId,
     Writes,
+};
+use vp_bytes::{
+    put_copies, put_decisions, put_doubts, take_ascending_txn, take_copies, take_decisions,
+    take_doubts, take_sites, take_txn, take_txn_between, take_u16_within, take_u32_within,
+    take_view,
 };
 use vp_text::{Cursor, Unexpected};
 
@@ -472,7 +472,7 @@ fn ascending_left(bytes: &[u8], last: Option<TxnId>, behind: u64) -> Option<usiz
 }
 
 #[test]
-#[tactic(auto, unfolding(crate::specs::Ranges::rank))]
+#[tactic(auto, unfolding(vp_bytes::specs::Ranges::rank))]
 fn the_next_transaction_leaves_room_for_those_behind_it(rt: HostRuntime) {
     let top = b"\x10\xff\xff\xff\xff\xff\xff\xff\xff";
     assert_eq!(rt; ascending_left(top, None, 0), None);
@@ -480,7 +480,7 @@ fn the_next_transaction_leaves_room_for_those_behind_it(rt: HostRuntime) {
 }
 
 #[test]
-#[tactic(auto, unfolding(crate::specs::Ranges::rank))]
+#[tactic(auto, unfolding(vp_bytes::specs::Ranges::rank))]
 fn behind_the_last_of_a_life_comes_the_next_life(rt: HostRuntime) {
     let same = ascending_left(b"\x01\0\0\0\x01\0\0\0\x01", Some(txn(1, 1, u32::MAX)), 0);
     assert_eq!(rt; same, Some(5));
@@ -489,7 +489,7 @@ fn behind_the_last_of_a_life_comes_the_next_life(rt: HostRuntime) {
 }
 
 #[test]
-#[tactic(auto, unfolding(crate::specs::Ranges::rank))]
+#[tactic(auto, unfolding(vp_bytes::specs::Ranges::rank))]
 fn behind_the_last_of_a_site_comes_the_next_site(rt: HostRuntime) {
     let last = txn(1, u32::MAX, u32::MAX);
     let same = ascending_left(b"\x01\0\0\0\x02\0\0\0\x01", Some(last), 0);

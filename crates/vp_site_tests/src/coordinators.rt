@@ -1,11 +1,11 @@
 //! A transaction that reads elsewhere, writes at three sites and commits; a call that is late, and a view that is left.
 
-use crate::{Coordinator, Here};
 use std::alloc::Global;
 use vp_base::{
     Call, CallNo, Copies, CopyOf, Effects, Message, Name, SiteId, TxnId, Value, View, ViewId,
 };
 use vp_catalog::Catalog;
+use vp_coordinator::{Coordinator, Here};
 use vp_locks::Locks;
 use vp_records::Durable;
 
@@ -82,20 +82,37 @@ impl Bench {
     }
 }
 
-fn first_site(alloc: Global) -> Option<Bench> {
-    let catalog = Catalog::read(alloc, TEXT).ok()?;
+fn three_sites(alloc: Global) -> Option<Catalog> {
+    Catalog::read(alloc, TEXT).ok()
+}
+
+fn all_of(catalog: &Catalog) -> Option<View> {
     let members = catalog.sites().copy_of().ok()?;
+    Some(View { id: ID, members })
+}
+
+/// What is at site 1 before anything ran.
+fn unlocked(alloc: Global, catalog: &Catalog) -> Option<Here> {
     let copies = catalog.copies(SiteId::of(1)).ok()?;
+    Some(Here {
+        locks: Locks::new(alloc),
+        copies,
+    })
+}
+
+fn restored(alloc: Global) -> Option<Coordinator> {
     let durable = Durable::empty(Copies::new(alloc));
+    Coordinator::restore(alloc, SiteId::of(1), 1, &durable).ok()
+}
+
+fn first_site(alloc: Global) -> Option<Bench> {
+    let catalog = three_sites(alloc)?;
     Some(Bench {
-        catalog,
-        held: View { id: ID, members },
-        coordinator: Coordinator::restore(alloc, SiteId::of(1), 1, &durable).ok()?,
-        here: Here {
-            locks: Locks::new(alloc),
-            copies,
-        },
+        held: all_of(&catalog)?,
+        coordinator: restored(alloc)?,
+        here: unlocked(alloc, &catalog)?,
         effects: Effects::none(alloc),
+        catalog,
     })
 }
 

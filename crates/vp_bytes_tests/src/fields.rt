@@ -1,11 +1,13 @@
-use crate::{
+//! The bytes of fields in each buffer.
+
+use bytes::{BufMut, BytesMut};
+use std::alloc::Global;
+use vp_base::{CallNo, LineFault, Name, NoMemory, Owner, RecId, SiteId, TxnId, Value, ViewId};
+use vp_bytes::{
     put_byte, put_counted, put_maybe_view, put_name, put_numbered, put_owner, put_recs,
     put_request, put_sites, put_txn, put_u32, put_u64, put_value, put_view, put_writes, take_name,
     take_recs, take_sites, take_value, take_writes,
 };
-use bytes::{BufMut, BytesMut};
-use std::alloc::Global;
-use vp_base::{CallNo, LineFault, Name, NoMemory, Owner, RecId, SiteId, TxnId, Value, ViewId};
 use vp_text::Cursor;
 
 /// A name. Faults of names are no case of these tests.

@@ -1,7 +1,9 @@
-use crate::{Body, Frame, WireFault, decode, encode};
+//! The bytes of frames.
+
 use bytes::BytesMut;
 use std::alloc::Global;
 use vp_base::{Answer, Call, CopyOf, Message, NoMemory, RecId, Stored, Value, ViewId};
+use vp_wire::{Body, Frame, WireFault, decode, encode};
 
 #[test]
 fn a_tick_has_its_bytes(rt: HostRuntime) -> Result<(), NoMemory> {
@@ -29,17 +31,22 @@ fn a_begin_has_its_bytes(rt: HostRuntime) -> Result<(), NoMemory> {
     Ok(())
 }
 
-#[test]
-fn numbers_stand_with_their_highest_byte_first(rt: HostRuntime) -> Result<(), NoMemory> {
-    let mut out = BytesMut::new(rt.alloc());
+/// The bytes of the answer that this number is spent.
+fn encoded(alloc: Global, number: u64) -> Result<BytesMut, NoMemory> {
+    let mut out = BytesMut::new(alloc);
     let spent = Frame {
         from: 16,
         to: 0,
-        body: Body::Reply(Answer::Spent { number: 258 }),
+        body: Body::Reply(Answer::Spent { number }),
     };
     encode(&spent, &mut out)?;
+    Ok(out)
+}
+
+#[test]
+fn numbers_stand_with_their_highest_byte_first(rt: HostRuntime) -> Result<(), NoMemory> {
     assert_eq!(rt;
-        out.as_slice(),
+        encoded(rt.alloc(), 258)?.as_slice(),
         b"\x56\x01\x21\x10\x00\x11\x00\x00\x00\x00\x00\x00\x01\x02".as_slice()
     );
     Ok(())
@@ -173,24 +180,24 @@ fn lists_are_refused_where_none_ascends_any_more(rt: HostRuntime) -> Result<(), 
     Ok(())
 }
 
+/// From where the frame tells whom that which number is spent.
+fn spent_in(frame: &Frame) -> Option<(u8, u8, u64)> {
+    match &frame.body {
+        Body::Reply(Answer::Spent { number }) => Some((frame.from, frame.to, *number)),
+        _ => None,
+    }
+}
+
+/// The same of the frame that has these bytes.
+fn spent_again(alloc: Global, bytes: &[u8]) -> Option<(u8, u8, u64)> {
+    let frame = decode(alloc, bytes).ok()?;
+    spent_in(&frame)
+}
+
 #[test]
 fn what_was_encoded_is_decoded(rt: HostRuntime) -> Result<(), NoMemory> {
-    let mut out = BytesMut::new(rt.alloc());
-    let spent = Frame {
-        from: 16,
-        to: 0,
-        body: Body::Reply(Answer::Spent { number: 258 }),
-    };
-    encode(&spent, &mut out)?;
-    let Ok(Frame { from, to, body }) = decode(rt.alloc(), out.as_slice()) else {
-        return Err(NoMemory);
-    };
-    assert_eq!(rt; from, 16);
-    assert_eq!(rt; to, 0);
-    let Body::Reply(Answer::Spent { number }) = body else {
-        return Err(NoMemory);
-    };
-    assert_eq!(rt; number, 258);
+    let bytes = encoded(rt.alloc(), 258)?;
+    assert!(rt; spent_again(rt.alloc(), bytes.as_slice()) == Some((16, 0, 258)));
     Ok(())
 }
 

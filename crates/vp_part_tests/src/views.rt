@@ -1,10 +1,10 @@
 //! Two sites that agree on a view, and a site that hears too little.
 
-use crate::Views;
 use std::alloc::Global;
 use std::test::Fail;
 use vp_base::{Effects, SiteId, Sites, View, ViewId};
 use vp_catalog::Catalog;
+use vp_views::Views;
 
 const OPENING: ViewId = ViewId { number: 0, site: 0 };
 
@@ -31,13 +31,19 @@ fn first_view(alloc: Global) -> Result<View, Fail> {
     Ok(View { id: FIRST, members })
 }
 
-/// How many messages site 1 sends when it invites and site 2 accepts.
-fn agreed(alloc: Global) -> Result<usize, Fail> {
+/// Site 1, which has invited the others to the view 1@1.
+fn inviting(alloc: Global, effects: &mut Effects) -> Result<Views, Fail> {
     let mut site = views(alloc, SiteId::of(1))?;
     site.leave();
+    site.invite(&catalog(alloc)?, effects)?;
+    Ok(site)
+}
+
+/// How many messages site 1 has sent when site 2 has accepted.
+fn agreed(alloc: Global) -> Result<usize, Fail> {
     let mut effects = Effects::none(alloc);
-    let id = site.invite(&catalog(alloc)?, &mut effects)?;
-    site.on_accept(SiteId::of(2), id)?;
+    let mut site = inviting(alloc, &mut effects)?;
+    site.on_accept(SiteId::of(2), FIRST)?;
     site.fix(&mut effects)?;
     Ok(effects.messages.as_slice().len())
 }
@@ -50,10 +56,16 @@ fn joined(alloc: Global, effects: &mut Effects) -> Result<bool, Fail> {
     Ok(site.on_commit(&first_view(alloc)?)?)
 }
 
-/// Whether site 1 wants another view after probes, having heard these sites.
-fn wants_view(alloc: Global, heard: &[u8]) -> Result<bool, Fail> {
+/// Site 1, which has probed the others.
+fn probing(alloc: Global) -> Result<Views, Fail> {
     let mut site = views(alloc, SiteId::of(1))?;
     site.probe(&catalog(alloc)?, &mut Effects::none(alloc))?;
+    Ok(site)
+}
+
+/// Whether site 1 wants another view after probes, having heard these sites.
+fn wants_view(alloc: Global, heard: &[u8]) -> Result<bool, Fail> {
+    let mut site = probing(alloc)?;
     for number in heard {
         match SiteId::new(*number) {
             Some(other) => site.heard(other)?,

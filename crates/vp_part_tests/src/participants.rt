@@ -1,12 +1,12 @@
 //! A part takes locks, votes, is in doubt and ends; what is left of it when the site leaves its view or starts again.
 
-use crate::{Participant, Voted};
 use std::alloc::Global;
 use vp_base::{
     Copies, CopyOf, NameFault, NoMemory, RecId, Recs, SiteId, Sites, TxnId, Value, View, ViewId,
     Writes,
 };
 use vp_locks::Locks;
+use vp_participant::{Participant, Voted};
 use vp_records::Durable;
 
 const ID: ViewId = ViewId { number: 1, site: 1 };

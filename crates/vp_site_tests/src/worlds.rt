@@ -1,10 +1,10 @@
 //! A site that crashes and starts again, and a message between two sites that are cut.
 
-use crate::World;
 use std::alloc::Global;
 use std::test::Fail;
 use vp_base::{Call, Event, Shown, SiteId};
 use vp_catalog::Catalog;
+use vp_world::World;
 
 /// Two sites.
 fn new_world(alloc: Global) -> Result<World, Fail> {

@@ -1,11 +1,11 @@
 //! A site that starts, and starts again.
 
-use crate::Site;
 use std::alloc::Global;
 use std::test::Fail;
 use vp_base::{Answer, Call, Effects, Input, SiteId};
 use vp_catalog::Catalog;
 use vp_records::Durable;
+use vp_site::Site;
 
 /// A catalogue of two sites.
 fn catalog(alloc: Global) -> Result<Catalog, Fail> {

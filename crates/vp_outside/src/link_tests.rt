@@ -1,0 +1,79 @@
+ghost use Rattle.std.specs.Prelude.{◌≡◌, ◌≤◌, None, length};
+
+use crate::{Datagram, Failed, Link, MOST_GIVEN, MemLink, OutFault, SureLink};
+use bytes::Bytes;
+use std::alloc::{AllocError, Global};
+use std::test::Fail;
+
+fn datagram(alloc: Global, port: u16, bytes: &[u8]) -> Result<Datagram, AllocError> {
+    Ok(Datagram {
+        port,
+        bytes: Bytes::copy_from_slice(alloc, bytes)?,
+    })
+}
+
+/// What the link gives: the port, the length and the first three bytes.
+fn given(link: &mut MemLink) -> Result<(u16, usize, [u8; 3]), Failed> {
+    let mut buf = [b'-'; MOST_GIVEN];
+    let (port, count) = link.receive(&mut buf)?;
+    Ok((port, count, [buf[0], buf[1], buf[2]]))
+}
+
+#[test]
+fn a_link_gives_its_datagrams_in_order(rt: HostRuntime) -> Result<(), Fail> {
+    let alloc = rt.alloc();
+    let datagrams = vec![in alloc; datagram(alloc, 7100, b"ab")?, datagram(alloc, 7002, b"")?]?;
+    let mut link = MemLink::new(alloc, datagrams, vec![in alloc; 2]?);
+    assert!(rt; given(&mut link) == Ok((7100, 2, *b"ab-")));
+    assert!(rt; given(&mut link) == Err(Failed));
+    assert!(rt; given(&mut link) == Ok((7002, 0, *b"---")));
+    assert!(rt; given(&mut link) == Err(Failed), "all were given");
+    assert!(rt; link.faults() == 2 && link.losses() == 0);
+    Ok(())
+}
+
+/// Whether the last datagram that was handed over is this one, the second of two.
+fn keeps(link: &MemLink, port: u16, bytes: &[u8]) -> bool {
+    match link.handed() {
+        [_, last] => last.port == port && last.bytes.as_slice() == bytes,
+        _ => false,
+    }
+}
+
+#[test]
+fn a_planned_call_of_a_link_fails_and_what_was_handed_over_is_kept(
+    rt: HostRuntime,
+) -> Result<(), Fail> {
+    let alloc = rt.alloc();
+    let mut link = MemLink::new(alloc, Vec::new(alloc), vec![in alloc; 1, 3]?);
+    assert!(rt; link.bind(7001) == Err(Failed));
+    assert!(rt; link.send(7100, b"x") == Ok(()));
+    assert!(rt; link.send(7002, b"yz") == Err(OutFault::Failed));
+    assert!(rt; keeps(&link, 7002, b"yz"));
+    assert!(rt; link.faults() == 1 && link.losses() == 1);
+    Ok(())
+}
+
+/// What a link gives that is bound to any port, through the trait alone.
+fn first_two<L: Link>(link: &mut L, buf: &mut [u8]) -> Result<[(u16, usize); 2], Failed>
+    requires fresh { (L.state link.old).asked ≡ None }
+    requires room { 16384 ≤ length buf.old }
+{
+    link.bind(0)?;
+    let first = link.receive(buf)?;
+    Ok([first, link.receive(buf)?])
+}
+
+#[test]
+fn a_long_datagram_is_cut_and_a_link_that_is_sure_goes_on_with_empty_ones(
+    rt: HostRuntime,
+) -> Result<(), Fail> {
+    let alloc = rt.alloc();
+    let long = vec![in alloc; 7; MOST_GIVEN + 1]?;
+    let mut link = SureLink::new(alloc, vec![in alloc; datagram(alloc, 7100, &long)?]?);
+    let mut buf = [0; MOST_GIVEN + 1];
+    assert!(rt; first_two(&mut link, &mut buf) == Ok([(7100, MOST_GIVEN), (0, 0)]));
+    assert!(rt; buf[MOST_GIVEN - 1] == 7 && buf[MOST_GIVEN] == 0);
+    assert_eq!(rt; link.faults(), 0);
+    Ok(())
+}

@@ -1,0 +1,9 @@
+//! The tests of the coordinator, a site and the world, outside the crates that have them: a crate with tests is proved twice.
+#![tactic(auto)]
+
+#[cfg(test)]
+mod coordinators;
+#[cfg(test)]
+mod sites;
+#[cfg(test)]
+mod worlds;
