@@ -1,5 +1,5 @@
 -- What a run comes to at its ends.
-use Rattle.std.proofs.Common.{◌≡◌, ◌<◌, ℕ, List, [], length, Option, Some, None, IsSome, codes, refl, sym, subst, arith, inl, inr}
+use Rattle.std.proofs.Common.{◌≡◌, ◌<◌, ℕ, List, [], length, Option, Some, None, codes, refl, sym, subst, arith, inl, inr}
 use Rattle.std.specs.Io.KnownBytes.{Appends, Consumes}
 use Rattle.vp_outside.specs.Input.{Takes}
 use Rattle.vp_top.specs.declared.status.Status.{Status}
@@ -7,7 +7,7 @@ use Rattle.vp_top.specs.declared.status.Status.TheVariants as status
 use Rattle.vp_top.specs.declared.words.Command.{Command}
 use Rattle.vp_top.specs.declared.words.Command.TheVariants as commands
 use Rattle.vp_top.specs.Commands.{command_of}
-use Rattle.vp_top.specs.Program.{most_bytes, IsAnswer, IsAnswered, IsDefined}
+use Rattle.vp_top.specs.Program.{most_bytes, AreReader, IsAnswer, IsAnswered, IsDefined}
 use Rattle.vp_top.specs.Ends.{Sourced, Sunk, IsEnded, Defines, Ends}
 
 consumes_none : (o : Option (List ℕ)) → Consumes o o []
@@ -21,29 +21,37 @@ defines_usage words s end text none left taken e t = record {
   defined = subst (λ x. IsDefined words [] (IsEnded s) x text) (sym e) (none, refl, t);
 }
 
-pub defines_too_long : (words : List (List ℕ)) (s : Sourced) (end : Status) (text : List ℕ) → IsSome (command_of words) → (bytes : List ℕ) × (most_bytes < length bytes) × Takes bytes s.left s.left_after s.taken s.taken_after → end ≡ status.Limit → text ≡ codes "limit bytes 16777216\n" → Defines words s end text
-defines_too_long words s end text replay h e t = record {
+pub defines_too_long : (words : List (List ℕ)) (s : Sourced) (end : Status) (text : List ℕ) → AreReader words → (bytes : List ℕ) × (most_bytes < length bytes) × Takes bytes s.left s.left_after s.taken s.taken_after → end ≡ status.Limit → text ≡ codes "limit bytes 16777216\n" → Defines words s end text
+defines_too_long words s end text reader h e t = record {
   bytes = h.0;
   takes = h.2;
-  defined = subst (λ x. IsDefined words h.0 (IsEnded s) x text) (sym e) (inl (replay, h.1, t));
+  defined = subst (λ x. IsDefined words h.0 (IsEnded s) x text) (sym e) (inl (reader, h.1, t));
 }
 
 -- no command has these statuses
 no_usage : (command : Command) (bytes text : List ℕ) → IsAnswer command bytes status.Usage text → ⊥
 no_usage commands.Replay bytes text a = a
 no_usage commands.Check bytes text a = a
+no_usage (commands.Generate seed count) bytes text a = a
+no_usage (commands.Soak seed count) bytes text a = a
 
 no_memory : (command : Command) (bytes text : List ℕ) → IsAnswer command bytes status.NoMemory text → ⊥
 no_memory commands.Replay bytes text a = a
 no_memory commands.Check bytes text a = a
+no_memory (commands.Generate seed count) bytes text a = a
+no_memory (commands.Soak seed count) bytes text a = a
 
 no_source : (command : Command) (bytes text : List ℕ) → IsAnswer command bytes status.SourceFault text → ⊥
 no_source commands.Replay bytes text a = a
 no_source commands.Check bytes text a = a
+no_source (commands.Generate seed count) bytes text a = a
+no_source (commands.Soak seed count) bytes text a = a
 
 no_sink : (command : Command) (bytes text : List ℕ) → IsAnswer command bytes status.SinkFault text → ⊥
 no_sink commands.Replay bytes text a = a
 no_sink commands.Check bytes text a = a
+no_sink (commands.Generate seed count) bytes text a = a
+no_sink (commands.Soak seed count) bytes text a = a
 
 answered_is : (words : List (List ℕ)) (bytes : List ℕ) (ended : Type 0) (end : Status) (text : List ℕ) → IsAnswered words bytes ended end text → IsDefined words bytes ended end text
 answered_is words bytes ended status.Usage text a = absurd (no_usage a.command bytes text a.answer)

@@ -12,3 +12,4 @@ pub mod Making
 pub mod Shaped
 pub mod Counting
 pub mod Bounds
+pub mod Soaks

@@ -142,7 +142,7 @@ generating_is : (seed count : ℕ) → generating seed count ≡ after_rounds se
 unfolding generating
 generating_is seed count = refl
 
-made_run : (seed count : ℕ) → (generating seed count).run ≡ run_of (made seed count)
+pub made_run : (seed count : ℕ) → (generating seed count).run ≡ run_of (made seed count)
 made_run seed count =
     ap (λ (g : Generating). g.run) (generating_is seed count) ∙ run_is seed count
     ∙ ap (λ (g : Generating). run_of (record { catalogue = generated_catalogue; events = g.events })) (sym (generating_is seed count))
