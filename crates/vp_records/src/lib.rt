@@ -4,8 +4,6 @@
 //! For this a list that grows, or whose values are written, is made anew beside the old one, and then takes its place.
 #![tactic(auto)]
 
-#[cfg(test)]
-mod batch_tests;
 mod copies;
 mod decisions;
 mod decoding;
@@ -16,8 +14,6 @@ mod fault;
 mod kind;
 mod laws;
 mod read_records;
-#[cfg(test)]
-mod tests;
 
 pub use decisions::acknowledge;
 pub use decoding::decode_batch;

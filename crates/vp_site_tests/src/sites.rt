@@ -13,27 +13,22 @@ fn catalog(alloc: Global) -> Result<Catalog, Fail> {
     Catalog::read(alloc, text).map_err(|_| Fail::from("no catalogue"))
 }
 
-/// What the site has after the start of its first life, where it is not told anything.
-fn first_life(catalog: &Catalog) -> Result<Durable, Fail> {
-    let id = SiteId::of(1);
-    match Site::start(catalog, id, Durable::empty(catalog.copies(id)?)) {
-        Ok((site, _)) => Ok(site.durable()?),
+/// What the site has before its first life.
+fn before_lives(catalog: &Catalog) -> Result<Durable, Fail> {
+    Ok(Durable::empty(catalog.copies(SiteId::of(1))?))
+}
+
+fn started(catalog: &Catalog, durable: Durable) -> Result<Site, Fail> {
+    match Site::start(catalog, SiteId::of(1), durable) {
+        Ok((site, _)) => Ok(site),
         Err(_) => Err(Fail::from("no life")),
     }
 }
 
-/// What a site that starts with the durable part gives where a client begins a transaction.
-fn begun(catalog: &Catalog, durable: Durable) -> Result<Effects, Fail> {
-    match Site::start(catalog, SiteId::of(1), durable) {
-        Ok((site, _)) => {
-            let begin = Input::Call {
-                from: 9,
-                call: Call::Begin,
-            };
-            Ok(site.step(catalog, &begin)?.1)
-        }
-        Err(_) => Err(Fail::from("no life")),
-    }
+/// What the site has after the start of its first life, where it is not told anything.
+fn first_life(catalog: &Catalog) -> Result<Durable, Fail> {
+    let site = started(catalog, before_lives(catalog)?)?;
+    Ok(site.durable()?)
 }
 
 fn is_begun(effects: &Effects) -> bool {
@@ -43,13 +38,29 @@ fn is_begun(effects: &Effects) -> bool {
     }
 }
 
+/// Whether a client begins a transaction at a site that starts with the durable part.
+fn begins(catalog: &Catalog, durable: Durable) -> Result<bool, Fail> {
+    let begin = Input::Call {
+        from: 9,
+        call: Call::Begin,
+    };
+    let (_, effects) = started(catalog, durable)?.step(catalog, &begin)?;
+    Ok(is_begun(&effects))
+}
+
 #[test]
-fn a_site_is_in_the_opening_view_in_its_first_life_alone(rt: HostRuntime) -> Result<(), Fail> {
+fn a_site_is_in_the_opening_view_in_its_first_life(rt: HostRuntime) -> Result<(), Fail> {
     let catalog = catalog(rt.alloc())?;
-    let empty = Durable::empty(catalog.copies(SiteId::of(1))?);
-    assert!(rt; is_begun(&begun(&catalog, empty)?));
+    let durable = before_lives(&catalog)?;
+    assert!(rt; begins(&catalog, durable)?);
+    Ok(())
+}
+
+#[test]
+fn a_site_is_not_in_the_opening_view_in_its_second_life(rt: HostRuntime) -> Result<(), Fail> {
+    let catalog = catalog(rt.alloc())?;
     let durable = first_life(&catalog)?;
-    assert!(rt; durable.life() == 1);
-    assert!(rt; !is_begun(&begun(&catalog, durable)?));
+    assert_eq!(rt; durable.life(), 1);
+    assert!(rt; !begins(&catalog, durable)?);
     Ok(())
 }

@@ -11,6 +11,3 @@ mod log;
 pub use fault::{AppendFault, LogFault};
 pub use laws::{bytes_are_bad_at_one_gate, bytes_are_one_log};
 pub use log::Log;
-
-#[cfg(test)]
-mod tests;

@@ -1,10 +1,12 @@
+//! The bytes of logs, and what a disk that fails leaves of them.
+
 ghost use Rattle.std.specs.Prelude.{IfOk};
 ghost use Rattle.vp_records.specs.Batches.{IsBatch};
 
-use super::*;
 use std::test::Fail;
 use vp_base::{Batch, Batches, LogRecord, Word};
 use vp_outside::{Disk, MemDisk, SureDisk};
+use vp_stable::{AppendFault, Log, LogFault};
 
 /// One batch, Start of life 1, behind an open gate, and a closed gate.
 const ONE: &[u8] = b"\x01\0\0\0\0\0\0\0\x05\x01\0\0\0\x01\0";

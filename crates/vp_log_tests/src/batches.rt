@@ -1,8 +1,8 @@
 //! The bytes of batches.
 
-use crate::{BatchFault, decode_batch, encode_batch};
 use std::alloc::Global;
 use vp_base::{Batch, LogRecord, NoMemory};
+use vp_records::{BatchFault, decode_batch, encode_batch};
 
 /// A record of each kind.
 const EACH_KIND: &[u8] = b"\

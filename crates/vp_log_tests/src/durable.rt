@@ -1,10 +1,10 @@
 //! What each kind of log record does, over a site with copies of the records 0 and 2.
 
-use crate::Durable;
 use vp_base::{
     Copies, CopyOf, Decisions, InDoubt, LogRecord, NameFault, NoMemory, RecId, SiteId, Sites,
     Stored, TxnId, Value, ViewId, Writes,
 };
+use vp_records::Durable;
 
 fn txn(seq: u32) -> TxnId {
     TxnId {
