@@ -1,14 +1,13 @@
 -- The generator's catalogue is one, and its names and values are some.
-use Rattle.std.proofs.Common.{◌≡◌, ◌∙◌, ap, sym, subst, refl, arith, ℕ, zero, suc, ◌+◌, ◌<◌, ◌≤◌, ◌^◌, ◌/◌, ◌%◌, Bool, true, false, List, [], ◌∷◌, ◌++◌, length, map, ⊎_elim}
-use Rattle.std.specs.Prelude.{nat_lt, nat_le, nat_eq, codes, ◌-◌, get_or, ◌&&◌, ◌||◌, ◌==◌, Result, Ok, Err, ◌≢◌}
+use Rattle.std.proofs.Common.{◌≡◌, ◌∙◌, ap, sym, subst, refl, arith, ℕ, zero, suc, ◌+◌, ◌<◌, ◌≤◌, ◌/◌, ◌%◌, true, List, [], ◌∷◌, ◌++◌, length, map, ⊎_elim}
+use Rattle.std.specs.Prelude.{codes, get_or, Result, Ok, Err, ◌≢◌}
 use Rattle.std.proofs.Math.ListN.{get_or-append, length-append}
 use Rattle.std.proofs.Math.Seq.{get_or-append_seam}
 use Rattle.std.proofs.lemmas.List.{map-append, length-map}
 use Rattle.std.proofs.lemmas.Bool.{cases_lt}
 use Rattle.std.proofs.lemmas.Cmp.{nat_eq_equiv, nat_list_eq_equiv}
 use Rattle.std.proofs.lemmas.Map.Made.{IsDistinct-from_count}
-use Rattle.std.specs.List.{AllByRecursion, IsDistinct}
-use Rattle.std.specs.Str.{bytes_eq}
+use Rattle.std.specs.List.{AllByRecursion}
 use Rattle.std.specs.Fmt.{decimal, digits}
 use Rattle.std.proofs.lemmas.Fmt.{AppendsLastDigit, decimal_from_appends, decimal_nonempty, length-decimal-le}
 use Rattle.std.proofs.lemmas.Bool.Decides.{nat_tests}
@@ -23,7 +22,7 @@ use Rattle.vp_model.specs.Catalogue.{Catalogue, RecordEntry, sites_of}
 use Rattle.vp_model.specs.Texts.Schedule.{catalogue_text}
 use Rattle.vp_model.specs.Generated.{digits_of, decimal_of, numbers_below, generated_name, generated_record, generated_catalogue}
 use Rattle.vp_catalog.specs.Entries.{IsSite, IsRecord, IsWeight, AreWeights}
-use Rattle.vp_catalog.specs.Document.{AreSites, IsCatalogueSoFar, IsCatalogue, IsOnly}
+use Rattle.vp_catalog.specs.Document.{AreSites, IsCatalogue, IsOnly}
 use Rattle.vp_catalog.specs.declared.fault.CatalogFault.{CatalogFault}
 use Rattle.vp_catalog.specs.declared.fault.CatalogFault.TheVariants as faults
 

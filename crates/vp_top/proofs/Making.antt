@@ -1,30 +1,24 @@
 -- How the generator goes on, round by round.
-use Rattle.std.proofs.Common.{◌≡◌, ◌∙◌, ap, sym, subst, refl, arith, ℕ, zero, suc, ◌+◌, ◌<◌, ◌≤◌, ◌^◌, Bool, true, false, cond, List, [], ◌∷◌, ◌++◌, length, map, drop, append_assoc, append-nil, ⊎_elim}
-use Rattle.std.specs.Prelude.{Option, Some, None, Result, Ok, Err, IfSome, option_and_then, ◌-◌, take, get_or, find, flat_map, ◌||◌}
-use Rattle.std.specs.List.{AllByRecursion, list_any, Contains}
+use Rattle.std.proofs.Common.{◌≡◌, ◌∙◌, ap, sym, subst, refl, arith, ℕ, zero, suc, ◌+◌, ◌<◌, ◌≤◌, true, List, [], ◌∷◌, ◌++◌, length, append_assoc, append-nil}
+use Rattle.std.specs.Prelude.{Option, Some, None, Result, Ok, Err, option_and_then, ◌-◌, take, get_or}
 use Rattle.std.specs.Option.{option_map_or}
-use Rattle.std.proofs.Math.ListN.{get_or-append, length-append}
+use Rattle.std.proofs.Math.ListN.{length-append}
 use Rattle.std.proofs.Math.Seq.{get_or-append_seam, take-append_seam}
-use Rattle.std.proofs.lemmas.List.Folds.{find-append}
 use Rattle.vp_text.specs.Printing.{is_begun}
-use Rattle.vp_text.proofs.Items.{all_append}
 use Rattle.vp_model.specs.Texts.Schedule.{schedule_text}
-use Rattle.vp_model.specs.Types.{Newest, Live, Event, Line, Reply, Counted}
-use Rattle.vp_model.specs.Types.event
-use Rattle.vp_model.specs.Words.{for_some}
+use Rattle.vp_model.specs.Types.{Newest, Live, Event, Line, Reply}
 use Rattle.vp_model.specs.Catalogue.{Catalogue}
 use Rattle.vp_model.specs.Site.{SiteState}
-use Rattle.vp_model.specs.World.{WorldState, Moment, Run, Schedule, site_of, flowing, one_step, flow, one_event, run_from, run_of, start_run, start_world, moments_of}
-use Rattle.vp_model.specs.Limits.{world_limits, exceeded, is_over, first_over, limit_in, limit_reached, lines_within}
-use Rattle.vp_model.specs.Generated.{newest, Choice, Generating, generated_catalogue, generated_event, next_draw, drawn, emit, one_round, rounds, generating, made, made_within, limit_made, events_within}
+use Rattle.vp_model.specs.World.{WorldState, Moment, Run, Schedule, one_event, run_from, run_of, start_run, start_world}
+use Rattle.vp_model.specs.Limits.{world_limits, first_over, limit_in, lines_within}
+use Rattle.vp_model.specs.Generated.{newest, Choice, Generating, generated_catalogue, generated_event, next_draw, drawn, emit, one_round, rounds, generating, made, made_within}
 use Rattle.vp_model.specs.Told.{replies_in}
-use Rattle.vp_model.specs.Texts.Trace.{own_line, printed_lines}
+use Rattle.vp_model.specs.Texts.Trace.{own_line}
 use Rattle.vp_model.proofs.RunGrows.{run_from-more}
 use Rattle.vp_world.specs.Known.{Known}
-use Rattle.vp_world.specs.Limits.{limit_of}
 use Rattle.vp_world.specs.declared.end.WorldEnd.{WorldEnd}
 use Rattle.vp_world.specs.declared.end.WorldEnd.TheVariants as end
-use Rattle.vp_top.specs.Played.{run_in, seen_all, Sees, Plays}
+use Rattle.vp_top.specs.Played.{run_in, seen_all, Sees}
 use Rattle.vp_laws.proofs.CutTraces.{limits_cut_traces}
 use Rattle.vp_top.specs.Summary.{replies_of}
 use Rattle.vp_top.specs.Generated.{Makes}

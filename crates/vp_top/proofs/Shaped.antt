@@ -1,24 +1,24 @@
 -- The calls of the generator have numbers that fit, and the records that its transactions use are records.
-use Rattle.std.proofs.Common.{◌≡◌, ◌∙◌, ap, sym, subst, refl, arith, ℕ, zero, suc, ◌+◌, ◌*◌, ◌<◌, ◌≤◌, ◌^◌, ◌/◌, ◌%◌, Bool, true, false, cond, List, [], ◌∷◌, ◌++◌, length, map}
-use Rattle.std.specs.Prelude.{Option, Some, None, IfSome, option_and_then, nat_lt, nat_le, find, All, slice_get, get_or, is_some, ◌==◌, sum_by, filter}
-use Rattle.std.specs.List.{AllByRecursion, Contains}
+use Rattle.std.proofs.Common.{◌≡◌, ◌∙◌, ap, sym, subst, refl, arith, ℕ, zero, suc, ◌+◌, ◌*◌, ◌<◌, ◌≤◌, ◌^◌, ◌/◌, ◌%◌, Bool, true, false, cond, List, [], ◌∷◌, length}
+use Rattle.std.specs.Prelude.{Option, Some, None, IfSome, option_and_then, nat_lt, nat_le, slice_get, get_or, is_some, ◌==◌, sum_by}
+use Rattle.std.specs.List.{AllByRecursion}
 use Rattle.std.specs.Option.{option_map_or}
 use Rattle.std.proofs.Math.Nat.{mod-lt}
 use Rattle.std.proofs.lemmas.Bool.{false≢true}
 use Rattle.vp_text.proofs.Items.{all_append}
-use Rattle.vp_base.specs.Calls.{IsCall, IsNumbered}
+use Rattle.vp_base.specs.Calls.{IsNumbered}
 use Rattle.vp_base.specs.Words.{IsName, IsValue}
 use Rattle.vp_base.specs.Identifiers.{IsTxn}
-use Rattle.vp_model.specs.Types.{Newest, Live, Event, Commit, Op, View}
+use Rattle.vp_model.specs.Types.{Newest, Live, Event, Op}
 use Rattle.vp_model.specs.Types.event
 use Rattle.vp_model.specs.Types.call
 use Rattle.vp_model.specs.Types.op
 use Rattle.vp_model.specs.Catalogue.{Catalogue, RecordEntry, accessible, start_values, weights_in, weight_inside}
-use Rattle.vp_model.specs.OneCopy.{order, serial}
+use Rattle.vp_model.specs.OneCopy.{order}
 use Rattle.vp_model.specs.Site.{SiteState}
 use Rattle.vp_model.specs.World.{Place, WorldState, Run, Schedule, site_of, place_of, is_cut, run_of, journal_of}
-use Rattle.vp_model.specs.Generated.{newest, newest_of, Choice, Generating, generated_catalogue, generated_call, generated_work, generated_cut, generated_event, generated_name, decimal_of, next_draw, drawn, one_round, rounds}
-use Rattle.vp_onecopy.specs.Playing.{op_record, OpsWithin, CommitsWithin}
+use Rattle.vp_model.specs.Generated.{newest, newest_of, Choice, Generating, generated_catalogue, generated_call, generated_work, generated_cut, generated_event, generated_name, decimal_of, next_draw, drawn, rounds}
+use Rattle.vp_onecopy.specs.Playing.{op_record, CommitsWithin}
 use Rattle.vp_laws.specs.Shapes.{IsShaped, IsLive}
 use Rattle.vp_laws.specs.ShapeLaws.{IsEvent, IsPlace, IsWorld}
 use Rattle.vp_laws.specs.Entries.{record_in}
@@ -29,7 +29,7 @@ use Rattle.vp_laws.proofs.Members.{contains, has_of}
 use Rattle.std.proofs.lemmas.Option.{slice_get_within}
 use Rattle.std.proofs.lemmas.List.{length-map, get_or_default}
 use Rattle.vp_top.proofs.GeneratedCatalogue.{generated_is, name_is, number_is_value}
-use Rattle.vp_top.proofs.Making.{started, after_rounds, choice_of, one_more, round_events, run_is}
+use Rattle.vp_top.proofs.Making.{after_rounds, choice_of, one_more, round_events, run_is}
 
 -- what is known of the newest transaction of a site that is well formed
 pub record IsNext (t : Newest) : Type 0 where

@@ -1,12 +1,11 @@
 -- What a soak comes to.
-use Rattle.std.proofs.Common.{◌≡◌, ◌∙◌, ap, sym, subst, ℕ, List, ◌++◌, length}
+use Rattle.std.proofs.Common.{◌≡◌, ◌∙◌, ap, sym, subst, ℕ, List, length}
 use Rattle.std.specs.Prelude.{Ok, IsSome}
-use Rattle.vp_model.specs.Types.{Event, Reply, Commit}
+use Rattle.vp_model.specs.Types.{Event, Reply}
 use Rattle.vp_model.specs.Catalogue.{start_values}
 use Rattle.vp_model.specs.OneCopy.{order, serial}
 use Rattle.vp_model.specs.World.{WorldState, Run, run_of, journal_of}
-use Rattle.vp_model.specs.Limits.{world_limits}
-use Rattle.vp_model.specs.Generated.{generated_catalogue, generating, made}
+use Rattle.vp_model.specs.Generated.{generated_catalogue, made}
 use Rattle.vp_model.specs.Texts.Trace.{printed_lines}
 use Rattle.vp_onecopy.specs.Playing.{CommitsWithin}
 use Rattle.vp_laws.proofs.ToldRuns.{one_copy_told}

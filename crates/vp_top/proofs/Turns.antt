@@ -1,10 +1,10 @@
 -- What each event adds to the run of a schedule, and what an observer sees of it.
-use Rattle.std.proofs.Common.{◌≡◌, ◌∙◌, ap, sym, ℕ, zero, suc, ◌+◌, ◌<◌, Bool, true, false, cond, List, [], ◌∷◌, ◌++◌, map, refl, arith, length, drop, append_assoc, append-nil, subst}
+use Rattle.std.proofs.Common.{◌≡◌, ◌∙◌, ap, sym, ℕ, zero, suc, ◌+◌, ◌<◌, Bool, true, false, cond, List, [], ◌∷◌, ◌++◌, refl, arith, length, drop, append_assoc, append-nil, subst}
 use Rattle.std.proofs.lemmas.Bool.{false≢true}
 use Rattle.std.proofs.lemmas.List.{map-append}
 use Rattle.std.proofs.lemmas.List.Folds.{list_any-append, find-append}
 use Rattle.std.proofs.Math.Seq.{drop-append_seam}
-use Rattle.std.specs.Prelude.{Result, Ok, Err, Option, Some, None, is_some, not, ◌-◌, ◌||◌, find, take, option_and_then, get_or}
+use Rattle.std.specs.Prelude.{Result, Ok, Err, Option, Some, None, ◌-◌, ◌||◌, find, take, option_and_then, get_or}
 use Rattle.std.specs.Option.{option_or}
 use Rattle.std.specs.List.{AllByRecursion, list_any, before_first, position_or_len}
 use Rattle.vp_text.proofs.Items.{all_push}
@@ -16,7 +16,7 @@ use Rattle.vp_model.specs.World.{WorldState, Moment, Run, Schedule, next, flowin
 use Rattle.vp_model.specs.Texts.Trace.{own_line}
 use Rattle.vp_model.specs.Limits.{world_limits, exceeded, refused, is_over, limit_in, limit_reached, lines_within_from, lines_within}
 use Rattle.vp_world.specs.Known.{Known}
-use Rattle.vp_world.specs.Limits.{Ends, limit_of}
+use Rattle.vp_world.specs.Limits.{Ends}
 use Rattle.vp_world.specs.declared.end.WorldEnd.{WorldEnd}
 use Rattle.vp_world.specs.declared.end.WorldEnd.TheVariants as end
 use Rattle.vp_top.specs.Played.{run_in, lines_in, seen_all, Sees, Plays}

@@ -1,12 +1,10 @@
 -- What is told of a schedule that the generator makes.
-use Rattle.std.specs.Prelude.{◌≡◌, ℕ, ⊤, List, [], ◌++◌, Option, Some, None, Result, Ok, Err, true}
+use Rattle.std.specs.Prelude.{◌≡◌, ℕ, ⊤, List, ◌++◌, Option, Some, None, Result, Ok, Err, true}
 use Rattle.vp_base.specs.declared.memory.NoMemory.{NoMemory}
-use Rattle.vp_model.specs.Types.{Reply, Event, Line, Counted}
-use Rattle.vp_model.specs.Catalogue.{Catalogue}
+use Rattle.vp_model.specs.Types.{Counted}
 use Rattle.vp_model.specs.Headline.{IsSerial}
 use Rattle.vp_model.specs.Limits.{world_limits}
 use Rattle.vp_model.specs.Generated.{generating, generated_catalogue, made, made_within, limit_made}
-use Rattle.vp_model.specs.Told.{replies_in}
 use Rattle.vp_model.specs.Texts.Schedule.{schedule_text}
 use Rattle.vp_model.specs.Texts.Trace.{printed_lines}
 use Rattle.vp_text.specs.Printing.{is_begun}

@@ -1,4 +1,4 @@
-use Rattle.std.proofs.Common.{rules, ◌≡◌, ◌∙◌, sym, subst, arith, List, ℕ, [], ◌++◌}
+use Rattle.std.proofs.Common.{rules, ◌≡◌, ◌∙◌, sym, subst, arith}
 use Rattle.std.specs.Fmt.{decimal}
 use Rattle.vp_text.specs.Meaning.{IsRefused}
 use Rattle.vp_base.specs.Words.{IsValue}

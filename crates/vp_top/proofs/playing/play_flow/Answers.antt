@@ -1,4 +1,4 @@
-use Rattle.std.proofs.Common.{rules, refl, sym, subst, arith, ◌≡◌, Result, Err}
+use Rattle.std.proofs.Common.{rules, refl, sym, subst, ◌≡◌, Result, Err}
 use Rattle.vp_world.specs.Known.{Known}
 use Rattle.vp_world.specs.declared.end.WorldEnd.{WorldEnd}
 use Rattle.vp_top.specs.Played.{Sees, run_in}

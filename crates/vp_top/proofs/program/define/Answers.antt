@@ -1,5 +1,4 @@
-use Rattle.std.proofs.Common.{rules, ◌≡◌, Some}
-use Rattle.vp_top.specs.Commands.{command_of}
+use Rattle.std.proofs.Common.{rules}
 use Rattle.vp_top.specs.declared.words.Command.TheVariants as commands
 use Rattle.vp_top.proofs.Bounds.{command_fits}
 use Rattle.vp_top.proofs.program.define.Goals as goal

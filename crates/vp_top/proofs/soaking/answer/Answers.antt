@@ -1,4 +1,4 @@
-use Rattle.std.proofs.Common.{rules, ◌≡◌}
+use Rattle.std.proofs.Common.{rules}
 use Rattle.vp_top.proofs.Soaks.{soak_within, soak_serial, soak_done}
 use Rattle.vp_top.proofs.soaking.answer.Goals as goal
 

@@ -1,4 +1,4 @@
-use Rattle.std.proofs.Common.{rules, arith, ap, refl}
+use Rattle.std.proofs.Common.{rules, arith}
 use Rattle.vp_top.specs.Summary.{begins, commits, refuses}
 use Rattle.vp_top.proofs.Counting.{count_fits, refused_else}
 use Rattle.vp_top.proofs.soaking.count.Goals as goal

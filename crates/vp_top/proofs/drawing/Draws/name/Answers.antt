@@ -1,4 +1,4 @@
-use Rattle.std.proofs.Common.{rules, ◌≡◌, ◌∙◌, ◌<◌, ap, sym, subst, arith, ℕ, List, IfOk, get_or}
+use Rattle.std.proofs.Common.{rules, ◌≡◌, ◌∙◌, ap, subst, ℕ, List, IfOk, get_or}
 use Rattle.vp_model.specs.Catalogue.{RecordEntry}
 use Rattle.vp_model.specs.Generated.{next_draw, drawn, generated_name, generated_record, generated_catalogue}
 use Rattle.vp_top.proofs.GeneratedCatalogue.{made_at}
