@@ -9,7 +9,8 @@ use Rattle.vp_base.specs.declared.memory.NoMemory.{NoMemory}
 use Rattle.vp_model.specs.Types.{Sent}
 use Rattle.vp_model.specs.Words.{has}
 use Rattle.vp_world.specs.Known.{message_in}
-use Rattle.vp_world.specs.Queues.{pair_of, waiting, without, AreSites, AreSited, IsQueued}
+use Rattle.vp_world.specs.Queues.{pair_of, waiting, without, AreBelow, AreSites, AreSited, IsQueued}
+use Rattle.vp_world.proofs.Rising.{waiting_below}
 use Rattle.vp_world.proofs.Waiting.{has_other, sent_push, delivered_without, delivered_other}
 
 sited_push : (sent : List Sent) (s : Sent) → AreSited sent → AreSites s.from s.to → AreSited (sent ++ s ∷ [])
@@ -20,6 +21,12 @@ module _ (queues : List (List ℕ)) (sent : List Sent) (delivered : List ℕ) (i
   -- what is read
   pub queue_is : q ≡ waiting place delivered 1 sent
   queue_is = get_or_read queues place q (rw inv.count within) read [] ∙ inv.each place within
+
+  -- the next number is above all that wait
+  pub queue_below : AreBelow (length sent + 1) q
+  queue_below =
+      let next : 1 + length sent ≡ length sent + 1 = omega arith in
+      rw queue_is (subst (λ n. AreBelow n (waiting place delivered 1 sent)) next (waiting_below place delivered 1 sent))
 
   -- the queue of another pair
   apart : (pair : ℕ) (x : List ℕ) → (place == pair) ≡ false → slice_index_or (slice_set queues place x) pair [] ≡ slice_index_or queues pair []

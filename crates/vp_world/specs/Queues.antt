@@ -24,6 +24,11 @@ abbrev pub Rises : ℕ → List ℕ → Type 0
 Rises n [] = Unit {0}
 Rises n (k ∷ numbers) = (n ≤ k) × Rises (k + 1) numbers
 
+-- each of the numbers is lower than n
+abbrev pub AreBelow : ℕ → List ℕ → Type 0
+AreBelow n [] = Unit {0}
+AreBelow n (k ∷ numbers) = (k < n) × AreBelow n numbers
+
 pub record AreSites (from to : ℕ) : Type 0 where
   pub from_least : 1 ≤ from
   pub from_most : from ≤ 16

@@ -2,7 +2,7 @@
 
 ghost use Rattle.std.specs.Prelude.{◌≡◌, ◌≤◌, ◌<◌, ◌+◌, ◌++◌, ◌∷◌, ℕ, [], OnOk, OnErr, IfOk, Some, slice_index_or, nat_lt, length, if◌then◌else◌, option_copied};
 ghost use Rattle.vp_model.specs.Words.{first};
-ghost use Rattle.vp_world.specs.Queues.{pair_of, waiting, AreSites, AreSited};
+ghost use Rattle.vp_world.specs.Queues.{pair_of, waiting, AreBelow, AreSites, AreSited};
 ghost use Rattle.vp_world.specs.Limits.{Ends, too_many};
 ghost use Rattle.vp_world.specs.Known.{message_in, posted};
 
@@ -60,7 +60,8 @@ fn empty_queues(alloc: Global) -> Result<Vec<Queue>, NoMemory>
 
 /// The message gets the next number, which joins the queue. Without memory both stay as they are.
 fn post(sent: &mut Vec<Sent>, queue: &mut Queue, message: Sent) -> Result<(), NoMemory>
-    requires { length sent.old.items < 2000000 }
+    requires room { length sent.old.items < 2000000 }
+    requires last { AreBelow (length sent.old.items + 1) queue.old }
     ensures sent { OnOk result (sent.new.items ≡ sent.old.items ++ message ∷ []) }
     ensures queue { OnOk result (queue.new ≡ queue.old ++ (length sent.old.items + 1) ∷ []) }
     ensures err { OnErr result ((sent.new.items ≡ sent.old.items) × (queue.new ≡ queue.old)) }

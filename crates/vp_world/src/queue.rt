@@ -2,17 +2,17 @@
 
 ghost use Rattle.std.specs.Prelude.{◌≡◌, ◌++◌, ◌∷◌, [], OnOk, OnErr};
 ghost use Rattle.vp_model.specs.Words.{first};
-ghost use Rattle.vp_world.specs.Queues.{without, Rises};
+ghost use Rattle.vp_world.specs.Queues.{without, AreBelow, Rises};
 
 use std::alloc::Global;
-use std::collections::VecDeque;
+use std::collections::BTreeSet;
 use std::marker::Model;
 use vp_base::NoMemory;
 
-/// The numbers of the messages, ascending.
+/// The numbers of the messages, ascending. Any of them is taken out as fast as the first.
 #[derive(Drop)]
 pub struct Queue {
-    numbers: VecDeque<u32>,
+    numbers: BTreeSet<u32>,
 }
 
 impl Model for Queue {
@@ -20,7 +20,7 @@ impl Model for Queue {
 
     ghost Value = { List ℕ };
 
-    ghost view = { λ q. q.numbers.items };
+    ghost view = { λ q. q.numbers.keys };
 }
 
 impl Queue {
@@ -28,22 +28,23 @@ impl Queue {
         ensures { result ≡ [] }
     {
         Queue {
-            numbers: VecDeque::new(alloc),
+            numbers: BTreeSet::new(alloc),
         }
     }
 
     pub fn first(&self) -> Option<u32>
         ensures { result ≡ first self.now }
     {
-        self.numbers.front().copied()
+        self.numbers.first().copied()
     }
 
-    /// The message is sent. Without memory the queue stays as it is.
+    /// The message is sent, the last one so far. Without memory the queue stays as it is.
     pub fn push(&mut self, number: u32) -> Result<(), NoMemory>
+        requires { AreBelow number self.old }
         ensures ok { OnOk result (self.new ≡ self.old ++ number ∷ []) }
         ensures err { OnErr result (self.new ≡ self.old) }
     {
-        self.numbers.push_back(number)?;
+        self.numbers.insert(number)?;
         Ok(())
     }
 
@@ -52,8 +53,6 @@ impl Queue {
         requires { Rises 1 self.old }
         ensures { self.new ≡ without number self.old }
     {
-        if let Ok(place) = self.numbers.binary_search(&number) {
-            let _ = self.numbers.remove(place);
-        }
+        self.numbers.remove(&number);
     }
 }

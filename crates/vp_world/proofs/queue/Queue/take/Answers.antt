@@ -1,16 +1,11 @@
-use Rattle.std.proofs.Common.{rules, ◌≡◌, ◌∙◌, sym, subst, List, ℕ, Result}
+use Rattle.std.proofs.Common.{rules, ◌≡◌, ◌∙◌}
 use Rattle.std.specs.Ordering.{nat_cmp}
-use Rattle.std.specs.List.Sorted.{IsBinarySearchResult}
-use Rattle.vp_world.proofs.Rising.{there, not_there}
+use Rattle.std.specs.Set.{remove_key}
+use Rattle.std.specs.BTreeMap.{is_at}
+use Rattle.vp_world.proofs.Rising.{taken_out}
 use Rattle.vp_world.proofs.queue.Queue.take.Goals as goal
 
-pub returns-in-Ok : goal.returns-in-Ok
-returns-in-Ok c =
-    let numbers = c.self.inside.numbers.items in
-    (search rules) ∙ there numbers c.args.number c.in-Ok.place (search rules) (search rules) ∙ (search rules)
-
-pub returns-in_default : goal.returns-in_default
-returns-in_default c =
-    not_there c.args.self.now c.args.number c.in_default.field-0 (search rules)
-    (subst (λ (r : Result ℕ ℕ). IsBinarySearchResult (λ y. nat_cmp y c.args.number) c.args.self.now r) c.in_default.is
-    (subst (λ (xs : List ℕ). IsBinarySearchResult (λ y. nat_cmp y c.args.number) xs c.binary_search.result) c.self.view_is c.binary_search.ensures.position))
+pub returns : goal.returns
+returns c =
+    let keys : c.remove.new.self.keys ≡ remove_key (is_at (λ y. nat_cmp c.args.number y)) c.args.self.now = search rules in
+    keys ∙ taken_out 1 c.args.number c.args.self.now c.requires
