@@ -13,3 +13,4 @@ pub mod Shaped
 pub mod Counting
 pub mod Bounds
 pub mod Soaks
+pub mod Completing

@@ -9,3 +9,4 @@ pub mod Generated
 pub mod Checked
 pub mod Program
 pub mod Ends
+pub mod Complete

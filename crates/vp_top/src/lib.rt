@@ -2,6 +2,7 @@
 #![tactic(auto)]
 
 mod check;
+pub mod claims;
 mod drawing;
 mod generated_catalogue;
 mod generating;

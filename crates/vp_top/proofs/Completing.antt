@@ -1,0 +1,163 @@
+-- A run on an input in its grammar, where nothing fails, is done, or finds no memory.
+use Rattle.std.proofs.Common.{◌≡◌, ◌≢◌, ◌∙◌, ap, sym, subst, refl, arith, ℕ, ◌+◌, ◌≤◌, ◌<◌, List, [], ◌∷◌, ◌++◌, length, append-nil, inl, inr, ◌⊎◌, ⊎_elim}
+use Rattle.std.specs.Prelude.{Option, Some, None, Ok, Err, Result}
+use Rattle.std.proofs.Math.ListN.{length-append}
+use Rattle.std.specs.Io.KnownBytes.{Appends, Consumes, IsAtEnd}
+use Rattle.vp_model.specs.World.{Schedule}
+use Rattle.vp_model.specs.Limits.{world_limits, limit_reached}
+use Rattle.vp_model.specs.Texts.Trace.{trace_text}
+use Rattle.vp_model.specs.Texts.History.{history_text}
+use Rattle.vp_schedule.specs.Document.{IsScheduleText, Answered}
+use Rattle.vp_schedule.specs.Document.{IsOnly as IsOnlySchedule}
+use Rattle.vp_schedule.specs.declared.fault.ScheduleFault.{ScheduleFault}
+use Rattle.vp_schedule.specs.declared.fault.ScheduleFault.TheVariants as schedule_faults
+use Rattle.vp_onecopy.specs.Passing.{AnsweredAll, IsOnly}
+use Rattle.vp_onecopy.specs.declared.map.History.{History}
+use Rattle.vp_onecopy.specs.declared.fault.HistoryFault.{HistoryFault}
+use Rattle.vp_onecopy.specs.declared.fault.HistoryFault.TheVariants as history_faults
+use Rattle.vp_top.specs.Checked.{IsVerdict, IsChecked, IsMisspelled, Finds}
+use Rattle.vp_top.specs.Replayed.{IsReplayed, IsRefused, IsDone, IsLimited, Gives, Tells}
+use Rattle.vp_top.specs.Commands.{command_of}
+use Rattle.vp_top.specs.Complete.{IsGiven, SchedulesAreReplayed, HistoriesAreChecked}
+use Rattle.vp_top.specs.Ends.{Sourced, Sunk, IsEnded, Defines, Ends}
+use Rattle.vp_top.specs.Program.{most_bytes, HasRead, IsAnswer, IsAnswered, IsTooLong}
+use Rattle.vp_top.specs.declared.status.Status.{Status}
+use Rattle.vp_top.specs.declared.status.Status.TheVariants as status
+use Rattle.vp_top.specs.declared.words.Command.{Command}
+use Rattle.vp_top.specs.declared.words.Command.TheVariants as commands
+
+-- ---- the bytes that were taken
+
+taken_all : (left after : Option (List ℕ)) (given bytes : List ℕ) → left ≡ Some given → Consumes left after bytes → IsAtEnd after → bytes ≡ given
+taken_all None after given bytes e gone ended = cc
+taken_all (Some xs) None given bytes e gone ended = absurd gone
+taken_all (Some xs) (Some ys) given bytes e gone ended =
+    let same : xs ≡ given = cc in
+    sym (sym same ∙ gone ∙ ap (λ rest. bytes ++ rest) ended ∙ append-nil bytes)
+
+taken_few : (left after : Option (List ℕ)) (given bytes : List ℕ) → left ≡ Some given → Consumes left after bytes → length bytes ≤ length given
+taken_few None after given bytes e gone = cc
+taken_few (Some xs) None given bytes e gone = absurd gone
+taken_few (Some xs) (Some ys) given bytes e gone =
+    let same : given ≡ xs = cc in
+    let parts = length-append bytes ys in
+    rw (same, gone) (omega (arith, parts))
+
+-- what the answer of a command is, which the words are
+command_answers : (words : List (List ℕ)) (bytes : List ℕ) (ended : Type 0) (end : Status) (text : List ℕ) (c : Command) → IsAnswered words bytes ended end text → command_of words ≡ Some c → HasRead c bytes ended × IsAnswer c bytes end text
+command_answers words bytes ended end text c a w =
+    let some : Some a.command ≡ Some c = sym a.words_are ∙ w in
+    let same : a.command ≡ c = cc in
+    (subst (λ c. HasRead c bytes ended) same a.read, subst (λ c. IsAnswer c bytes end text) same a.answer)
+
+module _ (words : List (List ℕ)) (s : Sourced) (k : Sunk) (bytes : List ℕ) (given : IsGiven s k bytes) where
+  no_usage : (c : Command) → command_of words ≡ Some c → command_of words ≡ None → ⊥
+  no_usage c w none = let bad : Some c ≡ None = sym w ∙ none in cc
+
+  -- it is not too long
+  not_long : (text : List ℕ) (d : List ℕ) → Consumes s.left s.left_after d → IsTooLong words d text → ⊥
+  not_long text d gone long =
+      let few = taken_few s.left s.left_after bytes d given.left gone in
+      let fits = given.fits in
+      let more = long.1 in
+      omega (arith, few, fits, more)
+
+  module _ (schedule : Schedule) (spelled : IsScheduleText schedule bytes) (none : limit_reached world_limits schedule ≡ None) (w : command_of words ≡ Some commands.Replay) where
+    only_fault : (d : List ℕ) (f : ScheduleFault) → d ≡ bytes → IsOnlySchedule d (Err f) → f ≢ schedule_faults.NoMemory → ⊥
+    only_fault d f e only some =
+        let same = only (Ok schedule) (subst (λ t. IsScheduleText schedule t) (sym e) spelled) (λ bad. some (let q : Err f ≡ Err schedule_faults.NoMemory = bad in cc)) (λ bad. cc) in cc
+
+    tells_none : (end : Status) (text : List ℕ) → Tells schedule_faults.NoMemory end text → ⊥
+    tells_none status.BadLine text told = told
+    tells_none status.Limit text told = told
+    tells_none _ text told = told
+
+    refused : (end : Status) (text d : List ℕ) → d ≡ bytes → IsRefused d end text → ⊥
+    refused end text d e r = go r.fault r.only r.told
+      where
+        go : (f : ScheduleFault) → IsOnlySchedule d (Err f) → Tells f end text → ⊥
+        go (schedule_faults.BadLine line at) only told = only_fault d (schedule_faults.BadLine line at) e only (λ q. cc)
+        go (schedule_faults.Twice line) only told = only_fault d (schedule_faults.Twice line) e only (λ q. cc)
+        go (schedule_faults.TooMany line limit) only told = only_fault d (schedule_faults.TooMany line limit) e only (λ q. cc)
+        go schedule_faults.NoMemory only told = tells_none end text told
+
+    same_schedule : (d : List ℕ) (t : Schedule) → d ≡ bytes → IsOnlySchedule d (Ok t) → t ≡ schedule
+    same_schedule d t e only = let same = only (Ok schedule) (subst (λ x. IsScheduleText schedule x) (sym e) spelled) (λ bad. cc) (λ bad. cc) in cc
+
+    unlimited : (text d : List ℕ) → d ≡ bytes → IsReplayed d status.Limit text → ⊥
+    unlimited text d e r =
+        let reached = r.gives.reached in
+        let is = same_schedule d r.schedule e r.only in
+        let bad : None ≡ Some r.gives.counted = sym none ∙ ap (limit_reached world_limits) (sym is) ∙ reached in
+        cc
+
+    pub replay_ends : (end : Status) → Ends words s k end → ((end ≡ status.Done) × Appends k.held k.held_after (trace_text schedule ++ history_text schedule)) ⊎ (end ≡ status.NoMemory)
+    replay_ends status.NoMemory e = inr refl
+    replay_ends status.SourceFault e = absurd (given.source e.1)
+    replay_ends status.SinkFault e = absurd (given.sink e.0)
+    replay_ends status.Usage e = absurd (no_usage commands.Replay w e.defines.defined.0)
+    replay_ends status.Done e =
+        let d = e.defines in
+        let a = command_answers words d.bytes (IsEnded s) status.Done e.text commands.Replay d.defined w in
+        let all = taken_all s.left s.left_after bytes d.bytes given.left d.takes.bytes_gone a.0.1.1 in
+        let is = same_schedule d.bytes a.1.schedule all a.1.only in
+        inl (refl, subst (Appends k.held k.held_after) (a.1.gives.printed ∙ ap (λ (s : Schedule). trace_text s ++ history_text s) is) e.appended)
+    replay_ends status.BadLine e =
+        let d = e.defines in
+        let a = command_answers words d.bytes (IsEnded s) status.BadLine e.text commands.Replay d.defined w in
+        absurd (refused status.BadLine e.text d.bytes (taken_all s.left s.left_after bytes d.bytes given.left d.takes.bytes_gone a.0.1.1) a.1)
+    replay_ends status.Limit e =
+        let d = e.defines in
+        absurd (⊎_elim (not_long e.text d.bytes d.takes.bytes_gone)
+        (λ answered.
+        let a = command_answers words d.bytes (IsEnded s) status.Limit e.text commands.Replay answered w in
+        let all = taken_all s.left s.left_after bytes d.bytes given.left d.takes.bytes_gone a.0.1.1 in
+        ⊎_elim (unlimited e.text d.bytes all) (refused status.Limit e.text d.bytes all) a.1)
+        d.defined)
+    replay_ends status.Differs e =
+        let d = e.defines in
+        absurd (command_answers words d.bytes (IsEnded s) status.Differs e.text commands.Replay d.defined w).1
+
+  module _ (history : History) (spelled : AnsweredAll bytes (Ok history)) (w : command_of words ≡ Some commands.Check) where
+    finds_none : (end : Status) (text : List ℕ) → Finds history_faults.NoMemory end text → ⊥
+    finds_none status.BadLine text found = found
+    finds_none _ text found = found
+
+    misspelled : (end : Status) (text d : List ℕ) → d ≡ bytes → IsMisspelled d end text → ⊥
+    misspelled end text d e r = go r.fault r.only r.told
+      where
+        fault : (f : HistoryFault) → IsOnly d (Err f) → f ≢ history_faults.NoMemory → ⊥
+        fault f only some =
+            let same = only (Ok history) (subst (λ t. AnsweredAll t (Ok history)) (sym e) spelled) (λ bad. some (let q : Err f ≡ Err history_faults.NoMemory = bad in cc)) (λ bad. cc) in cc
+
+        go : (f : HistoryFault) → IsOnly d (Err f) → Finds f end text → ⊥
+        go (history_faults.BadLine line at) only told = fault (history_faults.BadLine line at) only (λ q. cc)
+        go (history_faults.Twice line) only told = fault (history_faults.Twice line) only (λ q. cc)
+        go history_faults.NoMemory only told = finds_none end text told
+
+    same_history : (d : List ℕ) (h : History) → d ≡ bytes → IsOnly d (Ok h) → h ≡ history
+    same_history d h e only = let same = only (Ok history) (subst (λ t. AnsweredAll t (Ok history)) (sym e) spelled) (λ bad. cc) (λ bad. cc) in cc
+
+    verdict : (end : Status) (text d : List ℕ) → d ≡ bytes → IsChecked d end text → IsVerdict history end text
+    verdict end text d e r = subst (λ (h : History). IsVerdict h end text) (same_history d r.history e r.only) r.verdict
+
+    pub check_ends : (end : Status) → Ends words s k end → ((text : List ℕ) × IsVerdict history end text × Appends k.held k.held_after text) ⊎ (end ≡ status.NoMemory)
+    check_ends status.NoMemory e = inr refl
+    check_ends status.SourceFault e = absurd (given.source e.1)
+    check_ends status.SinkFault e = absurd (given.sink e.0)
+    check_ends status.Usage e = absurd (no_usage commands.Check w e.defines.defined.0)
+    check_ends status.Done e =
+        let d = e.defines in
+        let a = command_answers words d.bytes (IsEnded s) status.Done e.text commands.Check d.defined w in
+        inl (e.text, verdict status.Done e.text d.bytes (taken_all s.left s.left_after bytes d.bytes given.left d.takes.bytes_gone a.0.1.1) a.1, e.appended)
+    check_ends status.Differs e =
+        let d = e.defines in
+        let a = command_answers words d.bytes (IsEnded s) status.Differs e.text commands.Check d.defined w in
+        inl (e.text, verdict status.Differs e.text d.bytes (taken_all s.left s.left_after bytes d.bytes given.left d.takes.bytes_gone a.0.1.1) a.1, e.appended)
+    check_ends status.BadLine e =
+        let d = e.defines in
+        let a = command_answers words d.bytes (IsEnded s) status.BadLine e.text commands.Check d.defined w in
+        absurd (misspelled status.BadLine e.text d.bytes (taken_all s.left s.left_after bytes d.bytes given.left d.takes.bytes_gone a.0.1.1) a.1)
+    check_ends status.Limit e =
+        let d = e.defines in
+        absurd (⊎_elim (not_long e.text d.bytes d.takes.bytes_gone) (λ answered. (command_answers words d.bytes (IsEnded s) status.Limit e.text commands.Check answered w).1) d.defined)

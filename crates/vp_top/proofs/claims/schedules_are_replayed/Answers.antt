@@ -1,0 +1,5 @@
+use Rattle.vp_top.proofs.Completing.{replay_ends}
+use Rattle.vp_top.proofs.claims.schedules_are_replayed.Goals as goal
+
+pub returns : goal.returns
+returns c words s k end bytes schedule e w given spelled none = replay_ends words s k bytes given schedule spelled none w end e
