@@ -71,7 +71,7 @@ impl<T: Drop> Seq<T> {
 
 impl<T: CopyOf> CopyOf for Seq<T> {
     fn copy_of(&self) -> Result<Seq<T>, NoMemory> {
-        let mut copy = Vec::new(*self.items.allocator());
+        let mut copy = Vec::with_capacity(*self.items.allocator(), self.items.len())?;
         for item in &self.items {
             copy.push(item.copy_of()?)?;
         }
