@@ -16,5 +16,5 @@ mod writing;
 pub use decoding::decode;
 pub use fault::WireFault;
 pub use frame::{Body, Frame};
-pub use laws::{encoded_is_decoded, spellings_are_of_one_frame};
+pub use laws::{encoded_is_decoded, frames_are_read, spellings_are_of_one_frame};
 pub use writing::encode;
