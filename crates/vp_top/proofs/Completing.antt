@@ -1,6 +1,6 @@
 -- A run on an input in its grammar, where nothing fails, is done, or finds no memory.
-use Rattle.std.proofs.Common.{◌≡◌, ◌≢◌, ◌∙◌, ap, sym, subst, refl, arith, ℕ, ◌+◌, ◌≤◌, ◌<◌, List, [], ◌∷◌, ◌++◌, length, append-nil, inl, inr, ◌⊎◌, ⊎_elim}
-use Rattle.std.specs.Prelude.{Option, Some, None, Ok, Err, Result}
+use Rattle.std.proofs.Common.{◌≡◌, ◌≢◌, ◌∙◌, ap, sym, subst, refl, arith, ℕ, ◌≤◌, List, ◌++◌, length, append-nil, inl, inr, ◌⊎◌, ⊎_elim}
+use Rattle.std.specs.Prelude.{Option, Some, None, Ok, Err}
 use Rattle.std.proofs.Math.ListN.{length-append}
 use Rattle.std.specs.Io.KnownBytes.{Appends, Consumes, IsAtEnd}
 use Rattle.vp_model.specs.World.{Schedule}
@@ -9,7 +9,7 @@ use Rattle.vp_model.specs.Texts.Trace.{trace_text}
 use Rattle.vp_model.specs.Texts.History.{history_text}
 use Rattle.vp_outside.specs.Input.{SourceState, IsEnded}
 use Rattle.vp_outside.specs.Output.{SinkState}
-use Rattle.vp_schedule.specs.Document.{IsScheduleText, Answered}
+use Rattle.vp_schedule.specs.Document.{IsScheduleText}
 use Rattle.vp_schedule.specs.Document.{IsOnly as IsOnlySchedule}
 use Rattle.vp_schedule.specs.declared.fault.ScheduleFault.{ScheduleFault}
 use Rattle.vp_schedule.specs.declared.fault.ScheduleFault.TheVariants as schedule_faults
@@ -18,11 +18,11 @@ use Rattle.vp_onecopy.specs.declared.map.History.{History}
 use Rattle.vp_onecopy.specs.declared.fault.HistoryFault.{HistoryFault}
 use Rattle.vp_onecopy.specs.declared.fault.HistoryFault.TheVariants as history_faults
 use Rattle.vp_top.specs.Checked.{IsVerdict, IsChecked, IsMisspelled, Finds}
-use Rattle.vp_top.specs.Replayed.{IsReplayed, IsRefused, IsDone, IsLimited, Gives, Tells}
+use Rattle.vp_top.specs.Replayed.{IsReplayed, IsRefused, Tells}
 use Rattle.vp_top.specs.Commands.{command_of}
-use Rattle.vp_top.specs.Complete.{IsGiven, SchedulesAreReplayed, HistoriesAreChecked}
-use Rattle.vp_top.specs.Ends.{Defines, Ends}
-use Rattle.vp_top.specs.Program.{most_bytes, HasRead, IsAnswer, IsAnswered, IsTooLong}
+use Rattle.vp_top.specs.Complete.{IsGiven}
+use Rattle.vp_top.specs.Ends.{Ends}
+use Rattle.vp_top.specs.Program.{HasRead, IsAnswer, IsAnswered, IsTooLong}
 use Rattle.vp_top.specs.declared.status.Status.{Status}
 use Rattle.vp_top.specs.declared.status.Status.TheVariants as status
 use Rattle.vp_top.specs.declared.words.Command.{Command}

@@ -1,7 +1,7 @@
 -- What a run comes to at its ends.
 use Rattle.std.proofs.Common.{◌≡◌, ◌<◌, ℕ, List, [], length, None, codes, refl, sym, subst, arith, inl, inr}
 use Rattle.std.proofs.KnownBytes.{Consumes-nil}
-use Rattle.std.specs.Io.KnownBytes.{Appends, Consumes}
+use Rattle.std.specs.Io.KnownBytes.{Appends}
 use Rattle.vp_outside.specs.Input.{SourceState, IsEnded, Took}
 use Rattle.vp_outside.specs.Output.{SinkState}
 use Rattle.vp_top.specs.declared.status.Status.{Status}
