@@ -1,8 +1,9 @@
 -- What is taken of a source, and what the faults of an input say.
-use Rattle.std.specs.Prelude.{ℕ, ◌≤◌, ◌<◌, ◌≡◌, ◌↔◌, IsTrue, Bool, List, length, Result, OnOk, IfOk, MatchResult, IsErrOf}
+use Rattle.std.specs.Prelude.{ℕ, ◌≤◌, ◌<◌, ◌≡◌, ◌↔◌, IsTrue, Bool, true, List, length, Result, OnOk, IfOk, MatchResult, IsErrOf}
 use Rattle.std.specs.declared.option.Option.{Option}
-use Rattle.std.specs.Io.KnownBytes.{Consumes}
-use Rattle.vp_outside.specs.Causes.{count_after, Rose}
+use Rattle.std.specs.Io.{ReadsAtMost}
+use Rattle.std.specs.Io.KnownBytes.{Consumes, ReadConsumes, IsAtEnd}
+use Rattle.vp_outside.specs.Causes.{count_after, Rose, HasCause}
 use Rattle.vp_outside.specs.declared.source.InputFault.{InputFault}
 use Rattle.vp_outside.specs.declared.source.InputFault.TheVariants.{Failed, TooLong, NoMemory}
 
@@ -14,10 +15,39 @@ CountsTaken before now result = MatchResult result (λ n. now ≡ count_after be
 abbrev pub TellsEnd : {E : Type 0} → Bool → Result ℕ E → List ℕ → Type 0
 TellsEnd ended result buf = IfOk result (λ n. 0 < length buf → (IsTrue ended ↔ (n ≡ 0)))
 
--- these bytes were taken, of what the source had left where it tells that, and were counted
-pub record Takes (bytes : List ℕ) (left left' : Option (List ℕ)) (taken taken' : ℕ) : Type 0 where
-  pub bytes_gone : Consumes left left' bytes
-  pub counted : taken' ≡ count_after taken (length bytes)
+-- ---- what a source tells
+
+-- The counts stand still at 2^64 - 1.
+pub record SourceState : Type 0 where
+  -- the bytes that it has left, where it tells them
+  pub left : Option (List ℕ)
+  -- how many bytes it has given
+  pub taken : ℕ
+  -- whether the latest call that asked for a byte and got an answer found the end of input
+  pub ended : Bool
+  -- how often it failed
+  pub faults : ℕ
+
+-- The source has found its end, and has nothing left.
+abbrev pub IsEnded : SourceState → Type 0
+IsEnded source = (source.ended ≡ true) × IsAtEnd source.left
+
+-- These bytes were taken, of what the source had left where it tells that, and were counted.
+pub record Took (bytes : List ℕ) (old new : SourceState) : Type 0 where
+  pub bytes_gone : Consumes old.left new.left bytes
+  pub counted : new.taken ≡ count_after old.taken (length bytes)
+
+-- ---- the call
+
+-- The front of the buffer got the next bytes. A call that fails gives nothing.
+pub record Takes {E : Type 0} (buf : List ℕ) (old new : SourceState) (result : Result ℕ E) : Type 0 where
+  pub bound : ReadsAtMost result buf
+  pub bytes : ReadConsumes old.left new.left result buf
+  pub count : CountsTaken old.taken new.taken result
+  pub end : TellsEnd new.ended result buf
+  pub cause : HasCause old.faults new.faults result
+
+-- ---- what the answers of a whole input say
 
 -- The source's count of failures rose where the answer is Failed, and stayed as it was at any other.
 pub record HasInputCause {T : Type 0} (before now : ℕ) (result : Result T InputFault) : Type 0 where

@@ -1,7 +1,8 @@
 -- What a sink gets, and what the faults of an output say.
 use Rattle.std.specs.Prelude.{ℕ, ◌≤◌, ◌<◌, ◌≡◌, List, length, take, Result, OnOk, IfOk, IsErrOf}
 use Rattle.std.specs.declared.option.Option.{Option}
-use Rattle.std.specs.Io.KnownBytes.{Appends}
+use Rattle.std.specs.Io.{WritesAtMost}
+use Rattle.std.specs.Io.KnownBytes.{Appends, WriteAppends}
 use Rattle.vp_outside.specs.Causes.{Rose}
 use Rattle.vp_outside.specs.declared.sink.OutFault.{OutFault}
 use Rattle.vp_outside.specs.declared.sink.OutFault.TheVariants.{Failed, NoMemory}
@@ -20,3 +21,20 @@ pub record HasOutCause {T : Type 0} (before now : ℕ) (result : Result T OutFau
   pub failed : IsErrOf result Failed → Rose before now
   pub ok : OnOk result (now ≡ before)
   pub no_memory : IsErrOf result NoMemory → now ≡ before
+
+-- ---- what a sink tells
+
+pub record SinkState : Type 0 where
+  -- the bytes that it holds, where it tells them
+  pub held : Option (List ℕ)
+  -- how often it failed; the count stands still at 2^64 - 1
+  pub faults : ℕ
+
+-- ---- the call
+
+-- A prefix of the piece is taken. A call that fails or finds no memory takes nothing.
+pub record Puts (piece : List ℕ) (old new : SinkState) (result : Result ℕ OutFault) : Type 0 where
+  pub bound : WritesAtMost result piece
+  pub some : TakesSome result piece
+  pub bytes : WriteAppends old.held new.held result piece
+  pub cause : HasOutCause old.faults new.faults result

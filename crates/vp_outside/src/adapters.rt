@@ -1,9 +1,7 @@
 //! Readers and writers of the standard library as sources and sinks.
 
 ghost use Rattle.std.specs.Prelude.{◌≡◌, IsErrOf};
-ghost use Rattle.std.specs.Io.{WritesAtMost};
-ghost use Rattle.std.specs.Io.KnownBytes.{WriteAppends};
-ghost use Rattle.vp_outside.specs.Output.{TakesSome, HasOutCause};
+ghost use Rattle.vp_outside.specs.Output.{Puts};
 ghost use Rattle.vp_outside.specs.declared.sink.OutFault.TheVariants.{NoMemory as OutOfMemory};
 
 use crate::sink::{OutFault, Sink};
@@ -21,9 +19,9 @@ pub struct Reading<R> {
 
 impl<R: Read> Reading<R> {
     pub fn new(inner: R) -> Reading<R>
-        ensures left { ⟦<Reading<R> as Source>⟧.left result ≡ R.remaining inner }
-        ensures taken { ⟦<Reading<R> as Source>⟧.taken result ≡ 0 }
-        ensures faults { ⟦<Reading<R> as Source>⟧.faults result ≡ 0 }
+        ensures left { (⟦<Reading<R> as Source>⟧.state result).left ≡ R.remaining inner }
+        ensures taken { (⟦<Reading<R> as Source>⟧.state result).taken ≡ 0 }
+        ensures faults { (⟦<Reading<R> as Source>⟧.state result).faults ≡ 0 }
     {
         Reading {
             inner,
@@ -35,13 +33,7 @@ impl<R: Read> Reading<R> {
 }
 
 impl<R: Read> Source for Reading<R> {
-    ghost left = { λ s. R.remaining s.inner };
-
-    ghost taken = { λ s. s.taken };
-
-    ghost ended = { λ s. s.ended };
-
-    ghost faults = { λ s. s.faults };
+    ghost state = { λ s. record { left = R.remaining s.inner; taken = s.taken; ended = s.ended; faults = s.faults } };
 
     fn faults(&self) -> u64 {
         self.faults
@@ -73,17 +65,15 @@ pub struct Writing<W> {
 
 impl<W: Write> Writing<W> {
     pub fn new(inner: W) -> Writing<W>
-        ensures held { ⟦<Writing<W> as Sink>⟧.held result ≡ W.contents inner }
-        ensures faults { ⟦<Writing<W> as Sink>⟧.faults result ≡ 0 }
+        ensures held { (⟦<Writing<W> as Sink>⟧.state result).held ≡ W.contents inner }
+        ensures faults { (⟦<Writing<W> as Sink>⟧.state result).faults ≡ 0 }
     {
         Writing { inner, faults: 0 }
     }
 }
 
 impl<W: Write> Sink for Writing<W> {
-    ghost held = { λ s. W.contents s.inner };
-
-    ghost faults = { λ s. s.faults };
+    ghost state = { λ s. record { held = W.contents s.inner; faults = s.faults } };
 
     fn faults(&self) -> u64 {
         self.faults
@@ -91,10 +81,7 @@ impl<W: Write> Sink for Writing<W> {
 
     /// It never answers want of memory.
     fn put(&mut self, piece: &[u8]) -> Result<usize, OutFault>
-        ensures bound { WritesAtMost result piece.now }
-        ensures some { TakesSome result piece.now }
-        ensures bytes { WriteAppends (W.contents self.old.inner) (W.contents self.new.inner) result piece.now }
-        ensures cause { HasOutCause self.old.faults self.new.faults result }
+        ensures puts { Puts piece.now (⟦<Writing<W> as Sink>⟧.state self.old) (⟦<Writing<W> as Sink>⟧.state self.new) result }
         ensures no_memory { IsErrOf result OutOfMemory → ⊥ }
     {
         match self.inner.write(piece) {

@@ -1,9 +1,7 @@
 //! Sinks in memory.
 
 ghost use Rattle.std.specs.Prelude.{◌≡◌, ◌<◌, [], Some, length, min, IsErr, IsErrOf, IfOk};
-ghost use Rattle.std.specs.Io.{WritesAtMost};
-ghost use Rattle.std.specs.Io.KnownBytes.{WriteAppends};
-ghost use Rattle.vp_outside.specs.Output.{TakesSome, HasOutCause};
+ghost use Rattle.vp_outside.specs.Output.{Puts};
 ghost use Rattle.vp_outside.specs.Plans.{CountsCall};
 
 use crate::fault_plan::FaultPlan;
@@ -24,7 +22,7 @@ pub struct TextSink {
 impl TextSink {
     /// The calls with these numbers will fail. The first call has number 1.
     pub fn new(alloc: Global, failing: Vec<u64>) -> TextSink
-        ensures held { ⟦<TextSink as Sink>⟧.held result ≡ Some [] }
+        ensures held { (⟦<TextSink as Sink>⟧.state result).held ≡ Some [] }
         ensures plan { result.plan ≡ record { failing = failing; calls = 0; faults = 0 } }
         ensures most { result.most ≡ usize.MAX }
     {
@@ -37,26 +35,21 @@ impl TextSink {
 
     /// What it holds.
     pub fn bytes(&self) -> &[u8]
-        ensures { Some result.now ≡ ⟦<TextSink as Sink>⟧.held self.now }
+        ensures { Some result.now ≡ (⟦<TextSink as Sink>⟧.state self.now).held }
     {
         &self.bytes
     }
 }
 
 impl Sink for TextSink {
-    ghost held = { λ s. Some s.bytes.items };
-
-    ghost faults = { λ s. s.plan.faults };
+    ghost state = { λ s. record { held = Some s.bytes.items; faults = s.plan.faults } };
 
     fn faults(&self) -> u64 {
         self.plan.faults
     }
 
     fn put(&mut self, piece: &[u8]) -> Result<usize, OutFault>
-        ensures bound { WritesAtMost result piece.now }
-        ensures some { TakesSome result piece.now }
-        ensures bytes { WriteAppends (⟦<TextSink as Sink>⟧.held self.old) (⟦<TextSink as Sink>⟧.held self.new) result piece.now }
-        ensures cause { HasOutCause (⟦<TextSink as Sink>⟧.faults self.old) (⟦<TextSink as Sink>⟧.faults self.new) result }
+        ensures puts { Puts piece.now (⟦<TextSink as Sink>⟧.state self.old) (⟦<TextSink as Sink>⟧.state self.new) result }
         ensures plan { ¬ IsErrOf result OutFault.NoMemory → CountsCall self.old.plan self.new.plan (IsErr result) }
         ensures no_memory { IsErrOf result OutFault.NoMemory → self.new.plan ≡ self.old.plan }
         ensures most { self.new.most ≡ self.old.most }
@@ -80,7 +73,7 @@ pub struct SureSink {
 
 impl SureSink {
     pub fn new(alloc: Global) -> SureSink
-        ensures { ⟦<SureSink as Sink>⟧.held result ≡ Some [] }
+        ensures { (⟦<SureSink as Sink>⟧.state result).held ≡ Some [] }
     {
         SureSink {
             bytes: Vec::new(alloc),
@@ -89,16 +82,14 @@ impl SureSink {
 
     /// What it holds.
     pub fn bytes(&self) -> &[u8]
-        ensures { Some result.now ≡ ⟦<SureSink as Sink>⟧.held self.now }
+        ensures { Some result.now ≡ (⟦<SureSink as Sink>⟧.state self.now).held }
     {
         &self.bytes
     }
 }
 
 impl Sink for SureSink {
-    ghost held = { λ s. Some s.bytes.items };
-
-    ghost faults = { λ _. 0 };
+    ghost state = { λ s. record { held = Some s.bytes.items; faults = 0 } };
 
     fn faults(&self) -> u64 {
         0

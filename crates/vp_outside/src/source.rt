@@ -1,11 +1,7 @@
 //! Where input comes from.
 
-ghost use Rattle.std.specs.Prelude.{ℕ, ◌≡◌, ◌<◌, ◌≤◌, List, Bool, true, length, vec_len, IfOk, OnOk, OnErr, IsErrOf};
-ghost use Rattle.std.specs.declared.option.Option.{Option};
-ghost use Rattle.std.specs.Io.{ReadsAtMost};
-ghost use Rattle.std.specs.Io.KnownBytes.{ReadConsumes, IsAtEnd};
-ghost use Rattle.vp_outside.specs.Causes.{HasCause};
-ghost use Rattle.vp_outside.specs.Input.{CountsTaken, TellsEnd, Takes, HasInputCause};
+ghost use Rattle.std.specs.Prelude.{◌≡◌, ◌<◌, ◌≤◌, ℕ, List, length, vec_len, IfOk, OnOk, OnErr, IsErrOf};
+ghost use Rattle.vp_outside.specs.Input.{SourceState, IsEnded, Took, Takes, HasInputCause};
 ghost use Rattle.vp_outside.specs.declared.source.InputFault.TheVariants.{NoMemory as OutOfMemory, Failed as InputFailed};
 
 use std::alloc::{AllocError, Global};
@@ -16,30 +12,17 @@ pub struct Failed;
 
 /// What input comes from.
 pub trait Source {
-    /// The bytes that it has left, where it tells them.
-    ghost left: { Self → Option (List ℕ) };
-
-    /// How many bytes it has given. The count stands still at 2^64 - 1.
-    ghost taken: { Self → ℕ };
-
-    /// Whether the latest call that asked for a byte and got an answer found the end of input.
-    ghost ended: { Self → Bool };
-
-    /// How often it failed. The count stands still at 2^64 - 1.
-    ghost faults: { Self → ℕ };
+    /// What it tells.
+    ghost state: { Self → SourceState };
 
     /// How often it failed.
     fn faults(&self) -> u64
-        ensures { result ≡ faults self.now };
+        ensures { result ≡ (state self.now).faults };
 
     /// Puts the next bytes into the front of the buffer, and answers how many. At a buffer that
     /// isn't empty, 0 is the end of input. A call that fails gives nothing.
     fn take(&mut self, buf: &mut [u8]) -> Result<usize, Failed>
-        ensures bound { ReadsAtMost result buf.new }
-        ensures bytes { ReadConsumes (left self.old) (left self.new) result buf.new }
-        ensures count { CountsTaken (taken self.old) (taken self.new) result }
-        ensures end { TellsEnd (ended self.new) result buf.new }
-        ensures cause { HasCause (faults self.old) (faults self.new) result };
+        ensures { Takes buf.new (state self.old) (state self.new) result };
 }
 
 /// Why an input isn't there as a whole.
@@ -74,16 +57,13 @@ pub fn read_to_end<S: Source>(
     source: &mut S,
     limit: usize,
 ) -> Result<Vec<u8>, InputFault>
-    ensures bytes { IfOk result (λ bytes. Takes bytes.items
-        (S.left source.old) (S.left source.new) (S.taken source.old) (S.taken source.new)) }
-    ensures left { OnOk result (IsAtEnd (S.left source.new)) }
-    ensures ended { OnOk result (S.ended source.new ≡ true) }
+    ensures bytes { IfOk result (λ bytes. Took bytes.items (S.state source.old) (S.state source.new)) }
+    ensures ended { OnOk result (IsEnded (S.state source.new)) }
     ensures fits { IfOk result (λ bytes. vec_len bytes ≤ limit) }
-    ensures err { OnErr result ((bytes : List ℕ) × Takes bytes
-        (S.left source.old) (S.left source.new) (S.taken source.old) (S.taken source.new)) }
-    ensures too_long { IsErrOf result InputFault.TooLong → ((bytes : List ℕ) × (limit < length bytes) × Takes bytes
-        (S.left source.old) (S.left source.new) (S.taken source.old) (S.taken source.new)) }
-    ensures cause { HasInputCause (S.faults source.old) (S.faults source.new) result }
+    ensures err { OnErr result ((bytes : List ℕ) × Took bytes (S.state source.old) (S.state source.new)) }
+    ensures too_long { IsErrOf result InputFault.TooLong → ((bytes : List ℕ) × (limit < length bytes)
+        × Took bytes (S.state source.old) (S.state source.new)) }
+    ensures cause { HasInputCause (S.state source.old).faults (S.state source.new).faults result }
 {
     let mut bytes = Vec::new(alloc);
     let mut buf = [0; 8192];

@@ -1,10 +1,7 @@
 //! Sources in memory.
 
 ghost use Rattle.std.specs.Prelude.{◌≡◌, ◌+◌, ◌-◌, ◌<◌, ◌≤◌, ◌==◌, ◌++◌, if◌then◌else◌, nat_lt, min, false, Some, length, take, drop, vec_len, IsErr, IfOk, IfSome};
-ghost use Rattle.std.specs.Io.{ReadsAtMost};
-ghost use Rattle.std.specs.Io.KnownBytes.{ReadConsumes};
-ghost use Rattle.vp_outside.specs.Causes.{HasCause};
-ghost use Rattle.vp_outside.specs.Input.{CountsTaken, TellsEnd};
+ghost use Rattle.vp_outside.specs.Input.{Takes};
 ghost use Rattle.vp_outside.specs.Plans.{CountsCall};
 
 use crate::fault_plan::FaultPlan;
@@ -64,8 +61,8 @@ pub struct TextSource {
 impl TextSource {
     /// The calls with these numbers will fail. The first call has number 1.
     pub fn new(bytes: Vec<u8>, failing: Vec<u64>) -> TextSource
-        ensures left { ⟦<TextSource as Source>⟧.left result ≡ Some bytes.items }
-        ensures taken { ⟦<TextSource as Source>⟧.taken result ≡ 0 }
+        ensures left { (⟦<TextSource as Source>⟧.state result).left ≡ Some bytes.items }
+        ensures taken { (⟦<TextSource as Source>⟧.state result).taken ≡ 0 }
         ensures plan { result.plan ≡ record { failing = failing; calls = 0; faults = 0 } }
         ensures most { result.most ≡ usize.MAX }
     {
@@ -78,27 +75,22 @@ impl TextSource {
 }
 
 impl Source for TextSource {
-    ghost left = { λ s. Some (drop s.text.at s.text.bytes.items) };
-
-    ghost taken = { λ s. s.text.at };
-
-    ghost ended = { λ s. s.text.ended };
-
-    ghost faults = { λ s. s.plan.faults };
+    ghost state = { λ s. record {
+      left = Some (drop s.text.at s.text.bytes.items);
+      taken = s.text.at;
+      ended = s.text.ended;
+      faults = s.plan.faults;
+    } };
 
     fn faults(&self) -> u64 {
         self.plan.faults
     }
 
     fn take(&mut self, buf: &mut [u8]) -> Result<usize, Failed>
-        ensures bound { ReadsAtMost result buf.new }
-        ensures bytes { ReadConsumes (⟦<TextSource as Source>⟧.left self.old) (⟦<TextSource as Source>⟧.left self.new) result buf.new }
-        ensures count { CountsTaken (⟦<TextSource as Source>⟧.taken self.old) (⟦<TextSource as Source>⟧.taken self.new) result }
-        ensures end { TellsEnd (⟦<TextSource as Source>⟧.ended self.new) result buf.new }
-        ensures cause { HasCause (⟦<TextSource as Source>⟧.faults self.old) (⟦<TextSource as Source>⟧.faults self.new) result }
+        ensures takes { Takes buf.new (⟦<TextSource as Source>⟧.state self.old) (⟦<TextSource as Source>⟧.state self.new) result }
         ensures plan { CountsCall self.old.plan self.new.plan (IsErr result) }
         ensures most { self.new.most ≡ self.old.most }
-        ensures piece { IfOk result (λ n. IfSome (⟦<TextSource as Source>⟧.left self.old) (λ left.
+        ensures piece { IfOk result (λ n. IfSome (⟦<TextSource as Source>⟧.state self.old).left (λ left.
             n ≡ min (min (length buf.old) self.old.most) (length left))) }
     {
         if self.plan.fails_now() {
@@ -116,8 +108,8 @@ pub struct SureSource {
 
 impl SureSource {
     pub fn new(bytes: Vec<u8>) -> SureSource
-        ensures left { ⟦<SureSource as Source>⟧.left result ≡ Some bytes.items }
-        ensures taken { ⟦<SureSource as Source>⟧.taken result ≡ 0 }
+        ensures left { (⟦<SureSource as Source>⟧.state result).left ≡ Some bytes.items }
+        ensures taken { (⟦<SureSource as Source>⟧.state result).taken ≡ 0 }
     {
         SureSource {
             text: Text::new(bytes),
@@ -126,13 +118,12 @@ impl SureSource {
 }
 
 impl Source for SureSource {
-    ghost left = { λ s. Some (drop s.text.at s.text.bytes.items) };
-
-    ghost taken = { λ s. s.text.at };
-
-    ghost ended = { λ s. s.text.ended };
-
-    ghost faults = { λ _. 0 };
+    ghost state = { λ s. record {
+      left = Some (drop s.text.at s.text.bytes.items);
+      taken = s.text.at;
+      ended = s.text.ended;
+      faults = 0;
+    } };
 
     fn faults(&self) -> u64 {
         0

@@ -1,13 +1,15 @@
 -- A run on an input in its grammar, where nothing fails, is done, or finds no memory.
-use Rattle.std.proofs.Common.{◌≡◌, ◌≢◌, ◌∙◌, ap, sym, subst, refl, arith, ℕ, ◌+◌, ◌≤◌, ◌<◌, List, [], ◌∷◌, ◌++◌, length, append-nil, inl, inr, ◌⊎◌, ⊎_elim}
-use Rattle.std.specs.Prelude.{Option, Some, None, Ok, Err, Result}
+use Rattle.std.proofs.Common.{◌≡◌, ◌≢◌, ◌∙◌, ap, sym, subst, refl, arith, ℕ, ◌≤◌, List, ◌++◌, length, append-nil, inl, inr, ◌⊎◌, ⊎_elim}
+use Rattle.std.specs.Prelude.{Option, Some, None, Ok, Err}
 use Rattle.std.proofs.Math.ListN.{length-append}
 use Rattle.std.specs.Io.KnownBytes.{Appends, Consumes, IsAtEnd}
 use Rattle.vp_model.specs.World.{Schedule}
 use Rattle.vp_model.specs.Limits.{world_limits, limit_reached}
 use Rattle.vp_model.specs.Texts.Trace.{trace_text}
 use Rattle.vp_model.specs.Texts.History.{history_text}
-use Rattle.vp_schedule.specs.Document.{IsScheduleText, Answered}
+use Rattle.vp_outside.specs.Input.{SourceState, IsEnded}
+use Rattle.vp_outside.specs.Output.{SinkState}
+use Rattle.vp_schedule.specs.Document.{IsScheduleText}
 use Rattle.vp_schedule.specs.Document.{IsOnly as IsOnlySchedule}
 use Rattle.vp_schedule.specs.declared.fault.ScheduleFault.{ScheduleFault}
 use Rattle.vp_schedule.specs.declared.fault.ScheduleFault.TheVariants as schedule_faults
@@ -16,11 +18,11 @@ use Rattle.vp_onecopy.specs.declared.map.History.{History}
 use Rattle.vp_onecopy.specs.declared.fault.HistoryFault.{HistoryFault}
 use Rattle.vp_onecopy.specs.declared.fault.HistoryFault.TheVariants as history_faults
 use Rattle.vp_top.specs.Checked.{IsVerdict, IsChecked, IsMisspelled, Finds}
-use Rattle.vp_top.specs.Replayed.{IsReplayed, IsRefused, IsDone, IsLimited, Gives, Tells}
+use Rattle.vp_top.specs.Replayed.{IsReplayed, IsRefused, Tells}
 use Rattle.vp_top.specs.Commands.{command_of}
-use Rattle.vp_top.specs.Complete.{IsGiven, SchedulesAreReplayed, HistoriesAreChecked}
-use Rattle.vp_top.specs.Ends.{Sourced, Sunk, IsEnded, Defines, Ends}
-use Rattle.vp_top.specs.Program.{most_bytes, HasRead, IsAnswer, IsAnswered, IsTooLong}
+use Rattle.vp_top.specs.Complete.{IsGiven}
+use Rattle.vp_top.specs.Ends.{Ends}
+use Rattle.vp_top.specs.Program.{HasRead, IsAnswer, IsAnswered, IsTooLong}
 use Rattle.vp_top.specs.declared.status.Status.{Status}
 use Rattle.vp_top.specs.declared.status.Status.TheVariants as status
 use Rattle.vp_top.specs.declared.words.Command.{Command}
@@ -50,14 +52,14 @@ command_answers words bytes ended end text c a w =
     let same : a.command ≡ c = cc in
     (subst (λ c. HasRead c bytes ended) same a.read, subst (λ c. IsAnswer c bytes end text) same a.answer)
 
-module _ (words : List (List ℕ)) (s : Sourced) (k : Sunk) (bytes : List ℕ) (given : IsGiven s k bytes) where
+module _ (words : List (List ℕ)) (source source' : SourceState) (sink sink' : SinkState) (bytes : List ℕ) (given : IsGiven source source' sink sink' bytes) where
   no_usage : (c : Command) → command_of words ≡ Some c → command_of words ≡ None → ⊥
   no_usage c w none = let bad : Some c ≡ None = sym w ∙ none in cc
 
   -- it is not too long
-  not_long : (text : List ℕ) (d : List ℕ) → Consumes s.left s.left_after d → IsTooLong words d text → ⊥
+  not_long : (text : List ℕ) (d : List ℕ) → Consumes source.left source'.left d → IsTooLong words d text → ⊥
   not_long text d gone long =
-      let few = taken_few s.left s.left_after bytes d given.left gone in
+      let few = taken_few source.left source'.left bytes d given.left gone in
       let fits = given.fits in
       let more = long.1 in
       omega (arith, few, fits, more)
@@ -91,32 +93,32 @@ module _ (words : List (List ℕ)) (s : Sourced) (k : Sunk) (bytes : List ℕ) (
         let bad : None ≡ Some r.gives.counted = sym none ∙ ap (limit_reached world_limits) (sym is) ∙ reached in
         cc
 
-    pub replay_ends : (end : Status) → Ends words s k end → ((end ≡ status.Done) × Appends k.held k.held_after (trace_text schedule ++ history_text schedule)) ⊎ (end ≡ status.NoMemory)
+    pub replay_ends : (end : Status) → Ends words source source' sink sink' end → ((end ≡ status.Done) × Appends sink.held sink'.held (trace_text schedule ++ history_text schedule)) ⊎ (end ≡ status.NoMemory)
     replay_ends status.NoMemory e = inr refl
-    replay_ends status.SourceFault e = absurd (given.source e.1)
-    replay_ends status.SinkFault e = absurd (given.sink e.0)
+    replay_ends status.SourceFault e = absurd (given.no_source_fault e.1)
+    replay_ends status.SinkFault e = absurd (given.no_sink_fault e.0)
     replay_ends status.Usage e = absurd (no_usage commands.Replay w e.defines.defined.0)
     replay_ends status.Done e =
         let d = e.defines in
-        let a = command_answers words d.bytes (IsEnded s) status.Done e.text commands.Replay d.defined w in
-        let all = taken_all s.left s.left_after bytes d.bytes given.left d.takes.bytes_gone a.0.1.1 in
+        let a = command_answers words d.bytes (IsEnded source') status.Done e.text commands.Replay d.defined w in
+        let all = taken_all source.left source'.left bytes d.bytes given.left d.took.bytes_gone a.0.1.1 in
         let is = same_schedule d.bytes a.1.schedule all a.1.only in
-        inl (refl, subst (Appends k.held k.held_after) (a.1.gives.printed ∙ ap (λ (s : Schedule). trace_text s ++ history_text s) is) e.appended)
+        inl (refl, subst (Appends sink.held sink'.held) (a.1.gives.printed ∙ ap (λ (s : Schedule). trace_text s ++ history_text s) is) e.appended)
     replay_ends status.BadLine e =
         let d = e.defines in
-        let a = command_answers words d.bytes (IsEnded s) status.BadLine e.text commands.Replay d.defined w in
-        absurd (refused status.BadLine e.text d.bytes (taken_all s.left s.left_after bytes d.bytes given.left d.takes.bytes_gone a.0.1.1) a.1)
+        let a = command_answers words d.bytes (IsEnded source') status.BadLine e.text commands.Replay d.defined w in
+        absurd (refused status.BadLine e.text d.bytes (taken_all source.left source'.left bytes d.bytes given.left d.took.bytes_gone a.0.1.1) a.1)
     replay_ends status.Limit e =
         let d = e.defines in
-        absurd (⊎_elim (not_long e.text d.bytes d.takes.bytes_gone)
+        absurd (⊎_elim (not_long e.text d.bytes d.took.bytes_gone)
         (λ answered.
-        let a = command_answers words d.bytes (IsEnded s) status.Limit e.text commands.Replay answered w in
-        let all = taken_all s.left s.left_after bytes d.bytes given.left d.takes.bytes_gone a.0.1.1 in
+        let a = command_answers words d.bytes (IsEnded source') status.Limit e.text commands.Replay answered w in
+        let all = taken_all source.left source'.left bytes d.bytes given.left d.took.bytes_gone a.0.1.1 in
         ⊎_elim (unlimited e.text d.bytes all) (refused status.Limit e.text d.bytes all) a.1)
         d.defined)
     replay_ends status.Differs e =
         let d = e.defines in
-        absurd (command_answers words d.bytes (IsEnded s) status.Differs e.text commands.Replay d.defined w).1
+        absurd (command_answers words d.bytes (IsEnded source') status.Differs e.text commands.Replay d.defined w).1
 
   module _ (history : History) (spelled : AnsweredAll bytes (Ok history)) (w : command_of words ≡ Some commands.Check) where
     finds_none : (end : Status) (text : List ℕ) → Finds history_faults.NoMemory end text → ⊥
@@ -141,23 +143,23 @@ module _ (words : List (List ℕ)) (s : Sourced) (k : Sunk) (bytes : List ℕ) (
     verdict : (end : Status) (text d : List ℕ) → d ≡ bytes → IsChecked d end text → IsVerdict history end text
     verdict end text d e r = subst (λ (h : History). IsVerdict h end text) (same_history d r.history e r.only) r.verdict
 
-    pub check_ends : (end : Status) → Ends words s k end → ((text : List ℕ) × IsVerdict history end text × Appends k.held k.held_after text) ⊎ (end ≡ status.NoMemory)
+    pub check_ends : (end : Status) → Ends words source source' sink sink' end → ((text : List ℕ) × IsVerdict history end text × Appends sink.held sink'.held text) ⊎ (end ≡ status.NoMemory)
     check_ends status.NoMemory e = inr refl
-    check_ends status.SourceFault e = absurd (given.source e.1)
-    check_ends status.SinkFault e = absurd (given.sink e.0)
+    check_ends status.SourceFault e = absurd (given.no_source_fault e.1)
+    check_ends status.SinkFault e = absurd (given.no_sink_fault e.0)
     check_ends status.Usage e = absurd (no_usage commands.Check w e.defines.defined.0)
     check_ends status.Done e =
         let d = e.defines in
-        let a = command_answers words d.bytes (IsEnded s) status.Done e.text commands.Check d.defined w in
-        inl (e.text, verdict status.Done e.text d.bytes (taken_all s.left s.left_after bytes d.bytes given.left d.takes.bytes_gone a.0.1.1) a.1, e.appended)
+        let a = command_answers words d.bytes (IsEnded source') status.Done e.text commands.Check d.defined w in
+        inl (e.text, verdict status.Done e.text d.bytes (taken_all source.left source'.left bytes d.bytes given.left d.took.bytes_gone a.0.1.1) a.1, e.appended)
     check_ends status.Differs e =
         let d = e.defines in
-        let a = command_answers words d.bytes (IsEnded s) status.Differs e.text commands.Check d.defined w in
-        inl (e.text, verdict status.Differs e.text d.bytes (taken_all s.left s.left_after bytes d.bytes given.left d.takes.bytes_gone a.0.1.1) a.1, e.appended)
+        let a = command_answers words d.bytes (IsEnded source') status.Differs e.text commands.Check d.defined w in
+        inl (e.text, verdict status.Differs e.text d.bytes (taken_all source.left source'.left bytes d.bytes given.left d.took.bytes_gone a.0.1.1) a.1, e.appended)
     check_ends status.BadLine e =
         let d = e.defines in
-        let a = command_answers words d.bytes (IsEnded s) status.BadLine e.text commands.Check d.defined w in
-        absurd (misspelled status.BadLine e.text d.bytes (taken_all s.left s.left_after bytes d.bytes given.left d.takes.bytes_gone a.0.1.1) a.1)
+        let a = command_answers words d.bytes (IsEnded source') status.BadLine e.text commands.Check d.defined w in
+        absurd (misspelled status.BadLine e.text d.bytes (taken_all source.left source'.left bytes d.bytes given.left d.took.bytes_gone a.0.1.1) a.1)
     check_ends status.Limit e =
         let d = e.defines in
-        absurd (⊎_elim (not_long e.text d.bytes d.takes.bytes_gone) (λ answered. (command_answers words d.bytes (IsEnded s) status.Limit e.text commands.Check answered w).1) d.defined)
+        absurd (⊎_elim (not_long e.text d.bytes d.took.bytes_gone) (λ answered. (command_answers words d.bytes (IsEnded source') status.Limit e.text commands.Check answered w).1) d.defined)

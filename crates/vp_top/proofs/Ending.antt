@@ -1,31 +1,32 @@
 -- What a run comes to at its ends.
-use Rattle.std.proofs.Common.{◌≡◌, ◌<◌, ℕ, List, [], length, Option, Some, None, codes, refl, sym, subst, arith, inl, inr}
-use Rattle.std.specs.Io.KnownBytes.{Appends, Consumes}
-use Rattle.vp_outside.specs.Input.{Takes}
+use Rattle.std.proofs.Common.{◌≡◌, ◌<◌, ℕ, List, [], length, None, codes, refl, sym, subst, arith, inl, inr}
+use Rattle.std.proofs.KnownBytes.{Consumes-nil}
+use Rattle.std.specs.Io.KnownBytes.{Appends}
+use Rattle.vp_outside.specs.Input.{SourceState, IsEnded, Took}
+use Rattle.vp_outside.specs.Output.{SinkState}
 use Rattle.vp_top.specs.declared.status.Status.{Status}
 use Rattle.vp_top.specs.declared.status.Status.TheVariants as status
 use Rattle.vp_top.specs.declared.words.Command.{Command}
 use Rattle.vp_top.specs.declared.words.Command.TheVariants as commands
 use Rattle.vp_top.specs.Commands.{command_of}
 use Rattle.vp_top.specs.Program.{most_bytes, AreReader, IsAnswer, IsAnswered, IsDefined}
-use Rattle.vp_top.specs.Ends.{Sourced, Sunk, IsEnded, Defines, Ends}
+use Rattle.vp_top.specs.Ends.{Defines, Ends}
 
-consumes_none : (o : Option (List ℕ)) → Consumes o o []
-consumes_none None = tt
-consumes_none (Some xs) = refl
+pub took_none : (source : SourceState) → Took [] source source
+took_none source = record { bytes_gone = Consumes-nil source.left; counted = omega arith }
 
-pub defines_usage : (words : List (List ℕ)) (s : Sourced) (end : Status) (text : List ℕ) → command_of words ≡ None → s.left ≡ s.left_after → s.taken ≡ s.taken_after → end ≡ status.Usage → text ≡ codes "usage: vpdb replay|check|node|client|tick|probe|stop|generate|soak\n" → Defines words s end text
-defines_usage words s end text none left taken e t = record {
+pub defines_usage : (words : List (List ℕ)) (source source' : SourceState) (end : Status) (text : List ℕ) → command_of words ≡ None → source' ≡ source → end ≡ status.Usage → text ≡ codes "usage: vpdb replay|check|node|client|tick|probe|stop|generate|soak\n" → Defines words source source' end text
+defines_usage words source source' end text none same e t = record {
   bytes = [];
-  takes = record { bytes_gone = subst (λ o. Consumes s.left o []) left (consumes_none s.left); counted = omega arith };
-  defined = subst (λ x. IsDefined words [] (IsEnded s) x text) (sym e) (none, refl, t);
+  took = subst (Took [] source) (sym same) (took_none source);
+  defined = subst (λ x. IsDefined words [] (IsEnded source') x text) (sym e) (none, refl, t);
 }
 
-pub defines_too_long : (words : List (List ℕ)) (s : Sourced) (end : Status) (text : List ℕ) → AreReader words → (bytes : List ℕ) × (most_bytes < length bytes) × Takes bytes s.left s.left_after s.taken s.taken_after → end ≡ status.Limit → text ≡ codes "limit bytes 16777216\n" → Defines words s end text
-defines_too_long words s end text reader h e t = record {
+pub defines_too_long : (words : List (List ℕ)) (source source' : SourceState) (end : Status) (text : List ℕ) → AreReader words → (bytes : List ℕ) × (most_bytes < length bytes) × Took bytes source source' → end ≡ status.Limit → text ≡ codes "limit bytes 16777216\n" → Defines words source source' end text
+defines_too_long words source source' end text reader h e t = record {
   bytes = h.0;
-  takes = h.2;
-  defined = subst (λ x. IsDefined words h.0 (IsEnded s) x text) (sym e) (inl (reader, h.1, t));
+  took = h.2;
+  defined = subst (λ x. IsDefined words h.0 (IsEnded source') x text) (sym e) (inl (reader, h.1, t));
 }
 
 -- no command has these statuses
@@ -58,12 +59,12 @@ answered_is words bytes ended status.Usage text a = absurd (no_usage a.command b
 answered_is words bytes ended status.Limit text a = inr a
 answered_is words bytes ended _ text a = a
 
-pub defines_answer : (words : List (List ℕ)) (s : Sourced) (end : Status) (text bytes : List ℕ) → Takes bytes s.left s.left_after s.taken s.taken_after → IsAnswered words bytes (IsEnded s) end text → Defines words s end text
-defines_answer words s end text bytes takes a = record { bytes = bytes; takes = takes; defined = answered_is words bytes (IsEnded s) end text a }
+pub defines_answer : (words : List (List ℕ)) (source source' : SourceState) (end : Status) (text bytes : List ℕ) → Took bytes source source' → IsAnswered words bytes (IsEnded source') end text → Defines words source source' end text
+defines_answer words source source' end text bytes took a = record { bytes = bytes; took = took; defined = answered_is words bytes (IsEnded source') end text a }
 
 -- all that is defined was printed
-pub printed : (words : List (List ℕ)) (s : Sourced) (k : Sunk) (end : Status) (text : List ℕ) → Defines words s end text → Appends k.held k.held_after text → Ends words s k end
-printed words s k status.NoMemory text d a = absurd (no_memory d.defined.command d.bytes text d.defined.answer)
-printed words s k status.SourceFault text d a = absurd (no_source d.defined.command d.bytes text d.defined.answer)
-printed words s k status.SinkFault text d a = absurd (no_sink d.defined.command d.bytes text d.defined.answer)
-printed words s k _ text d a = record { text = text; defines = d; appended = a }
+pub printed : (words : List (List ℕ)) (source source' : SourceState) (sink sink' : SinkState) (end : Status) (text : List ℕ) → Defines words source source' end text → Appends sink.held sink'.held text → Ends words source source' sink sink' end
+printed words source source' sink sink' status.NoMemory text d a = absurd (no_memory d.defined.command d.bytes text d.defined.answer)
+printed words source source' sink sink' status.SourceFault text d a = absurd (no_source d.defined.command d.bytes text d.defined.answer)
+printed words source source' sink sink' status.SinkFault text d a = absurd (no_sink d.defined.command d.bytes text d.defined.answer)
+printed words source source' sink sink' _ text d a = record { text = text; defines = d; appended = a }

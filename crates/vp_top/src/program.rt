@@ -1,8 +1,7 @@
 //! The top call: from the words and the source to the sink and the status.
 
-ghost use Rattle.std.specs.Prelude.{◌≡◌, ◌≤◌, ◌<◌, IfOk, IfSome, IsErrOf, None, true, ℕ, List, codes, length};
-ghost use Rattle.std.specs.Io.KnownBytes.{IsAtEnd};
-ghost use Rattle.vp_outside.specs.Input.{Takes};
+ghost use Rattle.std.specs.Prelude.{◌≡◌, ◌≤◌, ◌<◌, IfOk, IfSome, IsErrOf, None, ℕ, List, codes, length};
+ghost use Rattle.vp_outside.specs.Input.{IsEnded, Took};
 ghost use Rattle.vp_top.specs.declared.status.Status.TheVariants as status;
 ghost use Rattle.vp_outside.specs.Causes.{Rose};
 ghost use Rattle.vp_top.specs.Program.{AreReader};
@@ -53,18 +52,7 @@ pub fn run<S: Source, K: Sink>(
     source: &mut S,
     sink: &mut K,
 ) -> Status
-    ensures ends { Ends words.now
-        (record {
-          left = S.left source.old;
-          left_after = S.left source.new;
-          taken = S.taken source.old;
-          taken_after = S.taken source.new;
-          ended = S.ended source.new;
-          faults = S.faults source.old;
-          faults_after = S.faults source.new;
-        })
-        (record { held = K.held sink.old; held_after = K.held sink.new; faults = K.faults sink.old; faults_after = K.faults sink.new })
-        result }
+    ensures ends { Ends words.now (S.state source.old) (S.state source.new) (K.state sink.old) (K.state sink.new) result }
     ensures uncalled { (AreReader words.now → ⊥) → source.new ≡ source.old }
 {
     match define(alloc, words, source) {
@@ -80,18 +68,9 @@ pub fn run<S: Source, K: Sink>(
 
 /// The status and the text for the words and what the source has.
 fn define<S: Source>(alloc: Global, words: &[Word], source: &mut S) -> Result<Defined, Stop>
-    ensures defines { IfOk result (λ defined. Defines words.now
-        (record {
-          left = S.left source.old;
-          left_after = S.left source.new;
-          taken = S.taken source.old;
-          taken_after = S.taken source.new;
-          ended = S.ended source.new;
-          faults = S.faults source.old;
-          faults_after = S.faults source.new;
-        })
+    ensures defines { IfOk result (λ defined. Defines words.now (S.state source.old) (S.state source.new)
         defined.status defined.text.items) }
-    ensures source { IsErrOf result Stop.SourceFault → AreReader words.now × Rose (S.faults source.old) (S.faults source.new) }
+    ensures source { IsErrOf result Stop.SourceFault → AreReader words.now × Rose (S.state source.old).faults (S.state source.new).faults }
     ensures uncalled { (AreReader words.now → ⊥) → source.new ≡ source.old }
 {
     let Some(command) = Command::of(alloc, words)? else {
@@ -117,11 +96,10 @@ fn define<S: Source>(alloc: Global, words: &[Word], source: &mut S) -> Result<De
 /// The input, read to its end; none where it is too long.
 fn input_of<S: Source>(alloc: Global, source: &mut S) -> Result<Option<Vec<u8>>, Stop>
     ensures whole { IfOk result (λ found. IfSome found (λ input. (length input.items ≤ 16777216)
-        × IsAtEnd (S.left source.new) × (S.ended source.new ≡ true)
-        × Takes input.items (S.left source.old) (S.left source.new) (S.taken source.old) (S.taken source.new))) }
+        × IsEnded (S.state source.new) × Took input.items (S.state source.old) (S.state source.new))) }
     ensures too_long { IfOk result (λ found. found ≡ None → ((bytes : List ℕ) × (16777216 < length bytes)
-        × Takes bytes (S.left source.old) (S.left source.new) (S.taken source.old) (S.taken source.new))) }
-    ensures cause { IsErrOf result Stop.SourceFault → Rose (S.faults source.old) (S.faults source.new) }
+        × Took bytes (S.state source.old) (S.state source.new))) }
+    ensures cause { IsErrOf result Stop.SourceFault → Rose (S.state source.old).faults (S.state source.new).faults }
 {
     match read_to_end(alloc, source, MOST_BYTES) {
         Ok(input) => Ok(Some(input)),

@@ -6,8 +6,8 @@ use Rattle.vp_outside.proofs.sink.write_all.Given as goal
 abbrev pub invariant-loop-at : goal.invariant-loop-at
 invariant-loop-at g l = record {
   within : l.at ≤ length l.bytes;
-  handed : Appends (g.K.Sink.held l.fn.sink) (g.K.Sink.held l.sink) (take l.at l.bytes);
-  counted : g.K.Sink.faults l.sink ≡ g.K.Sink.faults l.fn.sink;
+  handed : Appends (g.K.Sink.state l.fn.sink).held (g.K.Sink.state l.sink).held (take l.at l.bytes);
+  counted : (g.K.Sink.state l.sink).faults ≡ (g.K.Sink.state l.fn.sink).faults;
 }
 
 abbrev pub decreases-loop-at : goal.decreases-loop-at

@@ -1,9 +1,17 @@
+use Rattle.std.proofs.Common.{arith}
+use Rattle.std.proofs.lemmas.Grind.{common_steps}
 use Rattle.vp_outside.proofs.Pieces.{given-next}
 use Rattle.vp_outside.proofs.sources.TextSourceSource.take.Goals as goal
 
-pub returns-clause-bytes : goal.returns-clause-bytes
-returns-clause-bytes c =
+pub returns-clause-takes : goal.returns-clause-takes
+returns-clause-takes c =
     let text = c.args.self.now.text in
     let gave = c.give.ensures in
     let next = given-next text.bytes.items c.args.buf.now c.give.new.buf text.at c.give.result _ gave.count gave.given c.give.auto.buf (c.args.self.now.some) in
-    rw (gave.bytes, gave.at) next
+    record {
+      bound = grind (arith, common_steps);
+      bytes = rw (gave.bytes, gave.at) next;
+      count = grind (arith, common_steps);
+      end = grind (arith, common_steps);
+      cause = grind (arith, common_steps);
+    }
