@@ -4,4 +4,4 @@ pub mod Limited
 pub mod Waiting
 pub mod Least
 pub mod Queued
-pub mod Rising
+pub mod Marked

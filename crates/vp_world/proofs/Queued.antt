@@ -10,8 +10,7 @@ use Rattle.vp_model.specs.Types.{Sent}
 use Rattle.vp_model.specs.Words.{has}
 use Rattle.vp_world.specs.Known.{message_in}
 use Rattle.vp_world.specs.Queues.{pair_of, waiting, without, AreBelow, AreSites, AreSited, IsQueued}
-use Rattle.vp_world.proofs.Rising.{waiting_below}
-use Rattle.vp_world.proofs.Waiting.{has_other, sent_push, delivered_without, delivered_other}
+use Rattle.vp_world.proofs.Waiting.{waiting_below, has_other, sent_push, delivered_without, delivered_other}
 
 sited_push : (sent : List Sent) (s : Sent) → AreSited sent → AreSites s.from s.to → AreSited (sent ++ s ∷ [])
 sited_push [] s h at = (at, tt)

@@ -3,7 +3,7 @@ use Rattle.std.proofs.Common.{◌≡◌, ◌≤◌, ◌<◌, ◌+◌, ◌==◌, 
 use Rattle.std.proofs.lemmas.Bool.Decides.{nat_tests}
 use Rattle.vp_model.specs.Types.{Sent}
 use Rattle.vp_model.specs.Words.{has, first}
-use Rattle.vp_world.specs.Queues.{pair_of, waiting, without}
+use Rattle.vp_world.specs.Queues.{pair_of, waiting, without, AreBelow}
 
 has_push : (D : List ℕ) (k j : ℕ) → has (D ++ k ∷ []) j ≡ (has D j || (k == j))
 has_push [] k j = grind (arith, nat_tests)
@@ -74,3 +74,16 @@ module _ (pair : ℕ) where
   first_from D n [] = tt
   first_from D n (s ∷ xs) =
       first_cases n (waiting pair D (n + 1) xs) ((pair_of s.from s.to == pair) && not (has D n)) (first_from D (n + 1) xs)
+
+below_more : (m n : ℕ) (xs : List ℕ) → m ≤ n → AreBelow m xs → AreBelow n xs
+below_more m n [] le h = tt
+below_more m n (x ∷ xs) le h = (omega (arith, le, h.0), below_more m n xs le h.1)
+
+-- the messages of a pair are among those that were sent
+pub waiting_below : (pair : ℕ) (D : List ℕ) (n : ℕ) (xs : List Sent) → AreBelow (n + length xs) (waiting pair D n xs)
+waiting_below pair D n [] = tt
+waiting_below pair D n (s ∷ xs) = cases ((pair_of s.from s.to == pair) && not (has D n)) (below_more (n + 1 + length xs) (n + length (s ∷ xs)) (waiting pair D (n + 1) xs) (omega arith) (waiting_below pair D (n + 1) xs))
+  where
+    cases : (b : Bool) → AreBelow (n + length (s ∷ xs)) (waiting pair D (n + 1) xs) → AreBelow (n + length (s ∷ xs)) (if b then n ∷ waiting pair D (n + 1) xs else waiting pair D (n + 1) xs)
+    cases true h = (omega arith, h)
+    cases false h = h

@@ -1,8 +1,9 @@
 -- What is kept of the messages of each pair of sites, and which of them is delivered next.
-use Rattle.std.specs.Prelude.{◌≡◌, ◌≤◌, ◌<◌, ◌+◌, ◌-◌, ◌*◌, ◌/◌, ◌%◌, ◌==◌, ◌&&◌, ℕ, zero, suc, nat_lt, Bool, false, not, if◌then◌else◌, is_some, List, [], ◌∷◌, filter, length, slice_index_or, Option, Some, None}
+use Rattle.std.specs.Prelude.{◌≡◌, ◌≤◌, ◌<◌, ◌+◌, ◌-◌, ◌*◌, ◌/◌, ◌%◌, ◌==◌, ◌&&◌, ℕ, zero, suc, nat_lt, Bool, false, not, if◌then◌else◌, is_some, List, [], ◌∷◌, ◌++◌, filter, map, length, slice_index_or, Option, Some, None}
 use Rattle.vp_model.specs.Types.{Sent}
 use Rattle.vp_model.specs.Words.{has, first}
 use Rattle.vp_model.specs.World.{WorldState, site_of, is_cut}
+use Rattle.vp_world.specs.declared.queue.Numbered.{Numbered}
 
 -- the place of a pair's queue: there are 16 sites at most
 abbrev pub pair_of : ℕ → ℕ → ℕ
@@ -28,6 +29,17 @@ Rises n (k ∷ numbers) = (n ≤ k) × Rises (k + 1) numbers
 abbrev pub AreBelow : ℕ → List ℕ → Type 0
 AreBelow n [] = Unit {0}
 AreBelow n (k ∷ numbers) = (k < n) × AreBelow n numbers
+
+-- the numbers of the messages of a queue that were never delivered
+abbrev pub undelivered : List Numbered → List ℕ
+undelivered [] = []
+undelivered (m ∷ rest) = if m.delivered then undelivered rest else m.number ∷ undelivered rest
+
+-- the numbers ascend, and neither the first message nor the last one was delivered
+pub record IsTrimmed (messages : List Numbered) : Type 0 where
+  pub rises : Rises 0 (map (λ m. m.number) messages)
+  pub first : (m : Numbered) (rest : List Numbered) → messages ≡ m ∷ rest → m.delivered ≡ false
+  pub last : (m : Numbered) (before : List Numbered) → messages ≡ before ++ m ∷ [] → m.delivered ≡ false
 
 pub record AreSites (from to : ℕ) : Type 0 where
   pub from_least : 1 ≤ from

@@ -1,13 +1,7 @@
 use Rattle.std.proofs.Common.{◌≡◌, Some, subst, sym}
 use Rattle.vp_world.specs.Known.{Posted, message_in}
-use Rattle.vp_world.specs.Queues.{Rises}
-use Rattle.vp_world.proofs.Rising.{waiting_rises}
-use Rattle.vp_world.proofs.Queued.{queue_is, delivered_queued}
+use Rattle.vp_world.proofs.Queued.{delivered_queued}
 use Rattle.vp_world.proofs.mail.Mail.deliver.Goals as goal
-
-pub take-requires : goal.take-requires
-take-requires c =
-    subst (Rises 1) (sym (queue_is c.self.inside.queues.items c.self.inside.sent.items c.self.inside.delivered.items c.self.invariant c.args.sent.now c.pair_of.result c.pair_of.ensures.pair c.pair_of.ensures.within c.index_mut-queue.result.now c.index_mut-queue.ensures.value)) (waiting_rises c.pair_of.result c.self.inside.delivered.items 1 c.self.inside.sent.items)
 
 pub invariant_of-self-2 : goal.invariant_of-self-2
 invariant_of-self-2 c =
