@@ -110,13 +110,13 @@ impl Lent {
     fn count_read(
         &mut self,
         from: SiteId,
-        handled: Handled,
+        handled: &mut Handled,
         rec: RecId,
         value: Value,
     ) -> Result<(), NoMemory>
         ensures { OnOk result (self.new ≡
-            count_in from handled.live handled.pending (answer_read handled.live handled.pending rec value)
-            (in_place handled.live self.old)) }
+            count_in from handled.old.live handled.old.pending (answer_read handled.old.live handled.old.pending rec value)
+            (in_place handled.old.live self.old)) }
     {
         let missing = sites_without(&handled.pending.missing, from)?;
         if missing.as_slice().is_empty() {
@@ -132,14 +132,14 @@ impl Lent {
         &mut self,
         at: &Around<'_>,
         from: SiteId,
-        handled: Handled,
+        handled: &mut Handled,
         number: CallNo,
         value: &Value,
     ) -> Result<(), NoMemory>
-        requires { waits handled.live ≡ true }
+        requires { waits handled.old.live ≡ true }
         ensures { OnOk result (self.new ≡
-            read_answered at.now.catalog.now from number value.now handled.live handled.pending handled.pending.call
-            (in_place handled.live self.old)) }
+            read_answered at.now.catalog.now from number value.now handled.old.live handled.old.pending handled.old.pending.call
+            (in_place handled.old.live self.old)) }
     {
         match wanted_read(at.catalog, number, &handled.pending) {
             None => {
@@ -166,7 +166,7 @@ impl Lent {
     {
         match self.coordinator.take_waiting(txn, from)? {
             None => Ok(()),
-            Some(handled) => self.read_answered(at, from, handled, number, value),
+            Some(mut handled) => self.read_answered(at, from, &mut handled, number, value),
         }
     }
 
@@ -175,13 +175,13 @@ impl Lent {
     fn count_write(
         &mut self,
         from: SiteId,
-        handled: Handled,
+        handled: &mut Handled,
         rec: RecId,
         value: Value,
     ) -> Result<(), NoMemory>
         ensures { OnOk result (self.new ≡
-            count_in from handled.live handled.pending (answer_write handled.live handled.pending rec value)
-            (in_place handled.live self.old)) }
+            count_in from handled.old.live handled.old.pending (answer_write handled.old.live handled.old.pending rec value)
+            (in_place handled.old.live self.old)) }
     {
         let missing = sites_without(&handled.pending.missing, from)?;
         if missing.as_slice().is_empty() {
@@ -197,13 +197,13 @@ impl Lent {
         &mut self,
         at: &Around<'_>,
         from: SiteId,
-        handled: Handled,
+        handled: &mut Handled,
         number: CallNo,
     ) -> Result<(), NoMemory>
-        requires { waits handled.live ≡ true }
+        requires { waits handled.old.live ≡ true }
         ensures { OnOk result (self.new ≡
-            write_answered at.now.catalog.now from number handled.live handled.pending handled.pending.call
-            (in_place handled.live self.old)) }
+            write_answered at.now.catalog.now from number handled.old.live handled.old.pending handled.old.pending.call
+            (in_place handled.old.live self.old)) }
     {
         match wanted_write(at.catalog, number, &handled.pending)? {
             None => {
@@ -226,7 +226,7 @@ impl Lent {
     {
         match self.coordinator.take_waiting(txn, from)? {
             None => Ok(()),
-            Some(handled) => self.write_answered(at, from, handled, number),
+            Some(mut handled) => self.write_answered(at, from, &mut handled, number),
         }
     }
 
@@ -235,19 +235,19 @@ impl Lent {
         &mut self,
         at: &Around<'_>,
         from: SiteId,
-        handled: Handled,
+        handled: &mut Handled,
         number: CallNo,
         why: &Obstacle,
     ) -> Result<(), NoMemory>
-        requires { waits handled.live ≡ true }
-        ensures { OnOk result (self.new ≡ refusal_at at.now.id from number why.now handled.live handled.pending (in_place handled.live self.old)) }
+        requires { waits handled.old.live ≡ true }
+        ensures { OnOk result (self.new ≡ refusal_at at.now.id from number why.now handled.old.live handled.old.pending (in_place handled.old.live self.old)) }
     {
-        match refusal(from, number, why, &handled)? {
+        match refusal(from, number, why, handled)? {
             None => {
                 self.put_back(handled);
                 Ok(())
             }
-            Some(end) => self.close(at.id, handled.live, end),
+            Some(end) => self.close(at.id, handled.take_live(), end),
         }
     }
 
@@ -264,7 +264,7 @@ impl Lent {
     {
         match self.coordinator.take_waiting(txn, from)? {
             None => Ok(()),
-            Some(handled) => self.refused(at, from, handled, number, why),
+            Some(mut handled) => self.refused(at, from, &mut handled, number, why),
         }
     }
 
@@ -274,19 +274,38 @@ impl Lent {
         &mut self,
         at: &Around<'_>,
         from: SiteId,
-        handled: Handled,
+        handled: &mut Handled,
     ) -> Result<(), NoMemory>
         ensures { OnOk result (self.new ≡
-            count_in from handled.live handled.pending (decide at.now.catalog.now at.now.id handled.live)
-            (in_place handled.live self.old)) }
+            count_in from handled.old.live handled.old.pending (decide at.now.catalog.now at.now.id handled.old.live)
+            (in_place handled.old.live self.old)) }
     {
         let missing_votes = sites_without(&handled.pending.missing, from)?;
         if missing_votes.as_slice().is_empty() {
-            self.decide(at, handled.live)
+            self.decide(at, handled.take_live())
         } else {
             self.wait_for(handled, missing_votes);
             Ok(())
         }
+    }
+
+    #[tactic(auto, using(crate::proofs::Answered::questions))]
+    fn voted(
+        &mut self,
+        at: &Around<'_>,
+        from: SiteId,
+        handled: &mut Handled,
+    ) -> Result<(), NoMemory>
+        requires { waits handled.old.live ≡ true }
+        ensures { OnOk result (self.new ≡
+            voted at.now.catalog.now at.now.id from handled.old.live handled.old.pending handled.old.pending.call
+            (in_place handled.old.live self.old)) }
+    {
+        if is_commit(&handled.pending.call) {
+            return self.count_vote(at, from, handled);
+        }
+        self.put_back(handled);
+        Ok(())
     }
 
     #[tactic(auto, using(crate::proofs::Answered::questions))]
@@ -295,13 +314,7 @@ impl Lent {
     {
         match self.coordinator.take_waiting(txn, from)? {
             None => Ok(()),
-            Some(handled) => {
-                if is_commit(&handled.pending.call) {
-                    return self.count_vote(at, from, handled);
-                }
-                self.put_back(handled);
-                Ok(())
-            }
+            Some(mut handled) => self.voted(at, from, &mut handled),
         }
     }
 

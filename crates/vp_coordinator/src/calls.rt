@@ -95,16 +95,21 @@ impl Lent {
     }
 
     #[tactic(auto, unfolding(vp_model::specs::Calls::new_call), using(crate::proofs::Rows::in_places))]
-    fn new_call(&mut self, at: &Around<'_>, handled: Handled, call: &Call) -> Result<(), NoMemory>
-        requires { waits handled.live ≡ true }
+    fn new_call(
+        &mut self,
+        at: &Around<'_>,
+        handled: &mut Handled,
+        call: &Call,
+    ) -> Result<(), NoMemory>
+        requires { waits handled.old.live ≡ true }
         ensures { OnOk result (self.new ≡
-            new_call at.now.catalog.now at.now.id (option_copied at.now.held) handled.live handled.pending call.now (in_place handled.live self.old)) }
+            new_call at.now.catalog.now at.now.id (option_copied at.now.held) handled.old.live handled.old.pending call.now (in_place handled.old.live self.old)) }
     {
         match call {
             Call::Read { name, .. } => self.read_named(at, handled, name),
             Call::Write { name, value, .. } => self.write_named(at, handled, name, value),
             Call::Commit { .. } => self.commit(at, handled),
-            Call::Abort { .. } => self.close(at.id, handled.into_live(), Ending::Aborted),
+            Call::Abort { .. } => self.close(at.id, handled.take_with_call(), Ending::Aborted),
             Call::Begin | Call::Regroup => {
                 self.put_back(handled);
                 Ok(())
@@ -113,10 +118,10 @@ impl Lent {
     }
 
     /// A call that was answered gets its answer again.
-    fn repeat(&mut self, handled: Handled) -> Result<(), NoMemory>
-        requires { waits handled.live ≡ true }
+    fn repeat(&mut self, handled: &mut Handled) -> Result<(), NoMemory>
+        requires { waits handled.old.live ≡ true }
         ensures { OnOk result (self.new ≡
-            for_some (kept_answer handled.pending.number handled.live.answers) (λ answer. lent_reply answer handled.pending.port) (in_place handled.live self.old)) }
+            for_some (kept_answer handled.old.pending.number handled.old.live.answers) (λ answer. lent_reply answer handled.old.pending.port) (in_place handled.old.live self.old)) }
     {
         match told_again(handled.live.answers.as_slice(), handled.number())? {
             None => {
@@ -128,11 +133,16 @@ impl Lent {
     }
 
     #[tactic(auto, unfolding(vp_model::specs::Calls::live_call))]
-    fn live_call(&mut self, at: &Around<'_>, handled: Handled, call: &Call) -> Result<(), NoMemory>
-        requires call { call.now ≡ handled.pending.call }
-        requires waiting { waits handled.live ≡ true }
+    fn live_call(
+        &mut self,
+        at: &Around<'_>,
+        handled: &mut Handled,
+        call: &Call,
+    ) -> Result<(), NoMemory>
+        requires call { call.now ≡ handled.old.pending.call }
+        requires waiting { waits handled.old.live ≡ true }
         ensures { OnOk result (self.new ≡
-            live_call at.now.catalog.now at.now.id (option_copied at.now.held) handled.live handled.pending (in_place handled.live self.old)) }
+            live_call at.now.catalog.now at.now.id (option_copied at.now.held) handled.old.live handled.old.pending (in_place handled.old.live self.old)) }
     {
         let txn = handled.txn();
         let number = handled.number();
@@ -165,7 +175,8 @@ impl Lent {
         match self.coordinator.take_up(txn) {
             Some(live) => {
                 let pending = pending_call(live.ops.allocator(), port, number, call)?;
-                self.live_call(at, Handled { live, pending }, call)
+                let mut handled = Handled { live, pending };
+                self.live_call(at, &mut handled, call)
             }
             None => match self.coordinator.told_after(txn, number)? {
                 None => Ok(()),

@@ -1,6 +1,6 @@
 //! How a transaction goes on after an operation, and how it ends.
 
-ghost use Rattle.std.specs.Prelude.{◌≡◌, ◌++◌, ◌∷◌, [], OnOk, IfOk, Some, None, true, false, if◌then◌else◌};
+ghost use Rattle.std.specs.Prelude.{◌≡◌, ◌++◌, ◌∷◌, [], OnOk, Some, None, true, false, if◌then◌else◌};
 ghost use Rattle.vp_model.specs.Words.{is_empty};
 ghost use Rattle.vp_base.specs.declared.message.Message.TheVariants as message;
 ghost use Rattle.vp_model.specs.Site.{lent_reply, with_reply, with_commit, with_messages};
@@ -21,17 +21,17 @@ use vp_lists::write_copies;
 
 impl Lent {
     /// The transaction goes back as it was.
-    pub fn put_back(&mut self, handled: Handled)
-        requires { waits handled.live ≡ true }
-        ensures { self.new ≡ in_place handled.live self.old }
+    pub fn put_back(&mut self, handled: &mut Handled)
+        requires { waits handled.old.live ≡ true }
+        ensures { self.new ≡ in_place handled.old.live self.old }
     {
-        self.coordinator.put_live(handled.live)
+        self.coordinator.put_live(handled.take_live())
     }
 
     /// The call gets this answer, which is not kept.
-    pub fn refuse(&mut self, handled: Handled, answer: Answer) -> Result<(), NoMemory>
-        requires { waits handled.live ≡ true }
-        ensures { OnOk result (self.new ≡ lent_reply answer handled.pending.port (in_place handled.live self.old)) }
+    pub fn refuse(&mut self, handled: &mut Handled, answer: Answer) -> Result<(), NoMemory>
+        requires { waits handled.old.live ≡ true }
+        ensures { OnOk result (self.new ≡ lent_reply answer handled.old.pending.port (in_place handled.old.live self.old)) }
     {
         let port = handled.pending.port;
         self.put_back(handled);
@@ -42,28 +42,25 @@ impl Lent {
     #[tactic(auto, unfolding(vp_model::specs::Transactions::complete), using(crate::proofs::Rows::in_places))]
     pub fn complete(
         &mut self,
-        handled: Handled,
+        handled: &mut Handled,
         operation: Op,
         answer: Answer,
     ) -> Result<(), NoMemory>
-        ensures { OnOk result (self.new ≡ complete handled.live handled.pending operation answer (in_place handled.live self.old)) }
+        ensures { OnOk result (self.new ≡ complete handled.old.live handled.old.pending operation answer (in_place handled.old.live self.old)) }
     {
         reply_with(handled.pending.port, &answer, &mut self.effects)?;
-        let done = with_answer(handled.live, operation, answer)?;
-        self.coordinator.put_live(done);
+        add_answer(&mut handled.live, operation, answer)?;
+        self.put_back(handled);
         Ok(())
     }
 
     /// The call waits for these sites.
-    pub fn wait_for(&mut self, handled: Handled, sites: Sites)
+    pub fn wait_for(&mut self, handled: &mut Handled, sites: Sites)
         requires { is_empty sites ≡ false }
-        ensures { self.new ≡ wait_for handled.live handled.pending sites self.old }
+        ensures { self.new ≡ wait_for handled.old.live handled.old.pending sites self.old }
     {
-        let mut t = handled.live;
-        let mut p = handled.pending;
-        p.missing = sites;
-        t.pending = Some(p);
-        self.coordinator.put_live(t)
+        handled.pending.missing = sites;
+        self.coordinator.put_live(handled.take_with_call())
     }
 
     /// The transaction ends without a commit.
@@ -134,14 +131,13 @@ fn reply_with(port: u16, answer: &Answer, effects: &mut Effects) -> Result<(), N
     effects.reply(port, answer.copy_of()?)
 }
 
-/// The transaction where the operation is done, and its answer is kept.
-fn with_answer(t: Live, operation: Op, answer: Answer) -> Result<Live, NoMemory>
-    ensures { IfOk result (λ done. done ≡ record t { ops = t.ops ++ operation ∷ []; answers = t.answers ++ answer ∷ []; pending = None }) }
+/// The operation is done, and its answer is kept.
+fn add_answer(t: &mut Live, operation: Op, answer: Answer) -> Result<(), NoMemory>
+    ensures { OnOk result (t.new ≡ record t.old { ops = t.old.ops ++ operation ∷ []; answers = t.old.answers ++ answer ∷ []; pending = None }) }
 {
-    let mut done = Live { pending: None, ..t };
-    done.ops.push(operation)?;
-    done.answers.push(answer)?;
-    Ok(done)
+    t.pending = None;
+    t.ops.push(operation)?;
+    t.answers.push(answer)
 }
 
 /// The transaction is committed, which its parts are told; its operations go there.

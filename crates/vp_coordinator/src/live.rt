@@ -122,7 +122,7 @@ impl LiveTxns {
 }
 
 /// A transaction without operations.
-fn new_live(alloc: Global, txn: &TxnId, view: ViewId) -> Live
+pub fn new_live(alloc: Global, txn: &TxnId, view: ViewId) -> Live
     ensures { result ≡ begun txn.now view }
 {
     Live {

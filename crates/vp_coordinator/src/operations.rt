@@ -84,11 +84,11 @@ fn usable_record(
 impl Lent {
     pub fn answer_read(
         &mut self,
-        handled: Handled,
+        handled: &mut Handled,
         rec: RecId,
         value: Value,
     ) -> Result<(), NoMemory>
-        ensures { OnOk result (self.new ≡ answer_read handled.live handled.pending rec value (in_place handled.live self.old)) }
+        ensures { OnOk result (self.new ≡ answer_read handled.old.live handled.old.pending rec value (in_place handled.old.live self.old)) }
     {
         let answer = Answer::Value {
             txn: handled.txn(),
@@ -100,11 +100,11 @@ impl Lent {
 
     pub fn answer_write(
         &mut self,
-        handled: Handled,
+        handled: &mut Handled,
         rec: RecId,
         value: &Value,
     ) -> Result<(), NoMemory>
-        ensures { OnOk result (self.new ≡ answer_write handled.live handled.pending rec value.now (in_place handled.live self.old)) }
+        ensures { OnOk result (self.new ≡ answer_write handled.old.live handled.old.pending rec value.now (in_place handled.old.live self.old)) }
     {
         let value = value.copy_of()?;
         let answer = Answer::Written {
@@ -119,31 +119,30 @@ impl Lent {
     fn blocked(
         &mut self,
         id: SiteId,
-        handled: Handled,
+        handled: &mut Handled,
         name: &Name,
         holder: Owner,
     ) -> Result<(), NoMemory>
-        ensures { OnOk result (self.new ≡ close id (handling handled.live handled.pending) (ending.LockHeld name.now id holder) (in_place handled.live self.old)) }
+        ensures { OnOk result (self.new ≡ close id (handling handled.old.live handled.old.pending) (ending.LockHeld name.now id holder) (in_place handled.old.live self.old)) }
     {
         let why = Ending::LockHeld {
             name: name.copy_of()?,
             at: id,
             owner: holder,
         };
-        self.close(id, handled.into_live(), why)
+        self.close(id, handled.take_with_call(), why)
     }
 
     #[tactic(auto, unfolding(vp_model::specs::Calls::read_at), using(crate::proofs::Rows::in_places))]
     fn read_at(
         &mut self,
         id: SiteId,
-        handled: Handled,
+        handled: &mut Handled,
         rec: RecId,
         site: SiteId,
     ) -> Result<(), NoMemory>
-        ensures { OnOk result (self.new ≡ read_at id handled.live handled.pending rec site (in_place handled.live self.old)) }
+        ensures { OnOk result (self.new ≡ read_at id handled.old.live handled.old.pending rec site (in_place handled.old.live self.old)) }
     {
-        let mut handled = handled;
         let asked = only(handled.live.parts.allocator(), site)?;
         add_reader(&mut handled.live, rec, site)?;
         let request = Message::ReadRequest {
@@ -157,10 +156,15 @@ impl Lent {
     }
 
     /// The least holder in the view is asked.
-    fn read_there(&mut self, at: &Around<'_>, handled: Handled, rec: RecId) -> Result<(), NoMemory>
-        requires { waits handled.live ≡ true }
+    fn read_there(
+        &mut self,
+        at: &Around<'_>,
+        handled: &mut Handled,
+        rec: RecId,
+    ) -> Result<(), NoMemory>
+        requires { waits handled.old.live ≡ true }
         ensures { OnOk result (self.new ≡
-            for_some (first (other_holders_in at.now.catalog.now at.now.id (option_copied at.now.held) rec)) (read_at at.now.id handled.live handled.pending rec) (in_place handled.live self.old)) }
+            for_some (first (other_holders_in at.now.catalog.now at.now.id (option_copied at.now.held) rec)) (read_at at.now.id handled.old.live handled.old.pending rec) (in_place handled.old.live self.old)) }
     {
         let asked = at.catalog.other_holders(at.id, at.held, rec)?;
         match first_of(asked.as_slice()) {
@@ -177,13 +181,13 @@ impl Lent {
     fn read_here(
         &mut self,
         id: SiteId,
-        handled: Handled,
+        handled: &mut Handled,
         name: &Name,
         rec: RecId,
         value: Value,
     ) -> Result<(), NoMemory>
         ensures { OnOk result (self.new ≡
-            lock_here id handled.live handled.pending name.now rec false (answer_read handled.live handled.pending rec value) (in_place handled.live self.old)) }
+            lock_here id handled.old.live handled.old.pending name.now rec false (answer_read handled.old.live handled.old.pending rec value) (in_place handled.old.live self.old)) }
     {
         match self.here.locks.take_shared(rec, handled.txn()) {
             Ok(()) => self.answer_read(handled, rec, value),
@@ -196,13 +200,13 @@ impl Lent {
     fn read(
         &mut self,
         at: &Around<'_>,
-        handled: Handled,
+        handled: &mut Handled,
         name: &Name,
         rec: RecId,
     ) -> Result<(), NoMemory>
-        requires { waits handled.live ≡ true }
+        requires { waits handled.old.live ≡ true }
         ensures { OnOk result (self.new ≡
-            read at.now.catalog.now at.now.id (option_copied at.now.held) handled.live handled.pending name.now rec (in_place handled.live self.old)) }
+            read at.now.catalog.now at.now.id (option_copied at.now.held) handled.old.live handled.old.pending name.now rec (in_place handled.old.live self.old)) }
     {
         match own_write(&handled.live, rec)? {
             Some(value) => self.answer_read(handled, rec, value),
@@ -218,15 +222,15 @@ impl Lent {
     pub fn read_named(
         &mut self,
         at: &Around<'_>,
-        handled: Handled,
+        handled: &mut Handled,
         name: &Name,
     ) -> Result<(), NoMemory>
-        requires { waits handled.live ≡ true }
+        requires { waits handled.old.live ≡ true }
         ensures { OnOk result (self.new ≡
-            with_record at.now.catalog.now (option_copied at.now.held) handled.live handled.pending name.now
-            (read at.now.catalog.now at.now.id (option_copied at.now.held) handled.live handled.pending name.now) (in_place handled.live self.old)) }
+            with_record at.now.catalog.now (option_copied at.now.held) handled.old.live handled.old.pending name.now
+            (read at.now.catalog.now at.now.id (option_copied at.now.held) handled.old.live handled.old.pending name.now) (in_place handled.old.live self.old)) }
     {
-        match usable_record(at, &handled, name)? {
+        match usable_record(at, handled, name)? {
             Ok(rec) => self.read(at, handled, name, rec),
             Err(answer) => self.refuse(handled, answer),
         }
@@ -236,15 +240,14 @@ impl Lent {
     fn write_at(
         &mut self,
         id: SiteId,
-        handled: Handled,
+        handled: &mut Handled,
         rec: RecId,
         sites: Sites,
     ) -> Result<(), NoMemory>
         requires { is_empty sites ≡ false }
-        ensures { OnOk result (self.new ≡ write_at id handled.live handled.pending rec sites (in_place handled.live self.old)) }
+        ensures { OnOk result (self.new ≡ write_at id handled.old.live handled.old.pending rec sites (in_place handled.old.live self.old)) }
     {
-        ask_to_write(id, &handled, rec, sites.as_slice(), &mut self.effects)?;
-        let mut handled = handled;
+        ask_to_write(id, handled, rec, sites.as_slice(), &mut self.effects)?;
         put_all(&mut handled.live.parts, sites.as_slice())?;
         self.wait_for(handled, sites);
         Ok(())
@@ -254,12 +257,12 @@ impl Lent {
     fn write_elsewhere(
         &mut self,
         at: &Around<'_>,
-        handled: Handled,
+        handled: &mut Handled,
         rec: RecId,
         value: &Value,
     ) -> Result<(), NoMemory>
         ensures { OnOk result (self.new ≡
-            write_elsewhere at.now.catalog.now at.now.id (option_copied at.now.held) handled.live handled.pending rec value.now (in_place handled.live self.old)) }
+            write_elsewhere at.now.catalog.now at.now.id (option_copied at.now.held) handled.old.live handled.old.pending rec value.now (in_place handled.old.live self.old)) }
     {
         let asked = at.catalog.other_holders(at.id, at.held, rec)?;
         if asked.as_slice().is_empty() {
@@ -274,13 +277,13 @@ impl Lent {
     fn write_here(
         &mut self,
         at: &Around<'_>,
-        handled: Handled,
+        handled: &mut Handled,
         name: &Name,
         value: &Value,
         rec: RecId,
     ) -> Result<(), NoMemory>
         ensures { OnOk result (self.new ≡
-            lock_here at.now.id handled.live handled.pending name.now rec true (write_elsewhere at.now.catalog.now at.now.id (option_copied at.now.held) handled.live handled.pending rec value.now) (in_place handled.live self.old)) }
+            lock_here at.now.id handled.old.live handled.old.pending name.now rec true (write_elsewhere at.now.catalog.now at.now.id (option_copied at.now.held) handled.old.live handled.old.pending rec value.now) (in_place handled.old.live self.old)) }
     {
         match self.here.locks.take_exclusive(rec, handled.txn()) {
             Ok(()) => self.write_elsewhere(at, handled, rec, value),
@@ -293,13 +296,13 @@ impl Lent {
     fn write(
         &mut self,
         at: &Around<'_>,
-        handled: Handled,
+        handled: &mut Handled,
         name: &Name,
         value: &Value,
         rec: RecId,
     ) -> Result<(), NoMemory>
         ensures { OnOk result (self.new ≡
-            write at.now.catalog.now at.now.id (option_copied at.now.held) handled.live handled.pending name.now value.now rec (in_place handled.live self.old)) }
+            write at.now.catalog.now at.now.id (option_copied at.now.held) handled.old.live handled.old.pending name.now value.now rec (in_place handled.old.live self.old)) }
     {
         match own_write(&handled.live, rec)? {
             Some(_) => self.answer_write(handled, rec, value),
@@ -315,37 +318,37 @@ impl Lent {
     pub fn write_named(
         &mut self,
         at: &Around<'_>,
-        handled: Handled,
+        handled: &mut Handled,
         name: &Name,
         value: &Value,
     ) -> Result<(), NoMemory>
-        requires { waits handled.live ≡ true }
+        requires { waits handled.old.live ≡ true }
         ensures { OnOk result (self.new ≡
-            with_record at.now.catalog.now (option_copied at.now.held) handled.live handled.pending name.now
-            (write at.now.catalog.now at.now.id (option_copied at.now.held) handled.live handled.pending name.now value.now) (in_place handled.live self.old)) }
+            with_record at.now.catalog.now (option_copied at.now.held) handled.old.live handled.old.pending name.now
+            (write at.now.catalog.now at.now.id (option_copied at.now.held) handled.old.live handled.old.pending name.now value.now) (in_place handled.old.live self.old)) }
     {
-        match usable_record(at, &handled, name)? {
+        match usable_record(at, handled, name)? {
             Ok(rec) => self.write(at, handled, name, value, rec),
             Err(answer) => self.refuse(handled, answer),
         }
     }
 
     #[tactic(auto, unfolding(vp_model::specs::Calls::prepare_parts), using(crate::proofs::Rows::in_places))]
-    fn prepare_parts(&mut self, at: &Around<'_>, handled: Handled) -> Result<(), NoMemory>
-        requires { is_empty handled.live.parts ≡ false }
-        ensures { OnOk result (self.new ≡ prepare_parts at.now.catalog.now at.now.id handled.live handled.pending (in_place handled.live self.old)) }
+    fn prepare_parts(&mut self, at: &Around<'_>, handled: &mut Handled) -> Result<(), NoMemory>
+        requires { is_empty handled.old.live.parts ≡ false }
+        ensures { OnOk result (self.new ≡ prepare_parts at.now.catalog.now at.now.id handled.old.live handled.old.pending (in_place handled.old.live self.old)) }
     {
-        let asked = ask_parts(at, &handled, &mut self.effects)?;
+        let asked = ask_parts(at, handled, &mut self.effects)?;
         self.wait_for(handled, asked);
         Ok(())
     }
 
     #[tactic(auto, unfolding(vp_model::specs::Calls::commit), using(crate::proofs::Rows::in_places))]
-    pub fn commit(&mut self, at: &Around<'_>, handled: Handled) -> Result<(), NoMemory>
-        ensures { OnOk result (self.new ≡ commit at.now.catalog.now at.now.id handled.live handled.pending (in_place handled.live self.old)) }
+    pub fn commit(&mut self, at: &Around<'_>, handled: &mut Handled) -> Result<(), NoMemory>
+        ensures { OnOk result (self.new ≡ commit at.now.catalog.now at.now.id handled.old.live handled.old.pending (in_place handled.old.live self.old)) }
     {
         if handled.live.parts.as_slice().is_empty() {
-            self.decide(at, handled.into_live())
+            self.decide(at, handled.take_with_call())
         } else {
             self.prepare_parts(at, handled)
         }
