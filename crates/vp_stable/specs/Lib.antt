@@ -1,4 +1,5 @@
 pub mod Faults
+pub mod Halves
 pub mod Laws
 pub mod Log
 pub mod Moments
