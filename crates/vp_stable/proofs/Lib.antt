@@ -1,6 +1,7 @@
-mod Appends
 mod Determined
+mod Due
 mod Filling
+mod Generations
 mod Measured
 mod Opened
 mod Recoveries

@@ -84,8 +84,10 @@ pub fn generation(alloc: Global, bytes: &[u8]) -> Result<u64, NoMemory>
     let [OPEN, behind @ ..] = bytes else {
         return Ok(0);
     };
-    let first = first_batch(alloc, behind)?;
-    Ok(first.map_or(0, |(batch, _)| generation_in(&batch)))
+    match first_batch(alloc, behind)? {
+        Some((batch, _)) => Ok(generation_in(&batch)),
+        None => Ok(0),
+    }
 }
 
 /// What is read of a half that is a log.

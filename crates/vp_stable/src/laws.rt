@@ -23,9 +23,7 @@ pub fn bytes_are_bad_at_one_gate()
 pub fn halves_are_one_log()
     ensures batches { HalvesAreOneLog }
     ensures bad { BadHalvesHaveNoBatches }
-{
-    spellings_are_of_one_batch();
-}
+{}
 
 /// A checkpoint is due of a log where it is due of its batches, and none is due behind a checkpoint.
 pub fn a_checkpoint_is_due_of_batches()
