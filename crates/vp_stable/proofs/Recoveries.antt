@@ -63,15 +63,6 @@ scan_can scan bytes is = can_of scan.batches (has_batches scan bytes is)
     can_of bs (inr log) = all_records bs log.1.can
 
 module _ (half : ℕ) (bytes : List ℕ) where
-  pub found : (o : Option Halves) (scan : Scan) → IsScan scan bytes → IfSome o (IsRead half bytes) → IfSome o (HaveBatches scan.batches)
-  found None scan is read = tt
-  found (Some log) scan is read = (half, read.current, subst (λ (l : List ℕ). HasBatches scan.batches l) read.is (has_batches scan bytes is))
-
-  pub found_bad : (o : Option Halves) (bad at : ℕ) → (bad ≡ half) × IsBadLog at bytes → IfSome o (IsRead half bytes) → IfSome o (AreBadLog bad at)
-  found_bad None bad at is read = tt
-  found_bad (Some log) bad at is read =
-      subst (λ (h : ℕ). AreBadLog h at log) (sym is.0) (record { current = read.current; bad = subst (λ (l : List ℕ). IsBadLog at l) read.is is.1 })
-
   -- it stands where the scan says
   pub stands_old : (o : Option Halves) (generation : ℕ) (scan : Scan) → HasGeneration generation bytes → IsScan scan bytes → 2 ≤ length bytes → IfSome o (IsRead half bytes)
       → IfSome o (StandsAt (record { half = half; generation = generation; gate = scan.gate; second = scan.second }) scan.batches)
@@ -201,3 +192,8 @@ pub settled : (o : Option Halves) (images : Halves → Type 0) (at : Standing) (
     → IfSome o (λ log. AreSettled at log images)
 settled None images at batches only stands = tt
 settled (Some log) images at batches only stands = record { synced = only; batches = batches; stands = stands }
+
+-- the log that the calls speak of has this name
+pub kept_as : (at : Standing) (disk : DiskState) (name : Option (List ℕ)) → disk.asked ≡ name → IfSome (disk.logs name) (λ log. AreSettled at log (disk.may_leave name))
+    → IfSome (log_of disk) (λ log. AreSettled at log (disk.may_leave disk.asked))
+kept_as at disk name is settled = subst (λ (n : Option (List ℕ)). IfSome (disk.logs n) (λ log. AreSettled at log (disk.may_leave n))) (sym is) settled

@@ -116,7 +116,11 @@ impl Log {
 
     /// Starts the other half with one batch, a checkpoint of the durable part to which the batches fold. At the last generation
     /// nothing is done. After a fault the log is recovered again before it is used.
-    pub fn checkpoint<D: Disk>(&mut self, disk: &mut D, durable: &Durable) -> Result<(), AppendFault>
+    pub fn checkpoint<D: Disk>(
+        &mut self,
+        disk: &mut D,
+        durable: &Durable,
+    ) -> Result<(), AppendFault>
         requires attached { IsTrue (D.state disk.old).attached }
         requires kept { AreKept self.old (D.state disk.old) }
         requires fold { IsFold durable.now self.old (D.state disk.old) }
