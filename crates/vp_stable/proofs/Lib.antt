@@ -1,3 +1,6 @@
+mod Appends
+mod Checkpoints
+mod Currents
 mod Determined
 mod Due
 mod Filling
@@ -5,6 +8,9 @@ mod Generations
 mod Measured
 mod Opened
 mod Recoveries
+mod Restored
 mod Scanning
+mod Standings
 mod Tears
 mod Times
+mod Writes

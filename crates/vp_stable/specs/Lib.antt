@@ -4,3 +4,4 @@ pub mod Laws
 pub mod Log
 pub mod Moments
 pub mod Scans
+pub mod Writing

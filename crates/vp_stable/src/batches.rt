@@ -12,8 +12,8 @@ ghost use Rattle.vp_stable.specs.Halves as halves;
 use crate::fault::LogFault;
 use byteorder::{BigEndian, ByteOrder};
 use std::alloc::Global;
-use vp_base::{Batch, Batches, LogRecord, NoMemory};
-use vp_records::{BatchFault, decode_batch, encode_batch};
+use vp_base::{Batch, Batches, CopyOf, LogRecord, NoMemory};
+use vp_records::{BatchFault, Durable, decode_batch, encode_batch};
 
 /// How many bytes the length of a batch has.
 const LENGTH_BYTES: usize = 8;
@@ -65,6 +65,26 @@ fn first_batch(alloc: Global, bytes: &[u8]) -> Result<Option<(Batch, usize)>, No
         Err(BatchFault::BadRecord { .. }) => Ok(None),
         Err(BatchFault::NoMemory) => Err(NoMemory),
     }
+}
+
+/// A batch of one checkpoint of the durable part.
+pub fn checkpoint_batch(
+    alloc: Global,
+    generation: u64,
+    durable: &Durable,
+) -> Result<Batch, NoMemory>
+    ensures { IfOk result (λ batch. batch ≡ halves.checkpoint_of generation durable.now ∷ []) }
+{
+    let mut batch = Batch::new(alloc);
+    batch.push(LogRecord::Checkpoint {
+        generation,
+        life: durable.life(),
+        promise: durable.promise(),
+        copies: durable.copy_of()?.into_copies(),
+        doubts: durable.doubts().copy_of()?,
+        decisions: durable.decisions().copy_of()?,
+    })?;
+    Ok(batch)
 }
 
 /// The generation of the checkpoint with which the batch begins; 0 where it begins with none.

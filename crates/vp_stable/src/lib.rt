@@ -7,6 +7,7 @@ mod fault;
 mod half;
 mod laws;
 mod log;
+mod writing;
 
 pub use fault::{AppendFault, LogFault};
 pub use laws::{

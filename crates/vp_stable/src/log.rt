@@ -9,9 +9,10 @@ ghost use Rattle.vp_stable.specs.Halves.{Recovers, StandsAt, AreKept, ReadAlike,
 ghost use Rattle.vp_stable.specs.Moments.{LeavesOnly, LeavesOthers};
 ghost use Rattle.vp_stable.specs.Faults.{HasLogCause, HasAppendCause};
 
-use crate::batches::read_batches;
+use crate::batches::{behind_gate, checkpoint_batch, generation_in, read_batches};
 use crate::fault::{AppendFault, LogFault};
 use crate::half::{read_current, write_synced};
+use crate::writing::{clear, put};
 use std::alloc::Global;
 use std::marker::Model;
 use vp_base::{Batch, Batches};
@@ -102,7 +103,14 @@ impl Log {
         ensures others { LeavesOthers (D.state disk.old) (D.state disk.new) }
         ensures cause { HasAppendCause (D.state disk.old).faults (D.state disk.new).faults result }
     {
-        Err(AppendFault::NoMemory)
+        let piece = behind_gate(self.alloc, batch)?;
+        put(disk, self.half, self.gate, &piece)?;
+        if self.second == 0 {
+            self.generation = generation_in(batch);
+            self.second = piece.len() as u64;
+        }
+        self.gate += piece.len() as u64;
+        Ok(())
     }
 
     /// Whether a checkpoint is due: the current half is longer than 65,536 bytes, and longer than twice its first batch. It takes no
@@ -138,6 +146,18 @@ impl Log {
         ensures others { LeavesOthers (D.state disk.old) (D.state disk.new) }
         ensures cause { HasAppendCause (D.state disk.old).faults (D.state disk.new).faults result }
     {
-        Err(AppendFault::NoMemory)
+        let Some(generation) = self.generation.checked_add(1) else {
+            return Ok(());
+        };
+        let batch = checkpoint_batch(self.alloc, generation, durable)?;
+        let piece = behind_gate(self.alloc, &batch)?;
+        let half = 1 - self.half;
+        clear(disk, half)?;
+        put(disk, half, 0, &piece)?;
+        self.half = half;
+        self.generation = generation;
+        self.gate = piece.len() as u64;
+        self.second = self.gate;
+        Ok(())
     }
 }
