@@ -132,7 +132,8 @@ impl Log {
         requires attached { IsTrue (D.state disk.old).attached }
         requires kept { AreKept self.old (D.state disk.old) }
         requires fold { IsFold durable.now self.old (D.state disk.old) }
-        requires spelled { IsLogRecord (checkpoint_of self.old.generation durable.now) }
+        // A checkpoint of it can be spelled, whatever its generation.
+        requires spelled { IsLogRecord (checkpoint_of 0 durable.now) }
 
         ensures saved { OnOk result (Steps (SavesAt durable.now self.old self.new) (D.state disk.old) (D.state disk.new)) }
         ensures kept { OnOk result (AreKept self.new (D.state disk.new)) }
