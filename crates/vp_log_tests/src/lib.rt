@@ -4,6 +4,8 @@
 #[cfg(test)]
 mod batches;
 #[cfg(test)]
+mod checkpoints;
+#[cfg(test)]
 mod durable;
 #[cfg(test)]
 mod logs;

@@ -207,13 +207,13 @@ fn done(rt: &HostRuntime, call: u64) -> Result<u8, Fail> {
     })
 }
 
-// Call 1 attaches; recovery syncs, asks for the length, writes and syncs; the append writes, syncs, writes and syncs.
+// Call 1 attaches; recovery syncs, asks for both lengths, writes and syncs; the append writes, syncs, writes and syncs.
 #[test]
 fn each_call_that_fails_is_answered(rt: HostRuntime) -> Result<(), Fail> {
-    for call in 2..=5 {
+    for call in 2..=6 {
         assert_eq!(rt; done(&rt, call)?, 0);
     }
-    for call in 6..=9 {
+    for call in 7..=10 {
         assert_eq!(rt; done(&rt, call)?, 1);
     }
     assert_eq!(rt; done(&rt, 100)?, 2);

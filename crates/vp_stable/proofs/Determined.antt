@@ -1,28 +1,33 @@
 -- Bytes stand for one list of batches, or are no log in one way.
-use Rattle.std.proofs.Common.{◌≡◌, inl, inr, ℕ, List, [], ◌∷◌, ◌++◌, length, get_or, drop, refl, sym, ◌∙◌, ap, arith, append_assoc, length-append}
+use Rattle.std.proofs.Common.{◌≡◌, inl, inr, ℕ, ◌≤◌, List, [], ◌∷◌, ◌++◌, length, get_or, drop, refl, sym, ◌∙◌, ap, arith, append_assoc, length-append}
 use Rattle.std.specs.List.{AllByRecursion}
 use Rattle.vp_base.specs.declared.entry.LogRecord.{LogRecord}
 use Rattle.vp_records.specs.Batches.{batch_bytes, IsBatchBytes}
-use Rattle.vp_stable.specs.Log.{CanStand, measured, opened, StandsFirst, IsLog}
+use Rattle.vp_stable.specs.Log.{CanStand, measured, opened, StandsFirst, IsLog, HasBatches}
 use Rattle.vp_stable.specs.Laws.{BatchesAreOne, PlacesAreOne, BadLogsHaveNoBatches, BadPlacesAreOne}
 use Rattle.vp_stable.proofs.Measured.{length-measured, measured_same}
-use Rattle.vp_stable.proofs.Recoveries.{none_in}
 
 -- the first gates are the same
-head : (x y : ℕ) (xs ys : List ℕ) → x ∷ xs ≡ y ∷ ys → x ≡ y
+pub head : (x y : ℕ) (xs ys : List ℕ) → x ∷ xs ≡ y ∷ ys → x ≡ y
 head x y xs ys e = ap (λ (l : List ℕ). get_or l 0 0) e
 
 -- and what stands behind them
 behind : (x y : List LogRecord) (a b : List (List LogRecord)) (r s : List ℕ) → opened (x ∷ a) ++ r ≡ opened (y ∷ b) ++ s → measured x ++ (opened a ++ r) ≡ measured y ++ (opened b ++ s)
 behind x y a b r s e = sym (append_assoc (measured x) (opened a) r) ∙ ap (λ (l : List ℕ). drop 1 l) e ∙ append_assoc (measured y) (opened b) s
 
--- batches and the gate behind them begin with a gate
-record BeginsWithGate (bytes : List ℕ) : Type 0 where
-  gate : ℕ
-  rest : List ℕ
-  is : bytes ≡ gate ∷ rest
+-- in no more than 1 byte no batch stands
+pub none_in : (bs : List (List LogRecord)) (bytes : List ℕ) → length bytes ≤ 1 → HasBatches bs bytes → bs ≡ []
+none_in bs bytes short (inl none) = none.1
+none_in [] bytes short (inr log) = refl
+none_in (b ∷ bs) bytes short (inr log) = absurd (omega (arith, short, ap length log.1.is, length-append (opened (b ∷ bs)) (log.1.gate ∷ log.1.rest)))
 
-begins : (a : List (List LogRecord)) (gate : ℕ) (rest : List ℕ) → BeginsWithGate (opened a ++ gate ∷ rest)
+-- batches and the gate behind them begin with a gate
+pub record BeginsWithGate (bytes : List ℕ) : Type 0 where
+  pub gate : ℕ
+  pub rest : List ℕ
+  pub is : bytes ≡ gate ∷ rest
+
+pub begins : (a : List (List LogRecord)) (gate : ℕ) (rest : List ℕ) → BeginsWithGate (opened a ++ gate ∷ rest)
 begins [] gate rest = record { gate = gate; rest = rest; is = refl }
 begins (x ∷ a) gate rest = record { gate = 1; rest = measured x ++ opened a ++ gate ∷ rest; is = refl }
 

@@ -1,9 +1,16 @@
 mod Appends
+mod Checkpoints
+mod Currents
 mod Determined
+mod Due
 mod Filling
+mod Generations
 mod Measured
 mod Opened
 mod Recoveries
+mod Restored
 mod Scanning
+mod Standings
 mod Tears
 mod Times
+mod Writes

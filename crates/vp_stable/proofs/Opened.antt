@@ -1,9 +1,10 @@
 -- Batches behind open gates, as lists of bytes.
-use Rattle.std.proofs.Common.{◌≡◌, ℕ, ◌+◌, ◌<◌, List, [], ◌∷◌, ◌++◌, length, get_or, take, drop, sym, ◌∙◌, ap, arith, append_assoc, length-append, take-append-drop}
+use Rattle.std.proofs.Common.{◌≡◌, ℕ, ◌+◌, ◌<◌, List, [], ◌∷◌, ◌++◌, length, get_or, take, drop, refl, sym, ◌∙◌, ap, arith, append_assoc, length-append, take-append-drop}
 use Rattle.std.proofs.lemmas.List.{append-nil, take_at, drop_at, drop_more}
 use Rattle.std.specs.List.{AllByRecursion}
 use Rattle.vp_base.specs.declared.entry.LogRecord.{LogRecord}
 use Rattle.vp_stable.specs.Log.{CanStand, measured, opened}
+use Rattle.vp_stable.specs.Halves.{second_gate}
 
 -- one batch more
 pub opened-push : (batches : List (List LogRecord)) (batch : List LogRecord) (rest : List ℕ) → opened (batches ++ batch ∷ []) ++ rest ≡ opened batches ++ 1 ∷ (measured batch ++ rest)
@@ -22,6 +23,18 @@ length-opened-push batches batch =
 pub all_push : (batches : List (List LogRecord)) (batch : List LogRecord) → AllByRecursion CanStand batches → CanStand batch → AllByRecursion CanStand (batches ++ batch ∷ [])
 all_push [] batch all one = (one, tt)
 all_push (b ∷ bs) batch all one = (all.0, all_push bs batch all.1 one)
+
+-- ---- the second gate
+
+-- behind the first batch
+pub second_first : (batches : List (List LogRecord)) (batch : List LogRecord) → second_gate batches ≡ 0 → length (opened (batches ++ batch ∷ [])) ≡ second_gate (batches ++ batch ∷ [])
+second_first [] batch none = refl
+second_first (b ∷ bs) batch none = absurd (omega (arith, none, length-append (1 ∷ measured b) []))
+
+-- it stays behind the first one
+pub second_stays : (batches : List (List LogRecord)) (batch : List LogRecord) → (second_gate batches ≡ 0 → ⊥) → second_gate batches ≡ second_gate (batches ++ batch ∷ [])
+second_stays [] batch some = absurd (some refl)
+second_stays (b ∷ bs) batch some = refl
 
 -- ---- a list with a gate at a place
 

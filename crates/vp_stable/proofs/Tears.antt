@@ -5,7 +5,7 @@ use Rattle.std.proofs.lemmas.Bool.{cases_eq}
 use Rattle.std.specs.List.{AllByRecursion}
 use Rattle.vp_base.specs.declared.entry.LogRecord.{LogRecord}
 use Rattle.vp_outside.specs.Disk.{Written, Torn}
-use Rattle.vp_stable.specs.Log.{CanStand, measured, opened, IsLog, HasBatches}
+use Rattle.vp_stable.specs.Log.{CanStand, measured, opened, IsLog}
 use Rattle.vp_stable.proofs.Opened.{opened-push, length-opened-push, all_push, length-around, take_before, take_through, drop_through, around}
 
 -- ---- any write
@@ -57,21 +57,19 @@ pub record IsStaged (batch : List LogRecord) (place : ℕ) (batches : List (List
   pub can : AllByRecursion CanStand batches
 
 -- it counts or it doesn't, by its gate
-staged_reads : (batch : List LogRecord) (place : ℕ) (batches : List (List LogRecord)) (bytes : List ℕ) → CanStand batch → IsStaged batch place batches bytes → HasBatches batches bytes ⊎ HasBatches (batches ++ batch ∷ []) bytes
+staged_reads : (batch : List LogRecord) (place : ℕ) (batches : List (List LogRecord)) (bytes : List ℕ) → CanStand batch → IsStaged batch place batches bytes
+    → IsLog place batches bytes ⊎ IsLog (place + length (measured batch ++ 0 ∷ [])) (batches ++ batch ∷ []) bytes
 staged_reads batch place batches bytes can staged = elim (cases_eq staged.gate 1) [
   | inl is_open ↦
-      inr (inr (
-        length (opened (batches ++ batch ∷ [])),
-        record {
-          gate = 0;
-          rest = staged.rest;
-          is = staged.is ∙ ap (λ (g : ℕ). opened batches ++ g ∷ (measured batch ++ 0 ∷ staged.rest)) is_open ∙ sym (opened-push batches batch (0 ∷ staged.rest));
-          closed = λ e. absurd (omega (arith, e));
-          at = refl;
-          can = all_push batches batch staged.can can;
-        },
-      ))
-  | inr shut ↦ inl (inr (place, record { gate = staged.gate; rest = measured batch ++ 0 ∷ staged.rest; is = staged.is; closed = shut; at = staged.at; can = staged.can }))
+      inr (record {
+        gate = 0;
+        rest = staged.rest;
+        is = staged.is ∙ ap (λ (g : ℕ). opened batches ++ g ∷ (measured batch ++ 0 ∷ staged.rest)) is_open ∙ sym (opened-push batches batch (0 ∷ staged.rest));
+        closed = λ e. absurd (omega (arith, e));
+        at = omega (arith, staged.at, length-append (measured batch) (0 ∷ []), length-opened-push batches batch);
+        can = all_push batches batch staged.can can;
+      })
+  | inr shut ↦ inl (record { gate = staged.gate; rest = measured batch ++ 0 ∷ staged.rest; is = staged.is; closed = shut; at = staged.at; can = staged.can })
 ]
 
 module _ (place : ℕ) (batches : List (List LogRecord)) (old : List ℕ) (log : IsLog place batches old) where
@@ -126,7 +124,7 @@ module _ (batch : List LogRecord) (can : CanStand batch) (place : ℕ) (batches 
   staged_back = ap (λ (l : List ℕ). drop (place + 1) l) staged.is ∙ drop_through (opened batches) back staged.gate place staged.at
 
   -- the batch stands whole in each outcome of the write of its gate
-  pub torn_gate : (new : List ℕ) → Torn place 1 old new → HasBatches batches new ⊎ HasBatches (batches ++ batch ∷ []) new
+  pub torn_gate : (new : List ℕ) → Torn place 1 old new → IsLog place batches new ⊎ IsLog (place + length (measured batch ++ 0 ∷ [])) (batches ++ batch ∷ []) new
   torn_gate new torn =
       let within : place ≡ min place (length old) = omega (arith, staged_size) in
       let front : take place new ≡ opened batches = ap (λ (k : ℕ). take k new) within ∙ torn.before ∙ staged_front in

@@ -1,10 +1,8 @@
 -- What the faults of a log say, and their causes.
-use Rattle.std.specs.Prelude.{ℕ, ◌≡◌, ◌≤◌, List, Result, Ok, Err, OnOk, IsErrOf}
-use Rattle.vp_base.specs.declared.entry.LogRecord.{LogRecord}
+use Rattle.std.specs.Prelude.{ℕ, ◌≡◌, ◌≤◌, Result, OnOk, IsErrOf}
 use Rattle.vp_outside.specs.Causes.{Rose}
 use Rattle.vp_outside.specs.declared.sink.OutFault.{OutFault}
 use Rattle.vp_outside.specs.declared.sink.OutFault.TheVariants as out
-use Rattle.vp_stable.specs.Log.{HasBatches, IsBadLog}
 use Rattle.vp_stable.specs.declared.fault.LogFault.{LogFault}
 use Rattle.vp_stable.specs.declared.fault.LogFault.TheVariants as log
 use Rattle.vp_stable.specs.declared.fault.AppendFault.{AppendFault}
@@ -17,13 +15,6 @@ log_fault out.NoMemory = log.NoMemory
 abbrev pub append_fault : OutFault → AppendFault
 append_fault out.Failed = append.DiskFault
 append_fault out.NoMemory = append.NoMemory
-
--- what recovery answers, where the bytes of half 0 are told: their batches, or the place of the fault in that half
-abbrev pub Recovers : {L : Type 0} → List ℕ → Result (L × List (List LogRecord)) LogFault → Type 0
-Recovers bytes (Ok recovered) = HasBatches recovered.1 bytes
-Recovers bytes (Err (log.BadLog half at)) = (half ≡ 0) × IsBadLog at bytes
-Recovers bytes (Err log.DiskFault) = Unit {0}
-Recovers bytes (Err log.NoMemory) = Unit {0}
 
 -- The disk's count of failures rose where the answer is DiskFault, and stayed as it was at any other.
 pub record HasLogCause {T : Type 0} (before now : ℕ) (result : Result T LogFault) : Type 0 where

@@ -1,38 +1,6 @@
--- What the calls of a log make of a disk, and what a crash during one may leave.
-use Rattle.std.specs.Prelude.{◌≡◌, ◌⊎◌, ◌↔◌, ℕ, List, [], ◌∷◌, ◌++◌, Option, IfSome}
-use Rattle.vp_base.specs.declared.entry.LogRecord.{LogRecord}
-use Rattle.vp_outside.specs.Disk.{Halves, InHalf, Torn, DiskState, log_of, StaysAttached, Untouched, Only, Elapses}
-use Rattle.vp_stable.specs.Log.{IsLog, HasBatches, IsBadLog}
-
--- A crash leaves what a read gives, and half 0 is a log whose closed gate stands at that place.
-pub record IsSettled (place : ℕ) (log : Halves) (images : Halves → Type 0) : Type 0 where
-  pub synced : Only log images
-  pub batches : List (List LogRecord)
-  pub is_log : IsLog place batches log.0
-
--- the same where the disk is honest and tells the log
-abbrev pub IsKept : ℕ → DiskState → Type 0
-IsKept place disk = disk.honest → IfSome (log_of disk) (λ log. IsSettled place log (disk.may_leave disk.asked))
-
--- ---- steps of a log
-
--- Half 0 has the same batches or the same fault, and half 1 is as it was.
-pub record ReadsAlike (old new : Halves) : Type 0 where
-  pub batches : (batches : List (List LogRecord)) → HasBatches batches old.0 → HasBatches batches new.0
-  pub faults : (place : ℕ) → IsBadLog place old.0 → IsBadLog place new.0
-  pub other : new.1 ≡ old.1
-
--- The log in half 0 gets the batch behind the others, its closed gate moves from one place to the other, and half 1 is as it was.
-pub record Gains (batch : List LogRecord) (from to : ℕ) (old new : Halves) : Type 0 where
-  pub batches : (batches : List (List LogRecord)) → IsLog from batches old.0 → IsLog to (batches ++ batch ∷ []) new.0
-  pub other : new.1 ≡ old.1
-
--- The log in half 0 gets the batch behind the others or has the batches that it had, and half 1 is as it was.
-pub record MayGain (batch : List LogRecord) (from : ℕ) (old new : Halves) : Type 0 where
-  pub batches : (batches : List (List LogRecord)) → IsLog from batches old.0 → HasBatches batches new.0 ⊎ HasBatches (batches ++ batch ∷ []) new.0
-  pub other : new.1 ≡ old.1
-
--- ---- what a crash may leave
+-- What a crash during the calls of a log may leave of a disk.
+use Rattle.std.specs.Prelude.{◌≡◌, ◌↔◌, ℕ, List, Option}
+use Rattle.vp_outside.specs.Disk.{Halves, InHalf, Torn, DiskState, StaysAttached, Untouched, Elapses}
 
 -- A crash at any moment since a call began leaves of the attached log what has P. One since an earlier moment leaves that, or what it might
 -- have left before.
@@ -40,9 +8,13 @@ pub record LeavesOnly (old new : DiskState) (P : Halves → Type 0) : Type 0 whe
   pub each : (image : Halves) → new.left_since old.asked old.moment image → P image
   pub time : Elapses old.asked old new P
 
--- what a write of n bytes in half 0 may make of one of these images
-abbrev pub TornFrom : ℕ → ℕ → (Halves → Type 0) → Halves → Type 0
-TornFrom at n images image = (old : Halves) × images old × InHalf 0 (Torn at n) old image
+-- what a step may make of one of these images
+abbrev pub After : (Halves → Halves → Type 0) → (Halves → Type 0) → Halves → Type 0
+After step images image = (old : Halves) × images old × step old image
+
+-- what a write of n bytes in a half may make of one of these images
+abbrev pub TornFrom : ℕ → ℕ → ℕ → (Halves → Type 0) → Halves → Type 0
+TornFrom half at n = After (InHalf half (Torn at n))
 
 -- Calls that change no log: a crash during them leaves what it might have left before.
 pub record Quiet (old new : DiskState) : Type 0 where

@@ -6,12 +6,14 @@ ghost use Rattle.vp_base.specs.declared.entry.LogRecord.{LogRecord};
 ghost use Rattle.vp_records.specs.Batches.{IsBatch};
 ghost use Rattle.vp_stable.specs.Log.{measured, CanStand, StandsFirst, IsBadLog};
 ghost use Rattle.vp_stable.specs.Scans.{Scanned};
+ghost use Rattle.vp_stable.specs.Halves.{HasGeneration};
+ghost use Rattle.vp_stable.specs.Halves as halves;
 
 use crate::fault::LogFault;
 use byteorder::{BigEndian, ByteOrder};
 use std::alloc::Global;
-use vp_base::{Batch, Batches, NoMemory};
-use vp_records::{BatchFault, decode_batch, encode_batch};
+use vp_base::{Batch, Batches, CopyOf, LogRecord, NoMemory};
+use vp_records::{BatchFault, Durable, decode_batch, encode_batch};
 
 /// How many bytes the length of a batch has.
 const LENGTH_BYTES: usize = 8;
@@ -65,25 +67,84 @@ fn first_batch(alloc: Global, bytes: &[u8]) -> Result<Option<(Batch, usize)>, No
     }
 }
 
-/// The batches of half 0, and the place of its closed gate.
-pub fn read_batches(alloc: Global, bytes: &[u8]) -> Result<(usize, Batches), LogFault>
-    ensures scanned { Scanned bytes.now result }
-    ensures within { IfOk result (λ log. log.0 ≤ length bytes.now) }
+/// A batch of one checkpoint of the durable part.
+pub fn checkpoint_batch(
+    alloc: Global,
+    generation: u64,
+    durable: &Durable,
+) -> Result<Batch, NoMemory>
+    ensures { IfOk result (λ batch. batch ≡ halves.checkpoint_of generation durable.now ∷ []) }
 {
-    if bytes.len() < 2 {
-        return Ok((0, Batches::new(alloc)));
+    let mut batch = Batch::new(alloc);
+    batch.push(LogRecord::Checkpoint {
+        generation,
+        life: durable.life(),
+        promise: durable.promise(),
+        copies: durable.copy_of()?.into_copies(),
+        doubts: durable.doubts().copy_of()?,
+        decisions: durable.decisions().copy_of()?,
+    })?;
+    Ok(batch)
+}
+
+/// The generation of the checkpoint with which the batch begins; 0 where it begins with none.
+pub fn generation_in(batch: &Batch) -> u64
+    ensures { result ≡ halves.generation_in batch.now }
+{
+    match batch.as_slice() {
+        [LogRecord::Checkpoint { generation, .. }, ..] => *generation,
+        _ => 0,
     }
-    let mut batches = Batches::new(alloc);
-    let mut at = 0;
-    while bytes[at] == OPEN {
-        let Some((batch, next)) = first_batch(alloc, &bytes[at + 1..])? else {
+}
+
+/// The generation of a half, which is that of its first batch.
+pub fn generation(alloc: Global, bytes: &[u8]) -> Result<u64, NoMemory>
+    ensures { IfOk result (λ generation. HasGeneration generation bytes.now) }
+{
+    let [OPEN, behind @ ..] = bytes else {
+        return Ok(0);
+    };
+    match first_batch(alloc, behind)? {
+        Some((batch, _)) => Ok(generation_in(&batch)),
+        None => Ok(0),
+    }
+}
+
+/// What is read of a half that is a log.
+#[derive(Drop)]
+pub struct Scan {
+    pub batches: Batches,
+    /// Where the closed gate behind the batches stands.
+    pub gate: usize,
+    /// Where the gate behind the first batch stands; 0 where there is no batch.
+    pub second: usize,
+}
+
+/// The batches of a half, and its gates.
+pub fn read_batches(alloc: Global, half: u8, bytes: &[u8]) -> Result<Scan, LogFault>
+    ensures scanned { Scanned half bytes.now result }
+    ensures within { IfOk result (λ scan. (scan.gate ≤ length bytes.now) × (scan.second ≤ scan.gate)) }
+{
+    let mut scan = Scan {
+        batches: Batches::new(alloc),
+        gate: 0,
+        second: 0,
+    };
+    if bytes.len() < 2 {
+        return Ok(scan);
+    }
+    while bytes[scan.gate] == OPEN {
+        let Some((batch, next)) = first_batch(alloc, &bytes[scan.gate + 1..])? else {
             return Err(LogFault::BadLog {
-                half: 0,
-                at: at as u64,
+                half,
+                at: scan.gate as u64,
             });
         };
-        batches.push(batch)?;
-        at += 1 + next;
+        scan.batches.push(batch)?;
+        scan.gate += 1 + next;
+        if scan.second == 0 {
+            scan.second = scan.gate;
+        }
     }
-    Ok((at, batches))
+    Ok(scan)
 }

@@ -13,7 +13,7 @@ use vp_outside::OutFault;
 pub enum LogFault {
     /// The disk failed.
     DiskFault,
-    /// The half is no log: behind the open gate at this byte no batch of records with a gate stands.
+    /// The current half is no log: behind the open gate at this byte no batch of records with a gate stands.
     BadLog { half: u8, at: u64 },
     NoMemory,
 }

@@ -1,25 +1,29 @@
-//! Reading and writing half 0.
+//! Reading and writing the halves.
 
 ghost use Rattle.std.specs.Prelude.{◌≡◌, ◌+◌, ◌≤◌, ◌^◌, length, min, take, IfOk, IfSome, IsTrue, OnOk, OnErr};
 ghost use Rattle.vp_outside.specs.Causes.{HasCause};
 ghost use Rattle.vp_outside.specs.Output.{HasOutCause};
-ghost use Rattle.vp_outside.specs.Disk.{InHalf, Written, Torn, log_of, Steps, Only, Elapses};
+ghost use Rattle.vp_outside.specs.Disk.{half_of, InHalf, Written, Torn, log_of, Steps, Only, Elapses};
+ghost use Rattle.vp_stable.specs.Halves.{HasGeneration};
+ghost use Rattle.vp_stable.specs.Scans.{IsRead};
 ghost use Rattle.vp_stable.specs.Moments.{Quiet, TornFrom, LeavesOthers};
 
+use crate::batches::generation;
 use std::alloc::Global;
 use vp_outside::{Disk, Failed, OutFault};
 
-/// Puts the bytes of half 0 into the front of the buffer, as far as it has room, and answers how many.
-fn fill<D: Disk>(disk: &mut D, buf: &mut [u8]) -> Result<usize, Failed>
+/// Puts the bytes of a half into the front of the buffer, as far as it has room, and answers how many.
+fn fill<D: Disk>(disk: &mut D, half: u8, buf: &mut [u8]) -> Result<usize, Failed>
     requires attached { IsTrue (D.state disk.old).attached }
-    ensures told { IfOk result (λ n. IfSome (log_of (D.state disk.old)) (λ log. (n ≡ min (length buf.old) (length log.0)) × (take n buf.new ≡ take n log.0))) }
+    requires half { half ≤ 1 }
+    ensures told { IfOk result (λ n. IfSome (log_of (D.state disk.old)) (λ log. (n ≡ min (length buf.old) (length (half_of half log))) × (take n buf.new ≡ take n (half_of half log)))) }
     ensures room { length buf.new ≡ length buf.old }
     ensures quiet { Quiet (D.state disk.old) (D.state disk.new) }
     ensures cause { HasCause (D.state disk.old).faults (D.state disk.new).faults result }
 {
     let mut at = 0;
     while at < buf.len() {
-        let count = disk.read(0, at as u64, &mut buf[at..])?;
+        let count = disk.read(half, at as u64, &mut buf[at..])?;
         if count == 0 {
             return Ok(at);
         }
@@ -28,31 +32,68 @@ fn fill<D: Disk>(disk: &mut D, buf: &mut [u8]) -> Result<usize, Failed>
     Ok(at)
 }
 
-/// The bytes of half 0.
-pub fn read_half<D: Disk>(alloc: Global, disk: &mut D) -> Result<Vec<u8>, OutFault>
+/// The bytes of a half.
+fn read_half<D: Disk>(alloc: Global, disk: &mut D, half: u8) -> Result<Vec<u8>, OutFault>
     requires attached { IsTrue (D.state disk.old).attached }
-    ensures told { IfOk result (λ bytes. IfSome (log_of (D.state disk.old)) (λ log. bytes.items ≡ log.0)) }
+    requires half { half ≤ 1 }
+    ensures told { IfOk result (λ bytes. IfSome (log_of (D.state disk.old)) (λ log. bytes.items ≡ half_of half log)) }
     ensures quiet { Quiet (D.state disk.old) (D.state disk.new) }
     ensures cause { HasOutCause (D.state disk.old).faults (D.state disk.new).faults result }
 {
-    let length = disk.length(0)?;
+    let length = disk.length(half)?;
     let mut bytes = vec![in alloc; 0; length as usize]?;
-    let count = fill(disk, &mut bytes)?;
+    let count = fill(disk, half, &mut bytes)?;
     bytes.truncate(count);
     Ok(bytes)
 }
 
-/// Writes the piece into half 0 and syncs.
-pub fn write_synced<D: Disk>(disk: &mut D, at: u64, piece: &[u8]) -> Result<(), OutFault>
+/// The current half as it is read.
+#[derive(Drop)]
+pub struct Current {
+    pub half: u8,
+    pub generation: u64,
+    pub bytes: Vec<u8>,
+}
+
+/// Reads which half is the current one, and its bytes.
+pub fn read_current<D: Disk>(alloc: Global, disk: &mut D) -> Result<Current, OutFault>
     requires attached { IsTrue (D.state disk.old).attached }
-    ensures written { OnOk result (Steps (InHalf 0 (Written at piece.now)) (D.state disk.old) (D.state disk.new)) }
-    ensures torn { OnErr result (Steps (InHalf 0 (Torn at (length piece.now))) (D.state disk.old) (D.state disk.new)) }
+    ensures told { IfOk result (λ it. IfSome (log_of (D.state disk.old)) (IsRead it.half it.bytes.items)) }
+    ensures generation { IfOk result (λ it. HasGeneration it.generation it.bytes.items) }
+    ensures half { IfOk result (λ it. it.half ≤ 1) }
+    ensures quiet { Quiet (D.state disk.old) (D.state disk.new) }
+    ensures cause { HasOutCause (D.state disk.old).faults (D.state disk.new).faults result }
+{
+    let first = read_half(alloc, disk, 0)?;
+    let second = read_half(alloc, disk, 1)?;
+    let generations = (generation(alloc, &first)?, generation(alloc, &second)?);
+    Ok(if generations.0 < generations.1 {
+        Current {
+            half: 1,
+            generation: generations.1,
+            bytes: second,
+        }
+    } else {
+        Current {
+            half: 0,
+            generation: generations.0,
+            bytes: first,
+        }
+    })
+}
+
+/// Writes the piece into a half and syncs.
+pub fn write_synced<D: Disk>(disk: &mut D, half: u8, at: u64, piece: &[u8]) -> Result<(), OutFault>
+    requires attached { IsTrue (D.state disk.old).attached }
+    requires half { half ≤ 1 }
+    ensures written { OnOk result (Steps (InHalf half (Written at piece.now)) (D.state disk.old) (D.state disk.new)) }
+    ensures torn { OnErr result (Steps (InHalf half (Torn at (length piece.now))) (D.state disk.old) (D.state disk.new)) }
     ensures durable { (D.state disk.old).honest → OnOk result (IfSome ((D.state disk.new).logs (D.state disk.old).asked) (λ log. Only log ((D.state disk.new).may_leave (D.state disk.old).asked))) }
     ensures fits { OnOk result (at + length piece.now ≤ 2 ^ 62) }
-    ensures time { Elapses (D.state disk.old).asked (D.state disk.old) (D.state disk.new) (TornFrom at (length piece.now) ((D.state disk.old).may_leave (D.state disk.old).asked)) }
+    ensures time { Elapses (D.state disk.old).asked (D.state disk.old) (D.state disk.new) (TornFrom half at (length piece.now) ((D.state disk.old).may_leave (D.state disk.old).asked)) }
     ensures others { LeavesOthers (D.state disk.old) (D.state disk.new) }
     ensures cause { HasOutCause (D.state disk.old).faults (D.state disk.new).faults result }
 {
-    disk.write_at(0, at, piece)?;
+    disk.write_at(half, at, piece)?;
     disk.sync()
 }

@@ -1,6 +1,7 @@
 //! What holds of all bytes: functions that change nothing, whose contracts are the laws.
 
 ghost use Rattle.vp_stable.specs.Laws.{BatchesAreOne, PlacesAreOne, BadLogsHaveNoBatches, BadPlacesAreOne};
+ghost use Rattle.vp_stable.specs.Halves.{DueIsOfTheBatches, NoneIsDueBehindOne, HalvesAreOneLog, BadHalvesHaveNoBatches};
 
 use vp_records::spellings_are_of_one_batch;
 
@@ -16,4 +17,16 @@ pub fn bytes_are_one_log()
 pub fn bytes_are_bad_at_one_gate()
     ensures batches { BadLogsHaveNoBatches }
     ensures places { BadPlacesAreOne }
+{}
+
+/// Two halves stand for one list of batches, or are no log.
+pub fn halves_are_one_log()
+    ensures batches { HalvesAreOneLog }
+    ensures bad { BadHalvesHaveNoBatches }
+{}
+
+/// A checkpoint is due of a log where it is due of its batches, and none is due behind a checkpoint.
+pub fn a_checkpoint_is_due_of_batches()
+    ensures batches { DueIsOfTheBatches }
+    ensures behind { NoneIsDueBehindOne }
 {}

@@ -1,82 +1,164 @@
-//! The log, to which batches are appended.
+//! The log, to which batches are appended, and which a checkpoint makes short again.
 
-ghost use Rattle.std.specs.Prelude.{◌⊎◌, ◌<◌, ◌^◌, IfOk, IfSome, IsTrue, OnOk, OnErr};
+ghost use Rattle.std.specs.Prelude.{◌≡◌, ◌⊎◌, IfOk, IfSome, IsTrue, OnOk, OnErr};
+ghost use Rattle.std.specs.List.{AllByRecursion};
 ghost use Rattle.vp_records.specs.Batches.{IsBatch};
+ghost use Rattle.vp_records.specs.Records.{IsLogRecord};
 ghost use Rattle.vp_outside.specs.Disk.{log_of, Steps};
-ghost use Rattle.vp_stable.specs.Log.{IsLog};
-ghost use Rattle.vp_stable.specs.Moments.{IsKept, ReadsAlike, Gains, MayGain, LeavesOnly, LeavesOthers};
-ghost use Rattle.vp_stable.specs.Faults.{Recovers, HasLogCause, HasAppendCause};
+ghost use Rattle.vp_stable.specs.Halves.{Recovers, StandsAt, AreKept, ReadAlike, GainsAt, MayGainAt, SavesAt, MaySaveAt, FoldsAlike, IsFold, is_due, checkpoint_of};
+ghost use Rattle.vp_stable.specs.Moments.{LeavesOnly, LeavesOthers};
+ghost use Rattle.vp_stable.specs.Faults.{HasLogCause, HasAppendCause};
 
-use crate::batches::{OPEN, behind_gate, read_batches};
+use crate::batches::{behind_gate, checkpoint_batch, generation_in, read_batches};
 use crate::fault::{AppendFault, LogFault};
-use crate::half::{read_half, write_synced};
+use crate::half::{read_current, write_synced};
+use crate::writing::{clear, put};
 use std::alloc::Global;
+use std::marker::Model;
 use vp_base::{Batch, Batches};
 use vp_outside::Disk;
+use vp_records::Durable;
 
-/// A log in half 0 of what a disk keeps. Half 1 is neither read nor written.
+/// How long the current half may be before a checkpoint is due, in bytes.
+const LONGEST: u64 = 65_536;
+
+/// A log in the two halves of what a disk keeps.
 #[derive(Drop)]
 pub struct Log {
     alloc: Global,
+    /// The current half.
+    half: u8,
+    /// The generation of the current half.
+    generation: u64,
     /// Where the closed gate behind the batches stands.
     gate: u64,
-    ghost within: { gate < 2 ^ 63 },
+    /// Where the gate behind the first batch stands; 0 where there is no batch.
+    second: u64,
+}
+
+impl Model for Log {
+    ghost use Rattle.std.specs.Prelude.{◌≤◌, ◌<◌, ◌^◌};
+    ghost use Rattle.vp_stable.specs.Halves.{Standing};
+
+    ghost Value = { Standing };
+
+    ghost view = { λ l. record { half = l.half; generation = l.generation; gate = l.gate; second = l.second } };
+
+    ghost invariant = { λ l. (l.half ≤ 1) × (l.gate < 2 ^ 63) × (l.second ≤ l.gate) };
 }
 
 impl Log {
-    /// Reads the batches of the log that is attached, and makes one without batches of a half of 0 or 1 bytes.
+    /// Reads the batches of the current half of the log that is attached, and makes one without batches of a current half of 0 or 1
+    /// bytes.
     pub fn recover<D: Disk>(alloc: Global, disk: &mut D) -> Result<(Log, Batches), LogFault>
         requires attached { IsTrue (D.state disk.old).attached }
 
-        ensures answer { IfSome (log_of (D.state disk.old)) (λ log. Recovers log.0 result) }
-        ensures gate { IfOk result (λ it. IfSome ((D.state disk.new).logs (D.state disk.old).asked) (λ log. IsLog it.0.gate it.1 log.0)) }
-        ensures kept { IfOk result (λ it. IsKept it.0.gate (D.state disk.new)) }
+        ensures answer { IfSome (log_of (D.state disk.old)) (λ log. Recovers log result) }
+        ensures stands { IfOk result (λ it. IfSome ((D.state disk.new).logs (D.state disk.old).asked) (λ log. StandsAt it.0 it.1 log)) }
+        ensures kept { IfOk result (λ it. AreKept it.0 (D.state disk.new)) }
+        // Whatever the disk tells, what was read can be applied and appended.
+        ensures batches { IfOk result (λ it. AllByRecursion IsBatch it.1) }
 
         // Whatever the answer is, another recovery reads the same.
-        ensures alike { Steps ReadsAlike (D.state disk.old) (D.state disk.new) }
+        ensures alike { Steps ReadAlike (D.state disk.old) (D.state disk.new) }
         // A crash before the first sync leaves what it might have left before the call, and a later one what reads the same.
         ensures any_moment { (D.state disk.old).honest → IfSome (log_of (D.state disk.old)) (λ log.
             LeavesOnly (D.state disk.old) (D.state disk.new)
-            (λ image. (D.state disk.old).may_leave (D.state disk.old).asked image ⊎ ReadsAlike log image)) }
+            (λ image. (D.state disk.old).may_leave (D.state disk.old).asked image ⊎ ReadAlike log image)) }
 
         ensures others { LeavesOthers (D.state disk.old) (D.state disk.new) }
         ensures cause { HasLogCause (D.state disk.old).faults (D.state disk.new).faults result }
     {
         disk.sync()?;
-        let bytes = read_half(alloc, disk)?;
-        let (gate, batches) = read_batches(alloc, &bytes)?;
-        if bytes.len() < 2 {
-            write_synced(disk, 0, &[0])?;
+        let current = read_current(alloc, disk)?;
+        let scan = read_batches(alloc, current.half, &current.bytes)?;
+        if current.bytes.len() < 2 {
+            write_synced(disk, current.half, 0, &[0])?;
         }
         let log = Log {
             alloc,
-            gate: gate as u64,
+            half: current.half,
+            generation: current.generation,
+            gate: scan.gate as u64,
+            second: scan.second as u64,
         };
-        Ok((log, batches))
+        Ok((log, scan.batches))
     }
 
     /// Puts the batch behind the others. After a fault the log is recovered again before it is used.
     pub fn append<D: Disk>(&mut self, disk: &mut D, batch: &Batch) -> Result<(), AppendFault>
         requires attached { IsTrue (D.state disk.old).attached }
-        requires kept { IsKept self.old.gate (D.state disk.old) }
+        requires kept { AreKept self.old (D.state disk.old) }
         requires batch { IsBatch batch.now }
 
-        ensures appended { OnOk result (Steps (Gains batch.now self.old.gate self.new.gate) (D.state disk.old) (D.state disk.new)) }
-        ensures kept { OnOk result (IsKept self.new.gate (D.state disk.new)) }
-        ensures fault { OnErr result (Steps (MayGain batch.now self.old.gate) (D.state disk.old) (D.state disk.new)) }
+        ensures appended { OnOk result (Steps (GainsAt batch.now self.old self.new) (D.state disk.old) (D.state disk.new)) }
+        ensures kept { OnOk result (AreKept self.new (D.state disk.new)) }
+        ensures fault { OnErr result (Steps (MayGainAt batch.now self.old) (D.state disk.old) (D.state disk.new)) }
 
         // A crash at any moment of the call leaves the batches that were there, with this one or without.
         ensures any_moment { (D.state disk.old).honest → IfSome (log_of (D.state disk.old)) (λ log.
             LeavesOnly (D.state disk.old) (D.state disk.new)
-            (MayGain batch.now self.old.gate log)) }
+            (MayGainAt batch.now self.old log)) }
 
         ensures others { LeavesOthers (D.state disk.old) (D.state disk.new) }
         ensures cause { HasAppendCause (D.state disk.old).faults (D.state disk.new).faults result }
     {
         let piece = behind_gate(self.alloc, batch)?;
-        write_synced(disk, self.gate + 1, &piece)?;
-        write_synced(disk, self.gate, &[OPEN])?;
+        put(disk, self.half, self.gate, &piece)?;
+        if self.second == 0 {
+            self.generation = generation_in(batch);
+            self.second = piece.len() as u64;
+        }
         self.gate += piece.len() as u64;
+        Ok(())
+    }
+
+    /// Whether a checkpoint is due: the current half is longer than 65,536 bytes, and longer than twice its first batch. It takes no
+    /// memory.
+    pub fn due(&self) -> bool
+        ensures { result ≡ is_due self.now }
+    {
+        let size = self.gate + 1;
+        self.second != 0 && LONGEST < size && 2 * self.second < size
+    }
+
+    /// Starts the other half with one batch, a checkpoint of the durable part to which the batches fold. At the last generation
+    /// nothing is done. After a fault the log is recovered again before it is used.
+    pub fn checkpoint<D: Disk>(
+        &mut self,
+        disk: &mut D,
+        durable: &Durable,
+    ) -> Result<(), AppendFault>
+        requires attached { IsTrue (D.state disk.old).attached }
+        requires kept { AreKept self.old (D.state disk.old) }
+        requires fold { IsFold durable.now self.old (D.state disk.old) }
+        // A checkpoint of it can be spelled, whatever its generation.
+        requires spelled { IsLogRecord (checkpoint_of 0 durable.now) }
+
+        ensures saved { OnOk result (Steps (SavesAt durable.now self.old self.new) (D.state disk.old) (D.state disk.new)) }
+        ensures kept { OnOk result (AreKept self.new (D.state disk.new)) }
+        ensures fault { OnErr result (Steps (MaySaveAt durable.now self.old) (D.state disk.old) (D.state disk.new)) }
+
+        // A crash at any moment leaves the batches that were there or the checkpoint, which fold to the same durable part.
+        ensures any_moment { (D.state disk.old).honest → IfSome (log_of (D.state disk.old)) (λ log.
+            LeavesOnly (D.state disk.old) (D.state disk.new)
+            (λ image. MaySaveAt durable.now self.old log image × FoldsAlike durable.now self.old log image)) }
+
+        ensures others { LeavesOthers (D.state disk.old) (D.state disk.new) }
+        ensures cause { HasAppendCause (D.state disk.old).faults (D.state disk.new).faults result }
+    {
+        let Some(generation) = self.generation.checked_add(1) else {
+            return Ok(());
+        };
+        let batch = checkpoint_batch(self.alloc, generation, durable)?;
+        let piece = behind_gate(self.alloc, &batch)?;
+        let half = 1 - self.half;
+        clear(disk, half)?;
+        put(disk, half, 0, &piece)?;
+        self.half = half;
+        self.generation = generation;
+        self.gate = piece.len() as u64;
+        self.second = self.gate;
         Ok(())
     }
 }

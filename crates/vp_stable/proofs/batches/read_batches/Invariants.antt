@@ -1,16 +1,19 @@
--- The bytes before `at` are the batches, each behind an open gate.
-use Rattle.std.proofs.Common.{◌≡◌, ◌-◌, ◌<◌, ◌++◌, length, drop}
+-- The bytes before the gate are the batches, each behind an open gate.
+use Rattle.std.proofs.Common.{◌≡◌, ◌-◌, ◌<◌, ◌≤◌, ◌++◌, length, drop}
 use Rattle.std.specs.List.{AllByRecursion}
 use Rattle.vp_stable.specs.Log.{CanStand, opened}
+use Rattle.vp_stable.specs.Halves.{second_gate}
 use Rattle.vp_stable.proofs.batches.read_batches.Given as goal
 
-abbrev pub invariant-loop-at : goal.invariant-loop-at
-invariant-loop-at l = record {
-  within : l.at < length l.bytes;
-  is : l.bytes ≡ opened l.batches ++ drop l.at l.bytes;
-  place : l.at ≡ length (opened l.batches);
-  can : AllByRecursion CanStand l.batches;
+abbrev pub invariant-loop-scan : goal.invariant-loop-scan
+invariant-loop-scan l = record {
+  within : l.scan.gate < length l.bytes;
+  is : l.bytes ≡ opened l.scan.batches ++ drop l.scan.gate l.bytes;
+  place : l.scan.gate ≡ length (opened l.scan.batches);
+  can : AllByRecursion CanStand l.scan.batches;
+  second : l.scan.second ≡ second_gate l.scan.batches;
+  before : l.scan.second ≤ l.scan.gate;
 }
 
-abbrev pub decreases-loop-at : goal.decreases-loop-at
-decreases-loop-at l = length l.bytes - l.at
+abbrev pub decreases-loop-scan : goal.decreases-loop-scan
+decreases-loop-scan l = length l.bytes - l.scan.gate

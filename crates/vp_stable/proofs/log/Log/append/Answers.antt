@@ -1,62 +1,76 @@
-use Rattle.std.proofs.Common.{◌≡◌, ◌+◌, ◌∷◌, ◌++◌, [], length, sym, ◌∙◌}
-use Rattle.vp_stable.specs.Log.{measured}
-use Rattle.vp_stable.proofs.Appends.{on_err, becomes-as, becomes-then, first_torn, second_torn, both_written, kept_gained, kept_as, first_leaves, second_leaves}
-use Rattle.vp_stable.proofs.Times.{others_none, others_join}
+use Rattle.std.proofs.Common.{◌≡◌, ℕ, ◌∙◌, ◌+◌, [], ◌∷◌, ◌++◌, sym, refl, length, ap}
+use Rattle.vp_outside.specs.Disk.{InHalf}
+use Rattle.vp_stable.specs.Halves.{Standing, generation_in, MayGainAt}
+use Rattle.vp_stable.specs.Writing.{IsPiece, MayPut}
+use Rattle.vp_stable.proofs.Writes.{on_err, becomes-as, becomes-same, tears_as}
+use Rattle.vp_stable.proofs.Standings.{standing_same, may_stay, may_gain, gains_more, gains_first}
+use Rattle.vp_stable.proofs.Appends.{leaves_torn, tears_none, kept_at}
 use Rattle.vp_stable.proofs.log.Log.append.Goals as goal
+use Rattle.vp_stable.proofs.log.Log.append.Goals.{then-self-eq0, else-self-eq0}
 
--- a first write that isn't done
-pub returns-in_err-write_synced-clause-fault : goal.returns-in_err-write_synced-clause-fault
-returns-in_err-write_synced-clause-fault g c =
-    on_err _ (becomes-as _ _ (λ a b torn. first_torn c.args.batch.now c.args.self.now.gate _ a b torn) c.in_err-write_synced.ensures.torn)
+-- want of memory before the first call
+pub returns-in_err-piece-clause-fault : goal.returns-in_err-piece-clause-fault
+returns-in_err-piece-clause-fault g c = on_err c.from_residual.result (becomes-same (MayGainAt c.args.batch.now c.args.self.now) _ (may_stay c.args.batch.now c.args.self.now))
 
-pub returns-in_err-write_synced-clause-any_moment : goal.returns-in_err-write_synced-clause-any_moment
-returns-in_err-write_synced-clause-any_moment g c honest =
-    first_leaves c.args.batch.now c.args.self.now.gate _ (g.met.D.Disk.is_disk c.args.disk.now) _ _ c.write_synced.ensures.time (c.requires.kept honest)
+pub returns-in_err-piece-clause-any_moment : goal.returns-in_err-piece-clause-any_moment
+returns-in_err-piece-clause-any_moment g c honest =
+    let old = g.D.Disk.state c.args.disk.now in
+    let may = MayGainAt c.args.batch.now c.args.self.now in
+    leaves_torn c.args.self.now old old (g.met.D.Disk.is_disk c.args.disk.now) may (may_stay c.args.batch.now c.args.self.now) honest c.requires.kept (tears_none old may)
 
--- a second write that isn't done
-pub returns-in_err-write_synced-2-clause-fault : goal.returns-in_err-write_synced-2-clause-fault
-returns-in_err-write_synced-2-clause-fault g c =
-    let piece : c.deref.result.now ≡ measured c.args.batch.now ++ 0 ∷ [] = c.deref.ensures.value ∙ c.in_ok-piece.ensures.bytes in
-    let torn = rw c.write_synced.ensures.others.stays.same_name at c.in_err-write_synced-2.ensures.torn in
-    on_err _ (becomes-then _ _ _ (second_torn c.args.batch.now c.in_ok-piece.ensures.can c.args.self.now.gate c.deref.result.now piece) c.in_ok-write_synced.ensures.written torn)
+-- a batch that isn't put there
+pub returns-in_err-put-clause-fault : goal.returns-in_err-put-clause-fault
+returns-in_err-put-clause-fault g c =
+    let from : Standing = record { half = c.self.inside.half; generation = c.self.inside.generation; gate = c.self.inside.gate; second = c.self.inside.second } in
+    let is : IsPiece c.args.batch.now c.deref.result.now = record { is = c.deref.ensures.value ∙ c.in_ok-piece.ensures.bytes; can = c.in_ok-piece.ensures.can } in
+    rw (← c.self.view_is) (on_err _ (becomes-as _ _ (may_gain c.args.batch.now c.deref.result.now is from) c.in_err-put.ensures.fault))
 
-pub returns-in_err-write_synced-2-clause-any_moment : goal.returns-in_err-write_synced-2-clause-any_moment
-returns-in_err-write_synced-2-clause-any_moment g c honest =
-    let piece : c.deref.result.now ≡ measured c.args.batch.now ++ 0 ∷ [] = c.deref.ensures.value ∙ c.in_ok-piece.ensures.bytes in
-    let time = rw c.write_synced.ensures.others.stays.same_name at c.write_synced-2.ensures.time in
-    second_leaves c.args.batch.now c.args.self.now.gate _ (g.met.D.Disk.is_disk c.args.disk.now)
-    c.in_ok-piece.ensures.can c.deref.result.now piece _ _ c.write_synced.ensures.time time c.in_ok-write_synced.ensures.written (c.in_ok-write_synced.ensures.durable honest) (c.requires.kept honest)
+pub returns-in_err-put-clause-any_moment : goal.returns-in_err-put-clause-any_moment
+returns-in_err-put-clause-any_moment g c honest =
+    let from : Standing = record { half = c.self.inside.half; generation = c.self.inside.generation; gate = c.self.inside.gate; second = c.self.inside.second } in
+    let is : IsPiece c.args.batch.now c.deref.result.now = record { is = c.deref.ensures.value ∙ c.in_ok-piece.ensures.bytes; can = c.in_ok-piece.ensures.can } in
+    let old = g.D.Disk.state c.args.disk.now in
+    let new = g.D.Disk.state c.put.new.disk in
+    let may = MayGainAt c.args.batch.now from in
+    let kept = rw (← c.self.view_is) at c.requires.kept in
+    rw (← c.self.view_is) (leaves_torn from old new (g.met.D.Disk.is_disk c.args.disk.now) may (may_stay c.args.batch.now from) honest kept
+    (tears_as old.asked old new (InHalf from.half (MayPut c.deref.result.now from.gate)) may (may_gain c.args.batch.now c.deref.result.now is from) c.put.ensures.any_moment))
 
--- both done
+-- one that is
 pub returns-clause-appended : goal.returns-clause-appended
 returns-clause-appended g c =
-    let piece : c.deref.result.now ≡ measured c.args.batch.now ++ 0 ∷ [] = c.deref.ensures.value ∙ c.in_ok-piece.ensures.bytes in
-    let written = rw c.write_synced.ensures.others.stays.same_name at c.in_ok-write_synced-2.ensures.written in
-    let size : length c.deref.result.now ≡ c.len.result = c.deref.ensures.len ∙ sym c.len.ensures in
-    rw (← size) (becomes-then _ _ _ (both_written c.args.batch.now c.in_ok-piece.ensures.can c.args.self.now.gate c.deref.result.now piece) c.in_ok-write_synced.ensures.written written)
+    let from : Standing = record { half = c.self.inside.half; generation = c.self.inside.generation; gate = c.self.inside.gate; second = c.self.inside.second } in
+    let is : IsPiece c.args.batch.now c.deref.result.now = record { is = c.deref.ensures.value ∙ c.in_ok-piece.ensures.bytes; can = c.in_ok-piece.ensures.can } in
+    let size : c.len-2.result ≡ length c.deref.result.now = c.len-2.ensures ∙ sym c.deref.ensures.len in
+    elim c.if-self-eq0.branch [
+      | then-self-eq0 w ↦
+          let second : w.len.result ≡ length c.deref.result.now = w.len.ensures ∙ sym c.deref.ensures.len in
+          let to : Standing = record { half = from.half; generation = w.generation_in-self-inside.result; gate = from.gate + c.len-2.result; second = w.len.result } in
+          let same = standing_same to (record from { generation = generation_in c.args.batch.now; gate = from.gate + length c.deref.result.now; second = length c.deref.result.now })
+          refl w.generation_in-self-inside.ensures (ap (λ (n : ℕ). from.gate + n) size) second in
+          rw (← c.self.view_is, w.self-inside-is) (becomes-as _ _ (gains_first c.args.batch.now c.deref.result.now is from to same w.if-self-eq0.true) c.in_ok-put.ensures.put)
+      | else-self-eq0 w ↦
+          let to : Standing = record from { gate = from.gate + c.len-2.result } in
+          let same = standing_same to (record from { gate = from.gate + length c.deref.result.now }) refl refl (ap (λ (n : ℕ). from.gate + n) size) refl in
+          rw (← c.self.view_is, w.self-inside-is) (becomes-as _ _ (gains_more c.args.batch.now c.deref.result.now is from to same w.if-self-eq0.false) c.in_ok-put.ensures.put)
+    ]
 
 pub returns-clause-kept : goal.returns-clause-kept
-returns-clause-kept g c honest =
-    let gained = returns-clause-appended g c in
-    let mid = c.in_ok-write_synced-2.ensures.others.honest.1 honest in
-    let start = c.in_ok-write_synced.ensures.others.honest.1 mid in
-    let durable = rw c.write_synced.ensures.others.stays.same_name at (c.in_ok-write_synced-2.ensures.durable mid) in
-    let name = c.write_synced-2.ensures.others.stays.same_name ∙ c.write_synced.ensures.others.stays.same_name in
-    kept_as (c.args.self.now.gate + c.len.result) (g.D.Disk.state c.write_synced-2.new.disk) _ name (kept_gained c.args.batch.now c.args.self.now.gate (c.args.self.now.gate + c.len.result) _ _ _ _ (c.requires.kept start) gained durable)
+returns-clause-kept g c =
+    let old = g.D.Disk.state c.args.disk.now in
+    let new = g.D.Disk.state c.put.new.disk in
+    let log = c.if-self-eq0.self-inside in
+    let to : Standing = record { half = log.half; generation = log.generation; gate = log.gate + c.len-2.result; second = log.second } in
+    kept_at c.args.self.now to (λ batches. batches ++ c.args.batch.now ∷ []) old new c.put.ensures.others.stays.same_name c.in_ok-put.ensures.durable c.requires.kept
+    c.put.ensures.others.honest.1 (returns-clause-appended g c)
 
 pub returns-clause-any_moment : goal.returns-clause-any_moment
 returns-clause-any_moment g c honest =
-    let piece : c.deref.result.now ≡ measured c.args.batch.now ++ 0 ∷ [] = c.deref.ensures.value ∙ c.in_ok-piece.ensures.bytes in
-    let time = rw c.write_synced.ensures.others.stays.same_name at c.write_synced-2.ensures.time in
-    second_leaves c.args.batch.now c.args.self.now.gate _ (g.met.D.Disk.is_disk c.args.disk.now)
-    c.in_ok-piece.ensures.can c.deref.result.now piece _ _ c.write_synced.ensures.time time c.in_ok-write_synced.ensures.written (c.in_ok-write_synced.ensures.durable honest) (c.requires.kept honest)
-
--- the other logs
-pub returns-in_err-piece-clause-others : goal.returns-in_err-piece-clause-others
-returns-in_err-piece-clause-others g c = others_none _
-
-pub returns-in_err-write_synced-2-clause-others : goal.returns-in_err-write_synced-2-clause-others
-returns-in_err-write_synced-2-clause-others g c = others_join c.write_synced.ensures.others c.write_synced-2.ensures.others
-
-pub returns-clause-others : goal.returns-clause-others
-returns-clause-others g c = others_join c.write_synced.ensures.others c.write_synced-2.ensures.others
+    let from : Standing = record { half = c.self.inside.half; generation = c.self.inside.generation; gate = c.self.inside.gate; second = c.self.inside.second } in
+    let is : IsPiece c.args.batch.now c.deref.result.now = record { is = c.deref.ensures.value ∙ c.in_ok-piece.ensures.bytes; can = c.in_ok-piece.ensures.can } in
+    let old = g.D.Disk.state c.args.disk.now in
+    let new = g.D.Disk.state c.put.new.disk in
+    let may = MayGainAt c.args.batch.now from in
+    let kept = rw (← c.self.view_is) at c.requires.kept in
+    rw (← c.self.view_is) (leaves_torn from old new (g.met.D.Disk.is_disk c.args.disk.now) may (may_stay c.args.batch.now from) honest kept
+    (tears_as old.asked old new (InHalf from.half (MayPut c.deref.result.now from.gate)) may (may_gain c.args.batch.now c.deref.result.now is from) c.put.ensures.any_moment))

@@ -1,0 +1,15 @@
+-- When a checkpoint is due.
+use Rattle.std.proofs.Common.{◌≡◌, ℕ, ◌+◌, ◌*◌, Bool, true, false, nat_lt, nat_eq, ◌==◌, ◌&&◌, if◌then◌else◌, List, [], ◌∷◌, ◌++◌, length, refl, ◌∙◌, ap, arith, length-append}
+use Rattle.std.proofs.lemmas.Bool.Decides.{nat_tests}
+use Rattle.vp_base.specs.declared.entry.LogRecord.{LogRecord}
+use Rattle.vp_stable.specs.Log.{measured, opened}
+use Rattle.vp_stable.specs.Halves.{StandsAt, second_gate, is_due, due, DueIsOfTheBatches, NoneIsDueBehindOne}
+
+pub due_is_of_the_batches : DueIsOfTheBatches
+due_is_of_the_batches at [] log stands = rw stands.second refl
+due_is_of_the_batches at (batch ∷ batches) log stands =
+    let some : (second_gate (batch ∷ batches) == 0) ≡ false = grind (arith, nat_tests) in
+    rw (stands.second, stands.is_log.at) (ap (λ (b : Bool). if b then false else due (batch ∷ batches)) some)
+
+pub none_is_due_behind_one : NoneIsDueBehindOne
+none_is_due_behind_one batch = grind arith
