@@ -1,0 +1,7 @@
+pub mod Halves
+pub mod Arrivals
+pub mod Keeping
+pub mod Turns
+pub mod Runs
+pub mod Asking
+pub mod Laws
