@@ -1,2 +1,4 @@
 pub mod Checkpoints
 pub mod Runs
+pub mod Shaped
+pub mod Arriving

@@ -43,13 +43,13 @@ pub record Turn : Type 0 where
 abbrev pub quiet_turn : SiteState → Bool → Turn
 quiet_turn site stop = record { site = site; batch = []; commits = []; datagrams = []; stop = stop }
 
-abbrev pub step_turn : Catalogue → Stepped → Turn
-step_turn catalogue o =
+abbrev pub step_turn : Catalogue → ℕ → Stepped → Turn
+step_turn catalogue id o =
     record {
       site = o.site;
       batch = o.effects.records;
       commits = o.effects.commits;
-      datagrams = datagrams_of catalogue o.site.id o.effects;
+      datagrams = datagrams_of catalogue id o.effects;
       stop = false;
     }
 
@@ -57,7 +57,7 @@ unfoldable pub turn_on : Catalogue → SiteState → Arrival → Turn
 turn_on catalogue site (Bad at) = quiet_turn site false
 turn_on catalogue site Stray = quiet_turn site false
 turn_on catalogue site Stops = quiet_turn site true
-turn_on catalogue site (Gives given) = step_turn catalogue (step catalogue site given)
+turn_on catalogue site (Gives given) = step_turn catalogue site.id (step catalogue site given)
 
 -- ---- the recording
 
