@@ -1,4 +1,4 @@
--- A message that one node hands over for another is that message where it comes to it.
+-- What nodes and clients hand over is what comes to the other one.
 use Rattle.std.proofs.Common.{◌≡◌, ◌∙◌, ℕ, Bool, true, false, List, [], ◌∷◌, map, refl, sym, ap, arith, Result, Ok, Err, find, ◌==◌, nat_eq}
 use Rattle.std.specs.Prelude.{Option, Some, None}
 use Rattle.std.specs.List.{AllByRecursion, IsDistinct}
@@ -8,7 +8,7 @@ use Rattle.vp_text.specs.Meaning.{Answers}
 use Rattle.vp_model.specs.Types.{Sent}
 use Rattle.vp_model.specs.Words.{value_at}
 use Rattle.vp_model.specs.Catalogue.{Catalogue}
-use Rattle.vp_laws.specs.ShapeLaws.{message_frame}
+use Rattle.vp_laws.specs.ShapeLaws.{message_frame, reply_frame}
 use Rattle.vp_outside.specs.declared.datagram.Datagram.{Datagram}
 use Rattle.vp_wire.specs.declared.frame.Frame.{Frame}
 use Rattle.vp_wire.specs.Decoded.{read_frame}
@@ -16,7 +16,8 @@ use Rattle.vp_wire.specs.Grammar.{IsFrame, IsSpelling, frame_bytes}
 use Rattle.vp_wire.proofs.Decoded.{bytes_are_read}
 use Rattle.vp_wire.proofs.Told.{one_frame}
 use Rattle.vp_runs.specs.Arrivals.{site_at, arrival}
-use Rattle.vp_runs.specs.Laws.{MessagesArrive}
+use Rattle.vp_runs.specs.Asking.{call_frame, reply_of}
+use Rattle.vp_runs.specs.Laws.{MessagesArrive, CallsArrive, RepliesArrive}
 
 -- what was encoded is read
 pub reads_again : (f : Frame) → IsFrame f → read_frame (frame_bytes f) ≡ Ok f
@@ -63,3 +64,11 @@ pub messages_arrive : MessagesArrive
 unfolding arrival
 messages_arrive catalogue sent port k h e =
     rw (reads_again (message_frame sent) h, same_number sent.to, owner_of sent.from port catalogue.sites k.so_far.ports_differ e, same_number sent.from) refl
+
+pub calls_arrive : CallsArrive
+unfolding arrival
+calls_arrive catalogue site own words s h e = rw (reads_again (call_frame site words) (refl, s, h), same_number site, e) refl
+
+pub replies_arrive : RepliesArrive
+unfolding reply_of
+replies_arrive port site reply s h = rw (same_number port, reads_again (reply_frame site reply) (s, refl, h), same_number site) refl

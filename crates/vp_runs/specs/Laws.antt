@@ -1,7 +1,9 @@
 -- What holds of every run of a node.
 use Rattle.std.specs.Prelude.{◌≡◌, ℕ, true, ◌+◌, ◌<◌, ◌^◌, List, [], ◌∷◌, ◌++◌, Some}
 use Rattle.std.specs.List.{AllByRecursion}
-use Rattle.vp_model.specs.Types.{LogRecord, Sent}
+use Rattle.vp_base.specs.Calls.{IsCall}
+use Rattle.vp_bytes.specs.Fields.{IsSite}
+use Rattle.vp_model.specs.Types.{LogRecord, Sent, Reply, Call}
 use Rattle.vp_model.specs.Types.input
 use Rattle.vp_model.specs.Words.{has, value_at}
 use Rattle.vp_model.specs.Catalogue.{Catalogue, sites_of}
@@ -11,15 +13,16 @@ use Rattle.vp_model.specs.Step.{durable_of}
 use Rattle.vp_catalog.specs.Document.{IsCatalogue}
 use Rattle.vp_records.specs.Batches.{IsBatch}
 use Rattle.vp_laws.specs.Shapes.{IsShaped}
-use Rattle.vp_laws.specs.ShapeLaws.{message_frame}
+use Rattle.vp_laws.specs.ShapeLaws.{message_frame, reply_frame}
 use Rattle.vp_outside.specs.declared.datagram.Datagram.{Datagram}
 use Rattle.vp_wire.specs.declared.frame.Frame.{Frame}
-use Rattle.vp_wire.specs.Grammar.{IsFrame, IsSpelling}
+use Rattle.vp_wire.specs.Grammar.{IsFrame, IsSpelling, IsAnswer}
 use Rattle.vp_runs.specs.Halves.{saved}
-use Rattle.vp_runs.specs.Arrivals.{Gives, arrival}
+use Rattle.vp_runs.specs.Arrivals.{Gives, arrival, site_at}
 use Rattle.vp_runs.specs.Keeping.{durable_in, kept_with}
 use Rattle.vp_runs.specs.Turns.{Turn, datagram_to, turn_on}
 use Rattle.vp_runs.specs.Runs.{one_turn, node_run}
+use Rattle.vp_runs.specs.Asking.{call_frame, reply_of}
 
 -- one more datagram is one more turn
 abbrev pub RunsGoOn : Type 0
@@ -66,9 +69,18 @@ RunsAreShaped = (catalogue : Catalogue) (id : ℕ) (batches : List (List LogReco
     IsCatalogue catalogue → has (sites_of catalogue) id ≡ true → AllByRecursion IsBatch batches → (durable_in catalogue id batches).life + 1 < 2 ^ 32 → AllByRecursion (λ (d : Datagram). d.port < 2 ^ 16) arrived →
     IsShaped catalogue (node_run catalogue id batches arrived).node.site × AllByRecursion IsFramed (node_run catalogue id batches arrived).datagrams
 
--- ---- between two nodes
+-- ---- between nodes and clients
 
 -- a message that a site sends from its port is, where it comes to its receiver, that message from that site
 abbrev pub MessagesArrive : Type 0
 MessagesArrive = (catalogue : Catalogue) (sent : Sent) (port : ℕ) → IsCatalogue catalogue → IsFrame (message_frame sent) → value_at sent.from catalogue.sites ≡ Some port →
     arrival catalogue sent.to (datagram_to port (message_frame sent)) ≡ Gives (input.Message sent.from sent.message)
+
+-- a client's call is that call at its site, from the client's port
+abbrev pub CallsArrive : Type 0
+CallsArrive = (catalogue : Catalogue) (site own : ℕ) (words : Call) → IsSite site → IsCall words → site_at catalogue own ≡ 0 →
+    arrival catalogue site (datagram_to own (call_frame site words)) ≡ Gives (input.Call own words)
+
+-- a site's reply is its answer where it comes from the site's port
+abbrev pub RepliesArrive : Type 0
+RepliesArrive = (port site : ℕ) (reply : Reply) → IsSite site → IsAnswer reply.answer → reply_of port site (datagram_to port (reply_frame site reply)) ≡ Some reply.answer

@@ -1,6 +1,6 @@
 //! Functions that do nothing, with the laws as their contracts.
 
-ghost use Rattle.vp_runs.specs.Laws.{RunsGoOn, CheckpointsFold, StepsFold, RunsKeepTheDurablePart, TurnsAreShaped, RunsAreShaped, MessagesArrive};
+ghost use Rattle.vp_runs.specs.Laws.{RunsGoOn, CheckpointsFold, StepsFold, RunsKeepTheDurablePart, TurnsAreShaped, RunsAreShaped, MessagesArrive, CallsArrive, RepliesArrive};
 
 /// One more datagram is one more turn of the run.
 pub fn runs_go_on()
@@ -22,7 +22,10 @@ pub fn runs_are_shaped()
     ensures runs { RunsAreShaped }
 {}
 
-/// A message that one node hands over for another is that message where it comes to it.
-pub fn messages_arrive()
-    ensures { MessagesArrive }
+/// A message that one node hands over for another is that message where it comes to it; so are the call of a client at a node, and the
+/// reply of a node at a client.
+pub fn frames_arrive()
+    ensures messages { MessagesArrive }
+    ensures calls { CallsArrive }
+    ensures replies { RepliesArrive }
 {}

@@ -3,5 +3,7 @@
 #![tactic(auto)]
 
 mod laws;
+mod rows;
 
-pub use laws::{logs_fold, messages_arrive, runs_are_shaped, runs_go_on};
+pub use laws::{frames_arrive, logs_fold, runs_are_shaped, runs_go_on};
+pub use rows::{a_begin, a_commit_of_two_sites, an_answer_among_others, what_is_passed_over};
