@@ -16,7 +16,7 @@ use Rattle.vp_wire.specs.Grammar.{IsFrame, IsSpelling, frame_bytes}
 use Rattle.vp_wire.proofs.Decoded.{bytes_are_read}
 use Rattle.vp_wire.proofs.Told.{one_frame}
 use Rattle.vp_runs.specs.Arrivals.{site_at, arrival}
-use Rattle.vp_runs.specs.Asking.{call_frame, reply_of}
+use Rattle.vp_runs.specs.Asking.{answer_of, call_frame}
 use Rattle.vp_runs.specs.Laws.{MessagesArrive, CallsArrive, RepliesArrive}
 
 -- what was encoded is read
@@ -70,5 +70,5 @@ unfolding arrival
 calls_arrive catalogue site own words s h e = rw (reads_again (call_frame site words) (refl, s, h), same_number site, e) refl
 
 pub replies_arrive : RepliesArrive
-unfolding reply_of
-replies_arrive port site reply s h = rw (same_number port, reads_again (reply_frame site reply) (s, refl, h), same_number site) refl
+unfolding answer_of
+replies_arrive port site words reply s h e = rw (same_number port, reads_again (reply_frame site reply) (s, refl, h), same_number site, e) refl

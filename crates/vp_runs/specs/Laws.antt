@@ -22,7 +22,7 @@ use Rattle.vp_runs.specs.Arrivals.{Gives, arrival, site_at}
 use Rattle.vp_runs.specs.Keeping.{durable_in, kept_with}
 use Rattle.vp_runs.specs.Turns.{Turn, datagram_to, turn_on}
 use Rattle.vp_runs.specs.Runs.{one_turn, node_run}
-use Rattle.vp_runs.specs.Asking.{call_frame, reply_of}
+use Rattle.vp_runs.specs.Asking.{answers, answer_of, call_frame}
 
 -- one more datagram is one more turn
 abbrev pub RunsGoOn : Type 0
@@ -81,6 +81,7 @@ abbrev pub CallsArrive : Type 0
 CallsArrive = (catalogue : Catalogue) (site own : ℕ) (words : Call) → IsSite site → IsCall words → site_at catalogue own ≡ 0 →
     arrival catalogue site (datagram_to own (call_frame site words)) ≡ Gives (input.Call own words)
 
--- a site's reply is its answer where it comes from the site's port
+-- a site's reply to a call is its answer where it comes from the site's port
 abbrev pub RepliesArrive : Type 0
-RepliesArrive = (port site : ℕ) (reply : Reply) → IsSite site → IsAnswer reply.answer → reply_of port site (datagram_to port (reply_frame site reply)) ≡ Some reply.answer
+RepliesArrive = (port site : ℕ) (words : Call) (reply : Reply) → IsSite site → IsAnswer reply.answer → answers words reply.answer ≡ true →
+    answer_of port site words (datagram_to port (reply_frame site reply)) ≡ Some reply.answer
