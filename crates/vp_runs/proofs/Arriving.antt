@@ -1,21 +1,18 @@
 -- What nodes and clients hand over is what comes to the other one.
-use Rattle.std.proofs.Common.{◌≡◌, ◌∙◌, ℕ, Bool, true, false, List, [], ◌∷◌, map, refl, sym, ap, arith, Result, Ok, Err, find, ◌==◌, nat_eq}
-use Rattle.std.specs.Prelude.{Option, Some, None}
+use Rattle.std.proofs.Common.{◌≡◌, ℕ, Bool, true, false, List, [], ◌∷◌, map, refl, ap, arith, Result, Ok, Err, find, ◌==◌, nat_eq}
+use Rattle.std.specs.Prelude.{Some}
 use Rattle.std.specs.List.{AllByRecursion, IsDistinct}
 use Rattle.std.specs.Option.{option_map_or}
 use Rattle.std.proofs.lemmas.Bool.Decides.{nat_tests}
 use Rattle.vp_text.specs.Meaning.{Answers}
-use Rattle.vp_model.specs.Types.{Sent}
 use Rattle.vp_model.specs.Words.{value_at}
-use Rattle.vp_model.specs.Catalogue.{Catalogue}
 use Rattle.vp_laws.specs.ShapeLaws.{message_frame, reply_frame}
-use Rattle.vp_outside.specs.declared.datagram.Datagram.{Datagram}
 use Rattle.vp_wire.specs.declared.frame.Frame.{Frame}
 use Rattle.vp_wire.specs.Decoded.{read_frame}
 use Rattle.vp_wire.specs.Grammar.{IsFrame, IsSpelling, frame_bytes}
 use Rattle.vp_wire.proofs.Decoded.{bytes_are_read}
 use Rattle.vp_wire.proofs.Told.{one_frame}
-use Rattle.vp_runs.specs.Arrivals.{site_at, arrival}
+use Rattle.vp_runs.specs.Arrivals.{arrival}
 use Rattle.vp_runs.specs.Asking.{answer_of, call_frame}
 use Rattle.vp_runs.specs.Laws.{MessagesArrive, CallsArrive, RepliesArrive}
 

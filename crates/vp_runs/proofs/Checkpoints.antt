@@ -1,10 +1,10 @@
 -- A checkpoint of the durable part to which batches fold folds to it.
-use Rattle.std.proofs.Common.{◌≡◌, ◌∙◌, ℕ, suc, ◌+◌, ◌≤◌, ◌<◌, Bool, true, false, List, [], ◌∷◌, ◌++◌, filter, refl, sym, ap, arith, if◌then◌else◌, ◌==◌}
+use Rattle.std.proofs.Common.{◌≡◌, ◌∙◌, ℕ, ◌+◌, ◌<◌, Bool, true, false, List, [], ◌∷◌, ◌++◌, refl, sym, ap, arith, if◌then◌else◌, ◌==◌}
 use Rattle.std.proofs.lemmas.Bool.Decides.{nat_tests}
 use Rattle.std.proofs.lemmas.List.Sums.{fold-append}
-use Rattle.std.specs.List.{AllByRecursion, enumerate_from}
+use Rattle.std.specs.List.{AllByRecursion}
 use Rattle.vp_model.specs.Types.{LogRecord, Stored}
-use Rattle.vp_model.specs.Words.{for_each, has, keys, replace_at, opening}
+use Rattle.vp_model.specs.Words.{for_each, has, keys, replace_at}
 use Rattle.vp_model.specs.Catalogue.{Catalogue, RecordEntry, copies_from, start_copies}
 use Rattle.vp_model.specs.Durable.{DurableState, empty_durable, apply, apply_all}
 use Rattle.vp_records.proofs.Held.{applied_keys}

@@ -1,10 +1,10 @@
 -- What comes to a node is an input of its form, and what a node keeps and gives has its form.
-use Rattle.std.proofs.Common.{◌≡◌, ℕ, ◌+◌, ◌<◌, ◌≤◌, ◌^◌, Bool, true, false, List, [], ◌∷◌, ◌++◌, flat_map, map, refl, sym, arith, Result, Ok, Err, ◌==◌}
+use Rattle.std.proofs.Common.{◌≡◌, ℕ, ◌<◌, ◌^◌, Bool, true, false, List, [], ◌∷◌, flat_map, map, refl, arith, Result, Ok, Err, ◌==◌}
 use Rattle.std.specs.Prelude.{Option, Some, None}
 use Rattle.std.specs.List.{AllByRecursion}
 use Rattle.std.specs.Option.{option_map_or}
 use Rattle.vp_text.specs.Meaning.{Answers}
-use Rattle.vp_model.specs.Types.{LogRecord, Sent, Reply, Input}
+use Rattle.vp_model.specs.Types.{LogRecord, Sent, Reply}
 use Rattle.vp_model.specs.Words.{for_each, has, value_at}
 use Rattle.vp_model.specs.Catalogue.{Catalogue, sites_of, start_copies}
 use Rattle.vp_model.specs.Durable.{DurableState, empty_durable, apply_all}

@@ -1,15 +1,13 @@
 -- Worked runs: what comes to a node or a client, and what is to come of it.
-use Rattle.std.specs.Prelude.{ℕ, true, false, List, [], ◌∷◌, ◌++◌, codes}
-use Rattle.vp_model.specs.Types.{LogRecord, TxnId, ViewId, Call, Answer}
+use Rattle.std.specs.Prelude.{ℕ, List, [], ◌∷◌, codes}
+use Rattle.vp_model.specs.Types.{LogRecord, TxnId, Call, Answer}
 use Rattle.vp_model.specs.Types.answer
 use Rattle.vp_model.specs.Types.call
 use Rattle.vp_model.specs.Types.entry
 use Rattle.vp_model.specs.Types.message
 use Rattle.vp_model.specs.Catalogue.{Catalogue, RecordEntry}
 use Rattle.vp_model.specs.Words.{opening}
-use Rattle.vp_laws.specs.ShapeLaws.{message_frame, reply_frame}
 use Rattle.vp_outside.specs.declared.datagram.Datagram.{Datagram}
-use Rattle.vp_wire.specs.declared.frame.Body.{Body}
 use Rattle.vp_wire.specs.declared.frame.Body.TheVariants as body
 use Rattle.vp_wire.specs.Frames.{frame_of}
 use Rattle.vp_runs.specs.Turns.{datagram_to}
