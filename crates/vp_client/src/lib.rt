@@ -1,0 +1,7 @@
+//! One call of a client: the call is sent, and the answer is the first one to it among the datagrams that come.
+#![tactic(auto)]
+
+mod answering;
+mod asking;
+
+pub use asking::{AskFault, ask};

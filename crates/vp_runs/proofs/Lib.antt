@@ -1,0 +1,5 @@
+pub mod Checkpoints
+pub mod Runs
+pub mod Shaped
+pub mod Arriving
+pub mod Worked
