@@ -1,0 +1,37 @@
+-- The causes of the ends of a node.
+use Rattle.std.specs.Prelude.{ℕ, ◌≡◌, ◌≤◌, ◌⊎◌, Result, OnOk, IfErr, IsErrOf}
+use Rattle.vp_outside.specs.Causes.{Rose}
+use Rattle.vp_site.specs.declared.fault.StartFault.{StartFault}
+use Rattle.vp_site.specs.declared.fault.StartFault.TheVariants as start
+use Rattle.vp_stable.specs.declared.fault.LogFault.{LogFault}
+use Rattle.vp_stable.specs.declared.fault.LogFault.TheVariants as log
+use Rattle.vp_stable.specs.declared.fault.AppendFault.{AppendFault}
+use Rattle.vp_stable.specs.declared.fault.AppendFault.TheVariants as append
+use Rattle.vp_node.specs.declared.end.NodeEnd.{NodeEnd}
+use Rattle.vp_node.specs.declared.end.NodeEnd.TheVariants as ends
+
+abbrev pub of_recovery : LogFault → NodeEnd
+of_recovery log.DiskFault = ends.DiskFault
+of_recovery (log.BadLog half at) = ends.BadLog half at
+of_recovery log.NoMemory = ends.NoMemory
+
+abbrev pub of_append : AppendFault → NodeEnd
+of_append append.DiskFault = ends.DiskFault
+of_append append.NoMemory = ends.NoMemory
+
+abbrev pub of_start : StartFault → NodeEnd
+of_start (start.LivesSpent life) = ends.LivesSpent life
+of_start start.NoMemory = ends.NoMemory
+
+-- The disk's count of failures rose where the answer is DiskFault, and stayed as it was at any other.
+pub record HasNodeCause {T : Type 0} (before now : ℕ) (result : Result T NodeEnd) : Type 0 where
+  pub later : before ≤ now
+  pub failed : IsErrOf result ends.DiskFault → Rose before now
+  pub ok : OnOk result (now ≡ before)
+  pub bad_log : (half at : ℕ) → IsErrOf result (ends.BadLog half at) → now ≡ before
+  pub lives_spent : (life : ℕ) → IsErrOf result (ends.LivesSpent life) → now ≡ before
+  pub no_memory : IsErrOf result ends.NoMemory → now ≡ before
+
+-- a turn ends a node for its disk or for want of memory alone
+abbrev pub EndsInTurn : {T : Type 0} → Result T NodeEnd → Type 0
+EndsInTurn result = IfErr result (λ e. (e ≡ ends.DiskFault) ⊎ (e ≡ ends.NoMemory))

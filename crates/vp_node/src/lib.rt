@@ -1,0 +1,16 @@
+//! A node: a site with its log. It takes one datagram after the other, each as a step of its site; what a step forces is synced to the
+//! log before its lines are printed, and these are printed before its datagrams are sent.
+#![tactic(auto)]
+
+mod arrivals;
+mod end;
+mod node;
+mod recording;
+mod sending;
+mod serving;
+mod turned;
+
+pub use end::{End, NodeEnd};
+pub use node::Node;
+pub use serving::serve;
+pub use turned::{Lines, Turned};
