@@ -8,7 +8,7 @@ use Rattle.vp_model.specs.Words.{for_each, has, keys, replace_at}
 use Rattle.vp_model.specs.Catalogue.{Catalogue, RecordEntry, copies_from, start_copies}
 use Rattle.vp_model.specs.Durable.{DurableState, empty_durable, apply, apply_all}
 use Rattle.vp_records.proofs.Held.{applied_keys}
-use Rattle.vp_runs.specs.Halves.{folded, due, saved, checkpointed, is_last, generation_of}
+use Rattle.vp_stable.specs.Halves.{folded, due, saved, checkpointed, is_last, generation_of}
 use Rattle.vp_runs.specs.Keeping.{durable_in, kept_with, saved_if_due}
 use Rattle.vp_runs.specs.Laws.{CheckpointsFold, StepsFold}
 

@@ -8,7 +8,9 @@ use Rattle.vp_model.specs.Durable.{apply, apply_all}
 use Rattle.vp_model.specs.Step.{step, start, start_record, durable_of}
 use Rattle.vp_laws.proofs.TableDurable.{step-folds}
 use Rattle.vp_outside.specs.declared.datagram.Datagram.{Datagram}
-use Rattle.vp_runs.specs.Arrivals.{Arrival, Bad, Stray, Stops, Gives, arrival}
+use Rattle.vp_runs.specs.declared.arrival.Arrival.{Arrival}
+use Rattle.vp_runs.specs.declared.arrival.Arrival.TheVariants.{Bad, Stray, Stops, Gives}
+use Rattle.vp_runs.specs.Arrivals.{arrival}
 use Rattle.vp_runs.specs.Keeping.{durable_in}
 use Rattle.vp_runs.specs.Turns.{turn_on}
 use Rattle.vp_runs.specs.Runs.{NodeState, NodeRun, start_node, start_of, after_turn, one_turn, node_run}

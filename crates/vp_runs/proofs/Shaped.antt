@@ -25,8 +25,10 @@ use Rattle.vp_wire.specs.declared.frame.Body.TheVariants as body
 use Rattle.vp_wire.specs.Decoded.{read_frame}
 use Rattle.vp_wire.specs.Grammar.{IsBody, IsFrame, IsSpelling}
 use Rattle.vp_wire.proofs.Decoded.{bytes_are_read}
-use Rattle.vp_runs.specs.Halves.{folded}
-use Rattle.vp_runs.specs.Arrivals.{Arrival, Bad, Stray, Stops, Gives, is_for, arrival_in, arrival_of, arrival}
+use Rattle.vp_stable.specs.Halves.{folded}
+use Rattle.vp_runs.specs.declared.arrival.Arrival.{Arrival}
+use Rattle.vp_runs.specs.declared.arrival.Arrival.TheVariants.{Bad, Stray, Stops, Gives}
+use Rattle.vp_runs.specs.Arrivals.{is_for, arrival_in, arrival_of, arrival}
 use Rattle.vp_runs.specs.Keeping.{durable_in}
 use Rattle.vp_runs.specs.Turns.{datagram_to, message_datagram, reply_datagram, datagrams_of, turn_on}
 use Rattle.vp_runs.specs.Runs.{NodeRun, start_of, one_turn, node_run}

@@ -3,7 +3,7 @@ use Rattle.std.specs.Prelude.{ℕ, if◌then◌else◌, List, [], ◌∷◌, ◌
 use Rattle.vp_model.specs.Types.{LogRecord}
 use Rattle.vp_model.specs.Catalogue.{Catalogue, start_copies}
 use Rattle.vp_model.specs.Durable.{DurableState, empty_durable}
-use Rattle.vp_runs.specs.Halves.{folded, due, saved}
+use Rattle.vp_stable.specs.Halves.{folded, due, saved}
 
 -- the durable part of a site whose log has these batches
 abbrev pub durable_in : Catalogue → ℕ → List (List LogRecord) → DurableState

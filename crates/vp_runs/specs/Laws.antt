@@ -17,8 +17,9 @@ use Rattle.vp_laws.specs.ShapeLaws.{message_frame, reply_frame}
 use Rattle.vp_outside.specs.declared.datagram.Datagram.{Datagram}
 use Rattle.vp_wire.specs.declared.frame.Frame.{Frame}
 use Rattle.vp_wire.specs.Grammar.{IsFrame, IsSpelling, IsAnswer}
-use Rattle.vp_runs.specs.Halves.{saved}
-use Rattle.vp_runs.specs.Arrivals.{Gives, arrival, site_at}
+use Rattle.vp_stable.specs.Halves.{saved}
+use Rattle.vp_runs.specs.declared.arrival.Arrival.TheVariants.{Gives}
+use Rattle.vp_runs.specs.Arrivals.{arrival, site_at}
 use Rattle.vp_runs.specs.Keeping.{durable_in, kept_with}
 use Rattle.vp_runs.specs.Turns.{Turn, datagram_to, turn_on}
 use Rattle.vp_runs.specs.Runs.{one_turn, node_run}

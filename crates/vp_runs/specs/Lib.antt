@@ -1,4 +1,3 @@
-pub mod Halves
 pub mod Arrivals
 pub mod Keeping
 pub mod Turns

@@ -12,7 +12,8 @@ use Rattle.vp_laws.specs.ShapeLaws.{message_frame, reply_frame}
 use Rattle.vp_outside.specs.declared.datagram.Datagram.{Datagram}
 use Rattle.vp_wire.specs.declared.frame.Frame.{Frame}
 use Rattle.vp_wire.specs.Grammar.{frame_bytes}
-use Rattle.vp_runs.specs.Arrivals.{Arrival, Bad, Stray, Stops, Gives}
+use Rattle.vp_runs.specs.declared.arrival.Arrival.{Arrival}
+use Rattle.vp_runs.specs.declared.arrival.Arrival.TheVariants.{Bad, Stray, Stops, Gives}
 
 -- ---- datagrams
 

@@ -111,6 +111,19 @@ impl Site {
         ))
     }
 
+    pub fn id(&self) -> SiteId
+        ensures { result ≡ self.now.id }
+    {
+        self.coordinator.id()
+    }
+
+    /// The number of its life, which its start forces to the log.
+    pub fn life(&self) -> u32
+        ensures { result ≡ self.now.life }
+    {
+        self.coordinator.life()
+    }
+
     /// The view that the site holds.
     pub fn held(&self) -> Option<&View>
         ensures { option_copied result ≡ self.now.held }
