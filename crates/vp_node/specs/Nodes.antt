@@ -1,8 +1,7 @@
 -- A node, what its disk keeps of it, and what a start and a turn make of both.
-use Rattle.std.specs.Prelude.{◌≡◌, ◌⊎◌, ◌-◌, ◌^◌, ℕ, List, [], ◌∷◌, ◌++◌, IfSome}
+use Rattle.std.specs.Prelude.{◌≡◌, ◌⊎◌, ◌-◌, ◌^◌, ℕ, List, IfSome}
 use Rattle.vp_model.specs.Types.{LogRecord}
 use Rattle.vp_model.specs.Catalogue.{Catalogue}
-use Rattle.vp_model.specs.Durable.{DurableState}
 use Rattle.vp_model.specs.Site.{SiteState}
 use Rattle.vp_model.specs.Step.{durable_of}
 use Rattle.vp_laws.specs.Shapes.{IsShaped}
@@ -11,7 +10,8 @@ use Rattle.vp_outside.specs.declared.datagram.Datagram.{Datagram}
 use Rattle.vp_stable.specs.Halves.{Standing, StandsAt, HaveBatches, AreBadLog}
 use Rattle.vp_runs.specs.declared.arrival.Arrival.{Arrival}
 use Rattle.vp_runs.specs.Arrivals.{arrival}
-use Rattle.vp_runs.specs.Keeping.{durable_in, kept_with}
+use Rattle.vp_runs.specs.Keeping.{durable_in}
+use Rattle.vp_node.specs.Keeping.{KeepsAt, MayKeepAt}
 use Rattle.vp_runs.specs.Turns.{Turn, turn_on, turn_lines}
 use Rattle.vp_runs.specs.Runs.{start_node}
 use Rattle.vp_node.specs.declared.turned.Turned.{Turned}
@@ -74,19 +74,12 @@ pub record Turns (catalogue : Catalogue) (node : NodeValue) (d : Datagram) (afte
   pub commits : told.commits ≡ (turn_of catalogue node d).commits
   pub stop : told.stop ≡ (turn_of catalogue node d).stop
 
--- The log that stood there has the turn's batch behind the others, and in their place a checkpoint where one is due.
+-- The log that stood there has the turn's batch behind the others, or a checkpoint in their place where one is due.
 abbrev pub Saves : Turn → Standing → Standing → Halves → Halves → Type 0
-Saves turn from to old new = (batches : List (List LogRecord)) → StandsAt from batches old → StandsAt to (kept_with (durable_of turn.site) turn.batch batches) new
-
--- what a turn that forces these records and leaves this durable part may leave of these batches: the same, those with the records behind
--- them, or the checkpoint of both where one is due
-abbrev pub MayKeep : DurableState → List LogRecord → List (List LogRecord) → List (List LogRecord) → Type 0
-MayKeep d [] batches after = after ≡ batches
-MayKeep d (r ∷ records) batches after = (after ≡ batches) ⊎ ((after ≡ batches ++ (r ∷ records) ∷ []) ⊎ (after ≡ kept_with d (r ∷ records) batches))
+Saves turn from to old new = KeepsAt (durable_of turn.site) turn.batch from to old new
 
 -- What is left of the log that stood there. It folds to what the site had to keep before the turn or after it.
-pub record MaySave (catalogue : Catalogue) (node : NodeValue) (d : Datagram) (old new : Halves) : Type 0 where
-  pub batches : (batches : List (List LogRecord)) → StandsAt node.at batches old
-      → (after : List (List LogRecord)) × HaveBatches after new × MayKeep (durable_of (turn_of catalogue node d).site) (turn_of catalogue node d).batch batches after
+pub record MaySave (catalogue : Catalogue) (node : NodeValue) (turn : Turn) (old new : Halves) : Type 0 where
+  pub batches : MayKeepAt (durable_of turn.site) turn.batch node.at old new
   pub folds : (after : List (List LogRecord)) × HaveBatches after new
-      × ((durable_in catalogue node.site.id after ≡ durable_of node.site) ⊎ (durable_in catalogue node.site.id after ≡ durable_of (turn_of catalogue node d).site))
+      × ((durable_in catalogue node.site.id after ≡ durable_of node.site) ⊎ (durable_in catalogue node.site.id after ≡ durable_of turn.site))

@@ -4,6 +4,7 @@
 
 mod arrivals;
 mod end;
+mod keeping;
 mod node;
 mod recording;
 mod sending;

@@ -90,7 +90,7 @@ impl Node {
             (D.state disk.old) (D.state disk.new)) }
         ensures node { IfOk result (λ it. IsNode catalog.now it.0) }
         ensures kept { IfOk result (λ it. IsKept catalog.now it.0 (D.state disk.new)) }
-        ensures fault { (D.state disk.old).honest → OnErr result (Steps (MaySave catalog.now self (record { port = port; bytes = bytes.now }))
+        ensures fault { (D.state disk.old).honest → OnErr result (Steps (MaySave catalog.now self (turn_of catalog.now self (record { port = port; bytes = bytes.now })))
             (D.state disk.old) (D.state disk.new)) }
         ensures ends { EndsInTurn result }
 
@@ -98,7 +98,7 @@ impl Node {
         // to what the site had to keep before the turn, or after it.
         ensures any_moment { (D.state disk.old).honest → IfSome (log_of (D.state disk.old)) (λ log.
             LeavesOnly (D.state disk.old) (D.state disk.new)
-            (MaySave catalog.now self (record { port = port; bytes = bytes.now }) log)) }
+            (MaySave catalog.now self (turn_of catalog.now self (record { port = port; bytes = bytes.now })) log)) }
 
         ensures others { LeavesOthers (D.state disk.old) (D.state disk.new) }
         ensures cause { HasNodeCause (D.state disk.old).faults (D.state disk.new).faults result }

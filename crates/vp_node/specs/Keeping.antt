@@ -1,0 +1,34 @@
+-- What a log keeps of a step's records: they are appended, and a checkpoint follows where one is due.
+use Rattle.std.specs.Prelude.{◌≡◌, ◌⊎◌, List, [], ◌∷◌, ◌++◌, ℕ, IfSome}
+use Rattle.vp_model.specs.Types.{LogRecord, Stored}
+use Rattle.vp_model.specs.Durable.{DurableState, empty_durable, apply_all}
+use Rattle.vp_outside.specs.Disk.{Halves, DiskState, log_of}
+use Rattle.vp_stable.specs.Halves.{Standing, StandsAt, HaveBatches, folded}
+use Rattle.vp_runs.specs.Keeping.{saved_if_due, kept_with}
+
+-- Where the disk is honest and tells the log, these records bring what its batches fold to, from some copies, to this durable part.
+abbrev pub BringsTo : DurableState → List LogRecord → Standing → DiskState → Type 0
+BringsTo d records at disk = disk.honest → IfSome (log_of disk) (λ log.
+    (batches : List (List LogRecord)) × StandsAt at batches log × ((copies : List (ℕ × Stored)) × (apply_all records (folded batches (empty_durable copies)) ≡ d)))
+
+-- ---- a checkpoint where one is due
+
+abbrev pub SavesDueAt : DurableState → Standing → Standing → Halves → Halves → Type 0
+SavesDueAt d from to old new = (batches : List (List LogRecord)) → StandsAt from batches old → StandsAt to (saved_if_due d batches) new
+
+abbrev pub MaySaveDueAt : DurableState → Standing → Halves → Halves → Type 0
+MaySaveDueAt d from old new = (batches : List (List LogRecord)) → StandsAt from batches old → HaveBatches batches new ⊎ HaveBatches (saved_if_due d batches) new
+
+-- ---- a step's records, and a checkpoint behind them where one is due
+
+-- The log that stood there has the records behind its batches, or a checkpoint of this durable part in their place, and stands there now.
+abbrev pub KeepsAt : DurableState → List LogRecord → Standing → Standing → Halves → Halves → Type 0
+KeepsAt d records from to old new = (batches : List (List LogRecord)) → StandsAt from batches old → StandsAt to (kept_with d records batches) new
+
+-- these batches are left as they were, with the records behind them, or as the checkpoint of both
+abbrev pub MayKeep : DurableState → List LogRecord → List (List LogRecord) → List (List LogRecord) → Type 0
+MayKeep d [] batches after = after ≡ batches
+MayKeep d (r ∷ records) batches after = (after ≡ batches) ⊎ ((after ≡ batches ++ (r ∷ records) ∷ []) ⊎ (after ≡ kept_with d (r ∷ records) batches))
+
+abbrev pub MayKeepAt : DurableState → List LogRecord → Standing → Halves → Halves → Type 0
+MayKeepAt d records from old new = (batches : List (List LogRecord)) → StandsAt from batches old → (after : List (List LogRecord)) × HaveBatches after new × MayKeep d records batches after
