@@ -1,5 +1,5 @@
 -- What is told of a disk over files stays when a log is changed.
-use Rattle.std.proofs.Common.{◌≡◌, refl, inl, arith, ℕ, zero, suc, ◌+◌, ◌≤◌, Bool, List, Option, Result, OnOk, OnErr, Ok, Err}
+use Rattle.std.proofs.Common.{refl, inl, arith, ℕ, zero, suc, Bool, List, Option, Result, OnOk, OnErr, Ok, Err}
 use Rattle.std.proofs.lemmas.List.{take_min}
 use Rattle.vp_outside.specs.Disk.{Halves, InHalf, Torn, MaybeCut, Untouched}
 use Rattle.vp_outside.specs.DiskCalls.{GoesOn, Changes}

@@ -1,4 +1,4 @@
-use Rattle.std.proofs.Common.{rules, ◌≡◌, refl, arith, ◌≤◌, length, drop, length-append}
+use Rattle.std.proofs.Common.{rules, refl, arith, drop, length-append}
 use Rattle.std.proofs.lemmas.List.{length-take-le, length-drop}
 use Rattle.vpdb.proofs.socket.SocketLink.receive.Goals as goal
 
