@@ -12,5 +12,5 @@ mod Restored
 mod Scanning
 mod Standings
 mod Tears
-mod Times
+pub mod Times
 mod Writes
