@@ -161,6 +161,7 @@ fn folded(rt: &HostRuntime, batches: &Batches) -> Result<Durable, Fail>
 /// Recovers a log whose batches are one Start, and answers what a checkpoint of it does.
 fn checkpointed<D: Disk>(rt: &HostRuntime, disk: &mut D) -> Result<Result<(), AppendFault>, Fail>
     requires attached { IsTrue (D.state disk.old).attached }
+    ensures attached { IsTrue (D.state disk.new).attached }
 {
     let (mut log, batches) = Log::recover(rt.alloc(), disk)?;
     let durable = folded(rt, &batches)?;

@@ -1,9 +1,7 @@
 -- When a checkpoint is due.
-use Rattle.std.proofs.Common.{◌≡◌, ℕ, ◌+◌, ◌*◌, Bool, true, false, nat_lt, nat_eq, ◌==◌, ◌&&◌, if◌then◌else◌, List, [], ◌∷◌, ◌++◌, length, refl, ◌∙◌, ap, arith, length-append}
+use Rattle.std.proofs.Common.{◌≡◌, Bool, false, ◌==◌, if◌then◌else◌, [], ◌∷◌, refl, ap, arith}
 use Rattle.std.proofs.lemmas.Bool.Decides.{nat_tests}
-use Rattle.vp_base.specs.declared.entry.LogRecord.{LogRecord}
-use Rattle.vp_stable.specs.Log.{measured, opened}
-use Rattle.vp_stable.specs.Halves.{StandsAt, second_gate, is_due, due, DueIsOfTheBatches, NoneIsDueBehindOne}
+use Rattle.vp_stable.specs.Halves.{second_gate, due, DueIsOfTheBatches, NoneIsDueBehindOne}
 
 pub due_is_of_the_batches : DueIsOfTheBatches
 due_is_of_the_batches at [] log stands = rw stands.second refl

@@ -5,8 +5,8 @@ use Rattle.vp_base.specs.declared.entry.LogRecord.{LogRecord}
 use Rattle.vp_outside.specs.Disk.{Halves, half_of, InHalf}
 use Rattle.vp_records.specs.Batches.{batch_bytes}
 use Rattle.vp_records.proofs.Batches.{one_batch}
-use Rattle.vp_stable.specs.Log.{measured, opened, StandsFirst, IsLog, HasBatches, IsBadLog}
-use Rattle.vp_stable.specs.Halves.{generation_in, generation_of, HasGeneration, higher, IsCurrent, HaveBatches, AreBadLog, HalvesAreOneLog, BadHalvesHaveNoBatches}
+use Rattle.vp_stable.specs.Log.{measured, opened, StandsFirst, IsLog, HasBatches}
+use Rattle.vp_stable.specs.Halves.{generation_in, generation_of, HasGeneration, higher, IsCurrent, HalvesAreOneLog, BadHalvesHaveNoBatches}
 use Rattle.vp_stable.proofs.Measured.{measured_same}
 use Rattle.vp_stable.proofs.Determined.{head, begins, batches_are_one, bad_logs_have_no_batches}
 

@@ -1,5 +1,5 @@
 -- The calls of a recovery, over what a disk tells.
-use Rattle.std.proofs.Common.{◌≡◌, ◌⊎◌, inl, inr, ⊎_elim, ℕ, zero, suc, ◌<◌, ◌≤◌, Bool, true, false, nat_lt, if◌then◌else◌, List, [], ◌∷◌, length, drop, refl, sym, ◌∙◌, ap, subst, arith}
+use Rattle.std.proofs.Common.{◌≡◌, ◌⊎◌, inl, inr, ⊎_elim, ℕ, zero, suc, ◌<◌, ◌≤◌, Bool, true, false, nat_lt, if◌then◌else◌, List, [], ◌∷◌, length, sym, ◌∙◌, ap, subst, arith}
 use Rattle.std.proofs.lemmas.Bool.Decides.{nat_tests}
 use Rattle.std.specs.List.{AllByRecursion}
 use Rattle.std.specs.Prelude.{IfSome}
@@ -9,7 +9,7 @@ use Rattle.vp_base.specs.declared.entry.LogRecord.{LogRecord}
 use Rattle.vp_outside.specs.Disk.{Halves, half_of, InHalf, Written, Torn, Becomes, DiskState, log_of, IsDisk, Only, Elapses}
 use Rattle.vp_records.specs.Batches.{IsBatch}
 use Rattle.vp_stable.specs.Log.{CanStand, IsLog, HasBatches, IsBadLog}
-use Rattle.vp_stable.specs.Halves.{HasGeneration, generation_of, higher, IsCurrent, HaveBatches, AreBadLog, Standing, StandsAt, AreSettled, ReadAlike}
+use Rattle.vp_stable.specs.Halves.{HasGeneration, generation_of, higher, IsCurrent, Standing, StandsAt, AreSettled, ReadAlike}
 use Rattle.vp_stable.specs.Moments.{LeavesOnly, TornFrom, Quiet}
 use Rattle.vp_stable.specs.Scans.{IsScan, IsRead}
 use Rattle.vp_stable.specs.declared.batches.Scan.{Scan}

@@ -1,9 +1,8 @@
 -- What is read of the bytes of a half.
 use Rattle.std.specs.Prelude.{◌≡◌, ℕ, ◌≤◌, List, [], length, Result, Ok, Err}
-use Rattle.vp_base.specs.declared.entry.LogRecord.{LogRecord}
 use Rattle.vp_outside.specs.Disk.{Halves, half_of}
 use Rattle.vp_stable.specs.Log.{IsLog, IsBadLog}
-use Rattle.vp_stable.specs.Halves.{HasGeneration, IsCurrent, second_gate}
+use Rattle.vp_stable.specs.Halves.{IsCurrent, second_gate}
 use Rattle.vp_stable.specs.declared.batches.Scan.{Scan}
 use Rattle.vp_stable.specs.declared.fault.LogFault.{LogFault}
 use Rattle.vp_stable.specs.declared.fault.LogFault.TheVariants as faults

@@ -1,6 +1,11 @@
 //! The program: makes the real objects, calls the top call, and exits with its status.
 #![tactic(auto)]
 
+mod log_files;
+mod socket;
+#[cfg(test)]
+mod tests;
+
 use std::alloc::AllocError;
 use std::process::ExitCode;
 use std::{env, io};

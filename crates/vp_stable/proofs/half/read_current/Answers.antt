@@ -1,6 +1,5 @@
-use Rattle.std.proofs.Common.{◌≡◌, arith}
+use Rattle.std.proofs.Common.{◌≡◌}
 use Rattle.std.specs.Prelude.{IfSome}
-use Rattle.vp_stable.specs.Halves.{HasGeneration}
 use Rattle.vp_stable.proofs.Recoveries.{first_read, second_read}
 use Rattle.vp_stable.proofs.Times.{quiet_join, told_before}
 use Rattle.vp_stable.proofs.half.read_current.Goals as goal

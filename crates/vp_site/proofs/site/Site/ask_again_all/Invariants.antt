@@ -1,5 +1,4 @@
 use Rattle.std.proofs.Common.{◌≡◌, take}
-use Rattle.vp_model.specs.Site.{Stepped}
 use Rattle.vp_model.specs.Step.{ask_again_all}
 use Rattle.vp_site.specs.Lifted.{stepped}
 use Rattle.vp_site.proofs.site.Site.ask_again_all.Given as goal
