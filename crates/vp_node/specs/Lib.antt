@@ -1,4 +1,4 @@
 pub mod Causes
 pub mod Keeping
+pub mod Taking
 pub mod Nodes
-pub mod Serving

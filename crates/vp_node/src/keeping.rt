@@ -1,11 +1,11 @@
 //! What a turn keeps in the log.
 
-ghost use Rattle.std.specs.Prelude.{IfSome, IsTrue, OnOk, OnErr, [], ◌∷◌};
+ghost use Rattle.std.specs.Prelude.{IfSome, IsTrue, OnOk, OnErr};
 ghost use Rattle.vp_model.specs.Step.{durable_of};
 ghost use Rattle.vp_records.specs.Batches.{IsBatch};
 ghost use Rattle.vp_records.specs.Records.{IsLogRecord};
 ghost use Rattle.vp_outside.specs.Disk.{log_of, Steps};
-ghost use Rattle.vp_stable.specs.Halves.{AreKept, checkpoint_of};
+ghost use Rattle.vp_stable.specs.Halves.{AreKept, IsFold, SavesAt, MaySaveAt, checkpoint_of};
 ghost use Rattle.vp_stable.specs.Moments.{LeavesOnly, LeavesOthers};
 ghost use Rattle.vp_node.specs.Keeping.{BringsTo, SavesDueAt, MaySaveDueAt, KeepsAt, MayKeepAt};
 ghost use Rattle.vp_node.specs.Causes.{HasNodeCause, EndsInTurn};
@@ -16,11 +16,31 @@ use vp_outside::Disk;
 use vp_site::Site;
 use vp_stable::{Log, a_checkpoint_is_due_of_batches};
 
-/// Makes a checkpoint of what the site has to keep, where one is due.
+/// Makes a checkpoint of what the site has to keep.
+fn save<D: Disk>(log: &mut Log, disk: &mut D, site: &Site) -> Result<(), NodeEnd>
+    requires attached { IsTrue (D.state disk.old).attached }
+    requires kept { AreKept log.old (D.state disk.old) }
+    requires brings { IsFold (durable_of site.now) log.old (D.state disk.old) }
+    requires spelled { IsLogRecord (checkpoint_of 0 (durable_of site.now)) }
+    ensures saved { OnOk result (Steps (SavesAt (durable_of site.now) log.old log.new) (D.state disk.old) (D.state disk.new)) }
+    ensures kept { OnOk result (AreKept log.new (D.state disk.new)) }
+    ensures fault { OnErr result (Steps (MaySaveAt (durable_of site.now) log.old) (D.state disk.old) (D.state disk.new)) }
+    ensures ends { EndsInTurn result }
+    ensures any_moment { (D.state disk.old).honest → IfSome (log_of (D.state disk.old)) (λ halves.
+        LeavesOnly (D.state disk.old) (D.state disk.new) (MaySaveAt (durable_of site.now) log.old halves)) }
+    ensures others { LeavesOthers (D.state disk.old) (D.state disk.new) }
+    ensures cause { HasNodeCause (D.state disk.old).faults (D.state disk.new).faults result }
+{
+    let durable = site.durable()?;
+    log.checkpoint(disk, &durable)?;
+    Ok(())
+}
+
+/// The same, where a checkpoint is due.
 fn save_if_due<D: Disk>(log: &mut Log, disk: &mut D, site: &Site) -> Result<(), NodeEnd>
     requires attached { IsTrue (D.state disk.old).attached }
     requires kept { AreKept log.old (D.state disk.old) }
-    requires brings { BringsTo (durable_of site.now) [] log.old (D.state disk.old) }
+    requires brings { IsFold (durable_of site.now) log.old (D.state disk.old) }
     requires spelled { IsLogRecord (checkpoint_of 0 (durable_of site.now)) }
     ensures saved { OnOk result (Steps (SavesDueAt (durable_of site.now) log.old log.new) (D.state disk.old) (D.state disk.new)) }
     ensures kept { OnOk result (AreKept log.new (D.state disk.new)) }
@@ -32,10 +52,10 @@ fn save_if_due<D: Disk>(log: &mut Log, disk: &mut D, site: &Site) -> Result<(), 
     ensures cause { HasNodeCause (D.state disk.old).faults (D.state disk.new).faults result }
 {
     a_checkpoint_is_due_of_batches();
-    if log.due() {
-        log.checkpoint(disk, &site.durable()?)?;
+    if !log.due() {
+        return Ok(());
     }
-    Ok(())
+    save(log, disk, site)
 }
 
 /// Appends the records of a step that left the site as it is, and makes a checkpoint where one is due. Nothing is done of no records.

@@ -8,10 +8,10 @@ mod keeping;
 mod node;
 mod recording;
 mod sending;
-mod serving;
+mod starting;
+mod taking;
 mod turned;
 
-pub use end::{End, NodeEnd};
+pub use end::NodeEnd;
 pub use node::Node;
-pub use serving::serve;
 pub use turned::{Lines, Turned};

@@ -11,9 +11,12 @@ ghost use Rattle.vp_node.specs.Causes.{HasNodeCause, EndsInTurn};
 ghost use Rattle.vp_node.specs.declared.end.NodeEnd.TheVariants as ends;
 
 use crate::end::NodeEnd;
+use crate::keeping::keep;
+use crate::starting::folded;
+use crate::taking::take;
 use crate::turned::Turned;
 use std::marker::Model;
-use vp_base::SiteId;
+use vp_base::{Batch, SiteId};
 use vp_catalog::Catalog;
 use vp_outside::Disk;
 use vp_site::Site;
@@ -62,7 +65,13 @@ impl Node {
         ensures others { LeavesOthers (D.state disk.old) (D.state disk.new) }
         ensures cause { HasNodeCause (D.state disk.old).faults (D.state disk.new).faults result }
     {
-        Err(NodeEnd::NoMemory)
+        let (mut log, batches) = Log::recover(catalog.sites().allocator(), disk)?;
+        let durable = folded(catalog, id, &batches)?;
+        let (site, entry) = Site::start(catalog, id, durable)?;
+        let mut batch = Batch::new(catalog.sites().allocator());
+        batch.push(entry)?;
+        log.append(disk, &batch)?;
+        Ok(Node { site, log })
     }
 
     /// The number of its life, which its start forced to the log.
@@ -103,6 +112,9 @@ impl Node {
         ensures others { LeavesOthers (D.state disk.old) (D.state disk.new) }
         ensures cause { HasNodeCause (D.state disk.old).faults (D.state disk.new).faults result }
     {
-        Err(NodeEnd::NoMemory)
+        let (site, records, turned) = take(self.site, catalog, port, bytes)?;
+        let mut log = self.log;
+        keep(&mut log, disk, &site, &records)?;
+        Ok((Node { site, log }, turned))
     }
 }

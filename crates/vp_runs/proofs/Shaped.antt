@@ -28,19 +28,13 @@ use Rattle.vp_wire.proofs.Decoded.{bytes_are_read}
 use Rattle.vp_stable.specs.Halves.{folded}
 use Rattle.vp_runs.specs.declared.arrival.Arrival.{Arrival}
 use Rattle.vp_runs.specs.declared.arrival.Arrival.TheVariants.{Bad, Stray, Stops, Gives}
-use Rattle.vp_runs.specs.Arrivals.{is_for, arrival_in, arrival_of, arrival}
+use Rattle.vp_runs.specs.Arrivals.{IsArrival, is_for, arrival_in, arrival_of, arrival}
 use Rattle.vp_runs.specs.Keeping.{durable_in}
 use Rattle.vp_runs.specs.Turns.{datagram_to, message_datagram, reply_datagram, datagrams_of, turn_on}
 use Rattle.vp_runs.specs.Runs.{NodeRun, start_of, one_turn, node_run}
 use Rattle.vp_runs.specs.Laws.{IsFramed, IsTurn, TurnsAreShaped, RunsAreShaped}
 
 -- ---- what comes
-
-abbrev IsArrival : Arrival → Type 0
-IsArrival (Bad at) = Unit {0}
-IsArrival Stray = Unit {0}
-IsArrival Stops = Unit {0}
-IsArrival (Gives given) = IsInput given
 
 body_arrives : (port from to : ℕ) (b : Body) → port < 2 ^ 16 → IsBody from to b → IsArrival (arrival_in port from b)
 body_arrives port from to (body.Message message) p h = (h.0, h.2)
@@ -58,7 +52,7 @@ read_arrives catalogue id port bytes (Ok frame) p h = go (is_for catalogue id po
     go true e = rw e (body_arrives port frame.from frame.to frame.body p h.allowed)
     go false e = rw e tt
 
-arrives : (catalogue : Catalogue) (id : ℕ) (d : Datagram) → d.port < 2 ^ 16 → IsArrival (arrival catalogue id d)
+pub arrives : (catalogue : Catalogue) (id : ℕ) (d : Datagram) → d.port < 2 ^ 16 → IsArrival (arrival catalogue id d)
 unfolding arrival
 arrives catalogue id d p = read_arrives catalogue id d.port d.bytes (read_frame d.bytes) p (bytes_are_read d.bytes)
 

@@ -1,0 +1,134 @@
+-- What calls of a log leave of it, one after the other.
+use Rattle.std.proofs.Common.{◌≡◌, ◌∙◌, inl, inr, ⊎_elim, ◌⊎◌, ℕ, ◌<◌, true, List, [], ◌∷◌, ◌++◌, length, refl, sym, subst, arith}
+use Rattle.std.proofs.lemmas.List.Sums.{fold-append}
+use Rattle.std.specs.declared.option.Option.{Option}
+use Rattle.std.specs.declared.option.Option.TheVariants.{Some, None}
+use Rattle.std.specs.Prelude.{IfSome, OnOk, OnErr, Result, Ok, Err, if◌then◌else◌}
+use Rattle.vp_model.specs.Types.{LogRecord, Stored}
+use Rattle.vp_model.specs.Durable.{DurableState, empty_durable, apply_all}
+use Rattle.vp_outside.specs.Disk.{Halves, DiskState, IsDisk, Becomes, Elapses}
+use Rattle.vp_stable.specs.Halves.{Standing, StandsAt, HaveBatches, AreSettled, GainsAt, MayGainAt, MaySaveAt, DueIsOfTheBatches, FoldsTo, folded, saved, due, is_due}
+use Rattle.vp_stable.specs.Moments.{LeavesOnly}
+use Rattle.vp_stable.proofs.Times.{elapses_none, elapses_as, elapses_then, leaves_only}
+use Rattle.vp_runs.specs.Keeping.{saved_if_due, kept_with}
+use Rattle.vp_node.specs.Keeping.{SavesDueAt, MaySaveDueAt, KeepsAt, MayKeep, MayKeepAt}
+
+-- a log on which nothing is done
+pub stays : (P : Halves → Halves → Type 0) → ((log : Halves) → P log log) → (log : Option Halves) → Becomes P log log
+stays P p (Some log) = p log
+stays P p None = tt
+
+-- no call at all: a crash leaves what a read gives
+pub leaves_settled : (P : Halves → Halves → Type 0) → ((log : Halves) → P log log) → (at : Standing) (disk : DiskState) → IsDisk disk → (log : Option Halves)
+    → IfSome log (λ log. AreSettled at log (disk.may_leave disk.asked)) → IfSome log (λ log. LeavesOnly disk disk (P log))
+leaves_settled P p at disk is (Some log) kept =
+    leaves_only disk disk (P log) (elapses_none disk.asked disk (P log)) (λ image left. subst (P log) (sym (kept.synced image (is.only_now disk.asked image left))) (p log))
+leaves_settled P p at disk is None kept = tt
+
+pub has : {at : Standing} {batches : List (List LogRecord)} {log : Halves} → StandsAt at batches log → HaveBatches batches log
+has {at = at} stands = (at.half, stands.current, inr (at.gate, stands.is_log))
+
+pub may_save_none : (d : DurableState) (at : Standing) (log : Halves) → MaySaveAt d at log log
+may_save_none d at log batches stands = inl (has stands)
+
+pub may_save_due_none : (d : DurableState) (at : Standing) (log : Halves) → MaySaveDueAt d at log log
+may_save_due_none d at log batches stands = inl (has stands)
+
+pub may_keep_none : (d : DurableState) (records : List LogRecord) (at : Standing) (log : Halves) → MayKeepAt d records at log log
+may_keep_none d [] at log batches stands = (batches, has stands, refl)
+may_keep_none d (r ∷ records) at log batches stands = (batches, has stands, inl refl)
+
+pub on_err : {T E : Type 0} {P : Type 0} (r : Result T E) → P → OnErr r P
+on_err (Ok v) p = tt
+on_err (Err e) p = p
+
+-- what a crash leaves, said in another way
+pub leaves_as : (P Q : Halves → Halves → Type 0) → ((log image : Halves) → P log image → Q log image) → (old new : DiskState) → (log : Option Halves)
+    → IfSome log (λ log. LeavesOnly old new (P log)) → IfSome log (λ log. LeavesOnly old new (Q log))
+leaves_as P Q as_q old new (Some log) leaves = record {
+  each = λ image left. as_q log image (leaves.each image left);
+  time = elapses_as old.asked old new (P log) (Q log) leaves.time (as_q log);
+}
+leaves_as P Q as_q old new None leaves = tt
+
+-- where a checkpoint is due of a log, it is due of its batches
+pub may_save_due : (d : DurableState) (at : Standing) → is_due at ≡ true → DueIsOfTheBatches → (old new : Halves) → MaySaveAt d at old new → MaySaveDueAt d at old new
+may_save_due d at is_due_is law old new may batches stands =
+    let due_is : due batches ≡ true = sym (law at batches old stands) ∙ is_due_is in
+    ⊎_elim (λ same. inl same) (λ kept. inr (subst (λ b. HaveBatches (if b then saved d batches else batches) new) (sym due_is) kept)) (may batches stands)
+
+pub becomes_as : (P Q : Halves → Halves → Type 0) → ((old new : Halves) → P old new → Q old new) → (o p : Option Halves) → Becomes P o p → Becomes Q o p
+becomes_as P Q as_q (Some old) (Some new) is = as_q old new is
+becomes_as P Q as_q (Some old) None is = is
+becomes_as P Q as_q None (Some new) is = is
+becomes_as P Q as_q None None is = tt
+
+pub on_ok_as : {T E : Type 0} (P Q : Type 0) → (P → Q) → (r : Result T E) → OnOk r P → OnOk r Q
+on_ok_as P Q as_q (Ok v) is = as_q is
+on_ok_as P Q as_q (Err e) is = tt
+
+pub on_err_as : {T E : Type 0} (P Q : Type 0) → (P → Q) → (r : Result T E) → OnErr r P → OnErr r Q
+on_err_as P Q as_q (Ok v) is = tt
+on_err_as P Q as_q (Err e) is = as_q is
+
+-- ---- records behind the batches, and a checkpoint behind them where one is due
+
+module _ (d : DurableState) (records : List LogRecord) (some : 0 < length records) (from at to : Standing) where
+  pub keeps_then : (a b c : Halves) → GainsAt records from at a b → SavesDueAt d at to b c → KeepsAt d records from to a c
+  keeps_then a b c gains saves batches stands = by records some (λ more. saves more) (gains batches stands)
+    where
+      by : (rs : List LogRecord) → 0 < length rs → ((more : List (List LogRecord)) → StandsAt at more b → StandsAt to (saved_if_due d more) c) → StandsAt at (batches ++ rs ∷ []) b → StandsAt to (kept_with d rs batches) c
+      by [] none saves stands = absurd (omega (arith, none))
+      by (r ∷ rs) lt saves stands = saves (batches ++ (r ∷ rs) ∷ []) stands
+
+  may_keep : (batches after : List (List LogRecord)) → (after ≡ batches) ⊎ ((after ≡ batches ++ records ∷ []) ⊎ (after ≡ saved_if_due d (batches ++ records ∷ []))) → MayKeep d records batches after
+  may_keep batches after is = by records some is
+    where
+      by : (rs : List LogRecord) → 0 < length rs → (after ≡ batches) ⊎ ((after ≡ batches ++ rs ∷ []) ⊎ (after ≡ saved_if_due d (batches ++ rs ∷ []))) → MayKeep d rs batches after
+      by [] none is = absurd (omega (arith, none))
+      by (r ∷ rs) lt is = is
+
+  pub may_gain_keeps : (a c : Halves) → MayGainAt records from a c → MayKeepAt d records from a c
+  may_gain_keeps a c may batches stands =
+      ⊎_elim (λ same. (batches, same, may_keep batches batches (inl refl)))
+      (λ gained. (batches ++ records ∷ [], gained, may_keep batches (batches ++ records ∷ []) (inr (inl refl)))) (may batches stands)
+
+  pub may_save_keeps : (a b c : Halves) → GainsAt records from at a b → MaySaveDueAt d at b c → MayKeepAt d records from a c
+  may_save_keeps a b c gains may batches stands =
+      ⊎_elim (λ same. (batches ++ records ∷ [], same, may_keep batches (batches ++ records ∷ []) (inr (inl refl))))
+      (λ kept. (saved_if_due d (batches ++ records ∷ []), kept, may_keep batches (saved_if_due d (batches ++ records ∷ [])) (inr (inr refl))))
+      (may (batches ++ records ∷ []) (gains batches stands))
+
+  pub leaves_then : (old mid new : DiskState) → mid.asked ≡ old.asked → (o p : Option Halves) → Becomes (GainsAt records from at) o p
+      → IfSome o (λ log. LeavesOnly old mid (MayGainAt records from log)) → IfSome p (λ log. LeavesOnly mid new (MaySaveDueAt d at log))
+      → IfSome o (λ log. LeavesOnly old new (MayKeepAt d records from log))
+  leaves_then old mid new name (Some a) (Some b) gains first second =
+      let onward : Elapses old.asked mid new (MaySaveDueAt d at b) = subst (λ log. Elapses log mid new (MaySaveDueAt d at b)) name second.time in
+      let time = elapses_then old.asked old mid new (MayGainAt records from a) (MaySaveDueAt d at b) (MayKeepAt d records from a) first.time onward (may_gain_keeps a) (λ image. may_save_keeps a b image gains) in
+      leaves_only old new (MayKeepAt d records from a) time (λ image left. may_gain_keeps a image (first.each image (first.time.keeps old.moment image (omega arith) left)))
+  leaves_then old mid new name (Some a) None gains first second = absurd gains
+  leaves_then old mid new name None (Some b) gains first second = tt
+  leaves_then old mid new name None None gains first second = tt
+
+  -- what the batches fold to, with the records behind them
+  brings : (batches : List (List LogRecord)) (e : DurableState) → apply_all records (folded batches e) ≡ d → folded (batches ++ records ∷ []) e ≡ d
+  brings batches e is = fold-append (λ b item. apply_all item b) e batches (records ∷ []) ∙ is
+
+  pub brings_after : (o p : Option Halves) → Becomes (GainsAt records from at) o p
+      → IfSome o (λ log. (batches : List (List LogRecord)) × StandsAt from batches log × ((copies : List (ℕ × Stored)) × (apply_all records (folded batches (empty_durable copies)) ≡ d)))
+      → IfSome p (λ log. (batches : List (List LogRecord)) × StandsAt at batches log × FoldsTo d batches)
+  brings_after (Some a) (Some b) gains (batches, stands, folds) = (batches ++ records ∷ [], gains batches stands, (folds.0, brings batches (empty_durable folds.0) folds.1))
+  brings_after (Some a) None gains is = absurd gains
+  brings_after None (Some b) gains is = absurd gains
+  brings_after None None gains is = tt
+
+pub becomes_then : (P Q R : Halves → Halves → Type 0) → ((a b c : Halves) → P a b → Q b c → R a c) → (o p q : Option Halves) → Becomes P o p → Becomes Q p q → Becomes R o q
+becomes_then P Q R both (Some a) (Some b) (Some c) first second = both a b c first second
+becomes_then P Q R both (Some a) (Some b) None first second = second
+becomes_then P Q R both (Some a) None q first second = absurd first
+becomes_then P Q R both None (Some b) q first second = absurd first
+becomes_then P Q R both None None q first second = by q second
+  where
+    by : (q : Option Halves) → Becomes Q None q → Becomes R None q
+    by (Some c) is = is
+    by None is = tt

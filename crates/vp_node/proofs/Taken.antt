@@ -1,0 +1,42 @@
+-- What a step of a site gives has the form of frames, and what its turn tells.
+use Rattle.std.proofs.Common.{◌≡◌, ◌∙◌, ap, refl, ℕ, true, false, List, [], ◌∷◌, ◌++◌, map, flat_map}
+use Rattle.std.specs.List.{AllByRecursion}
+use Rattle.vp_model.specs.Types.{Sent, Reply}
+use Rattle.vp_model.specs.Words.{has}
+use Rattle.vp_model.specs.Catalogue.{Catalogue, sites_of}
+use Rattle.vp_model.specs.Site.{Stepped}
+use Rattle.vp_catalog.specs.Document.{IsCatalogue}
+use Rattle.vp_laws.specs.Shapes.{IsSent, IsReply}
+use Rattle.vp_laws.specs.ShapeLaws.{GivenAreFrames, message_frame, reply_frame}
+use Rattle.vp_wire.specs.Grammar.{IsFrame}
+use Rattle.vp_runs.specs.Turns.{step_turn, message_datagram, reply_datagram, datagrams_of, out_line}
+use Rattle.vp_node.specs.declared.turned.Turned.{Turned}
+use Rattle.vp_node.specs.Taking.{Does}
+
+module _ (catalogue : Catalogue) (id : ℕ) (frames : GivenAreFrames) (is : IsCatalogue catalogue) (listed : has (sites_of catalogue) id ≡ true) where
+  pub messages_are_frames : (messages : List Sent) → AllByRecursion (IsSent id) messages → AllByRecursion (λ (sent : Sent). IsFrame (message_frame sent)) messages
+  messages_are_frames [] all = tt
+  messages_are_frames (sent ∷ messages) all = (frames.sent catalogue id sent is listed all.0, messages_are_frames messages all.1)
+
+  pub replies_are_frames : (replies : List Reply) → AllByRecursion IsReply replies → AllByRecursion (λ (reply : Reply). IsFrame (reply_frame id reply)) replies
+  replies_are_frames [] all = tt
+  replies_are_frames (reply ∷ replies) all = (frames.reply catalogue id reply is listed all.0, replies_are_frames replies all.1)
+
+-- what is sent and committed of a step is its turn
+pub does : (catalogue : Catalogue) (id : ℕ) (o : Stepped) (before told : Turned)
+    → told ≡ record {
+        lines = before.lines ++ map out_line (flat_map (message_datagram catalogue) o.effects.messages ++ map (reply_datagram id) o.effects.replies);
+        datagrams = flat_map (message_datagram catalogue) o.effects.messages ++ map (reply_datagram id) o.effects.replies;
+        commits = o.effects.commits;
+        stop = before.stop;
+      }
+    → before.stop ≡ false → Does (step_turn catalogue id o) before.lines o.site o.effects.records told
+unfolding datagrams_of
+does catalogue id o before told is going = record {
+  site_is = refl;
+  records_are = refl;
+  lines_are = ap (λ (t : Turned). t.lines) is;
+  datagrams_are = ap (λ (t : Turned). t.datagrams) is;
+  commits_are = ap (λ (t : Turned). t.commits) is;
+  stop_is = ap (λ (t : Turned). t.stop) is ∙ going;
+}

@@ -1,0 +1,32 @@
+use Rattle.std.proofs.Common.{◌≡◌, sym, ap, subst}
+use Rattle.vp_model.specs.Durable.{DurableState}
+use Rattle.vp_model.specs.Step.{durable_of}
+use Rattle.vp_records.specs.Records.{IsLogRecord}
+use Rattle.vp_outside.specs.Disk.{log_of}
+use Rattle.vp_stable.specs.Halves.{MaySaveAt, FoldsAlike, checkpoint_of}
+use Rattle.vp_node.proofs.Kept.{stays, on_err, leaves_settled, leaves_as, may_save_none}
+use Rattle.vp_node.proofs.keeping.save.Goals as goal
+
+pub returns-in_err-durable-clause-fault : goal.returns-in_err-durable-clause-fault
+returns-in_err-durable-clause-fault g c = on_err c.from_residual.result (stays (MaySaveAt (durable_of c.args.site.now) c.args.log.now) (may_save_none _ _) (log_of (g.D.Disk.state c.args.disk.now)))
+
+pub returns-in_err-durable-clause-any_moment : goal.returns-in_err-durable-clause-any_moment
+returns-in_err-durable-clause-any_moment g c honest =
+    leaves_settled (MaySaveAt (durable_of c.args.site.now) c.args.log.now) (may_save_none _ _) c.args.log.now (g.D.Disk.state c.args.disk.now) (g.met.D.Disk.is_disk c.args.disk.now) (log_of (g.D.Disk.state c.args.disk.now)) (c.requires.kept honest)
+
+pub checkpoint-requires-clause-spelled : goal.checkpoint-requires-clause-spelled
+checkpoint-requires-clause-spelled g c = subst (λ (d : DurableState). IsLogRecord (checkpoint_of 0 d)) (sym c.in_ok-durable.ensures) c.requires.spelled
+
+pub returns-in_err-checkpoint-clause-any_moment : goal.returns-in_err-checkpoint-clause-any_moment
+returns-in_err-checkpoint-clause-any_moment g c honest =
+    leaves_as (λ log image. MaySaveAt c.in_ok-durable.durable c.args.log.now log image × FoldsAlike c.in_ok-durable.durable c.args.log.now log image)
+    (MaySaveAt (durable_of c.args.site.now) c.args.log.now)
+    (λ log image left. subst (λ d. MaySaveAt d c.args.log.now log image) c.in_ok-durable.ensures left.0)
+    (g.D.Disk.state c.args.disk.now) (g.D.Disk.state c.checkpoint.new.disk) (log_of (g.D.Disk.state c.args.disk.now)) (c.checkpoint.ensures.any_moment honest)
+
+pub returns-clause-any_moment : goal.returns-clause-any_moment
+returns-clause-any_moment g c honest =
+    leaves_as (λ log image. MaySaveAt c.in_ok-durable.durable c.args.log.now log image × FoldsAlike c.in_ok-durable.durable c.args.log.now log image)
+    (MaySaveAt (durable_of c.args.site.now) c.args.log.now)
+    (λ log image left. subst (λ d. MaySaveAt d c.args.log.now log image) c.in_ok-durable.ensures left.0)
+    (g.D.Disk.state c.args.disk.now) (g.D.Disk.state c.checkpoint.new.disk) (log_of (g.D.Disk.state c.args.disk.now)) (c.checkpoint.ensures.any_moment honest)
