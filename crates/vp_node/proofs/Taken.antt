@@ -1,11 +1,12 @@
 -- What a step of a site gives has the form of frames, and what its turn tells.
-use Rattle.std.proofs.Common.{◌≡◌, ◌∙◌, ap, refl, ℕ, true, false, List, [], ◌∷◌, ◌++◌, map, flat_map}
+use Rattle.std.proofs.Common.{◌≡◌, ◌∙◌, ap, refl, ℕ, true, false, List, [], ◌∷◌, ◌++◌, map, flat_map, length, ◌<◌, subst, arith}
+use Rattle.std.proofs.lemmas.Bool.{false≢true}
 use Rattle.std.specs.List.{AllByRecursion}
 use Rattle.vp_model.specs.Types.{Sent, Reply}
-use Rattle.vp_model.specs.Words.{has}
+use Rattle.vp_model.specs.Words.{has, keys}
 use Rattle.vp_model.specs.Catalogue.{Catalogue, sites_of}
 use Rattle.vp_model.specs.Site.{Stepped}
-use Rattle.vp_catalog.specs.Document.{IsCatalogue}
+use Rattle.vp_catalog.specs.Document.{IsCatalogueSoFar, IsCatalogue}
 use Rattle.vp_laws.specs.Shapes.{IsSent, IsReply}
 use Rattle.vp_laws.specs.ShapeLaws.{GivenAreFrames, message_frame, reply_frame}
 use Rattle.vp_wire.specs.Grammar.{IsFrame}
@@ -25,11 +26,11 @@ module _ (catalogue : Catalogue) (id : ℕ) (frames : GivenAreFrames) (is : IsCa
 -- what is sent and committed of a step is its turn
 pub does : (catalogue : Catalogue) (id : ℕ) (o : Stepped) (before told : Turned)
     → told ≡ record {
-        lines = before.lines ++ map out_line (flat_map (message_datagram catalogue) o.effects.messages ++ map (reply_datagram id) o.effects.replies);
-        datagrams = flat_map (message_datagram catalogue) o.effects.messages ++ map (reply_datagram id) o.effects.replies;
-        commits = o.effects.commits;
-        stop = before.stop;
-      }
+      lines = before.lines ++ map out_line (flat_map (message_datagram catalogue) o.effects.messages ++ map (reply_datagram id) o.effects.replies);
+      datagrams = flat_map (message_datagram catalogue) o.effects.messages ++ map (reply_datagram id) o.effects.replies;
+      commits = o.effects.commits;
+      stop = before.stop;
+    }
     → before.stop ≡ false → Does (step_turn catalogue id o) before.lines o.site o.effects.records told
 unfolding datagrams_of
 does catalogue id o before told is going = record {
@@ -40,3 +41,11 @@ does catalogue id o before told is going = record {
   commits_are = ap (λ (t : Turned). t.commits) is;
   stop_is = ap (λ (t : Turned). t.stop) is ∙ going;
 }
+
+-- a catalogue of which some site is one has a site
+pub is_catalogue : (catalogue : Catalogue) (id : ℕ) → IsCatalogueSoFar catalogue → has (sites_of catalogue) id ≡ true → IsCatalogue catalogue
+is_catalogue catalogue id so_far listed = record { some = by catalogue.sites refl; so_far = so_far }
+  where
+    by : (sites : List (ℕ × ℕ)) → catalogue.sites ≡ sites → 0 < length catalogue.sites
+    by [] e = absurd (false≢true (subst (λ sites. has (keys sites) id ≡ true) e listed))
+    by (s ∷ sites) e = rw e (omega arith)

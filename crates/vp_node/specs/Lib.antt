@@ -1,4 +1,2 @@
-pub mod Causes
 pub mod Keeping
 pub mod Taking
-pub mod Nodes

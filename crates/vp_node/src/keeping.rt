@@ -6,18 +6,17 @@ ghost use Rattle.vp_records.specs.Batches.{IsBatch};
 ghost use Rattle.vp_records.specs.Records.{IsLogRecord};
 ghost use Rattle.vp_outside.specs.Disk.{log_of, Steps};
 ghost use Rattle.vp_stable.specs.Halves.{AreKept, IsFold, SavesAt, MaySaveAt, checkpoint_of};
+ghost use Rattle.vp_stable.specs.Faults.{HasAppendCause};
 ghost use Rattle.vp_stable.specs.Moments.{LeavesOnly, LeavesOthers};
 ghost use Rattle.vp_node.specs.Keeping.{BringsTo, SavesDueAt, MaySaveDueAt, KeepsAt, MayKeepAt};
-ghost use Rattle.vp_node.specs.Causes.{HasNodeCause, EndsInTurn};
 
-use crate::end::NodeEnd;
 use vp_base::Batch;
 use vp_outside::Disk;
 use vp_site::Site;
-use vp_stable::{Log, a_checkpoint_is_due_of_batches};
+use vp_stable::{AppendFault, Log, a_checkpoint_is_due_of_batches};
 
 /// Makes a checkpoint of what the site has to keep.
-fn save<D: Disk>(log: &mut Log, disk: &mut D, site: &Site) -> Result<(), NodeEnd>
+fn save<D: Disk>(log: &mut Log, disk: &mut D, site: &Site) -> Result<(), AppendFault>
     requires attached { IsTrue (D.state disk.old).attached }
     requires kept { AreKept log.old (D.state disk.old) }
     requires brings { IsFold (durable_of site.now) log.old (D.state disk.old) }
@@ -25,19 +24,17 @@ fn save<D: Disk>(log: &mut Log, disk: &mut D, site: &Site) -> Result<(), NodeEnd
     ensures saved { OnOk result (Steps (SavesAt (durable_of site.now) log.old log.new) (D.state disk.old) (D.state disk.new)) }
     ensures kept { OnOk result (AreKept log.new (D.state disk.new)) }
     ensures fault { OnErr result (Steps (MaySaveAt (durable_of site.now) log.old) (D.state disk.old) (D.state disk.new)) }
-    ensures ends { EndsInTurn result }
     ensures any_moment { (D.state disk.old).honest → IfSome (log_of (D.state disk.old)) (λ halves.
         LeavesOnly (D.state disk.old) (D.state disk.new) (MaySaveAt (durable_of site.now) log.old halves)) }
     ensures others { LeavesOthers (D.state disk.old) (D.state disk.new) }
-    ensures cause { HasNodeCause (D.state disk.old).faults (D.state disk.new).faults result }
+    ensures cause { HasAppendCause (D.state disk.old).faults (D.state disk.new).faults result }
 {
     let durable = site.durable()?;
-    log.checkpoint(disk, &durable)?;
-    Ok(())
+    log.checkpoint(disk, &durable)
 }
 
 /// The same, where a checkpoint is due.
-fn save_if_due<D: Disk>(log: &mut Log, disk: &mut D, site: &Site) -> Result<(), NodeEnd>
+fn save_if_due<D: Disk>(log: &mut Log, disk: &mut D, site: &Site) -> Result<(), AppendFault>
     requires attached { IsTrue (D.state disk.old).attached }
     requires kept { AreKept log.old (D.state disk.old) }
     requires brings { IsFold (durable_of site.now) log.old (D.state disk.old) }
@@ -45,11 +42,10 @@ fn save_if_due<D: Disk>(log: &mut Log, disk: &mut D, site: &Site) -> Result<(), 
     ensures saved { OnOk result (Steps (SavesDueAt (durable_of site.now) log.old log.new) (D.state disk.old) (D.state disk.new)) }
     ensures kept { OnOk result (AreKept log.new (D.state disk.new)) }
     ensures fault { OnErr result (Steps (MaySaveDueAt (durable_of site.now) log.old) (D.state disk.old) (D.state disk.new)) }
-    ensures ends { EndsInTurn result }
     ensures any_moment { (D.state disk.old).honest → IfSome (log_of (D.state disk.old)) (λ halves.
         LeavesOnly (D.state disk.old) (D.state disk.new) (MaySaveDueAt (durable_of site.now) log.old halves)) }
     ensures others { LeavesOthers (D.state disk.old) (D.state disk.new) }
-    ensures cause { HasNodeCause (D.state disk.old).faults (D.state disk.new).faults result }
+    ensures cause { HasAppendCause (D.state disk.old).faults (D.state disk.new).faults result }
 {
     a_checkpoint_is_due_of_batches();
     if !log.due() {
@@ -64,7 +60,7 @@ pub fn keep<D: Disk>(
     disk: &mut D,
     site: &Site,
     records: &Batch,
-) -> Result<(), NodeEnd>
+) -> Result<(), AppendFault>
     requires attached { IsTrue (D.state disk.old).attached }
     requires kept { AreKept log.old (D.state disk.old) }
     requires brings { BringsTo (durable_of site.now) records.now log.old (D.state disk.old) }
@@ -73,11 +69,10 @@ pub fn keep<D: Disk>(
     ensures kept_at { OnOk result (Steps (KeepsAt (durable_of site.now) records.now log.old log.new) (D.state disk.old) (D.state disk.new)) }
     ensures kept { OnOk result (AreKept log.new (D.state disk.new)) }
     ensures fault { OnErr result (Steps (MayKeepAt (durable_of site.now) records.now log.old) (D.state disk.old) (D.state disk.new)) }
-    ensures ends { EndsInTurn result }
     ensures any_moment { (D.state disk.old).honest → IfSome (log_of (D.state disk.old)) (λ halves.
         LeavesOnly (D.state disk.old) (D.state disk.new) (MayKeepAt (durable_of site.now) records.now log.old halves)) }
     ensures others { LeavesOthers (D.state disk.old) (D.state disk.new) }
-    ensures cause { HasNodeCause (D.state disk.old).faults (D.state disk.new).faults result }
+    ensures cause { HasAppendCause (D.state disk.old).faults (D.state disk.new).faults result }
 {
     if records.as_slice().is_empty() {
         return Ok(());

@@ -1,17 +1,16 @@
 //! A node: a site with its log. It takes one datagram after the other, each as a step of its site; what a step forces is synced to the
-//! log before its lines are printed, and these are printed before its datagrams are sent.
+//! log before anything that it gives leaves the node.
+//!
+//! Here are the two halves of a turn: what a datagram does to the site, with no disk, and what the log keeps of it.
 #![tactic(auto)]
 
 mod arrivals;
-mod end;
 mod keeping;
-mod node;
 mod recording;
 mod sending;
-mod starting;
 mod taking;
 mod turned;
 
-pub use end::NodeEnd;
-pub use node::Node;
+pub use keeping::keep;
+pub use taking::take;
 pub use turned::{Lines, Turned};

@@ -46,7 +46,12 @@ fn step(
 }
 
 /// A turn without a step, with the line of what came.
-fn pass(site: Site, alloc: Global, line: Seq<u8>, stop: bool) -> Result<(Site, Batch, Turned), NoMemory>
+fn pass(
+    site: Site,
+    alloc: Global,
+    line: Seq<u8>,
+    stop: bool,
+) -> Result<(Site, Batch, Turned), NoMemory>
     ensures { IfOk result (λ it. Does (quiet_turn site stop) (line ∷ []) it.0 it.1 it.2) }
 {
     Ok((site, Batch::new(alloc), Turned::quiet(alloc, line, stop)?))
@@ -84,7 +89,6 @@ pub fn take(
     port: u16,
     bytes: &[u8],
 ) -> Result<(Site, Batch, Turned), NoMemory>
-    requires catalogue { IsCatalogue catalog.now }
     requires site { IsShaped catalog.now site }
     ensures { IfOk result (λ it. Takes catalog.now site (record { port = port; bytes = bytes.now }) it.0 it.1 it.2) }
 {

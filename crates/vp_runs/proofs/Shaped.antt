@@ -12,7 +12,7 @@ use Rattle.vp_model.specs.Site.{SiteState}
 use Rattle.vp_model.specs.Step.{step}
 use Rattle.vp_catalog.specs.Document.{IsCatalogue, AreSites}
 use Rattle.vp_records.specs.Batches.{IsBatch}
-use Rattle.vp_laws.specs.Shapes.{IsInput, IsDurable, IsShaped, IsSent, IsReply}
+use Rattle.vp_laws.specs.Shapes.{IsDurable, IsShaped, IsSent, IsReply}
 use Rattle.vp_laws.specs.ShapeLaws.{message_frame, reply_frame}
 use Rattle.vp_laws.proofs.ShapeLists.{all_append, all_map}
 use Rattle.vp_laws.proofs.ShapeFold.{all_applied}

@@ -1,8 +1,8 @@
-use Rattle.std.proofs.Common.{◌≡◌, ◌<◌, List, length, sym, subst, rules}
+use Rattle.std.proofs.Common.{◌<◌, List, length, sym, subst, rules}
 use Rattle.std.specs.Prelude.{IfSome}
 use Rattle.vp_model.specs.Types.{LogRecord}
 use Rattle.vp_model.specs.Step.{durable_of}
-use Rattle.vp_outside.specs.Disk.{Steps, Becomes, log_of}
+use Rattle.vp_outside.specs.Disk.{log_of}
 use Rattle.vp_stable.specs.Halves.{GainsAt, MayGainAt, StandsAt, FoldsTo}
 use Rattle.vp_stable.specs.Moments.{LeavesOnly}
 use Rattle.vp_stable.proofs.Times.{others_join}
@@ -47,7 +47,7 @@ pub returns-clause-any_moment : goal.returns-clause-any_moment
 returns-clause-any_moment g c honest =
     let some : 0 < length c.args.records.now = search rules in
     let second = subst (λ name. IfSome ((g.D.Disk.state c.append.new.disk).logs name) (λ log. LeavesOnly (g.D.Disk.state c.append.new.disk) (g.D.Disk.state c.save_if_due.new.disk) (MaySaveDueAt (durable_of c.args.site.now) c.append.new.self log)))
-        c.append.ensures.others.stays.same_name (c.save_if_due.ensures.any_moment (c.append.ensures.others.honest.0 honest)) in
+    c.append.ensures.others.stays.same_name (c.save_if_due.ensures.any_moment (c.append.ensures.others.honest.0 honest)) in
     leaves_then (durable_of c.args.site.now) c.args.records.now some c.args.log.now c.append.new.self c.append.new.self
     (g.D.Disk.state c.args.disk.now) (g.D.Disk.state c.append.new.disk) (g.D.Disk.state c.save_if_due.new.disk) c.append.ensures.others.stays.same_name
     _ _ c.in_ok-append.ensures.appended (c.append.ensures.any_moment honest) second

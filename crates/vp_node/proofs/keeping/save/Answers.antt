@@ -1,4 +1,4 @@
-use Rattle.std.proofs.Common.{◌≡◌, sym, ap, subst}
+use Rattle.std.proofs.Common.{sym, subst}
 use Rattle.vp_model.specs.Durable.{DurableState}
 use Rattle.vp_model.specs.Step.{durable_of}
 use Rattle.vp_records.specs.Records.{IsLogRecord}
@@ -16,13 +16,6 @@ returns-in_err-durable-clause-any_moment g c honest =
 
 pub checkpoint-requires-clause-spelled : goal.checkpoint-requires-clause-spelled
 checkpoint-requires-clause-spelled g c = subst (λ (d : DurableState). IsLogRecord (checkpoint_of 0 d)) (sym c.in_ok-durable.ensures) c.requires.spelled
-
-pub returns-in_err-checkpoint-clause-any_moment : goal.returns-in_err-checkpoint-clause-any_moment
-returns-in_err-checkpoint-clause-any_moment g c honest =
-    leaves_as (λ log image. MaySaveAt c.in_ok-durable.durable c.args.log.now log image × FoldsAlike c.in_ok-durable.durable c.args.log.now log image)
-    (MaySaveAt (durable_of c.args.site.now) c.args.log.now)
-    (λ log image left. subst (λ d. MaySaveAt d c.args.log.now log image) c.in_ok-durable.ensures left.0)
-    (g.D.Disk.state c.args.disk.now) (g.D.Disk.state c.checkpoint.new.disk) (log_of (g.D.Disk.state c.args.disk.now)) (c.checkpoint.ensures.any_moment honest)
 
 pub returns-clause-any_moment : goal.returns-clause-any_moment
 returns-clause-any_moment g c honest =

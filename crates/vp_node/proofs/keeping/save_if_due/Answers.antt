@@ -1,6 +1,6 @@
 use Rattle.std.proofs.Common.{◌≡◌, true, rules}
 use Rattle.vp_model.specs.Step.{durable_of}
-use Rattle.vp_outside.specs.Disk.{Steps, log_of}
+use Rattle.vp_outside.specs.Disk.{log_of}
 use Rattle.vp_stable.specs.Halves.{MaySaveAt, is_due}
 use Rattle.vp_node.specs.Keeping.{MaySaveDueAt}
 use Rattle.vp_node.proofs.Kept.{leaves_settled, leaves_as, may_save_due_none, may_save_due, becomes_as, on_err_as}
