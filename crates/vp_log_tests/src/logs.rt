@@ -194,8 +194,8 @@ fn failing(rt: &HostRuntime, call: u64) -> Result<MemDisk, Fail> {
 fn done(rt: &HostRuntime, call: u64) -> Result<u8, Fail> {
     let mut disk = failing(rt, call)?;
     disk.attach(&Word::new(rt.alloc()))?;
-    let mut log = match Log::recover(rt.alloc(), &mut disk) {
-        Ok((log, _)) => log,
+    let (mut log, _) = match Log::recover(rt.alloc(), &mut disk) {
+        Ok(recovered) => recovered,
         Err(fault) => return Ok(if fault == LogFault::DiskFault { 0 } else { 9 }),
     };
     let appended = log.append(&mut disk, &start(rt, 1)?);
