@@ -3,5 +3,7 @@
 
 mod answering;
 mod asking;
+mod claims;
 
 pub use asking::{AskFault, ask};
+pub use claims::answers_are_given;
