@@ -1,0 +1,101 @@
+//! Asking over a link in memory.
+
+ghost use Rattle.std.specs.Prelude.{◌≡◌, None};
+
+use bytes::Bytes;
+use std::alloc::{AllocError, Global};
+use std::test::Fail;
+use vp_base::{Answer, Call, SiteId};
+use vp_client::{AskFault, ask};
+use vp_outside::{Datagram, Link, MemLink, SureLink};
+
+/// The port of site 1.
+const PORT: u16 = 7001;
+
+/// The call to begin, to site 1.
+const BEGIN: &[u8] = b"\x56\x01\x20\0\x01\x01";
+
+/// Begun 1.1.1 in the opening view, from site 1.
+const BEGUN: &[u8] = b"\x56\x01\x21\x01\0\x01\x01\0\0\0\x01\0\0\0\x01\0\0\0\0\0\0\0\0\0";
+
+/// The same with a byte behind it.
+const LONGER: &[u8] = b"\x56\x01\x21\x01\0\x01\x01\0\0\0\x01\0\0\0\x01\0\0\0\0\0\0\0\0\0\0";
+
+/// Inviting to 1@1, from site 1: no answer to a begin.
+const INVITING: &[u8] = b"\x56\x01\x21\x01\0\x06\0\0\0\0\0\0\0\x01\x01";
+
+fn datagram(alloc: Global, port: u16, bytes: &[u8]) -> Result<Datagram, AllocError> {
+    Ok(Datagram {
+        port,
+        bytes: Bytes::copy_from_slice(alloc, bytes)?,
+    })
+}
+
+/// What a begin at site 1 is answered over this link, bound to a port of its own.
+fn begin<L: Link>(alloc: Global, link: &mut L, turns: u64) -> Result<Answer, AskFault>
+    requires fresh { (L.state link.old).asked ≡ None }
+{
+    link.bind(7100)?;
+    ask(alloc, link, PORT, SiteId::of(1), &Call::Begin, turns)
+}
+
+/// Whether the frame of the begin was handed over to the site's port, and nothing else.
+fn is_begin(handed: &[Datagram]) -> bool {
+    match handed {
+        [call] => call.port == PORT && call.bytes.as_slice() == BEGIN,
+        _ => false,
+    }
+}
+
+#[test]
+fn the_call_is_sent_and_as_many_datagrams_are_taken_as_are_asked_for(
+    rt: HostRuntime,
+) -> Result<(), Fail> {
+    let alloc = rt.alloc();
+    let mut link = SureLink::new(alloc, Vec::new(alloc));
+    let answer = begin(alloc, &mut link, 2);
+    assert!(rt; matches!(answer, Err(AskFault::NoAnswer { turns: 2 })));
+    assert!(rt; is_begin(link.handed()));
+    Ok(())
+}
+
+/// What a begin is answered where these come one after the other: a reply from another port, bytes that are no frame, an answer to
+/// another call, a frame with a byte behind it, and the answer.
+fn among_others(rt: &HostRuntime, turns: u64) -> Result<Result<Answer, AskFault>, Fail> {
+    let alloc = rt.alloc();
+    let datagrams = vec![in alloc;
+        datagram(alloc, 7002, BEGUN)?,
+        datagram(alloc, PORT, b"\x56")?,
+        datagram(alloc, PORT, INVITING)?,
+        datagram(alloc, PORT, LONGER)?,
+        datagram(alloc, PORT, BEGUN)?,
+    ]?;
+    let mut link = SureLink::new(alloc, datagrams);
+    Ok(begin(alloc, &mut link, turns))
+}
+
+#[test]
+fn the_first_answer_from_the_port_of_the_site_is_taken(rt: HostRuntime) -> Result<(), Fail> {
+    let answer = among_others(&rt, 5)?;
+    assert!(rt; matches!(answer, Ok(Answer::Begun { .. })));
+    let answer = among_others(&rt, 4)?;
+    assert!(rt; matches!(answer, Err(AskFault::NoAnswer { turns: 4 })));
+    Ok(())
+}
+
+/// Whether the link's fault is told where its call with this number fails, with the call handed over.
+fn tells_fault(rt: &HostRuntime, call: u64) -> Result<bool, Fail> {
+    let alloc = rt.alloc();
+    let mut link = MemLink::new(alloc, Vec::new(alloc), vec![in alloc; call]?);
+    let answer = begin(alloc, &mut link, 1);
+    Ok(matches!(answer, Err(AskFault::LinkFault)) && is_begin(link.handed()))
+}
+
+// Call 1 binds, call 2 sends, call 3 receives.
+#[test]
+fn a_call_of_the_link_that_fails_is_told(rt: HostRuntime) -> Result<(), Fail> {
+    assert!(rt; tells_fault(&rt, 2)?);
+    assert!(rt; tells_fault(&rt, 3)?);
+    assert!(rt; !tells_fault(&rt, 1)?, "no frame was handed over");
+    Ok(())
+}
