@@ -3,7 +3,7 @@ use Rattle.std.proofs.Common.{◌≡◌, ◌∙◌, inl, inr, ⊎_elim, ◌⊎�
 use Rattle.std.proofs.lemmas.List.Sums.{fold-append}
 use Rattle.std.specs.declared.option.Option.{Option}
 use Rattle.std.specs.declared.option.Option.TheVariants.{Some, None}
-use Rattle.std.specs.Prelude.{IfSome, OnOk, OnErr, Result, Ok, Err, if◌then◌else◌}
+use Rattle.std.specs.Prelude.{IfSome, if◌then◌else◌}
 use Rattle.vp_model.specs.Types.{LogRecord, Stored}
 use Rattle.vp_model.specs.Durable.{DurableState, empty_durable, apply_all}
 use Rattle.vp_outside.specs.Disk.{Halves, DiskState, IsDisk, Becomes, Elapses}
@@ -12,11 +12,6 @@ use Rattle.vp_stable.specs.Moments.{LeavesOnly}
 use Rattle.vp_stable.proofs.Times.{elapses_none, elapses_as, elapses_then, leaves_only}
 use Rattle.vp_runs.specs.Keeping.{saved_if_due, kept_with}
 use Rattle.vp_node.specs.Keeping.{SavesDueAt, MaySaveDueAt, KeepsAt, MayKeep, MayKeepAt}
-
--- a log on which nothing is done
-pub stays : (P : Halves → Halves → Type 0) → ((log : Halves) → P log log) → (log : Option Halves) → Becomes P log log
-stays P p (Some log) = p log
-stays P p None = tt
 
 -- no call at all: a crash leaves what a read gives
 pub leaves_settled : (P : Halves → Halves → Type 0) → ((log : Halves) → P log log) → (at : Standing) (disk : DiskState) → IsDisk disk → (log : Option Halves)
@@ -38,10 +33,6 @@ pub may_keep_none : (d : DurableState) (records : List LogRecord) (at : Standing
 may_keep_none d [] at log batches stands = (batches, has stands, refl)
 may_keep_none d (r ∷ records) at log batches stands = (batches, has stands, inl refl)
 
-pub on_err : {T E : Type 0} {P : Type 0} (r : Result T E) → P → OnErr r P
-on_err (Ok v) p = tt
-on_err (Err e) p = p
-
 -- what a crash leaves, said in another way
 pub leaves_as : (P Q : Halves → Halves → Type 0) → ((log image : Halves) → P log image → Q log image) → (old new : DiskState) → (log : Option Halves)
     → IfSome log (λ log. LeavesOnly old new (P log)) → IfSome log (λ log. LeavesOnly old new (Q log))
@@ -56,20 +47,6 @@ pub may_save_due : (d : DurableState) (at : Standing) → is_due at ≡ true →
 may_save_due d at is_due_is law old new may batches stands =
     let due_is : due batches ≡ true = sym (law at batches old stands) ∙ is_due_is in
     ⊎_elim (λ same. inl same) (λ kept. inr (subst (λ b. HaveBatches (if b then saved d batches else batches) new) (sym due_is) kept)) (may batches stands)
-
-pub becomes_as : (P Q : Halves → Halves → Type 0) → ((old new : Halves) → P old new → Q old new) → (o p : Option Halves) → Becomes P o p → Becomes Q o p
-becomes_as P Q as_q (Some old) (Some new) is = as_q old new is
-becomes_as P Q as_q (Some old) None is = is
-becomes_as P Q as_q None (Some new) is = is
-becomes_as P Q as_q None None is = tt
-
-pub on_ok_as : {T E : Type 0} (P Q : Type 0) → (P → Q) → (r : Result T E) → OnOk r P → OnOk r Q
-on_ok_as P Q as_q (Ok v) is = as_q is
-on_ok_as P Q as_q (Err e) is = tt
-
-pub on_err_as : {T E : Type 0} (P Q : Type 0) → (P → Q) → (r : Result T E) → OnErr r P → OnErr r Q
-on_err_as P Q as_q (Ok v) is = tt
-on_err_as P Q as_q (Err e) is = as_q is
 
 -- ---- records behind the batches, and a checkpoint behind them where one is due
 
@@ -121,14 +98,3 @@ module _ (d : DurableState) (records : List LogRecord) (some : 0 < length record
   brings_after (Some a) None gains is = absurd gains
   brings_after None (Some b) gains is = absurd gains
   brings_after None None gains is = tt
-
-pub becomes_then : (P Q R : Halves → Halves → Type 0) → ((a b c : Halves) → P a b → Q b c → R a c) → (o p q : Option Halves) → Becomes P o p → Becomes Q p q → Becomes R o q
-becomes_then P Q R both (Some a) (Some b) (Some c) first second = both a b c first second
-becomes_then P Q R both (Some a) (Some b) None first second = second
-becomes_then P Q R both (Some a) None q first second = absurd first
-becomes_then P Q R both None (Some b) q first second = absurd first
-becomes_then P Q R both None None q first second = by q second
-  where
-    by : (q : Option Halves) → Becomes Q None q → Becomes R None q
-    by (Some c) is = is
-    by None is = tt

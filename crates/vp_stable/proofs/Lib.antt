@@ -13,4 +13,4 @@ mod Scanning
 mod Standings
 mod Tears
 pub mod Times
-mod Writes
+pub mod Writes

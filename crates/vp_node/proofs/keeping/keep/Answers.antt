@@ -7,7 +7,8 @@ use Rattle.vp_stable.specs.Halves.{GainsAt, MayGainAt, StandsAt, FoldsTo}
 use Rattle.vp_stable.specs.Moments.{LeavesOnly}
 use Rattle.vp_stable.proofs.Times.{others_join}
 use Rattle.vp_node.specs.Keeping.{SavesDueAt, MaySaveDueAt, KeepsAt, MayKeepAt}
-use Rattle.vp_node.proofs.Kept.{leaves_settled, leaves_as, may_keep_none, may_gain_keeps, may_save_keeps, keeps_then, leaves_then, brings_after, becomes_then, on_err_as, on_ok_as}
+use Rattle.vp_stable.proofs.Writes.{becomes-then, on_err_as, on_ok_as}
+use Rattle.vp_node.proofs.Kept.{leaves_settled, leaves_as, may_keep_none, may_gain_keeps, may_save_keeps, keeps_then, leaves_then, brings_after}
 use Rattle.vp_node.proofs.keeping.keep.Goals as goal
 
 pub returns-then-is_empty-clause-any_moment : goal.returns-then-is_empty-clause-any_moment
@@ -32,16 +33,16 @@ returns-clause-kept_at g c =
     let some : 0 < length c.args.records.now = search rules in
     let d = durable_of c.args.site.now in
     let saved = rw c.append.ensures.others.stays.same_name at c.save_if_due.ensures.saved in
-    on_ok_as _ _ (becomes_then (GainsAt c.args.records.now c.args.log.now c.append.new.self) (SavesDueAt d c.append.new.self c.save_if_due.new.log) (KeepsAt d c.args.records.now c.args.log.now c.save_if_due.new.log)
-    (keeps_then d c.args.records.now some c.args.log.now c.append.new.self c.save_if_due.new.log) _ _ _ c.in_ok-append.ensures.appended) c.save_if_due.result saved
+    on_ok_as c.save_if_due.result
+    (becomes-then {S = GainsAt c.args.records.now c.args.log.now c.append.new.self} {T = SavesDueAt d c.append.new.self c.save_if_due.new.log} {U = KeepsAt d c.args.records.now c.args.log.now c.save_if_due.new.log} _ _ _ (keeps_then d c.args.records.now some c.args.log.now c.append.new.self c.save_if_due.new.log) c.in_ok-append.ensures.appended) saved
 
 pub returns-clause-fault : goal.returns-clause-fault
 returns-clause-fault g c =
     let some : 0 < length c.args.records.now = search rules in
     let d = durable_of c.args.site.now in
     let fault = rw c.append.ensures.others.stays.same_name at c.save_if_due.ensures.fault in
-    on_err_as _ _ (becomes_then (GainsAt c.args.records.now c.args.log.now c.append.new.self) (MaySaveDueAt d c.append.new.self) (MayKeepAt d c.args.records.now c.args.log.now)
-    (may_save_keeps d c.args.records.now some c.args.log.now c.append.new.self c.append.new.self) _ _ _ c.in_ok-append.ensures.appended) c.save_if_due.result fault
+    on_err_as c.save_if_due.result
+    (becomes-then {S = GainsAt c.args.records.now c.args.log.now c.append.new.self} {T = MaySaveDueAt d c.append.new.self} {U = MayKeepAt d c.args.records.now c.args.log.now} _ _ _ (may_save_keeps d c.args.records.now some c.args.log.now c.append.new.self c.append.new.self) c.in_ok-append.ensures.appended) fault
 
 pub returns-clause-any_moment : goal.returns-clause-any_moment
 returns-clause-any_moment g c honest =

@@ -4,11 +4,12 @@ use Rattle.vp_model.specs.Step.{durable_of}
 use Rattle.vp_records.specs.Records.{IsLogRecord}
 use Rattle.vp_outside.specs.Disk.{log_of}
 use Rattle.vp_stable.specs.Halves.{MaySaveAt, FoldsAlike, checkpoint_of}
-use Rattle.vp_node.proofs.Kept.{stays, on_err, leaves_settled, leaves_as, may_save_none}
+use Rattle.vp_stable.proofs.Writes.{becomes-same, on_err}
+use Rattle.vp_node.proofs.Kept.{leaves_settled, leaves_as, may_save_none}
 use Rattle.vp_node.proofs.keeping.save.Goals as goal
 
 pub returns-in_err-durable-clause-fault : goal.returns-in_err-durable-clause-fault
-returns-in_err-durable-clause-fault g c = on_err c.from_residual.result (stays (MaySaveAt (durable_of c.args.site.now) c.args.log.now) (may_save_none _ _) (log_of (g.D.Disk.state c.args.disk.now)))
+returns-in_err-durable-clause-fault g c = on_err c.from_residual.result (becomes-same (MaySaveAt (durable_of c.args.site.now) c.args.log.now) (log_of (g.D.Disk.state c.args.disk.now)) (may_save_none _ _))
 
 pub returns-in_err-durable-clause-any_moment : goal.returns-in_err-durable-clause-any_moment
 returns-in_err-durable-clause-any_moment g c honest =
