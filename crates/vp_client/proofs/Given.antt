@@ -1,14 +1,11 @@
 -- An answer among the datagrams that a link has left is the one that is given.
 use Rattle.std.proofs.Common.{◌≡◌, ◌∙◌, ℕ, suc, zero, ◌≤◌, List, [], ◌∷◌, ◌++◌, length, take, refl, sym, ap, arith, inl, inr}
-use Rattle.std.specs.Prelude.{Option, Some, None, Result, Ok, Err}
-use Rattle.std.specs.Option.{option_map_or}
+use Rattle.std.specs.Prelude.{Option, Some, None, Ok, Err}
 use Rattle.vp_model.specs.Types.{Answer, Call}
-use Rattle.vp_outside.specs.Links.{LinkState, Gave, nothing}
+use Rattle.vp_outside.specs.Links.{Gave, nothing}
 use Rattle.vp_outside.specs.declared.datagram.Datagram.{Datagram}
 use Rattle.vp_runs.specs.Asking.{first_answer, answer_of}
-use Rattle.vp_client.specs.Asked.{HasFailed, Asks}
 use Rattle.vp_client.specs.Claims.{AnswersAreGiven}
-use Rattle.vp_client.specs.declared.asking.AskFault.{AskFault}
 use Rattle.vp_client.specs.declared.asking.AskFault.TheVariants as faults
 use Rattle.vp_client.proofs.Asked.{firsts, given_firsts}
 
