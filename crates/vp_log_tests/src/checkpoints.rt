@@ -1,8 +1,7 @@
 //! Logs over both halves, and what checkpoints make of them.
 
 ghost use Rattle.std.specs.Prelude.{IfOk, IsTrue};
-ghost use Rattle.vp_records.specs.Records.{IsLogRecord};
-ghost use Rattle.vp_stable.specs.Halves.{FoldsTo, checkpoint_of};
+ghost use Rattle.vp_records.specs.Records.{CanBeSaved};
 
 use std::test::Fail;
 use vp_base::{Batches, Copies, Decisions, InDoubt, LogRecord, ViewId, Word};
@@ -136,10 +135,8 @@ fn the_current_half_alone_is_refused(rt: HostRuntime) -> Result<(), Fail> {
 }
 
 /// The durable part that these batches make, which are one Start.
-#[tactic(auto, unfolding(vp_model::specs::Durable::apply))]
 fn folded(rt: &HostRuntime, batches: &Batches) -> Result<Durable, Fail>
-    ensures fold { IfOk result (λ durable. FoldsTo durable batches.now) }
-    ensures spelled { IfOk result (λ durable. IsLogRecord (checkpoint_of 0 durable)) }
+    ensures { IfOk result CanBeSaved }
 {
     let [batch] = batches.as_slice() else {
         return Err(Fail::from("no single batch"));

@@ -86,15 +86,3 @@ module _ (d : DurableState) (records : List LogRecord) (some : 0 < length record
   leaves_then old mid new name (Some a) None gains first second = absurd gains
   leaves_then old mid new name None (Some b) gains first second = tt
   leaves_then old mid new name None None gains first second = tt
-
-  -- what the batches fold to, with the records behind them
-  brings : (batches : List (List LogRecord)) (e : DurableState) → apply_all records (folded batches e) ≡ d → folded (batches ++ records ∷ []) e ≡ d
-  brings batches e is = fold-append (λ b item. apply_all item b) e batches (records ∷ []) ∙ is
-
-  pub brings_after : (o p : Option Halves) → Becomes (GainsAt records from at) o p
-      → IfSome o (λ log. (batches : List (List LogRecord)) × StandsAt from batches log × ((copies : List (ℕ × Stored)) × (apply_all records (folded batches (empty_durable copies)) ≡ d)))
-      → IfSome p (λ log. (batches : List (List LogRecord)) × StandsAt at batches log × FoldsTo d batches)
-  brings_after (Some a) (Some b) gains (batches, stands, folds) = (batches ++ records ∷ [], gains batches stands, (folds.0, brings batches (empty_durable folds.0) folds.1))
-  brings_after (Some a) None gains is = absurd gains
-  brings_after None (Some b) gains is = absurd gains
-  brings_after None None gains is = tt

@@ -6,11 +6,6 @@ use Rattle.vp_outside.specs.Disk.{Halves, DiskState, log_of}
 use Rattle.vp_stable.specs.Halves.{Standing, StandsAt, HaveBatches, folded}
 use Rattle.vp_runs.specs.Keeping.{saved_if_due, kept_with}
 
--- Where the disk is honest and tells the log, these records bring what its batches fold to, from some copies, to this durable part.
-abbrev pub BringsTo : DurableState → List LogRecord → Standing → DiskState → Type 0
-BringsTo d records at disk = disk.honest → IfSome (log_of disk) (λ log.
-    (batches : List (List LogRecord)) × StandsAt at batches log × ((copies : List (ℕ × Stored)) × (apply_all records (folded batches (empty_durable copies)) ≡ d)))
-
 -- ---- a checkpoint where one is due
 
 abbrev pub SavesDueAt : DurableState → Standing → Standing → Halves → Halves → Type 0

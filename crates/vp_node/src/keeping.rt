@@ -3,12 +3,12 @@
 ghost use Rattle.std.specs.Prelude.{IfSome, IsTrue, OnOk, OnErr};
 ghost use Rattle.vp_model.specs.Step.{durable_of};
 ghost use Rattle.vp_records.specs.Batches.{IsBatch};
-ghost use Rattle.vp_records.specs.Records.{IsLogRecord};
+ghost use Rattle.vp_records.specs.Records.{CanBeSaved};
 ghost use Rattle.vp_outside.specs.Disk.{log_of, Steps};
-ghost use Rattle.vp_stable.specs.Halves.{AreKept, IsFold, SavesAt, MaySaveAt, checkpoint_of};
+ghost use Rattle.vp_stable.specs.Halves.{AreKept, SavesAt, MaySaveAt};
 ghost use Rattle.vp_stable.specs.Faults.{HasAppendCause};
 ghost use Rattle.vp_stable.specs.Moments.{LeavesOnly, LeavesOthers};
-ghost use Rattle.vp_node.specs.Keeping.{BringsTo, SavesDueAt, MaySaveDueAt, KeepsAt, MayKeepAt};
+ghost use Rattle.vp_node.specs.Keeping.{SavesDueAt, MaySaveDueAt, KeepsAt, MayKeepAt};
 
 use vp_base::Batch;
 use vp_outside::Disk;
@@ -19,8 +19,7 @@ use vp_stable::{AppendFault, Log, a_checkpoint_is_due_of_batches};
 fn save<D: Disk>(log: &mut Log, disk: &mut D, site: &Site) -> Result<(), AppendFault>
     requires attached { IsTrue (D.state disk.old).attached }
     requires kept { AreKept log.old (D.state disk.old) }
-    requires brings { IsFold (durable_of site.now) log.old (D.state disk.old) }
-    requires spelled { IsLogRecord (checkpoint_of 0 (durable_of site.now)) }
+    requires form { CanBeSaved (durable_of site.now) }
     ensures saved { OnOk result (Steps (SavesAt (durable_of site.now) log.old log.new) (D.state disk.old) (D.state disk.new)) }
     ensures kept { OnOk result (AreKept log.new (D.state disk.new)) }
     ensures fault { OnErr result (Steps (MaySaveAt (durable_of site.now) log.old) (D.state disk.old) (D.state disk.new)) }
@@ -37,8 +36,7 @@ fn save<D: Disk>(log: &mut Log, disk: &mut D, site: &Site) -> Result<(), AppendF
 fn save_if_due<D: Disk>(log: &mut Log, disk: &mut D, site: &Site) -> Result<(), AppendFault>
     requires attached { IsTrue (D.state disk.old).attached }
     requires kept { AreKept log.old (D.state disk.old) }
-    requires brings { IsFold (durable_of site.now) log.old (D.state disk.old) }
-    requires spelled { IsLogRecord (checkpoint_of 0 (durable_of site.now)) }
+    requires form { CanBeSaved (durable_of site.now) }
     ensures saved { OnOk result (Steps (SavesDueAt (durable_of site.now) log.old log.new) (D.state disk.old) (D.state disk.new)) }
     ensures kept { OnOk result (AreKept log.new (D.state disk.new)) }
     ensures fault { OnErr result (Steps (MaySaveDueAt (durable_of site.now) log.old) (D.state disk.old) (D.state disk.new)) }
@@ -63,8 +61,7 @@ pub fn keep<D: Disk>(
 ) -> Result<(), AppendFault>
     requires attached { IsTrue (D.state disk.old).attached }
     requires kept { AreKept log.old (D.state disk.old) }
-    requires brings { BringsTo (durable_of site.now) records.now log.old (D.state disk.old) }
-    requires spelled { IsLogRecord (checkpoint_of 0 (durable_of site.now)) }
+    requires form { CanBeSaved (durable_of site.now) }
     requires batch { IsBatch records.now }
     ensures kept_at { OnOk result (Steps (KeepsAt (durable_of site.now) records.now log.old log.new) (D.state disk.old) (D.state disk.new)) }
     ensures kept { OnOk result (AreKept log.new (D.state disk.new)) }

@@ -1,5 +1,5 @@
 -- Records of the log: what bytes each one is.
-use Rattle.std.specs.Prelude.{ℕ, ◌<◌, ◌^◌, List, [], ◌∷◌, ◌++◌}
+use Rattle.std.specs.Prelude.{ℕ, ◌<◌, ◌^◌, List, [], ◌∷◌, ◌++◌, length}
 use Rattle.vp_base.specs.Identifiers.{IsView, IsTxn}
 use Rattle.vp_base.specs.declared.entry.LogRecord.{LogRecord}
 use Rattle.vp_base.specs.declared.entry.LogRecord.TheVariants as entry
@@ -7,6 +7,7 @@ use Rattle.vp_bytes.specs.Fields.{number_bytes, view_bytes, txn_bytes, counted_b
 use Rattle.vp_bytes.specs.Copies.{copy_bytes, copies_bytes, IsCopy, IsCopies}
 use Rattle.vp_bytes.specs.Doubts.{doubts_bytes, IsDoubts}
 use Rattle.vp_bytes.specs.Decisions.{decisions_bytes, IsDecisions}
+use Rattle.vp_model.specs.Durable.{DurableState}
 
 -- the first byte
 abbrev pub record_code : LogRecord → ℕ
@@ -45,6 +46,14 @@ IsLogRecord (entry.Copy rec stored) = IsCopy (rec, stored)
 IsLogRecord (entry.Acked txn site) = IsTxn txn × IsSite site
 IsLogRecord (entry.Checkpoint generation life promise copies doubts decisions) =
     (generation < 2 ^ 64) × (life < 2 ^ 32) × IsView promise × IsCopies copies × IsDoubts doubts × IsDecisions decisions
+
+-- A checkpoint of this durable part has a spelling, where its lists fit into a memory.
+pub record CanBeSaved (d : DurableState) : Type 0 where
+  pub life : d.life < 2 ^ 32
+  pub promise : IsView d.promise
+  pub copies : IsCopies d.copies
+  pub doubts : length d.doubts < 2 ^ 64 → IsDoubts d.doubts
+  pub decisions : length d.decisions < 2 ^ 64 → IsDecisions d.decisions
 
 -- The bytes are the spelling of the record.
 abbrev pub IsRecordBytes : LogRecord → List ℕ → Type 0

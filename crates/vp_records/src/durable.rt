@@ -1,9 +1,10 @@
 //! The durable part, and what each kind of log record does to it.
 
-ghost use Rattle.std.specs.Prelude.{◌≡◌, OnOk, OnErr, is_some, true, option_copied};
+ghost use Rattle.std.specs.Prelude.{◌≡◌, OnOk, OnErr, IfOk, is_some, true, option_copied};
 ghost use Rattle.vp_base.specs.declared.entry.LogRecord.TheVariants as entry;
 ghost use Rattle.vp_model.specs.Words.{has, keys, value_at, for_each, replace_at};
-ghost use Rattle.vp_model.specs.Durable.{empty_durable, apply, doubt_of, with_outcome, put_doubt, with_writes, with_decision};
+ghost use Rattle.vp_model.specs.Durable.{empty_durable, apply, apply_all, doubt_of, with_outcome, put_doubt, with_writes, with_decision};
+ghost use Rattle.vp_records.specs.Records.{CanBeSaved, IsLogRecord};
 
 use crate::copies::{committed, replaced, restored, written};
 use crate::decisions::{acknowledge, with_decision};
@@ -13,7 +14,7 @@ use vp_base::{
     Copies, CopyOf, Decisions, InDoubt, LogRecord, NoMemory, RecId, SiteId, Sites, Stored, TxnId,
     ViewId, Writes,
 };
-use vp_lists::{find_txn, value_at};
+use vp_lists::{copy_all, find_txn, value_at};
 
 /// What a site has after a crash: its promise, its life, its copies, the transactions in doubt, and the decisions that
 /// some site has not acknowledged.
@@ -122,6 +123,25 @@ impl Durable {
         ensures { result.now ≡ self.now.decisions }
     {
         &self.decisions
+    }
+
+    /// The record that saves all of it.
+    pub fn checkpoint(&self, generation: u64) -> Result<LogRecord, NoMemory>
+        ensures record { IfOk result (λ r. r ≡ entry.Checkpoint generation self.now.life self.now.promise self.now.copies self.now.doubts self.now.decisions) }
+        ensures spelled { CanBeSaved self.now → IfOk result IsLogRecord }
+    {
+        let alloc = self.copies.allocator();
+        let copies = copy_all(alloc, self.copies.as_slice())?;
+        let doubts = copy_all(alloc, self.doubts.as_slice())?;
+        let decisions = copy_all(alloc, self.decisions.as_slice())?;
+        Ok(LogRecord::Checkpoint {
+            generation,
+            life: self.life,
+            promise: self.promise,
+            copies: Copies::from_vec(copies),
+            doubts: InDoubt::from_vec(doubts),
+            decisions: Decisions::from_vec(decisions),
+        })
     }
 
     #[tactic(auto, unfolding(vp_model::specs::Durable::apply))]
@@ -272,5 +292,14 @@ impl Durable {
                 decisions,
             } => self.restore(*life, promise, copies, doubts, decisions),
         }
+    }
+    /// What the records of a batch do, one behind another. Without memory some of the first have been applied.
+    pub fn apply_all(&mut self, records: &[LogRecord]) -> Result<(), NoMemory>
+        ensures applied { OnOk result (self.new ≡ apply_all records.now self.old) }
+    {
+        for entry in records {
+            self.apply(entry)?;
+        }
+        Ok(())
     }
 }

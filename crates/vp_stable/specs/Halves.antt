@@ -143,14 +143,6 @@ MaySaveAt d from old new = (batches : List (List LogRecord)) → StandsAt from b
 abbrev pub folded : List (List LogRecord) → DurableState → DurableState
 folded batches d = for_each batches apply_all d
 
--- For some copies the batches fold to this durable part.
-abbrev pub FoldsTo : DurableState → List (List LogRecord) → Type 0
-FoldsTo d batches = (copies : List (ℕ × Stored)) × (folded batches (empty_durable copies) ≡ d)
-
--- the same of the log that stands there, where the disk is honest and tells it
-abbrev pub IsFold : DurableState → Standing → DiskState → Type 0
-IsFold d at disk = disk.honest → IfSome (log_of disk) (λ log. (batches : List (List LogRecord)) × StandsAt at batches log × FoldsTo d batches)
-
 -- Whatever copies the batches fold to this durable part from, the new batches do.
 abbrev pub FoldsAlike : DurableState → Standing → Halves → Halves → Type 0
 FoldsAlike d from old new = (batches after : List (List LogRecord)) (copies : List (ℕ × Stored)) → StandsAt from batches old → HaveBatches after new

@@ -4,6 +4,7 @@ ghost use Rattle.std.specs.Prelude.{◌≡◌, ◌-◌, ◌<◌, ◌≤◌, ◌+
 ghost use Rattle.byteorder.specs.Endian.{big_bytes};
 ghost use Rattle.vp_base.specs.declared.entry.LogRecord.{LogRecord};
 ghost use Rattle.vp_records.specs.Batches.{IsBatch};
+ghost use Rattle.vp_records.specs.Records.{CanBeSaved};
 ghost use Rattle.vp_stable.specs.Log.{measured, CanStand, StandsFirst, IsBadLog};
 ghost use Rattle.vp_stable.specs.Scans.{Scanned};
 ghost use Rattle.vp_stable.specs.Halves.{HasGeneration};
@@ -12,7 +13,7 @@ ghost use Rattle.vp_stable.specs.Halves as halves;
 use crate::fault::LogFault;
 use byteorder::{BigEndian, ByteOrder};
 use std::alloc::Global;
-use vp_base::{Batch, Batches, CopyOf, LogRecord, NoMemory};
+use vp_base::{Batch, Batches, LogRecord, NoMemory};
 use vp_records::{BatchFault, Durable, decode_batch, encode_batch};
 
 /// How many bytes the length of a batch has.
@@ -73,17 +74,11 @@ pub fn checkpoint_batch(
     generation: u64,
     durable: &Durable,
 ) -> Result<Batch, NoMemory>
-    ensures { IfOk result (λ batch. batch ≡ halves.checkpoint_of generation durable.now ∷ []) }
+    ensures batch { IfOk result (λ batch. batch ≡ halves.checkpoint_of generation durable.now ∷ []) }
+    ensures spelled { CanBeSaved durable.now → IfOk result IsBatch }
 {
     let mut batch = Batch::new(alloc);
-    batch.push(LogRecord::Checkpoint {
-        generation,
-        life: durable.life(),
-        promise: durable.promise(),
-        copies: durable.copy_of()?.into_copies(),
-        doubts: durable.doubts().copy_of()?,
-        decisions: durable.decisions().copy_of()?,
-    })?;
+    batch.push(durable.checkpoint(generation)?)?;
     Ok(batch)
 }
 

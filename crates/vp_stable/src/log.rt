@@ -3,9 +3,9 @@
 ghost use Rattle.std.specs.Prelude.{◌≡◌, ◌⊎◌, IfOk, IfSome, IsTrue, OnOk, OnErr};
 ghost use Rattle.std.specs.List.{AllByRecursion};
 ghost use Rattle.vp_records.specs.Batches.{IsBatch};
-ghost use Rattle.vp_records.specs.Records.{IsLogRecord};
+ghost use Rattle.vp_records.specs.Records.{CanBeSaved};
 ghost use Rattle.vp_outside.specs.Disk.{log_of, Steps};
-ghost use Rattle.vp_stable.specs.Halves.{Recovers, StandsAt, AreKept, ReadAlike, GainsAt, MayGainAt, SavesAt, MaySaveAt, FoldsAlike, IsFold, is_due, checkpoint_of};
+ghost use Rattle.vp_stable.specs.Halves.{Recovers, StandsAt, AreKept, ReadAlike, GainsAt, MayGainAt, SavesAt, MaySaveAt, FoldsAlike, is_due};
 ghost use Rattle.vp_stable.specs.Moments.{LeavesOnly, LeavesOthers};
 ghost use Rattle.vp_stable.specs.Faults.{HasLogCause, HasAppendCause};
 
@@ -131,9 +131,7 @@ impl Log {
     ) -> Result<(), AppendFault>
         requires attached { IsTrue (D.state disk.old).attached }
         requires kept { AreKept self.old (D.state disk.old) }
-        requires fold { IsFold durable.now self.old (D.state disk.old) }
-        // A checkpoint of it can be spelled, whatever its generation.
-        requires spelled { IsLogRecord (checkpoint_of 0 durable.now) }
+        requires form { CanBeSaved durable.now }
 
         ensures saved { OnOk result (Steps (SavesAt durable.now self.old self.new) (D.state disk.old) (D.state disk.new)) }
         ensures kept { OnOk result (AreKept self.new (D.state disk.new)) }

@@ -54,15 +54,6 @@ fn newly_agreed(inviting: Option<ViewId>, held: Option<&View>) -> Result<Option<
     }
 }
 
-fn apply_all(durable: &mut Durable, records: &[LogRecord]) -> Result<(), NoMemory>
-    ensures { OnOk result (durable.new ≡ apply_all records.now durable.old) }
-{
-    for entry in records {
-        durable.apply(entry)?;
-    }
-    Ok(())
-}
-
 impl Place {
     /// The site in its first life.
     #[tactic(auto, unfolding(vp_model::specs::Durable::apply))]
@@ -162,7 +153,7 @@ impl Place {
     fn take_back(&mut self, site: Site, records: &[LogRecord]) -> Result<(), NoMemory>
         ensures { OnOk result (self.new ≡ record self.old { durable = apply_all records.now self.old.durable; up = Some site }) }
     {
-        apply_all(&mut self.durable, records)?;
+        self.durable.apply_all(records)?;
         self.up = Some(site);
         Ok(())
     }

@@ -8,7 +8,7 @@ use Rattle.vp_stable.specs.Moments.{LeavesOnly}
 use Rattle.vp_stable.proofs.Times.{others_join}
 use Rattle.vp_node.specs.Keeping.{SavesDueAt, MaySaveDueAt, KeepsAt, MayKeepAt}
 use Rattle.vp_stable.proofs.Writes.{becomes-then, on_err_as, on_ok_as}
-use Rattle.vp_node.proofs.Kept.{leaves_settled, leaves_as, may_keep_none, may_gain_keeps, may_save_keeps, keeps_then, leaves_then, brings_after}
+use Rattle.vp_node.proofs.Kept.{leaves_settled, leaves_as, may_keep_none, may_gain_keeps, may_save_keeps, keeps_then, leaves_then}
 use Rattle.vp_node.proofs.keeping.keep.Goals as goal
 
 pub returns-then-is_empty-clause-any_moment : goal.returns-then-is_empty-clause-any_moment
@@ -20,13 +20,6 @@ returns-in_err-append-clause-any_moment g c honest =
     let some : 0 < length c.args.records.now = search rules in
     leaves_as (MayGainAt c.args.records.now c.args.log.now) (MayKeepAt (durable_of c.args.site.now) c.args.records.now c.args.log.now) (may_gain_keeps (durable_of c.args.site.now) c.args.records.now some c.args.log.now c.args.log.now c.args.log.now)
     (g.D.Disk.state c.args.disk.now) (g.D.Disk.state c.append.new.disk) (log_of (g.D.Disk.state c.args.disk.now)) (c.append.ensures.any_moment honest)
-
-pub save_if_due-requires-clause-brings : goal.save_if_due-requires-clause-brings
-save_if_due-requires-clause-brings g c honest =
-    let some : 0 < length c.args.records.now = search rules in
-    let d = durable_of c.args.site.now in
-    subst (λ name. IfSome ((g.D.Disk.state c.append.new.disk).logs name) (λ log. (batches : List (List LogRecord)) × StandsAt c.append.new.self batches log × FoldsTo d batches)) (sym c.append.ensures.others.stays.same_name)
-    (brings_after (durable_of c.args.site.now) c.args.records.now some c.args.log.now c.append.new.self c.append.new.self _ _ c.in_ok-append.ensures.appended (c.requires.brings (c.append.ensures.others.honest.1 honest)))
 
 pub returns-clause-kept_at : goal.returns-clause-kept_at
 returns-clause-kept_at g c =

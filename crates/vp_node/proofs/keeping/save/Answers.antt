@@ -1,7 +1,7 @@
 use Rattle.std.proofs.Common.{sym, subst}
 use Rattle.vp_model.specs.Durable.{DurableState}
 use Rattle.vp_model.specs.Step.{durable_of}
-use Rattle.vp_records.specs.Records.{IsLogRecord}
+use Rattle.vp_records.specs.Records.{CanBeSaved}
 use Rattle.vp_outside.specs.Disk.{log_of}
 use Rattle.vp_stable.specs.Halves.{MaySaveAt, FoldsAlike, checkpoint_of}
 use Rattle.vp_stable.proofs.Writes.{becomes-same, on_err}
@@ -15,8 +15,8 @@ pub returns-in_err-durable-clause-any_moment : goal.returns-in_err-durable-claus
 returns-in_err-durable-clause-any_moment g c honest =
     leaves_settled (MaySaveAt (durable_of c.args.site.now) c.args.log.now) (may_save_none _ _) c.args.log.now (g.D.Disk.state c.args.disk.now) (g.met.D.Disk.is_disk c.args.disk.now) (log_of (g.D.Disk.state c.args.disk.now)) (c.requires.kept honest)
 
-pub checkpoint-requires-clause-spelled : goal.checkpoint-requires-clause-spelled
-checkpoint-requires-clause-spelled g c = subst (λ (d : DurableState). IsLogRecord (checkpoint_of 0 d)) (sym c.in_ok-durable.ensures) c.requires.spelled
+pub checkpoint-requires-clause-form : goal.checkpoint-requires-clause-form
+checkpoint-requires-clause-form g c = subst CanBeSaved (sym c.in_ok-durable.ensures) c.requires.form
 
 pub returns-clause-any_moment : goal.returns-clause-any_moment
 returns-clause-any_moment g c honest =

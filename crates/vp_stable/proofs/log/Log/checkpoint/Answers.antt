@@ -19,7 +19,7 @@ returns-in_default-clause-saved g c =
 
 pub returns-in_default-clause-any_moment : goal.returns-in_default-clause-any_moment
 returns-in_default-clause-any_moment g c honest =
-    none_leaves c.args.durable.now c.args.self.now c.requires.spelled.3.2 (g.D.Disk.state c.args.disk.now) (g.met.D.Disk.is_disk c.args.disk.now) honest c.requires.kept
+    none_leaves c.args.durable.now c.args.self.now c.requires.form.copies.2 (g.D.Disk.state c.args.disk.now) (g.met.D.Disk.is_disk c.args.disk.now) honest c.requires.kept
 
 -- want of memory before the first call
 pub returns-in_err-batch-clause-fault : goal.returns-in_err-batch-clause-fault
@@ -28,7 +28,7 @@ returns-in_err-batch-clause-fault g c =
 
 pub returns-in_err-batch-clause-any_moment : goal.returns-in_err-batch-clause-any_moment
 returns-in_err-batch-clause-any_moment g c honest =
-    none_leaves c.args.durable.now c.args.self.now c.requires.spelled.3.2 (g.D.Disk.state c.args.disk.now) (g.met.D.Disk.is_disk c.args.disk.now) honest c.requires.kept
+    none_leaves c.args.durable.now c.args.self.now c.requires.form.copies.2 (g.D.Disk.state c.args.disk.now) (g.met.D.Disk.is_disk c.args.disk.now) honest c.requires.kept
 
 pub returns-in_err-piece-clause-fault : goal.returns-in_err-piece-clause-fault
 returns-in_err-piece-clause-fault g c =
@@ -36,7 +36,7 @@ returns-in_err-piece-clause-fault g c =
 
 pub returns-in_err-piece-clause-any_moment : goal.returns-in_err-piece-clause-any_moment
 returns-in_err-piece-clause-any_moment g c honest =
-    none_leaves c.args.durable.now c.args.self.now c.requires.spelled.3.2 (g.D.Disk.state c.args.disk.now) (g.met.D.Disk.is_disk c.args.disk.now) honest c.requires.kept
+    none_leaves c.args.durable.now c.args.self.now c.requires.form.copies.2 (g.D.Disk.state c.args.disk.now) (g.met.D.Disk.is_disk c.args.disk.now) honest c.requires.kept
 
 -- a half that isn't cleared
 pub returns-in_err-clear-clause-fault : goal.returns-in_err-clear-clause-fault
@@ -50,7 +50,7 @@ returns-in_err-clear-clause-any_moment g c honest =
     let from : Standing = record { half = c.self.inside.half; generation = c.self.inside.generation; gate = c.self.inside.gate; second = c.self.inside.second } in
     let kept = rw (← c.self.view_is) at c.requires.kept in
     let first = rw (other_is c.self.inside.half c.self.invariant.0) at c.clear.ensures.any_moment in
-    rw (← c.self.view_is) (clear_leaves c.args.durable.now from c.requires.spelled.3.2 (g.D.Disk.state c.args.disk.now) (g.met.D.Disk.is_disk c.args.disk.now) honest kept (g.D.Disk.state c.clear.new.disk) first)
+    rw (← c.self.view_is) (clear_leaves c.args.durable.now from c.requires.form.copies.2 (g.D.Disk.state c.args.disk.now) (g.met.D.Disk.is_disk c.args.disk.now) honest kept (g.D.Disk.state c.clear.new.disk) first)
 
 -- a checkpoint that isn't put there
 pub returns-in_err-put-clause-fault : goal.returns-in_err-put-clause-fault
@@ -58,7 +58,7 @@ returns-in_err-put-clause-fault g c =
     let from : Standing = record { half = c.self.inside.half; generation = c.self.inside.generation; gate = c.self.inside.gate; second = c.self.inside.second } in
     let next = c.in-Some.ensures in
     let batch : c.in_ok-batch.batch ≡ checkpoint_of (from.generation + 1) c.args.durable.now ∷ [] =
-    c.in_ok-batch.ensures ∙ ap (λ (n : ℕ). checkpoint_of n c.args.durable.now ∷ []) next.1 in
+    c.in_ok-batch.ensures.batch ∙ ap (λ (n : ℕ). checkpoint_of n c.args.durable.now ∷ []) next.1 in
     let is : IsPiece (checkpoint_of (from.generation + 1) c.args.durable.now ∷ []) c.deref.result.now =
     subst (λ (b : List LogRecord). IsPiece b c.deref.result.now) batch (record { is = c.deref.ensures.value ∙ c.in_ok-piece.ensures.bytes; can = c.in_ok-piece.ensures.can }) in
     let more : from.generation < 2 ^ 64 - 1 = omega (arith, next.0) in
@@ -72,7 +72,7 @@ returns-in_err-put-clause-any_moment g c honest =
     let from : Standing = record { half = c.self.inside.half; generation = c.self.inside.generation; gate = c.self.inside.gate; second = c.self.inside.second } in
     let next = c.in-Some.ensures in
     let batch : c.in_ok-batch.batch ≡ checkpoint_of (from.generation + 1) c.args.durable.now ∷ [] =
-    c.in_ok-batch.ensures ∙ ap (λ (n : ℕ). checkpoint_of n c.args.durable.now ∷ []) next.1 in
+    c.in_ok-batch.ensures.batch ∙ ap (λ (n : ℕ). checkpoint_of n c.args.durable.now ∷ []) next.1 in
     let is : IsPiece (checkpoint_of (from.generation + 1) c.args.durable.now ∷ []) c.deref.result.now =
     subst (λ (b : List LogRecord). IsPiece b c.deref.result.now) batch (record { is = c.deref.ensures.value ∙ c.in_ok-piece.ensures.bytes; can = c.in_ok-piece.ensures.can }) in
     let more : from.generation < 2 ^ 64 - 1 = omega (arith, next.0) in
@@ -81,7 +81,7 @@ returns-in_err-put-clause-any_moment g c honest =
     let first = rw half at c.clear.ensures.any_moment in
     let cleared = rw half at c.in_ok-clear.ensures.cleared in
     let second = rw (half, c.clear.ensures.others.stays.same_name) at c.put.ensures.any_moment in
-    rw (← c.self.view_is) (put_leaves c.args.durable.now from c.requires.spelled.3.2 (g.D.Disk.state c.args.disk.now) (g.met.D.Disk.is_disk c.args.disk.now) honest kept
+    rw (← c.self.view_is) (put_leaves c.args.durable.now from c.requires.form.copies.2 (g.D.Disk.state c.args.disk.now) (g.met.D.Disk.is_disk c.args.disk.now) honest kept
     c.deref.result.now is more (g.D.Disk.state c.clear.new.disk) (g.D.Disk.state c.put.new.disk) first cleared c.in_ok-clear.ensures.durable c.clear.ensures.others.honest.0 second)
 
 pub returns-in_err-put-clause-others : goal.returns-in_err-put-clause-others
@@ -93,7 +93,7 @@ returns-clause-saved g c =
     let from : Standing = record { half = c.self.inside.half; generation = c.self.inside.generation; gate = c.self.inside.gate; second = c.self.inside.second } in
     let next = c.in-Some.ensures in
     let batch : c.in_ok-batch.batch ≡ checkpoint_of (from.generation + 1) c.args.durable.now ∷ [] =
-    c.in_ok-batch.ensures ∙ ap (λ (n : ℕ). checkpoint_of n c.args.durable.now ∷ []) next.1 in
+    c.in_ok-batch.ensures.batch ∙ ap (λ (n : ℕ). checkpoint_of n c.args.durable.now ∷ []) next.1 in
     let is : IsPiece (checkpoint_of (from.generation + 1) c.args.durable.now ∷ []) c.deref.result.now =
     subst (λ (b : List LogRecord). IsPiece b c.deref.result.now) batch (record { is = c.deref.ensures.value ∙ c.in_ok-piece.ensures.bytes; can = c.in_ok-piece.ensures.can }) in
     let more : from.generation < 2 ^ 64 - 1 = omega (arith, next.0) in
@@ -118,7 +118,7 @@ returns-clause-any_moment g c honest =
     let from : Standing = record { half = c.self.inside.half; generation = c.self.inside.generation; gate = c.self.inside.gate; second = c.self.inside.second } in
     let next = c.in-Some.ensures in
     let batch : c.in_ok-batch.batch ≡ checkpoint_of (from.generation + 1) c.args.durable.now ∷ [] =
-    c.in_ok-batch.ensures ∙ ap (λ (n : ℕ). checkpoint_of n c.args.durable.now ∷ []) next.1 in
+    c.in_ok-batch.ensures.batch ∙ ap (λ (n : ℕ). checkpoint_of n c.args.durable.now ∷ []) next.1 in
     let is : IsPiece (checkpoint_of (from.generation + 1) c.args.durable.now ∷ []) c.deref.result.now =
     subst (λ (b : List LogRecord). IsPiece b c.deref.result.now) batch (record { is = c.deref.ensures.value ∙ c.in_ok-piece.ensures.bytes; can = c.in_ok-piece.ensures.can }) in
     let more : from.generation < 2 ^ 64 - 1 = omega (arith, next.0) in
@@ -127,7 +127,7 @@ returns-clause-any_moment g c honest =
     let first = rw half at c.clear.ensures.any_moment in
     let cleared = rw half at c.in_ok-clear.ensures.cleared in
     let second = rw (half, c.clear.ensures.others.stays.same_name) at c.put.ensures.any_moment in
-    rw (← c.self.view_is) (put_leaves c.args.durable.now from c.requires.spelled.3.2 (g.D.Disk.state c.args.disk.now) (g.met.D.Disk.is_disk c.args.disk.now) honest kept
+    rw (← c.self.view_is) (put_leaves c.args.durable.now from c.requires.form.copies.2 (g.D.Disk.state c.args.disk.now) (g.met.D.Disk.is_disk c.args.disk.now) honest kept
     c.deref.result.now is more (g.D.Disk.state c.clear.new.disk) (g.D.Disk.state c.put.new.disk) first cleared c.in_ok-clear.ensures.durable c.clear.ensures.others.honest.0 second)
 
 pub returns-clause-others : goal.returns-clause-others
