@@ -1,2 +1,5 @@
+pub mod Causes
 pub mod Keeping
+pub mod Nodes
+pub mod Serving
 pub mod Taking

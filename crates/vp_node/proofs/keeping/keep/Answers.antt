@@ -3,7 +3,7 @@ use Rattle.std.specs.Prelude.{IfSome}
 use Rattle.vp_model.specs.Types.{LogRecord}
 use Rattle.vp_model.specs.Step.{durable_of}
 use Rattle.vp_outside.specs.Disk.{log_of}
-use Rattle.vp_stable.specs.Halves.{GainsAt, MayGainAt, StandsAt, FoldsTo}
+use Rattle.vp_stable.specs.Halves.{GainsAt, MayGainAt, StandsAt}
 use Rattle.vp_stable.specs.Moments.{LeavesOnly}
 use Rattle.vp_stable.proofs.Times.{others_join}
 use Rattle.vp_node.specs.Keeping.{SavesDueAt, MaySaveDueAt, KeepsAt, MayKeepAt}

@@ -1,0 +1,117 @@
+//! A node, and its turns.
+
+ghost use Rattle.std.specs.Prelude.{◌≡◌, ◌⊎◌, ◌<◌, ◌^◌, ℕ, true, IfOk, IfSome, IsTrue, IsErrOf, OnErr};
+ghost use Rattle.vp_model.specs.Words.{has};
+ghost use Rattle.vp_model.specs.Catalogue.{sites_of};
+ghost use Rattle.vp_outside.specs.Disk.{log_of, Steps};
+ghost use Rattle.vp_stable.specs.Halves.{ReadAlike, AreBadLog};
+ghost use Rattle.vp_stable.specs.Moments.{LeavesOnly, LeavesOthers};
+ghost use Rattle.vp_node.specs.Nodes.{IsNode, IsKept, Starts, MayStart, IsSpent, Turns, Saves, MaySave, turn_of};
+ghost use Rattle.vp_node.specs.Causes.{HasNodeCause, EndsInTurn};
+ghost use Rattle.vp_node.specs.declared.end.NodeEnd.TheVariants as ends;
+
+use crate::end::NodeEnd;
+use crate::keeping::keep;
+use crate::starting::next_life;
+use crate::taking::take;
+use crate::turned::Turned;
+use std::marker::Model;
+use vp_base::SiteId;
+use vp_catalog::Catalog;
+use vp_outside::Disk;
+use vp_site::Site;
+use vp_stable::Log;
+
+/// A site that is up, with its log.
+#[derive(Drop)]
+pub struct Node {
+    site: Site,
+    log: Log,
+}
+
+impl Model for Node {
+    ghost use Rattle.vp_node.specs.Nodes.{NodeValue};
+
+    ghost Value = { NodeValue };
+
+    ghost view = { λ n. record { site = n.site; at = n.log } };
+}
+
+impl Node {
+    /// Recovers the log that is attached, starts the site from it, and appends the start of its life. After a fault the log may have
+    /// that start or not.
+    pub fn start<D: Disk>(catalog: &Catalog, id: SiteId, disk: &mut D) -> Result<Node, NodeEnd>
+        requires attached { IsTrue (D.state disk.old).attached }
+        requires id { has (sites_of catalog.now) id ≡ true }
+
+        ensures started { IfOk result (λ node. Starts catalog.now id node (D.state disk.old) (D.state disk.new)) }
+        ensures node { IfOk result (λ node. IsNode catalog.now node) }
+        ensures kept { IfOk result (λ node. IsKept catalog.now node (D.state disk.new)) }
+        ensures lives { IfOk result (λ node. node.site.life < 2 ^ 32) }
+
+        // Each other answer has its cause.
+        ensures bad_log { (half at : ℕ) → IsErrOf result (ends.BadLog half at) → IfSome (log_of (D.state disk.old)) (AreBadLog half at) }
+        ensures lives_spent { (life : ℕ) → IsErrOf result (ends.LivesSpent life) → IsSpent catalog.now id life (D.state disk.old) }
+        ensures unchanged { (half at life : ℕ) → IsErrOf result (ends.BadLog half at) ⊎ IsErrOf result (ends.LivesSpent life)
+            → Steps ReadAlike (D.state disk.old) (D.state disk.new) }
+        ensures fault { OnErr result (Steps (MayStart catalog.now id) (D.state disk.old) (D.state disk.new)) }
+
+        // A crash before the first sync leaves what it might have left before the call, and a later one the batches, with the start or
+        // without.
+        ensures any_moment { (D.state disk.old).honest → IfSome (log_of (D.state disk.old)) (λ log.
+            LeavesOnly (D.state disk.old) (D.state disk.new)
+            (λ image. (D.state disk.old).may_leave (D.state disk.old).asked image ⊎ MayStart catalog.now id log image)) }
+
+        ensures others { LeavesOthers (D.state disk.old) (D.state disk.new) }
+        ensures cause { HasNodeCause (D.state disk.old).faults (D.state disk.new).faults result }
+    {
+        let (mut log, batches) = Log::recover(catalog.sites().allocator(), disk)?;
+        let (site, begun) = next_life(catalog, id, &batches)?;
+        log.append(disk, &begun)?;
+        Ok(Node { site, log })
+    }
+
+    /// The number of its life, which its start forced to the log.
+    pub fn life(&self) -> u32
+        ensures { result ≡ self.now.site.life }
+    {
+        self.site.life()
+    }
+
+    /// Takes one datagram. Its records are synced before it returns, and nothing is sent here. After a fault or want of memory the node is
+    /// gone, as after a crash.
+    pub fn turn<D: Disk>(
+        self,
+        catalog: &Catalog,
+        disk: &mut D,
+        port: u16,
+        bytes: &[u8],
+    ) -> Result<(Node, Turned), NodeEnd>
+        requires attached { IsTrue (D.state disk.old).attached }
+        requires node { IsNode catalog.now self }
+        requires kept { IsKept catalog.now self (D.state disk.old) }
+
+        ensures turned { IfOk result (λ it. Turns catalog.now self (record { port = port; bytes = bytes.now }) it.0 it.1) }
+        ensures saved { IfOk result (λ it. Steps (Saves (turn_of catalog.now self (record { port = port; bytes = bytes.now })) self.at it.0.at)
+            (D.state disk.old) (D.state disk.new)) }
+        ensures node { IfOk result (λ it. IsNode catalog.now it.0) }
+        ensures kept { IfOk result (λ it. IsKept catalog.now it.0 (D.state disk.new)) }
+        ensures fault { (D.state disk.old).honest → OnErr result (Steps (MaySave catalog.now self (turn_of catalog.now self (record { port = port; bytes = bytes.now })))
+            (D.state disk.old) (D.state disk.new)) }
+        ensures ends { EndsInTurn result }
+
+        // A crash at any moment of the turn leaves the batches that were there, with the turn's or without, or their checkpoint: they fold
+        // to what the site had to keep before the turn, or after it.
+        ensures any_moment { (D.state disk.old).honest → IfSome (log_of (D.state disk.old)) (λ log.
+            LeavesOnly (D.state disk.old) (D.state disk.new)
+            (MaySave catalog.now self (turn_of catalog.now self (record { port = port; bytes = bytes.now })) log)) }
+
+        ensures others { LeavesOthers (D.state disk.old) (D.state disk.new) }
+        ensures cause { HasNodeCause (D.state disk.old).faults (D.state disk.new).faults result }
+    {
+        let (site, records, turned) = take(self.site, catalog, port, bytes)?;
+        let mut log = self.log;
+        keep(&mut log, disk, &site, &records)?;
+        Ok((Node { site, log }, turned))
+    }
+}
