@@ -1,2 +1,3 @@
-mod Kept
-mod Taken
+pub mod Kept
+pub mod Taken
+pub mod Turning

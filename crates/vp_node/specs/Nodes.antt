@@ -4,6 +4,7 @@ use Rattle.vp_model.specs.Types.{LogRecord}
 use Rattle.vp_model.specs.Catalogue.{Catalogue}
 use Rattle.vp_model.specs.Site.{SiteState}
 use Rattle.vp_model.specs.Step.{durable_of}
+use Rattle.vp_catalog.specs.Document.{IsCatalogue}
 use Rattle.vp_laws.specs.Shapes.{IsShaped}
 use Rattle.vp_outside.specs.Disk.{Halves, DiskState, log_of, Only}
 use Rattle.vp_outside.specs.declared.datagram.Datagram.{Datagram}
@@ -22,8 +23,9 @@ pub record NodeValue : Type 0 where
   pub at : Standing
 
 -- It is a node over this catalogue.
-abbrev pub IsNode : Catalogue → NodeValue → Type 0
-IsNode catalogue node = IsShaped catalogue node.site
+pub record IsNode (catalogue : Catalogue) (node : NodeValue) : Type 0 where
+  pub catalogue_is : IsCatalogue catalogue
+  pub site_is : IsShaped catalogue node.site
 
 -- ---- what the disk keeps
 

@@ -7,13 +7,19 @@ use Rattle.vp_stable.specs.Halves.{GainsAt, MayGainAt, StandsAt}
 use Rattle.vp_stable.specs.Moments.{LeavesOnly}
 use Rattle.vp_stable.proofs.Times.{others_join}
 use Rattle.vp_node.specs.Keeping.{SavesDueAt, MaySaveDueAt, KeepsAt, MayKeepAt}
-use Rattle.vp_stable.proofs.Writes.{becomes-then, on_err_as, on_ok_as}
+use Rattle.vp_stable.proofs.Writes.{becomes-as, becomes-then, on_err, on_err_as, on_ok_as}
 use Rattle.vp_node.proofs.Kept.{leaves_settled, leaves_as, may_keep_none, may_gain_keeps, may_save_keeps, keeps_then, leaves_then}
 use Rattle.vp_node.proofs.keeping.keep.Goals as goal
 
 pub returns-then-is_empty-clause-any_moment : goal.returns-then-is_empty-clause-any_moment
 returns-then-is_empty-clause-any_moment g c honest =
     leaves_settled (MayKeepAt (durable_of c.args.site.now) c.args.records.now c.args.log.now) (may_keep_none _ _ _) c.args.log.now (g.D.Disk.state c.args.disk.now) (g.met.D.Disk.is_disk c.args.disk.now) (log_of (g.D.Disk.state c.args.disk.now)) (c.requires.kept honest)
+
+pub returns-in_err-append-clause-fault : goal.returns-in_err-append-clause-fault
+returns-in_err-append-clause-fault g c =
+    let some : 0 < length c.args.records.now = search rules in
+    on_err c.from_residual.result (becomes-as {S = MayGainAt c.args.records.now c.args.log.now} {T = MayKeepAt (durable_of c.args.site.now) c.args.records.now c.args.log.now} _ _
+    (may_gain_keeps (durable_of c.args.site.now) c.args.records.now some c.args.log.now c.args.log.now c.args.log.now) c.in_err-append.ensures.fault)
 
 pub returns-in_err-append-clause-any_moment : goal.returns-in_err-append-clause-any_moment
 returns-in_err-append-clause-any_moment g c honest =

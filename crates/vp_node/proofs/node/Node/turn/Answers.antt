@@ -1,0 +1,108 @@
+use Rattle.std.proofs.Common.{◌≡◌, ◌<◌, ◌^◌, ap, sym, subst, arith}
+use Rattle.std.specs.Prelude.{IfSome}
+use Rattle.vp_model.specs.Step.{durable_of}
+use Rattle.vp_model.specs.Site.{SiteState}
+use Rattle.vp_records.specs.Records.{CanBeSaved}
+use Rattle.vp_records.specs.Batches.{IsBatch}
+use Rattle.vp_laws.specs.Shapes.{IsShaped}
+use Rattle.vp_outside.specs.Disk.{log_of, Becomes}
+use Rattle.vp_outside.specs.declared.datagram.Datagram.{Datagram}
+use Rattle.vp_stable.proofs.Writes.{on_err}
+use Rattle.vp_runs.proofs.Shaped.{turns_are_shaped}
+use Rattle.vp_node.specs.Keeping.{KeepsAt, MayKeepAt}
+use Rattle.vp_node.specs.Nodes.{NodeValue, turn_of}
+use Rattle.vp_node.proofs.Kept.{leaves_settled, may_keep_none}
+use Rattle.vp_node.proofs.Turning.{same_id, brings, can_be_saved, settled, saves_none, saves_as, leaves_saves, keeps_on}
+use Rattle.vp_node.proofs.node.Node.turn.Goals as goal
+
+pub keep-requires-clause-form : goal.keep-requires-clause-form
+keep-requires-clause-form g c =
+    let d : Datagram = record { port = c.args.port; bytes = c.args.bytes.now } in
+    let site_is = subst (λ (n : NodeValue). c.in_ok-site.site ≡ (turn_of c.args.catalog.now n d).site) c.self.view_is c.in_ok-site.ensures.site_is in
+    subst (λ (site : SiteState). CanBeSaved (durable_of site)) (sym site_is)
+    (can_be_saved c.args.catalog.now c.args.self.site d c.requires.node.catalogue_is c.requires.node.site_is (omega (arith, c.ranges.port.fits)))
+
+pub keep-requires-clause-batch : goal.keep-requires-clause-batch
+keep-requires-clause-batch g c =
+    let d : Datagram = record { port = c.args.port; bytes = c.args.bytes.now } in
+    let records_are = subst (λ (n : NodeValue). c.in_ok-site.records ≡ (turn_of c.args.catalog.now n d).batch) c.self.view_is c.in_ok-site.ensures.records_are in
+    subst IsBatch (sym records_are)
+    (turns_are_shaped c.args.catalog.now c.args.self.site d c.requires.node.catalogue_is c.requires.node.site_is (omega (arith, c.ranges.port.fits))).batch_is
+
+pub returns-in_err-site-clause-fault : goal.returns-in_err-site-clause-fault
+returns-in_err-site-clause-fault g c honest =
+    let d : Datagram = record { port = c.args.port; bytes = c.args.bytes.now } in
+    let k = c.requires.node.catalogue_is in
+    let shaped = c.requires.node.site_is in
+    let follows = brings c.args.catalog.now c.args.self.site d k shaped (omega (arith, c.ranges.port.fits)) in
+    on_err c.from_residual.result (saves_none c.args.catalog.now c.args.self (turn_of c.args.catalog.now c.args.self d) follows ((g.D.Disk.state c.args.disk.now).may_leave (g.D.Disk.state c.args.disk.now).asked) (log_of (g.D.Disk.state c.args.disk.now)) (c.requires.kept honest))
+
+pub returns-in_err-site-clause-any_moment : goal.returns-in_err-site-clause-any_moment
+returns-in_err-site-clause-any_moment g c honest =
+    let d : Datagram = record { port = c.args.port; bytes = c.args.bytes.now } in
+    let turn = turn_of c.args.catalog.now c.args.self d in
+    let disk = g.D.Disk.state c.args.disk.now in
+    let follows = brings c.args.catalog.now c.args.self.site d c.requires.node.catalogue_is c.requires.node.site_is (omega (arith, c.ranges.port.fits)) in
+    leaves_saves c.args.catalog.now c.args.self turn follows (disk.may_leave disk.asked) disk disk (log_of disk) (c.requires.kept honest)
+    (leaves_settled (MayKeepAt (durable_of turn.site) turn.batch c.args.self.at) (may_keep_none _ _ _) c.args.self.at disk (g.met.D.Disk.is_disk c.args.disk.now) (log_of disk) (settled c.args.catalog.now c.args.self (disk.may_leave disk.asked) (log_of disk) (c.requires.kept honest)))
+
+pub returns-in_err-keep-clause-fault : goal.returns-in_err-keep-clause-fault
+returns-in_err-keep-clause-fault g c honest =
+    let d : Datagram = record { port = c.args.port; bytes = c.args.bytes.now } in
+    let site_is = subst (λ (n : NodeValue). c.in_ok-site.site ≡ (turn_of c.args.catalog.now n d).site) c.self.view_is c.in_ok-site.ensures.site_is in
+    let records_are = subst (λ (n : NodeValue). c.in_ok-site.records ≡ (turn_of c.args.catalog.now n d).batch) c.self.view_is c.in_ok-site.ensures.records_are in
+    let turn = turn_of c.args.catalog.now c.args.self d in
+    let disk = g.D.Disk.state c.args.disk.now in
+    let follows = brings c.args.catalog.now c.args.self.site d c.requires.node.catalogue_is c.requires.node.site_is (omega (arith, c.ranges.port.fits)) in
+    let at_is = ap (λ (n : NodeValue). n.at) c.self.view_is in
+    let kept = rw (site_is, records_are, at_is) at c.in_err-keep.ensures.fault in
+    on_err c.from_residual-in_err-keep.result (saves_as c.args.catalog.now c.args.self turn follows (disk.may_leave disk.asked) (log_of disk) _ (c.requires.kept honest) kept)
+
+pub returns-in_err-keep-clause-any_moment : goal.returns-in_err-keep-clause-any_moment
+returns-in_err-keep-clause-any_moment g c honest =
+    let d : Datagram = record { port = c.args.port; bytes = c.args.bytes.now } in
+    let site_is = subst (λ (n : NodeValue). c.in_ok-site.site ≡ (turn_of c.args.catalog.now n d).site) c.self.view_is c.in_ok-site.ensures.site_is in
+    let records_are = subst (λ (n : NodeValue). c.in_ok-site.records ≡ (turn_of c.args.catalog.now n d).batch) c.self.view_is c.in_ok-site.ensures.records_are in
+    let turn = turn_of c.args.catalog.now c.args.self d in
+    let disk = g.D.Disk.state c.args.disk.now in
+    let follows = brings c.args.catalog.now c.args.self.site d c.requires.node.catalogue_is c.requires.node.site_is (omega (arith, c.ranges.port.fits)) in
+    let at_is = ap (λ (n : NodeValue). n.at) c.self.view_is in
+    let kept = rw (site_is, records_are, at_is) at (c.keep.ensures.any_moment honest) in
+    leaves_saves c.args.catalog.now c.args.self turn follows (disk.may_leave disk.asked) disk (g.D.Disk.state c.keep.new.disk) (log_of disk) (c.requires.kept honest) kept
+
+pub returns-clause-any_moment : goal.returns-clause-any_moment
+returns-clause-any_moment g c honest =
+    let d : Datagram = record { port = c.args.port; bytes = c.args.bytes.now } in
+    let site_is = subst (λ (n : NodeValue). c.in_ok-site.site ≡ (turn_of c.args.catalog.now n d).site) c.self.view_is c.in_ok-site.ensures.site_is in
+    let records_are = subst (λ (n : NodeValue). c.in_ok-site.records ≡ (turn_of c.args.catalog.now n d).batch) c.self.view_is c.in_ok-site.ensures.records_are in
+    let turn = turn_of c.args.catalog.now c.args.self d in
+    let disk = g.D.Disk.state c.args.disk.now in
+    let follows = brings c.args.catalog.now c.args.self.site d c.requires.node.catalogue_is c.requires.node.site_is (omega (arith, c.ranges.port.fits)) in
+    let at_is = ap (λ (n : NodeValue). n.at) c.self.view_is in
+    let kept = rw (site_is, records_are, at_is) at (c.keep.ensures.any_moment honest) in
+    leaves_saves c.args.catalog.now c.args.self turn follows (disk.may_leave disk.asked) disk (g.D.Disk.state c.keep.new.disk) (log_of disk) (c.requires.kept honest) kept
+
+pub returns-clause-node : goal.returns-clause-node
+returns-clause-node g c =
+    let d : Datagram = record { port = c.args.port; bytes = c.args.bytes.now } in
+    let site_is = subst (λ (n : NodeValue). c.in_ok-site.site ≡ (turn_of c.args.catalog.now n d).site) c.self.view_is c.in_ok-site.ensures.site_is in
+    let shaped = (turns_are_shaped c.args.catalog.now c.args.self.site d c.requires.node.catalogue_is c.requires.node.site_is (omega (arith, c.ranges.port.fits))).site_is in
+    record { catalogue_is = c.requires.node.catalogue_is; site_is = subst (λ (site : SiteState). IsShaped c.args.catalog.now site) (sym site_is) shaped }
+
+pub returns-clause-kept : goal.returns-clause-kept
+returns-clause-kept g c honest =
+    let d : Datagram = record { port = c.args.port; bytes = c.args.bytes.now } in
+    let site_is = subst (λ (n : NodeValue). c.in_ok-site.site ≡ (turn_of c.args.catalog.now n d).site) c.self.view_is c.in_ok-site.ensures.site_is in
+    let records_are = subst (λ (n : NodeValue). c.in_ok-site.records ≡ (turn_of c.args.catalog.now n d).batch) c.self.view_is c.in_ok-site.ensures.records_are in
+    let turn = turn_of c.args.catalog.now c.args.self d in
+    let disk = g.D.Disk.state c.args.disk.now in
+    let fits : d.port < 2 ^ 16 = omega (arith, c.ranges.port.fits) in
+    let k = c.requires.node.catalogue_is in
+    let shaped = c.requires.node.site_is in
+    let at_is = ap (λ (n : NodeValue). n.at) c.self.view_is in
+    let new = g.D.Disk.state c.keep.new.disk in
+    let kept = rw (site_is, records_are, at_is) at c.in_ok-keep.ensures.kept_at in
+    let kept_there = subst (λ name. Becomes (KeepsAt (durable_of turn.site) turn.batch c.args.self.at c.keep.new.log) (log_of disk) (new.logs name)) (sym c.keep.ensures.others.stays.same_name) kept in
+    keeps_on c.args.catalog.now c.args.self turn (brings c.args.catalog.now c.args.self.site d k shaped fits) (record { site = c.in_ok-site.site; at = c.keep.new.log })
+    site_is (same_id c.args.catalog.now c.args.self.site d k shaped fits) (disk.may_leave disk.asked) ((g.D.Disk.state c.keep.new.disk).may_leave (g.D.Disk.state c.keep.new.disk).asked)
+    (log_of disk) (log_of (g.D.Disk.state c.keep.new.disk)) (c.requires.kept (c.keep.ensures.others.honest.1 honest)) kept_there (c.in_ok-keep.ensures.kept honest)
