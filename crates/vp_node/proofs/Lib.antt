@@ -1,3 +1,4 @@
+pub mod Begun
 pub mod Kept
 pub mod Taken
 pub mod Turning

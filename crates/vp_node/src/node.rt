@@ -20,7 +20,7 @@ use vp_base::SiteId;
 use vp_catalog::Catalog;
 use vp_outside::Disk;
 use vp_site::Site;
-use vp_stable::Log;
+use vp_stable::{Log, halves_are_one_log};
 
 /// A site that is up, with its log.
 #[derive(Drop)]
@@ -65,6 +65,7 @@ impl Node {
         ensures others { LeavesOthers (D.state disk.old) (D.state disk.new) }
         ensures cause { HasNodeCause (D.state disk.old).faults (D.state disk.new).faults result }
     {
+        halves_are_one_log();
         let (mut log, batches) = Log::recover(catalog.sites().allocator(), disk)?;
         let (site, begun) = next_life(catalog, id, &batches)?;
         log.append(disk, &begun)?;
