@@ -61,6 +61,16 @@ module _ (catalogue : Catalogue) (id : ℕ) where
     leaves_start_then old mid new name before None (Some b) alike stands first second = tt
     leaves_start_then old mid new name before None None alike stands first second = tt
 
+  -- the log has the start behind its batches, and is told as it was
+  pub stands_begun : (at to : Standing) (batches : List (List LogRecord)) → (o p q : Option Halves) → Becomes ReadAlike o p → IfSome p (StandsAt at batches)
+      → Becomes (GainsAt (start_record (durable_in catalogue id batches) ∷ []) at to) p q → Becomes (λ before log. StandsAt to (start_node catalogue id batches).batches log) o q
+  stands_begun at to batches (Some a) (Some b) (Some c) alike stands gains = gains batches stands
+  stands_begun at to batches (Some a) (Some b) None alike stands gains = gains
+  stands_begun at to batches (Some a) None q alike stands gains = absurd alike
+  stands_begun at to batches None (Some b) q alike stands gains = absurd alike
+  stands_begun at to batches None None (Some c) alike stands gains = gains
+  stands_begun at to batches None None None alike stands gains = tt
+
   -- ---- the node
 
   pub starts_shaped : (batches : List (List LogRecord)) → IsCatalogue catalogue → has (sites_of catalogue) id ≡ true → AllByRecursion IsBatch batches → (durable_in catalogue id batches).life < 2 ^ 32 - 1

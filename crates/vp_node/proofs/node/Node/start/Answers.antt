@@ -12,7 +12,7 @@ use Rattle.vp_stable.proofs.Writes.{becomes-as, on_err}
 use Rattle.vp_runs.specs.Keeping.{durable_in}
 use Rattle.vp_node.specs.Nodes.{MayStart}
 use Rattle.vp_node.proofs.Kept.{leaves_as}
-use Rattle.vp_node.proofs.Begun.{may_start_alike, starts_then, leaves_start_then, starts_shaped, starts_life, keeps_start}
+use Rattle.vp_node.proofs.Begun.{may_start_alike, starts_then, leaves_start_then, starts_shaped, starts_life, stands_begun, keeps_start}
 use Rattle.vp_node.proofs.Taken.{is_catalogue}
 use Rattle.vp_node.proofs.node.Node.start.Goals as goal
 
@@ -67,6 +67,21 @@ pub returns-in_err-append-clause-others : goal.returns-in_err-append-clause-othe
 returns-in_err-append-clause-others g c = others_join c.recover.ensures.others c.append.ensures.others
 
 -- ---- the node
+
+pub returns-clause-started : goal.returns-clause-started
+returns-clause-started g c =
+    let disk = g.D.Disk.state c.args.disk.now in
+    let mid = g.D.Disk.state c.recover.new.disk in
+    let new = g.D.Disk.state c.append.new.disk in
+    let at = c.in_ok-log.log in
+    let gains = subst (λ (batch : List LogRecord). Becomes (GainsAt batch at c.append.new.self) (mid.logs disk.asked) (new.logs disk.asked)) c.in_ok-site.ensures.batch
+        (rw c.recover.ensures.others.stays.same_name at c.in_ok-append.ensures.appended) in
+    record {
+      batches = c.in_ok-log.batches;
+      had = c.in_ok-log.ensures.answer;
+      site = c.in_ok-site.ensures.site;
+      has = stands_begun c.args.catalog.now c.args.id at c.append.new.self c.in_ok-log.batches (log_of disk) (mid.logs disk.asked) (new.logs disk.asked) c.recover.ensures.alike c.in_ok-log.ensures.stands gains;
+    }
 
 pub returns-clause-node : goal.returns-clause-node
 returns-clause-node g c =
