@@ -10,8 +10,9 @@ use Rattle.vp_model.specs.Site.{Lent}
 use Rattle.vp_model.specs.Transactions.{live_of, close, decide}
 use Rattle.vp_model.specs.Calls.{answer_read, answer_write}
 use Rattle.vp_model.specs.Answers.{with_missing, count_in, read_answered, on_read_answer, write_answered, on_write_answer, refused_by, on_refuse, voted, on_vote}
-use Rattle.vp_coordinator.specs.declared.lent.Handled.{Handled}
-use Rattle.vp_coordinator.specs.Answered.{with_call, pending_for, waiting_call, wanted_read, wanted_write, is_commit, refused_end, refusal, refusal_at}
+use Rattle.vp_transactions.specs.declared.handled.Handled.{Handled}
+use Rattle.vp_transactions.specs.Waiting.{with_call, pending_for, waiting_call}
+use Rattle.vp_coordinator.specs.Answered.{wanted_read, wanted_write, is_commit, refused_end, refusal, refusal_at}
 
 module _ (from : ℕ) (f : Live → Pending → Lent → Lent) (l : Lent) where
   if_waiting : (t : Live) (q : Option Pending) → for_some q (λ p l. if has p.missing from then f t p l else l) l ≡ for_some (option_map (with_call t) (option_map_or (λ p. if has p.missing from then Some p else None) q None)) (λ (h : Handled). f h.live h.pending) l
@@ -72,7 +73,7 @@ pub vote_waits : (catalogue : Catalogue) (id from : ℕ) (txn : TxnId) (l : Lent
 unfolding on_vote
 vote_waits catalogue id from txn l = taken_up from (λ t p. voted catalogue id from t p p.call) l txn
 
-pub ruleset questions = (read_wanted, write_wanted, read_waits, write_waits, vote_counts, vote_waits)
+pub ruleset questions = (read_wanted, write_wanted, vote_counts)
 
 module _ (id from : ℕ) (t : Live) (l : Lent) where
   refused_ends : (why : Obstacle) (words : Call) → refused_by id why words from t l ≡ for_some (refused_end from why t.view words) (close id t) l
@@ -98,6 +99,8 @@ pub refuse_waits : (id from number : ℕ) (txn : TxnId) (why : Obstacle) (l : Le
 unfolding on_refuse
 refuse_waits id from number txn why l =
     rw (← ended_so id from number why l txn) (taken_up from (λ t p l. if p.number == number then refused_by id why p.call from t l else l) l txn)
+
+pub ruleset awaited = (read_waits, write_waits, vote_waits, refuse_waits)
 
 -- no site misses any more
 pub counted_all : (from : ℕ) (t : Live) (p : Pending) (done : Lent → Lent) (l : Lent) → is_empty (filter (λ q. not (q == from)) p.missing) ≡ true → count_in from t p done l ≡ done l
