@@ -9,11 +9,11 @@ ghost use Rattle.vp_model.specs.Views.{abandon};
 ghost use Rattle.vp_model.specs.Generated.{newest};
 ghost use Rattle.vp_coordinator.specs.Lent.{lent_of, around};
 
-use crate::answers::on_answer;
 use crate::calls::own_call;
 use std::alloc::Global;
 use std::marker::Model;
 use std::mem;
+use vp_answers::on_answer;
 use vp_base::{Call, CopyOf, Decisions, Effects, Message, Newest, NoMemory, SiteId, View, ViewId};
 use vp_catalog::Catalog;
 use vp_endings::{Around, Here, Lent};

@@ -6,7 +6,7 @@ ghost use Rattle.vp_base.specs.declared.site.Ending.TheVariants as ending;
 ghost use Rattle.vp_model.specs.Words.{is_empty};
 ghost use Rattle.vp_model.specs.Site.{lent_reply, with_reply, with_commit, with_messages};
 ghost use Rattle.vp_model.specs.Transactions.{entry_of, last_writes, complete, wait_for, close, keep_writes, decided, decide};
-ghost use Rattle.vp_model.specs.Calls.{handling};
+ghost use Rattle.vp_model.specs.Calls.{handling, answer_read, answer_write};
 ghost use Rattle.vp_transactions.specs.Waiting.{waits};
 ghost use Rattle.vp_endings.specs.Lent.{in_place};
 
@@ -16,7 +16,7 @@ use crate::writes::{last_writes, writes_held, writing_parts};
 use std::mem;
 use vp_base::{
     Answer, Commit, CopyOf, Effects, Ending, Live, LogRecord, Name, NoMemory, Op, Ops, Owner,
-    SiteId, Sites, Writes,
+    RecId, SiteId, Sites, Value, Writes,
 };
 use vp_lists::write_copies;
 use vp_transactions::{Handled, tell_outcome};
@@ -54,6 +54,40 @@ impl Lent {
         add_answer(&mut handled.live, operation, answer)?;
         self.put_back(handled);
         Ok(())
+    }
+
+    /// The read is done, with this value.
+    pub fn answer_read(
+        &mut self,
+        handled: &mut Handled,
+        rec: RecId,
+        value: Value,
+    ) -> Result<(), NoMemory>
+        ensures { OnOk result (self.new ≡ answer_read handled.old.live handled.old.pending rec value (in_place handled.old.live self.old)) }
+    {
+        let answer = Answer::Value {
+            txn: handled.txn(),
+            number: handled.number(),
+            value: value.copy_of()?,
+        };
+        self.complete(handled, Op::Read { rec, value }, answer)
+    }
+
+    /// The write is done.
+    pub fn answer_write(
+        &mut self,
+        handled: &mut Handled,
+        rec: RecId,
+        value: &Value,
+    ) -> Result<(), NoMemory>
+        ensures { OnOk result (self.new ≡ answer_write handled.old.live handled.old.pending rec value.now (in_place handled.old.live self.old)) }
+    {
+        let value = value.copy_of()?;
+        let answer = Answer::Written {
+            txn: handled.txn(),
+            number: handled.number(),
+        };
+        self.complete(handled, Op::Write { rec, value }, answer)
     }
 
     /// The call waits for these sites.

@@ -7,5 +7,5 @@ mod records;
 mod writes;
 
 pub use commits::commit;
-pub use reads::{answer_read, read_named};
-pub use writes::{answer_write, write_named};
+pub use reads::read_named;
+pub use writes::write_named;

@@ -9,28 +9,11 @@ ghost use Rattle.vp_endings.specs.Lent.{in_place};
 
 use crate::records::{copy_here, own_write, usable_record};
 use std::alloc::Global;
-use vp_base::{Answer, CopyOf, Live, Message, Name, NoMemory, Op, RecId, SiteId, Sites, Value};
+use vp_base::{Live, Message, Name, NoMemory, RecId, SiteId, Sites, Value};
 use vp_endings::{Around, Lent, first_of};
 use vp_lists::put_in;
 use vp_locks::LockFault;
 use vp_transactions::Handled;
-
-/// The read is done, with this value.
-pub fn answer_read(
-    lent: &mut Lent,
-    handled: &mut Handled,
-    rec: RecId,
-    value: Value,
-) -> Result<(), NoMemory>
-    ensures { OnOk result (lent.new ≡ answer_read handled.old.live handled.old.pending rec value (in_place handled.old.live lent.old)) }
-{
-    let answer = Answer::Value {
-        txn: handled.txn(),
-        number: handled.number(),
-        value: value.copy_of()?,
-    };
-    lent.complete(handled, Op::Read { rec, value }, answer)
-}
 
 #[tactic(auto, unfolding(vp_model::specs::Calls::read_at), using(crate::proofs::Rows::waits_in_place))]
 fn read_at(
@@ -89,7 +72,7 @@ fn read_here(
         lock_here id handled.old.live handled.old.pending name.now rec false (answer_read handled.old.live handled.old.pending rec value) (in_place handled.old.live lent.old)) }
 {
     match lent.here.locks.take_shared(rec, handled.txn()) {
-        Ok(()) => answer_read(lent, handled, rec, value),
+        Ok(()) => lent.answer_read(handled, rec, value),
         Err(LockFault::Held { owner }) => lent.close_blocked(id, handled, name, owner),
         Err(LockFault::NoMemory) => Err(NoMemory),
     }
@@ -108,7 +91,7 @@ fn read(
         read at.now.catalog.now at.now.id (option_copied at.now.held) handled.old.live handled.old.pending name.now rec (in_place handled.old.live lent.old)) }
 {
     match own_write(&handled.live, rec)? {
-        Some(value) => answer_read(lent, handled, rec, value),
+        Some(value) => lent.answer_read(handled, rec, value),
         None => match copy_here(&lent.here, rec)? {
             Some(stored) => read_here(lent, at.id, handled, name, rec, stored.value),
             None => read_there(lent, at, handled, rec),

@@ -10,28 +10,11 @@ ghost use Rattle.vp_transactions.specs.Waiting.{waits};
 ghost use Rattle.vp_endings.specs.Lent.{in_place};
 
 use crate::records::{copy_here, own_write, usable_record};
-use vp_base::{Answer, CopyOf, Effects, Message, Name, NoMemory, Op, RecId, SiteId, Sites, Value};
+use vp_base::{Effects, Message, Name, NoMemory, RecId, SiteId, Sites, Value};
 use vp_endings::{Around, Lent};
 use vp_lists::put_in;
 use vp_locks::LockFault;
 use vp_transactions::Handled;
-
-/// The write is done.
-pub fn answer_write(
-    lent: &mut Lent,
-    handled: &mut Handled,
-    rec: RecId,
-    value: &Value,
-) -> Result<(), NoMemory>
-    ensures { OnOk result (lent.new ≡ answer_write handled.old.live handled.old.pending rec value.now (in_place handled.old.live lent.old)) }
-{
-    let value = value.copy_of()?;
-    let answer = Answer::Written {
-        txn: handled.txn(),
-        number: handled.number(),
-    };
-    lent.complete(handled, Op::Write { rec, value }, answer)
-}
 
 #[tactic(auto, unfolding(vp_model::specs::Calls::write_at), using(crate::proofs::Rows::waits_in_place))]
 fn write_at(
@@ -63,7 +46,7 @@ fn write_elsewhere(
 {
     let asked = at.catalog.other_holders(at.id, at.held, rec)?;
     if asked.as_slice().is_empty() {
-        answer_write(lent, handled, rec, value)
+        lent.answer_write(handled, rec, value)
     } else {
         write_at(lent, at.id, handled, rec, asked)
     }
@@ -102,7 +85,7 @@ fn write(
         write at.now.catalog.now at.now.id (option_copied at.now.held) handled.old.live handled.old.pending name.now value.now rec (in_place handled.old.live lent.old)) }
 {
     match own_write(&handled.live, rec)? {
-        Some(_) => answer_write(lent, handled, rec, value),
+        Some(_) => lent.answer_write(handled, rec, value),
         None => match copy_here(&lent.here, rec)? {
             Some(_) => write_here(lent, at, handled, name, value, rec),
             None => write_elsewhere(lent, at, handled, rec, value),

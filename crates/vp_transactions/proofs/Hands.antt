@@ -1,5 +1,7 @@
 -- A transaction that is put into its place again, or taken out for good.
-use Rattle.std.proofs.Common.{◌≡◌, Bool, true, if◌then◌else◌, List, [], ◌∷◌, find, Option, Some, None, is_some, IfSome, sym, subst, refl, arith}
+use Rattle.std.proofs.Common.{◌≡◌, Bool, true, if◌then◌else◌, List, [], ◌∷◌, find, Option, Some, None, is_some, IfSome, Bor, ◌∙◌, ap, sym, subst, refl, arith}
+use Rattle.std.specs.Prelude.{option_copied}
+use Rattle.std.specs.List.{list_any}
 use Rattle.std.specs.Option.{option_map_or}
 use Rattle.std.proofs.lemmas.Bool.Decides.{nat_tests}
 use Rattle.vp_model.specs.Types.{TxnId, Live}
@@ -16,6 +18,15 @@ module _ {A : Type 0} (test : A → Bool) (x : A) (h : test x ≡ true) where
   pub take_again : (xs : List A) → without_first test (change_first test (λ u. x) xs) ≡ without_first test xs
   take_again [] = refl
   take_again (z ∷ zs) = let rest = take_again zs in grind (arith, nat_tests, h, rest)
+
+-- something passes where something is found
+found_any : {A : Type 0} (test : A → Bool) (xs : List A) → is_some (find test xs) ≡ list_any test xs
+found_any test [] = refl
+found_any test (x ∷ xs) = let rest = found_any test xs in grind (arith, nat_tests, rest)
+
+pub found_there : {A : Type 0} (test : A → Bool) (xs : List A) (found : Option (Bor A)) → option_copied found ≡ find test xs → is_some found ≡ list_any test xs
+found_there test xs None e = ap is_some e ∙ found_any test xs
+found_there test xs (Some x) e = ap is_some e ∙ found_any test xs
 
 -- nothing is put where nothing is found
 put_none : {A : Type 0} (test : A → Bool) (f : A → A) (xs : List A) → None ≡ find test xs → change_first test f xs ≡ xs

@@ -13,7 +13,7 @@ ghost use Rattle.vp_transactions.specs.Waiting.{waits, all_wait};
 use std::alloc::Global;
 use std::marker::Model;
 use vp_base::{CopyOf, Live, Newest, NoMemory, Ops, Pending, Seq, Sites, TxnId, ViewId};
-use vp_lists::{is_same_txn, replace_txn, take_txn};
+use vp_lists::{find_txn, replace_txn, take_txn};
 
 /// The live transactions, in the order in which they began. A call of theirs that is not answered yet waits for some site.
 #[derive(Drop)]
@@ -55,7 +55,7 @@ impl LiveTxns {
     pub fn has(&self, txn: &TxnId) -> bool
         ensures { result ≡ is_live txn.now self.now }
     {
-        self.items.iter().any(|t| is_same_txn(&t.txn, txn))
+        find_txn(&self.items, txn).is_some()
     }
 
     /// The transaction begins.

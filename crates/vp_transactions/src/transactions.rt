@@ -24,7 +24,7 @@ use vp_base::{
     NoMemory, Pending, Seq, SiteId, Sites, TxnId, ViewId,
 };
 use vp_catalog::has_site;
-use vp_lists::{OfTxn, is_same_txn, put_in};
+use vp_lists::{OfTxn, find_txn, is_same_txn, put_in};
 use vp_records::acknowledge;
 
 /// The live transactions, the ends of those that have ended, and the decisions that some site has not acknowledged.
@@ -183,10 +183,7 @@ impl Transactions {
     pub fn is_decided(&self, txn: &TxnId) -> bool
         ensures { result ≡ is_decided txn.now self.now.decisions }
     {
-        self.decisions
-            .as_slice()
-            .iter()
-            .any(|d| is_same_txn(&d.txn, txn))
+        find_txn(self.decisions.as_slice(), txn).is_some()
     }
 
     /// The transaction goes back into its place.

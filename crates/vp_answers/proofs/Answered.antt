@@ -12,7 +12,7 @@ use Rattle.vp_model.specs.Calls.{answer_read, answer_write}
 use Rattle.vp_model.specs.Answers.{with_missing, count_in, read_answered, on_read_answer, write_answered, on_write_answer, refused_by, on_refuse, voted, on_vote}
 use Rattle.vp_transactions.specs.declared.handled.Handled.{Handled}
 use Rattle.vp_transactions.specs.Waiting.{with_call, pending_for, waiting_call}
-use Rattle.vp_coordinator.specs.Answered.{wanted_read, wanted_write, is_commit, refused_end, refusal, refusal_at}
+use Rattle.vp_answers.specs.Answered.{wanted_read, wanted_write, is_commit, refused_end, refusal, refusal_at}
 
 module _ (from : ℕ) (f : Live → Pending → Lent → Lent) (l : Lent) where
   if_waiting : (t : Live) (q : Option Pending) → for_some q (λ p l. if has p.missing from then f t p l else l) l ≡ for_some (option_map (with_call t) (option_map_or (λ p. if has p.missing from then Some p else None) q None)) (λ (h : Handled). f h.live h.pending) l

@@ -7,7 +7,7 @@ ghost use Rattle.vp_model.specs.Answers.{count_in, read_answered, write_answered
 ghost use Rattle.vp_model.specs.Transactions.{decide};
 ghost use Rattle.vp_transactions.specs.Waiting.{waits, waiting_call};
 ghost use Rattle.vp_endings.specs.Lent.{in_place};
-ghost use Rattle.vp_coordinator.specs.Answered.{wanted_read, wanted_write, is_commit, refused_end, refusal, refusal_at, answered};
+ghost use Rattle.vp_answers.specs.Answered.{wanted_read, wanted_write, is_commit, refused_end, refusal, refusal_at, answered};
 
 use vp_base::{
     Call, CallNo, CopyOf, Ending, LogRecord, Message, NoMemory, Obstacle, Pending, RecId, SiteId,
@@ -15,7 +15,6 @@ use vp_base::{
 };
 use vp_catalog::Catalog;
 use vp_endings::{Around, Lent};
-use vp_operations::{answer_read, answer_write};
 use vp_transactions::Handled;
 
 /// The sites but this one.
@@ -120,7 +119,7 @@ fn count_read(
 {
     let missing = sites_without(&handled.pending.missing, from)?;
     if missing.as_slice().is_empty() {
-        answer_read(lent, handled, rec, value)
+        lent.answer_read(handled, rec, value)
     } else {
         lent.wait_for(handled, missing);
         Ok(())
@@ -168,7 +167,7 @@ fn count_write(
 {
     let missing = sites_without(&handled.pending.missing, from)?;
     if missing.as_slice().is_empty() {
-        answer_write(lent, handled, rec, &value)
+        lent.answer_write(handled, rec, &value)
     } else {
         lent.wait_for(handled, missing);
         Ok(())

@@ -1,8 +1,8 @@
 use Rattle.std.proofs.Common.{rules, ◌≡◌, ◌==◌, not, filter, true}
 use Rattle.vp_model.specs.Words.{is_empty}
 use Rattle.vp_endings.proofs.Rows.{decide_own}
-use Rattle.vp_coordinator.proofs.Answered.{counted_all}
-use Rattle.vp_coordinator.proofs.answers.count_vote.Goals as goal
+use Rattle.vp_answers.proofs.Answered.{counted_all}
+use Rattle.vp_answers.proofs.answers.count_vote.Goals as goal
 
 pub returns-then-is_empty : goal.returns-then-is_empty
 returns-then-is_empty c =
