@@ -1,6 +1,1 @@
-pub mod Hands
-pub mod Rows
-pub mod Answered
-pub mod Some
-pub mod Waiting
-pub mod Ends
+pub mod Told

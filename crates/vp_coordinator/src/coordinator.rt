@@ -9,16 +9,16 @@ ghost use Rattle.vp_model.specs.Views.{abandon};
 ghost use Rattle.vp_model.specs.Generated.{newest};
 ghost use Rattle.vp_coordinator.specs.Lent.{lent_of, around};
 
-use crate::around::Around;
-use crate::here::Here;
-use crate::lent::Lent;
-use crate::transactions::Transactions;
+use crate::calls::own_call;
 use std::alloc::Global;
 use std::marker::Model;
 use std::mem;
+use vp_answers::on_answer;
 use vp_base::{Call, CopyOf, Decisions, Effects, Message, Newest, NoMemory, SiteId, View, ViewId};
 use vp_catalog::Catalog;
+use vp_endings::{Around, Here, Lent};
 use vp_records::Durable;
+use vp_transactions::Transactions;
 
 /// The transactions of one life of a site.
 #[derive(Drop)]
@@ -92,7 +92,7 @@ impl Coordinator {
             promise,
         };
         let mut lent = take(&mut self.transactions, here, effects);
-        let done = lent.own_call(&at, from, call);
+        let done = own_call(&mut lent, &at, from, call);
         give_back(lent, &mut self.transactions, here, effects);
         done
     }
@@ -122,7 +122,7 @@ impl Coordinator {
             promise: ViewId { number: 0, site: 0 },
         };
         let mut lent = take(&mut self.transactions, here, effects);
-        let done = lent.on_answer(&at, from, message);
+        let done = on_answer(&mut lent, &at, from, message);
         give_back(lent, &mut self.transactions, here, effects);
         done
     }
@@ -142,7 +142,7 @@ impl Coordinator {
     }
 
     /// Tells each decision again to the sites that have not acknowledged it. Without memory the effects may only be dropped.
-    #[tactic(auto, using(crate::proofs::Ends::told_again))]
+    #[tactic(auto, using(crate::proofs::Told::told_again))]
     pub fn resend(&self, effects: &mut Effects) -> Result<(), NoMemory>
         ensures { OnOk result ((here : HereState) → lent_of self.now.coordinator here effects.new ≡
             resend self.now.id self.now.coordinator.decisions (lent_of self.now.coordinator here effects.old)) }

@@ -5,7 +5,8 @@ use vp_base::{
     Call, CallNo, Copies, CopyOf, Effects, Message, Name, SiteId, TxnId, Value, View, ViewId,
 };
 use vp_catalog::Catalog;
-use vp_coordinator::{Coordinator, Here};
+use vp_coordinator::Coordinator;
+use vp_endings::Here;
 use vp_locks::Locks;
 use vp_records::Durable;
 

@@ -1,0 +1,350 @@
+//! What the answers of other sites do to a call that waits for them, and the inquiries of other sites.
+
+ghost use Rattle.std.specs.Prelude.{◌≡◌, ◌==◌, [], OnOk, IfOk, not, filter, option_copied, true, false};
+ghost use Rattle.vp_model.specs.Words.{is_empty, for_some};
+ghost use Rattle.vp_model.specs.Calls.{answer_read, answer_write};
+ghost use Rattle.vp_model.specs.Answers.{count_in, read_answered, write_answered, voted, on_ack, on_inquire, on_answer};
+ghost use Rattle.vp_model.specs.Transactions.{decide};
+ghost use Rattle.vp_transactions.specs.Waiting.{waits, waiting_call};
+ghost use Rattle.vp_endings.specs.Lent.{in_place};
+ghost use Rattle.vp_answers.specs.Answered.{wanted_read, wanted_write, is_commit, refused_end, refusal, refusal_at, answered};
+
+use vp_base::{
+    Call, CallNo, CopyOf, Ending, LogRecord, Message, NoMemory, Obstacle, Pending, RecId, SiteId,
+    Sites, TxnId, Value, ViewId,
+};
+use vp_catalog::Catalog;
+use vp_endings::{Around, Lent};
+use vp_transactions::Handled;
+
+/// The sites but this one.
+fn sites_without(sites: &Sites, site: SiteId) -> Result<Sites, NoMemory>
+    ensures { IfOk result (λ rest. rest ≡ filter (λ q. not (q == site)) sites.now) }
+{
+    let rest = sites
+        .as_slice()
+        .iter()
+        .copied()
+        .filter(|other| *other != site)
+        .collect(sites.allocator())?;
+    Ok(Sites::from_vec(rest))
+}
+
+/// The record that a value with this number is read of.
+fn wanted_read(catalog: &Catalog, number: CallNo, p: &Pending) -> Option<RecId>
+    ensures { result ≡ wanted_read catalog.now number p.now p.now.call }
+{
+    match &p.call {
+        Call::Read { name, .. } if p.number == number => catalog.find(name),
+        _ => None,
+    }
+}
+
+/// The record that the call of this number writes, with its value.
+fn wanted_write(
+    catalog: &Catalog,
+    number: CallNo,
+    p: &Pending,
+) -> Result<Option<(RecId, Value)>, NoMemory>
+    ensures { IfOk result (λ wanted. wanted ≡ wanted_write catalog.now number p.now p.now.call) }
+{
+    match &p.call {
+        Call::Write { name, value, .. } if p.number == number => match catalog.find(name) {
+            None => Ok(None),
+            Some(rec) => Ok(Some((rec, value.copy_of()?))),
+        },
+        _ => Ok(None),
+    }
+}
+
+fn is_commit(call: &Call) -> bool
+    ensures { result ≡ is_commit call.now }
+{
+    matches!(call, Call::Commit { .. })
+}
+
+/// The end of a transaction of this view, whose call the site has refused.
+fn refused_end(
+    from: SiteId,
+    why: &Obstacle,
+    view: ViewId,
+    call: &Call,
+) -> Result<Option<Ending>, NoMemory>
+    ensures { IfOk result (λ end. end ≡ refused_end from why.now view call.now) }
+{
+    match why {
+        Obstacle::OtherView { now } => Ok(Some(Ending::ViewChanged {
+            at: from,
+            held: view,
+            now: *now,
+        })),
+        Obstacle::Held { owner } => match call {
+            Call::Read { name, .. } | Call::Write { name, .. } => Ok(Some(Ending::LockHeld {
+                name: name.copy_of()?,
+                at: from,
+                owner: *owner,
+            })),
+            _ => Ok(None),
+        },
+    }
+}
+
+fn refusal(
+    from: SiteId,
+    number: CallNo,
+    why: &Obstacle,
+    handled: &Handled,
+) -> Result<Option<Ending>, NoMemory>
+    ensures { IfOk result (λ end. end ≡ refusal from number why.now handled.now.live.view handled.now.pending) }
+{
+    if handled.pending.number == number {
+        refused_end(from, why, handled.live.view, &handled.pending.call)
+    } else {
+        Ok(None)
+    }
+}
+
+/// The site has read; where no other site is missing, the read is done.
+#[tactic(auto, using(vp_endings::proofs::Rows::wait_in_place))]
+fn count_read(
+    lent: &mut Lent,
+    from: SiteId,
+    handled: &mut Handled,
+    rec: RecId,
+    value: Value,
+) -> Result<(), NoMemory>
+    ensures { OnOk result (lent.new ≡
+        count_in from handled.old.live handled.old.pending (answer_read handled.old.live handled.old.pending rec value)
+        (in_place handled.old.live lent.old)) }
+{
+    let missing = sites_without(&handled.pending.missing, from)?;
+    if missing.as_slice().is_empty() {
+        lent.answer_read(handled, rec, value)
+    } else {
+        lent.wait_for(handled, missing);
+        Ok(())
+    }
+}
+
+#[tactic(auto, using(crate::proofs::Answered::questions))]
+fn read_answered(
+    lent: &mut Lent,
+    at: &Around<'_>,
+    from: SiteId,
+    handled: &mut Handled,
+    number: CallNo,
+    value: &Value,
+) -> Result<(), NoMemory>
+    requires { waits handled.old.live ≡ true }
+    ensures { OnOk result (lent.new ≡
+        read_answered at.now.catalog.now from number value.now handled.old.live handled.old.pending handled.old.pending.call
+        (in_place handled.old.live lent.old)) }
+{
+    match wanted_read(at.catalog, number, &handled.pending) {
+        None => {
+            lent.put_back(handled);
+            Ok(())
+        }
+        Some(rec) => {
+            let value = value.copy_of()?;
+            count_read(lent, from, handled, rec, value)
+        }
+    }
+}
+
+/// The site has the lock for the write; where no other site is missing, the write is done.
+#[tactic(auto, using(vp_endings::proofs::Rows::wait_in_place))]
+fn count_write(
+    lent: &mut Lent,
+    from: SiteId,
+    handled: &mut Handled,
+    rec: RecId,
+    value: Value,
+) -> Result<(), NoMemory>
+    ensures { OnOk result (lent.new ≡
+        count_in from handled.old.live handled.old.pending (answer_write handled.old.live handled.old.pending rec value)
+        (in_place handled.old.live lent.old)) }
+{
+    let missing = sites_without(&handled.pending.missing, from)?;
+    if missing.as_slice().is_empty() {
+        lent.answer_write(handled, rec, &value)
+    } else {
+        lent.wait_for(handled, missing);
+        Ok(())
+    }
+}
+
+#[tactic(auto, using(crate::proofs::Answered::questions))]
+fn write_answered(
+    lent: &mut Lent,
+    at: &Around<'_>,
+    from: SiteId,
+    handled: &mut Handled,
+    number: CallNo,
+) -> Result<(), NoMemory>
+    requires { waits handled.old.live ≡ true }
+    ensures { OnOk result (lent.new ≡
+        write_answered at.now.catalog.now from number handled.old.live handled.old.pending handled.old.pending.call
+        (in_place handled.old.live lent.old)) }
+{
+    match wanted_write(at.catalog, number, &handled.pending)? {
+        None => {
+            lent.put_back(handled);
+            Ok(())
+        }
+        Some((rec, value)) => count_write(lent, from, handled, rec, value),
+    }
+}
+
+#[tactic(auto, using(vp_endings::proofs::Rows::close_own))]
+fn refused(
+    lent: &mut Lent,
+    at: &Around<'_>,
+    from: SiteId,
+    handled: &mut Handled,
+    number: CallNo,
+    why: &Obstacle,
+) -> Result<(), NoMemory>
+    requires { waits handled.old.live ≡ true }
+    ensures { OnOk result (lent.new ≡ refusal_at at.now.id from number why.now handled.old.live handled.old.pending (in_place handled.old.live lent.old)) }
+{
+    match refusal(from, number, why, handled)? {
+        None => {
+            lent.put_back(handled);
+            Ok(())
+        }
+        Some(end) => lent.close(at.id, &mut handled.live, end),
+    }
+}
+
+/// The site has voted yes; where no other vote is missing, the transaction commits.
+#[tactic(auto, using(vp_endings::proofs::Rows::wait_in_place))]
+fn count_vote(
+    lent: &mut Lent,
+    at: &Around<'_>,
+    from: SiteId,
+    handled: &mut Handled,
+) -> Result<(), NoMemory>
+    ensures { OnOk result (lent.new ≡
+        count_in from handled.old.live handled.old.pending (decide at.now.catalog.now at.now.id handled.old.live)
+        (in_place handled.old.live lent.old)) }
+{
+    let missing_votes = sites_without(&handled.pending.missing, from)?;
+    if missing_votes.as_slice().is_empty() {
+        lent.decide(at, &mut handled.live)
+    } else {
+        lent.wait_for(handled, missing_votes);
+        Ok(())
+    }
+}
+
+#[tactic(auto, using(crate::proofs::Answered::questions))]
+fn voted(
+    lent: &mut Lent,
+    at: &Around<'_>,
+    from: SiteId,
+    handled: &mut Handled,
+) -> Result<(), NoMemory>
+    requires { waits handled.old.live ≡ true }
+    ensures { OnOk result (lent.new ≡
+        voted at.now.catalog.now at.now.id from handled.old.live handled.old.pending handled.old.pending.call
+        (in_place handled.old.live lent.old)) }
+{
+    if is_commit(&handled.pending.call) {
+        return count_vote(lent, at, from, handled);
+    }
+    lent.put_back(handled);
+    Ok(())
+}
+
+#[tactic(auto, unfolding(vp_model::specs::Answers::on_ack))]
+fn on_ack(lent: &mut Lent, from: SiteId, txn: &TxnId) -> Result<(), NoMemory>
+    ensures { OnOk result (lent.new ≡ on_ack from txn.now lent.old) }
+{
+    if !lent.coordinator.waits_for(txn, from) {
+        return Ok(());
+    }
+    lent.coordinator.acknowledge(txn, from);
+    lent.effects.force(LogRecord::Acked {
+        txn: *txn,
+        site: from,
+    })
+}
+
+/// A coordinator without a decision answers abort.
+#[tactic(auto, unfolding(vp_model::specs::Answers::on_inquire))]
+fn on_inquire(lent: &mut Lent, id: SiteId, from: SiteId, txn: &TxnId) -> Result<(), NoMemory>
+    ensures { OnOk result (lent.new ≡ on_inquire id from txn.now lent.old) }
+{
+    if txn.site == id && !lent.coordinator.is_live(txn) {
+        let commit = lent.coordinator.is_decided(txn);
+        return lent
+            .effects
+            .send(id, from, Message::Outcome { txn: *txn, commit });
+    }
+    Ok(())
+}
+
+/// What an answer, a refusal or a vote does to the call that waits for it.
+fn answered(
+    lent: &mut Lent,
+    at: &Around<'_>,
+    from: SiteId,
+    handled: &mut Handled,
+    message: &Message,
+) -> Result<(), NoMemory>
+    requires { waits handled.old.live ≡ true }
+    ensures { OnOk result (lent.new ≡
+        answered at.now.catalog.now at.now.id from message.now handled.old.live handled.old.pending (in_place handled.old.live lent.old)) }
+{
+    match message {
+        Message::ReadAnswer { number, value, .. } => {
+            read_answered(lent, at, from, handled, *number, value)
+        }
+        Message::WriteAnswer { number, .. } => write_answered(lent, at, from, handled, *number),
+        Message::Refuse { number, why, .. } => refused(lent, at, from, handled, *number, why),
+        Message::Vote { .. } => voted(lent, at, from, handled),
+        _ => {
+            lent.put_back(handled);
+            Ok(())
+        }
+    }
+}
+
+/// An answer, a refusal or a vote comes, and the transaction's call may wait for it.
+fn on_awaited(
+    lent: &mut Lent,
+    at: &Around<'_>,
+    from: SiteId,
+    txn: &TxnId,
+    message: &Message,
+) -> Result<(), NoMemory>
+    ensures { OnOk result (lent.new ≡
+        for_some (waiting_call txn.now from lent.old.live) (λ h. answered at.now.catalog.now at.now.id from message.now h.live h.pending) lent.old) }
+{
+    match lent.coordinator.take_waiting(txn, from)? {
+        None => Ok(()),
+        Some(mut handled) => answered(lent, at, from, &mut handled, message),
+    }
+}
+
+/// What a message does to the transactions that this site began.
+#[tactic(auto, unfolding(vp_model::specs::Answers::on_answer), using(crate::proofs::Answered::awaited))]
+pub fn on_answer(
+    lent: &mut Lent,
+    at: &Around<'_>,
+    from: SiteId,
+    message: &Message,
+) -> Result<(), NoMemory>
+    ensures { OnOk result (lent.new ≡ on_answer at.now.catalog.now at.now.id from message.now lent.old) }
+{
+    match message {
+        Message::ReadAnswer { txn, .. } => on_awaited(lent, at, from, txn, message),
+        Message::WriteAnswer { txn, .. } => on_awaited(lent, at, from, txn, message),
+        Message::Refuse { txn, .. } => on_awaited(lent, at, from, txn, message),
+        Message::Vote { txn } => on_awaited(lent, at, from, txn, message),
+        Message::Ack { txn } => on_ack(lent, from, txn),
+        Message::Inquire { txn } => on_inquire(lent, at.id, from, txn),
+        _ => Ok(()),
+    }
+}

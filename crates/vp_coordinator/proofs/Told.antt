@@ -1,0 +1,13 @@
+-- What is told again changes the effects alone.
+use Rattle.std.proofs.Common.{◌≡◌, ℕ, List, [], ◌∷◌, refl}
+use Rattle.vp_model.specs.Types.{Decision, Effects}
+use Rattle.vp_model.specs.Site.{Here, CoordinatorState}
+use Rattle.vp_model.specs.Step.{resend, resend_one}
+use Rattle.vp_transactions.specs.Waiting.{with_outcomes}
+use Rattle.vp_coordinator.specs.Lent.{lent_of}
+
+module _ (id : ℕ) where
+  pub told_again : (decisions : List Decision) (c : CoordinatorState) (here : Here) (e : Effects) → lent_of c here (with_outcomes id decisions e) ≡ resend id decisions (lent_of c here e)
+  unfolding resend_one
+  told_again [] c here e = refl
+  told_again (d ∷ decisions) c here e = told_again decisions c here _

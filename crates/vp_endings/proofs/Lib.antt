@@ -1,0 +1,4 @@
+pub mod Some
+pub mod Each
+pub mod Rows
+pub mod Ends

@@ -1,0 +1,77 @@
+//! How several transactions end at once: those whose calls are late, and all where the site leaves its view.
+
+ghost use Rattle.std.specs.Prelude.{◌≡◌, OnOk, None};
+ghost use Rattle.vp_base.specs.declared.site.Ending.TheVariants as ending;
+ghost use Rattle.vp_model.specs.Words.{for_each};
+ghost use Rattle.vp_model.specs.Transactions.{close_all};
+ghost use Rattle.vp_model.specs.Views.{abandon};
+ghost use Rattle.vp_model.specs.Step.{time_out_calls};
+ghost use Rattle.vp_endings.specs.Ends.{waits_at, timed_out};
+
+use crate::around::first_of;
+use crate::lent::Lent;
+use vp_base::{Ending, Live, NoMemory, SiteId};
+
+/// The least site that the transaction's call waits for.
+fn waits_at(t: &Live) -> Option<SiteId>
+    ensures { result ≡ waits_at t.now }
+{
+    match &t.pending {
+        None => None,
+        Some(pending) => first_of(pending.missing.as_slice()),
+    }
+}
+
+impl Lent {
+    fn time_out(&mut self, id: SiteId, t: &mut Live) -> Result<(), NoMemory>
+        ensures { OnOk result (self.new ≡ timed_out id t.old self.old) }
+    {
+        match waits_at(t) {
+            None => Ok(()),
+            Some(at) => self.close(id, t, Ending::TimedOut { at }),
+        }
+    }
+
+    fn time_out_each(&mut self, id: SiteId, late: &mut [Live]) -> Result<(), NoMemory>
+        ensures { OnOk result (self.new ≡ for_each late.old (timed_out id) self.old) }
+    {
+        for t in late.iter_mut() {
+            self.time_out(id, t)?;
+        }
+        Ok(())
+    }
+
+    /// Ends the transactions whose calls were pending at the tick before, and marks the other pending calls.
+    pub fn tick(&mut self, id: SiteId) -> Result<(), NoMemory>
+        ensures { OnOk result (self.new ≡ time_out_calls id self.old) }
+    {
+        let mut late = self.coordinator.late()?;
+        self.time_out_each(id, &mut late)?;
+        self.coordinator.mark();
+        Ok(())
+    }
+
+    /// These transactions end, as the site leaves their view.
+    fn abort_each(&mut self, id: SiteId, live: &mut [Live]) -> Result<(), NoMemory>
+        ensures { OnOk result (self.new ≡ close_all id (λ t. ending.ViewChanged id t.view None) live.old self.old) }
+    {
+        for t in live.iter_mut() {
+            let why = Ending::ViewChanged {
+                at: id,
+                held: t.view,
+                now: None,
+            };
+            self.close(id, t, why)?;
+        }
+        Ok(())
+    }
+
+    /// The site leaves its view: all live transactions end.
+    #[tactic(auto, using(crate::proofs::Ends::all_left))]
+    pub fn leave(&mut self, id: SiteId) -> Result<(), NoMemory>
+        ensures { OnOk result (self.new ≡ abandon id self.old) }
+    {
+        let mut live = self.coordinator.take_all();
+        self.abort_each(id, &mut live)
+    }
+}

@@ -1,0 +1,92 @@
+//! The commit: each part is asked for its vote, on the records that were read there and on the last values of those that it holds.
+
+ghost use Rattle.std.specs.Prelude.{◌≡◌, OnOk, IfOk, false};
+ghost use Rattle.vp_model.specs.Words.{is_empty};
+ghost use Rattle.vp_model.specs.Site.{with_each_message};
+ghost use Rattle.vp_model.specs.Transactions.{last_writes};
+ghost use Rattle.vp_model.specs.Calls.{records_read_at, prepare_for, prepare_parts, commit};
+ghost use Rattle.vp_endings.specs.Lent.{in_place};
+
+use std::alloc::Global;
+use vp_base::{
+    CopyOf, Effects, Live, Message, NoMemory, Pending, RecId, Recs, SiteId, Sites, Value,
+};
+use vp_catalog::Catalog;
+use vp_endings::{Around, Lent, last_writes, writes_held};
+use vp_lists::put;
+use vp_transactions::Handled;
+
+#[tactic(auto, unfolding(vp_model::specs::Calls::prepare_parts), using(crate::proofs::Rows::waits_in_place))]
+fn prepare_parts(lent: &mut Lent, at: &Around<'_>, handled: &mut Handled) -> Result<(), NoMemory>
+    requires { is_empty handled.old.live.parts ≡ false }
+    ensures { OnOk result (lent.new ≡ prepare_parts at.now.catalog.now at.now.id handled.old.live handled.old.pending (in_place handled.old.live lent.old)) }
+{
+    let asked = ask_parts(at, handled, &mut lent.effects)?;
+    lent.wait_for(handled, asked);
+    Ok(())
+}
+
+/// Where the transaction has no part elsewhere, it commits; else its parts are asked.
+#[tactic(auto, unfolding(vp_model::specs::Calls::commit), using(vp_endings::proofs::Rows::in_places))]
+pub fn commit(lent: &mut Lent, at: &Around<'_>, handled: &mut Handled) -> Result<(), NoMemory>
+    ensures { OnOk result (lent.new ≡ commit at.now.catalog.now at.now.id handled.old.live handled.old.pending (in_place handled.old.live lent.old)) }
+{
+    if handled.live.parts.as_slice().is_empty() {
+        handled.attach_call();
+        lent.decide(at, &mut handled.live)
+    } else {
+        prepare_parts(lent, at, handled)
+    }
+}
+
+/// Each part is asked for its vote.
+fn ask_parts(at: &Around<'_>, handled: &Handled, effects: &mut Effects) -> Result<Sites, NoMemory>
+    ensures asked { IfOk result (λ asked. asked ≡ handled.now.live.parts) }
+    ensures effects { OnOk result (effects.new ≡ with_each_message at.now.id (prepare_for at.now.catalog.now handled.now.live handled.now.pending) handled.now.live.parts effects.old) }
+{
+    let t = &handled.live;
+    let writes = last_writes(t.ops.allocator(), t.ops.as_slice())?;
+    for site in t.parts.as_slice() {
+        let request = prepare_for(at.catalog, t, &handled.pending, writes.as_slice(), *site)?;
+        effects.send(at.id, *site, request)?;
+    }
+    t.parts.copy_of()
+}
+
+/// The records that were read at the site, ascending.
+fn records_read_at(
+    alloc: Global,
+    site: SiteId,
+    remote: &[(SiteId, RecId)],
+) -> Result<Recs, NoMemory>
+    ensures { IfOk result (λ recs. recs ≡ records_read_at site remote.now) }
+{
+    let mut recs = Vec::new(alloc);
+    for asked in remote {
+        if asked.0 == site {
+            put(&mut recs, asked.1)?;
+        }
+    }
+    Ok(Recs::from_vec(recs))
+}
+
+/// What a part is asked to vote on.
+fn prepare_for(
+    catalog: &Catalog,
+    t: &Live,
+    p: &Pending,
+    writes: &[(RecId, Value)],
+    site: SiteId,
+) -> Result<Message, NoMemory>
+    requires { writes.now ≡ last_writes t.now.ops }
+    ensures { IfOk result (λ message. message ≡ prepare_for catalog.now t.now p.now site) }
+{
+    let alloc = t.ops.allocator();
+    Ok(Message::Prepare {
+        txn: t.txn,
+        view: t.view,
+        number: p.number,
+        reads: records_read_at(alloc, site, t.remote.as_slice())?,
+        writes: writes_held(alloc, catalog, site, writes)?,
+    })
+}

@@ -1,0 +1,136 @@
+//! A read: the transaction's own write, else the copy here, else the least holder in the view is asked.
+
+ghost use Rattle.std.specs.Prelude.{◌≡◌, ◌++◌, ◌∷◌, [], OnOk, IfOk, option_copied, true, false};
+ghost use Rattle.vp_model.specs.Words.{first, for_some, put_number, value_at};
+ghost use Rattle.vp_model.specs.Refresh.{other_holders_in};
+ghost use Rattle.vp_model.specs.Calls.{with_record, lock_here, answer_read, read_at, read};
+ghost use Rattle.vp_transactions.specs.Waiting.{waits};
+ghost use Rattle.vp_endings.specs.Lent.{in_place};
+
+use crate::records::{copy_here, own_write, usable_record};
+use std::alloc::Global;
+use vp_base::{Live, Message, Name, NoMemory, RecId, SiteId, Sites, Value};
+use vp_endings::{Around, Lent, first_of};
+use vp_lists::put_in;
+use vp_locks::LockFault;
+use vp_transactions::Handled;
+
+#[tactic(auto, unfolding(vp_model::specs::Calls::read_at), using(crate::proofs::Rows::waits_in_place))]
+fn read_at(
+    lent: &mut Lent,
+    id: SiteId,
+    handled: &mut Handled,
+    rec: RecId,
+    site: SiteId,
+) -> Result<(), NoMemory>
+    ensures { OnOk result (lent.new ≡ read_at id handled.old.live handled.old.pending rec site (in_place handled.old.live lent.old)) }
+{
+    add_reader(&mut handled.live, rec, site)?;
+    let asked = only(handled.live.parts.allocator(), site)?;
+    let request = Message::ReadRequest {
+        txn: handled.txn(),
+        view: handled.live.view,
+        number: handled.number(),
+        rec,
+    };
+    lent.wait_for(handled, asked);
+    lent.effects.send(id, site, request)
+}
+
+/// The least holder in the view is asked.
+fn read_there(
+    lent: &mut Lent,
+    at: &Around<'_>,
+    handled: &mut Handled,
+    rec: RecId,
+) -> Result<(), NoMemory>
+    requires { waits handled.old.live ≡ true }
+    ensures { OnOk result (lent.new ≡
+        for_some (first (other_holders_in at.now.catalog.now at.now.id (option_copied at.now.held) rec)) (read_at at.now.id handled.old.live handled.old.pending rec) (in_place handled.old.live lent.old)) }
+{
+    let asked = at.catalog.other_holders(at.id, at.held, rec)?;
+    match first_of(asked.as_slice()) {
+        None => {
+            lent.put_back(handled);
+            Ok(())
+        }
+        Some(site) => read_at(lent, at.id, handled, rec, site),
+    }
+}
+
+/// The copy here is locked and read.
+#[tactic(auto, unfolding(vp_model::specs::Calls::lock_here, vp_model::specs::Calls::take_lock))]
+fn read_here(
+    lent: &mut Lent,
+    id: SiteId,
+    handled: &mut Handled,
+    name: &Name,
+    rec: RecId,
+    value: Value,
+) -> Result<(), NoMemory>
+    ensures { OnOk result (lent.new ≡
+        lock_here id handled.old.live handled.old.pending name.now rec false (answer_read handled.old.live handled.old.pending rec value) (in_place handled.old.live lent.old)) }
+{
+    match lent.here.locks.take_shared(rec, handled.txn()) {
+        Ok(()) => lent.answer_read(handled, rec, value),
+        Err(LockFault::Held { owner }) => lent.close_blocked(id, handled, name, owner),
+        Err(LockFault::NoMemory) => Err(NoMemory),
+    }
+}
+
+#[tactic(auto, unfolding(vp_model::specs::Calls::read))]
+fn read(
+    lent: &mut Lent,
+    at: &Around<'_>,
+    handled: &mut Handled,
+    name: &Name,
+    rec: RecId,
+) -> Result<(), NoMemory>
+    requires { waits handled.old.live ≡ true }
+    ensures { OnOk result (lent.new ≡
+        read at.now.catalog.now at.now.id (option_copied at.now.held) handled.old.live handled.old.pending name.now rec (in_place handled.old.live lent.old)) }
+{
+    match own_write(&handled.live, rec)? {
+        Some(value) => lent.answer_read(handled, rec, value),
+        None => match copy_here(&lent.here, rec)? {
+            Some(stored) => read_here(lent, at.id, handled, name, rec, stored.value),
+            None => read_there(lent, at, handled, rec),
+        },
+    }
+}
+
+/// A read of the record of this name.
+#[tactic(auto, using(crate::proofs::Rows::record_first))]
+pub fn read_named(
+    lent: &mut Lent,
+    at: &Around<'_>,
+    handled: &mut Handled,
+    name: &Name,
+) -> Result<(), NoMemory>
+    requires { waits handled.old.live ≡ true }
+    ensures { OnOk result (lent.new ≡
+        with_record at.now.catalog.now (option_copied at.now.held) handled.old.live handled.old.pending name.now
+        (read at.now.catalog.now at.now.id (option_copied at.now.held) handled.old.live handled.old.pending name.now) (in_place handled.old.live lent.old)) }
+{
+    match usable_record(at, handled, name)? {
+        Ok(rec) => read(lent, at, handled, name, rec),
+        Err(answer) => lent.refuse(handled, answer),
+    }
+}
+
+/// The site alone.
+fn only(alloc: Global, site: SiteId) -> Result<Sites, NoMemory>
+    ensures { IfOk result (λ sites. sites ≡ site ∷ []) }
+{
+    let mut sites = Sites::new(alloc);
+    sites.push(site)?;
+    Ok(sites)
+}
+
+/// The site, which is to read the record, becomes a part.
+fn add_reader(t: &mut Live, rec: RecId, site: SiteId) -> Result<(), NoMemory>
+    ensures { OnOk result (t.new ≡ record t.old { remote = t.old.remote ++ (site, rec) ∷ []; parts = put_number site t.old.parts }) }
+{
+    t.remote.push((site, rec))?;
+    put_in(&mut t.parts, site)
+}

@@ -1,0 +1,144 @@
+//! A write: a record that was written before needs no more locks; else the copy here is locked, and the other holders in the view
+//! are asked.
+
+ghost use Rattle.std.specs.Prelude.{◌≡◌, OnOk, option_copied, true, false};
+ghost use Rattle.vp_base.specs.declared.message.Message.TheVariants as message;
+ghost use Rattle.vp_model.specs.Words.{put_number, is_empty, for_each};
+ghost use Rattle.vp_model.specs.Site.{with_messages};
+ghost use Rattle.vp_model.specs.Calls.{with_record, lock_here, answer_write, write_at, write_elsewhere, write};
+ghost use Rattle.vp_transactions.specs.Waiting.{waits};
+ghost use Rattle.vp_endings.specs.Lent.{in_place};
+
+use crate::records::{copy_here, own_write, usable_record};
+use vp_base::{Effects, Message, Name, NoMemory, RecId, SiteId, Sites, Value};
+use vp_endings::{Around, Lent};
+use vp_lists::put_in;
+use vp_locks::LockFault;
+use vp_transactions::Handled;
+
+#[tactic(auto, unfolding(vp_model::specs::Calls::write_at), using(crate::proofs::Rows::waits_in_place))]
+fn write_at(
+    lent: &mut Lent,
+    id: SiteId,
+    handled: &mut Handled,
+    rec: RecId,
+    sites: Sites,
+) -> Result<(), NoMemory>
+    requires { is_empty sites ≡ false }
+    ensures { OnOk result (lent.new ≡ write_at id handled.old.live handled.old.pending rec sites (in_place handled.old.live lent.old)) }
+{
+    ask_to_write(id, handled, rec, sites.as_slice(), &mut lent.effects)?;
+    put_all(&mut handled.live.parts, sites.as_slice())?;
+    lent.wait_for(handled, sites);
+    Ok(())
+}
+
+#[tactic(auto, unfolding(vp_model::specs::Calls::write_elsewhere))]
+fn write_elsewhere(
+    lent: &mut Lent,
+    at: &Around<'_>,
+    handled: &mut Handled,
+    rec: RecId,
+    value: &Value,
+) -> Result<(), NoMemory>
+    ensures { OnOk result (lent.new ≡
+        write_elsewhere at.now.catalog.now at.now.id (option_copied at.now.held) handled.old.live handled.old.pending rec value.now (in_place handled.old.live lent.old)) }
+{
+    let asked = at.catalog.other_holders(at.id, at.held, rec)?;
+    if asked.as_slice().is_empty() {
+        lent.answer_write(handled, rec, value)
+    } else {
+        write_at(lent, at.id, handled, rec, asked)
+    }
+}
+
+/// The copy here is locked, and then the record is written.
+#[tactic(auto, unfolding(vp_model::specs::Calls::lock_here, vp_model::specs::Calls::take_lock))]
+fn write_here(
+    lent: &mut Lent,
+    at: &Around<'_>,
+    handled: &mut Handled,
+    name: &Name,
+    value: &Value,
+    rec: RecId,
+) -> Result<(), NoMemory>
+    ensures { OnOk result (lent.new ≡
+        lock_here at.now.id handled.old.live handled.old.pending name.now rec true (write_elsewhere at.now.catalog.now at.now.id (option_copied at.now.held) handled.old.live handled.old.pending rec value.now) (in_place handled.old.live lent.old)) }
+{
+    match lent.here.locks.take_exclusive(rec, handled.txn()) {
+        Ok(()) => write_elsewhere(lent, at, handled, rec, value),
+        Err(LockFault::Held { owner }) => lent.close_blocked(at.id, handled, name, owner),
+        Err(LockFault::NoMemory) => Err(NoMemory),
+    }
+}
+
+#[tactic(auto, unfolding(vp_model::specs::Calls::write))]
+fn write(
+    lent: &mut Lent,
+    at: &Around<'_>,
+    handled: &mut Handled,
+    name: &Name,
+    value: &Value,
+    rec: RecId,
+) -> Result<(), NoMemory>
+    ensures { OnOk result (lent.new ≡
+        write at.now.catalog.now at.now.id (option_copied at.now.held) handled.old.live handled.old.pending name.now value.now rec (in_place handled.old.live lent.old)) }
+{
+    match own_write(&handled.live, rec)? {
+        Some(_) => lent.answer_write(handled, rec, value),
+        None => match copy_here(&lent.here, rec)? {
+            Some(_) => write_here(lent, at, handled, name, value, rec),
+            None => write_elsewhere(lent, at, handled, rec, value),
+        },
+    }
+}
+
+/// A write of the record of this name.
+#[tactic(auto, using(crate::proofs::Rows::record_first))]
+pub fn write_named(
+    lent: &mut Lent,
+    at: &Around<'_>,
+    handled: &mut Handled,
+    name: &Name,
+    value: &Value,
+) -> Result<(), NoMemory>
+    requires { waits handled.old.live ≡ true }
+    ensures { OnOk result (lent.new ≡
+        with_record at.now.catalog.now (option_copied at.now.held) handled.old.live handled.old.pending name.now
+        (write at.now.catalog.now at.now.id (option_copied at.now.held) handled.old.live handled.old.pending name.now value.now) (in_place handled.old.live lent.old)) }
+{
+    match usable_record(at, handled, name)? {
+        Ok(rec) => write(lent, at, handled, name, value, rec),
+        Err(answer) => lent.refuse(handled, answer),
+    }
+}
+
+/// The sites are asked to lock the record for the write.
+fn ask_to_write(
+    id: SiteId,
+    handled: &Handled,
+    rec: RecId,
+    sites: &[SiteId],
+    effects: &mut Effects,
+) -> Result<(), NoMemory>
+    ensures { OnOk result (effects.new ≡
+        with_messages id (message.WriteRequest handled.now.live.txn handled.now.live.view handled.now.pending.number rec) sites.now effects.old) }
+{
+    let request = Message::WriteRequest {
+        txn: handled.live.txn,
+        view: handled.live.view,
+        number: handled.pending.number,
+        rec,
+    };
+    effects.send_all(id, sites, &request)
+}
+
+/// The sites join the list, which keeps its order.
+fn put_all(list: &mut Sites, sites: &[SiteId]) -> Result<(), NoMemory>
+    ensures { OnOk result (list.new ≡ for_each sites.now put_number list.old) }
+{
+    for site in sites {
+        put_in(list, *site)?;
+    }
+    Ok(())
+}

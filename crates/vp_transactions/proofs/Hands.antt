@@ -1,0 +1,64 @@
+-- A transaction that is put into its place again, or taken out for good.
+use Rattle.std.proofs.Common.{◌≡◌, Bool, true, if◌then◌else◌, List, [], ◌∷◌, find, Option, Some, None, is_some, IfSome, Bor, ◌∙◌, ap, sym, subst, refl, arith}
+use Rattle.std.specs.Prelude.{option_copied}
+use Rattle.std.specs.List.{list_any}
+use Rattle.std.specs.Option.{option_map_or}
+use Rattle.std.proofs.lemmas.Bool.Decides.{nat_tests}
+use Rattle.vp_model.specs.Types.{TxnId, Live}
+use Rattle.vp_model.specs.Words.{same_txn, change_first, without_first}
+
+pub same_txn_self : (t : TxnId) → same_txn t t ≡ true
+same_txn_self t = grind (arith, nat_tests)
+
+module _ {A : Type 0} (test : A → Bool) (x : A) (h : test x ≡ true) where
+  pub put_again : (y : A) (xs : List A) → change_first test (λ u. y) (change_first test (λ u. x) xs) ≡ change_first test (λ u. y) xs
+  put_again y [] = refl
+  put_again y (z ∷ zs) = let rest = put_again y zs in grind (arith, nat_tests, h, rest)
+
+  pub take_again : (xs : List A) → without_first test (change_first test (λ u. x) xs) ≡ without_first test xs
+  take_again [] = refl
+  take_again (z ∷ zs) = let rest = take_again zs in grind (arith, nat_tests, h, rest)
+
+-- something passes where something is found
+found_any : {A : Type 0} (test : A → Bool) (xs : List A) → is_some (find test xs) ≡ list_any test xs
+found_any test [] = refl
+found_any test (x ∷ xs) = let rest = found_any test xs in grind (arith, nat_tests, rest)
+
+pub found_there : {A : Type 0} (test : A → Bool) (xs : List A) (found : Option (Bor A)) → option_copied found ≡ find test xs → is_some found ≡ list_any test xs
+found_there test xs None e = ap is_some e ∙ found_any test xs
+found_there test xs (Some x) e = ap is_some e ∙ found_any test xs
+
+-- nothing is put where nothing is found
+put_none : {A : Type 0} (test : A → Bool) (f : A → A) (xs : List A) → None ≡ find test xs → change_first test f xs ≡ xs
+put_none test f [] h = refl
+put_none test f (z ∷ zs) h = let rest = put_none test f zs in grind (arith, nat_tests, h, rest)
+
+-- what is found is put where it is
+put_found : {A : Type 0} (test : A → Bool) (t : A) (xs : List A) → Some t ≡ find test xs → change_first test (λ u. t) xs ≡ xs
+put_found test t [] h = refl
+put_found test t (z ∷ zs) h = let rest = put_found test t zs in grind (arith, nat_tests, h, rest)
+
+-- nothing goes where nothing is found
+without_none : {A : Type 0} (test : A → Bool) (xs : List A) → None ≡ find test xs → without_first test xs ≡ xs
+without_none test [] h = refl
+without_none test (z ∷ zs) h = let rest = without_none test zs in grind (arith, nat_tests, h, rest)
+
+pub dropped : {A : Type 0} (test : A → Bool) (xs ys : List A) (r : Option A) → r ≡ find test xs → ys ≡ (if is_some r then without_first test xs else xs) → ys ≡ without_first test xs
+dropped test xs ys None f e = rw (without_none test xs f) e
+dropped test xs ys (Some t) f e = e
+
+-- what was lifted goes back, and the list is as it was
+pub back : (txn : TxnId) (h : Live) (xs ys : List Live) (r : Option Live) → h.txn ≡ txn → ys ≡ change_first (λ u. same_txn u.txn txn) (λ u. h) xs → r ≡ find (λ u. same_txn u.txn txn) xs → IfSome r (λ t. t.txn ≡ txn) → option_map_or (λ t. change_first (λ u. same_txn u.txn t.txn) (λ u. t) ys) r ys ≡ xs
+back txn h xs ys None e y f n = rw y (put_none (λ u. same_txn u.txn txn) (λ u. h) xs f)
+back txn h xs ys (Some t) e y f n =
+    let core : change_first (λ u. same_txn u.txn txn) (λ u. t) ys ≡ xs = rw (y, put_again (λ u. same_txn u.txn txn) h (rw e (same_txn_self txn)) t xs) (put_found (λ u. same_txn u.txn txn) t xs f) in
+    subst (λ x. change_first (λ u. same_txn u.txn x) (λ u. t) ys ≡ xs) (sym n) core
+
+-- the same for a transaction: it is put into its place again, or taken out for good
+pub put_live_again : (t u : Live) (xs : List Live) → u.txn ≡ t.txn → change_first (λ v. same_txn v.txn t.txn) (λ v. u) (change_first (λ v. same_txn v.txn t.txn) (λ v. t) xs) ≡ change_first (λ v. same_txn v.txn t.txn) (λ v. u) xs
+put_live_again t u xs e = put_again (λ v. same_txn v.txn t.txn) t (same_txn_self t.txn) u xs
+
+pub drop_live_again : (t : Live) (xs : List Live) → without_first (λ v. same_txn v.txn t.txn) (change_first (λ v. same_txn v.txn t.txn) (λ v. t) xs) ≡ without_first (λ v. same_txn v.txn t.txn) xs
+drop_live_again t xs = take_again (λ v. same_txn v.txn t.txn) t (same_txn_self t.txn) xs
+
+pub ruleset hands = (put_live_again, drop_live_again)

@@ -1,0 +1,33 @@
+-- A call that is not answered yet waits for some site.
+use Rattle.std.specs.Prelude.{ℕ, Bool, true, not, if◌then◌else◌, List, Option, Some, None, option_map}
+use Rattle.std.specs.List.{list_all}
+use Rattle.std.specs.Option.{option_map_or}
+use Rattle.vp_model.specs.Types.{TxnId, Effects, Pending, Live, Decision}
+use Rattle.vp_model.specs.Types.message
+use Rattle.vp_model.specs.Words.{for_each, is_empty, has}
+use Rattle.vp_model.specs.Site.{with_messages}
+use Rattle.vp_model.specs.Transactions.{live_of}
+use Rattle.vp_transactions.specs.declared.handled.Handled.{Handled}
+
+abbrev pub waits : Live → Bool
+waits t = option_map_or (λ (p : Pending). not (is_empty p.missing)) t.pending true
+
+abbrev pub all_wait : List Live → Bool
+all_wait live = list_all waits live
+
+-- the pending call of a transaction, where it waits for the site
+abbrev pub pending_for : ℕ → Live → Option Pending
+pending_for from t = option_map_or (λ p. if has p.missing from then Some p else None) t.pending None
+
+abbrev pub with_call : Live → Pending → Handled
+with_call t p = record { live = t; pending = p }
+
+-- the transaction, with that call
+abbrev pub waiting_call : TxnId → ℕ → List Live → Option Handled
+waiting_call txn from live =
+    option_map_or (λ t. option_map (with_call t) (pending_for from t)) (live_of txn live) None
+
+-- each decision is told again to the sites that it waits for
+abbrev pub with_outcomes : ℕ → List Decision → Effects → Effects
+with_outcomes id decisions e =
+    for_each decisions (λ (d : Decision). with_messages id (message.Outcome d.txn true) d.waiting) e

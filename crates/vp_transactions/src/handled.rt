@@ -1,0 +1,53 @@
+//! A live transaction in the hands of a row.
+
+ghost use Rattle.std.specs.Prelude.{◌≡◌};
+ghost use Rattle.vp_model.specs.Calls.{handling};
+
+use crate::live::new_live;
+use std::mem;
+use vp_base::{Call, CallNo, Live, Pending, Sites, TxnId};
+
+/// A live transaction that a row has in its hands, with the call that it does. An empty one of its name keeps its place.
+#[derive(Drop)]
+pub struct Handled {
+    pub live: Live,
+    pub pending: Pending,
+}
+
+impl Handled {
+    pub fn txn(&self) -> TxnId
+        ensures { result ≡ self.now.live.txn }
+    {
+        self.live.txn
+    }
+
+    pub fn number(&self) -> CallNo
+        ensures { result ≡ self.now.pending.number }
+    {
+        self.pending.number
+    }
+
+    /// Takes the transaction out; an empty one is left.
+    pub fn take_live(&mut self) -> Live
+        ensures taken { result ≡ self.old.live }
+        ensures pending { self.new.pending ≡ self.old.pending }
+    {
+        let alloc = self.live.ops.allocator();
+        let empty = new_live(alloc, &self.live.txn, self.live.view);
+        mem::replace(&mut self.live, empty)
+    }
+
+    /// The call becomes the pending one of the transaction; an empty one is left.
+    pub fn attach_call(&mut self)
+        ensures { self.new.live ≡ handling self.old.live self.old.pending }
+    {
+        let empty = Pending {
+            number: self.pending.number,
+            port: self.pending.port,
+            call: Call::Begin,
+            missing: Sites::new(self.live.ops.allocator()),
+            marked: false,
+        };
+        self.live.pending = Some(mem::replace(&mut self.pending, empty));
+    }
+}

@@ -1,0 +1,11 @@
+//! The tables of the transactions that a site began: those that are live, how others ended, and the decisions that some site has
+//! not acknowledged.
+#![tactic(auto)]
+
+mod handled;
+mod live;
+mod transactions;
+
+pub use handled::Handled;
+pub use live::LiveTxns;
+pub use transactions::{Transactions, tell_outcome, told_again};

@@ -1,0 +1,359 @@
+//! The transactions that a site began, and how they end.
+
+ghost use Rattle.std.specs.Prelude.{◌≡◌, ◌&&◌, ◌<◌, ◌-◌, ◌^◌, ◌++◌, ◌∷◌, [], OnOk, IfOk, IfSome, true, filter, Some, None, nat_le, if◌then◌else◌, length, option_copied};
+ghost use Rattle.std.specs.Option.{option_map_or};
+ghost use Rattle.vp_base.specs.declared.answer.Answer.TheVariants as answer;
+ghost use Rattle.vp_model.specs.Words.{same_txn, has, at_most};
+ghost use Rattle.vp_base.specs.declared.message.Message.TheVariants as message;
+ghost use Rattle.vp_model.specs.Site.{with_reply, with_messages};
+ghost use Rattle.vp_model.specs.Transactions.{live_of, finished_of, put_live, answer_of, answers_after, with_pending_reply, with_end, with_finished, with_kept};
+ghost use Rattle.vp_model.specs.Calls.{kept_answer, begun, with_begun};
+ghost use Rattle.vp_model.specs.Answers.{waits_for, with_acknowledged, is_live, is_decided};
+ghost use Rattle.vp_model.specs.Step.{is_marked_call, with_marks};
+ghost use Rattle.vp_transactions.specs.Ended.{told_by, told_after};
+ghost use Rattle.vp_transactions.specs.Waiting.{waits, all_wait, pending_for, waiting_call, with_outcomes};
+
+use crate::handled::Handled;
+use crate::live::LiveTxns;
+use std::alloc::Global;
+use std::collections::VecDeque;
+use std::marker::Model;
+use std::mem;
+use vp_base::{
+    Answer, CallNo, CopyOf, Decision, Decisions, Effects, Ending, Finished, Live, Message,
+    NoMemory, Pending, Seq, SiteId, Sites, TxnId, ViewId,
+};
+use vp_catalog::has_site;
+use vp_lists::{OfTxn, find_txn, is_same_txn, put_in};
+use vp_records::acknowledge;
+
+/// The live transactions, the ends of those that have ended, and the decisions that some site has not acknowledged.
+#[derive(Drop)]
+pub struct Transactions {
+    pub seq: u32,
+    pub live: LiveTxns,
+    pub finished: VecDeque<Finished>,
+    pub decisions: Decisions,
+}
+
+impl Model for Transactions {
+    ghost use Rattle.vp_model.specs.Site.{CoordinatorState};
+
+    ghost Value = { CoordinatorState };
+
+    ghost view = { λ c. record { seq = c.seq; live = c.live; finished = c.finished.items; decisions = c.decisions } };
+}
+
+/// The answer that an ending gives to a call.
+fn answer_to(txn: &TxnId, number: CallNo, why: &Ending) -> Result<Answer, NoMemory>
+    ensures { IfOk result (λ answer. answer ≡ answer_of txn.now number why.now) }
+{
+    let txn = *txn;
+    match why {
+        Ending::Committed => Ok(Answer::Committed { txn, number }),
+        Ending::Aborted => Ok(Answer::Aborted { txn, number }),
+        Ending::LockHeld { name, at, owner } => Ok(Answer::LockHeld {
+            txn,
+            number,
+            name: name.copy_of()?,
+            at: *at,
+            owner: *owner,
+        }),
+        Ending::ViewChanged { at, held, now } => Ok(Answer::ViewChanged {
+            txn,
+            number,
+            at: *at,
+            held: *held,
+            now: *now,
+        }),
+        Ending::TimedOut { at } => Ok(Answer::TimedOut {
+            txn,
+            number,
+            at: *at,
+        }),
+    }
+}
+
+/// A pending call is answered by the ending.
+fn answer_pending(t: &mut Live, why: &Ending, effects: &mut Effects) -> Result<(), NoMemory>
+    ensures answers { OnOk result (t.new ≡ record t.old { answers = answers_after t.old why.now }) }
+    ensures effects { OnOk result (effects.new ≡ with_pending_reply t.old.txn why.now t.old.pending effects.old) }
+{
+    if let Some(pending) = &t.pending {
+        let number = pending.number;
+        let to = pending.port;
+        effects.reply(to, answer_to(&t.txn, number, why)?)?;
+        t.answers.push(answer_to(&t.txn, number, why)?)?;
+    }
+    Ok(())
+}
+
+fn kept_answer(answers: &[Answer], number: CallNo) -> Option<&Answer>
+    ensures { option_copied result ≡ kept_answer number answers.now }
+{
+    answers.get(number.get() as usize - 1)
+}
+
+/// The answer that was given to the call of this number.
+pub fn told_again(answers: &[Answer], number: CallNo) -> Result<Option<Answer>, NoMemory>
+    ensures { IfOk result (λ told. told ≡ kept_answer number answers.now) }
+{
+    match kept_answer(answers, number) {
+        None => Ok(None),
+        Some(answer) => Ok(Some(answer.copy_of()?)),
+    }
+}
+
+impl Transactions {
+    pub fn new(alloc: Global) -> Transactions
+        ensures { result ≡ record { seq = 0; live = []; finished = []; decisions = [] } }
+    {
+        Transactions {
+            seq: 0,
+            live: LiveTxns::new(alloc),
+            finished: VecDeque::new(alloc),
+            decisions: Decisions::new(alloc),
+        }
+    }
+
+    pub fn allocator(&self) -> Global {
+        self.live.allocator()
+    }
+
+    /// The next transaction begins.
+    pub fn begin(&mut self, txn: &TxnId, view: ViewId) -> Result<(), NoMemory>
+        requires { self.old.seq < 2 ^ 32 - 1 }
+        ensures { OnOk result (self.new ≡ with_begun (begun txn.now view) self.old) }
+    {
+        self.live.begin(txn, view)?;
+        self.seq += 1;
+        Ok(())
+    }
+
+    /// Takes the transaction into the hands of a row.
+    pub fn take_up(&mut self, txn: &TxnId) -> Option<Live>
+        ensures lifted { result ≡ live_of txn.now self.old.live }
+        ensures back { option_map_or (λ t. put_live t self.new) result self.new ≡ self.old }
+        ensures waiting { IfSome result (λ t. waits t ≡ true) }
+    {
+        self.live.take_up(txn)
+    }
+
+    /// Takes the transaction with its pending call, where that waits for the site.
+    pub fn take_waiting(&mut self, txn: &TxnId, from: SiteId) -> Result<Option<Handled>, NoMemory>
+        ensures taken { IfOk result (λ taken. taken ≡ waiting_call txn.now from self.old.live) }
+        ensures back { IfOk result (λ taken. option_map_or (λ h. put_live h.live self.new) taken self.new ≡ self.old) }
+        ensures waiting { IfOk result (λ taken. IfSome taken (λ h. waits h.live ≡ true)) }
+    {
+        match self.take_up(txn) {
+            None => Ok(None),
+            Some(live) => match pending_for(&live, from)? {
+                None => {
+                    self.put_live(live);
+                    Ok(None)
+                }
+                Some(pending) => Ok(Some(Handled { live, pending })),
+            },
+        }
+    }
+
+    /// Whether a decision on the transaction waits for the site.
+    pub fn waits_for(&self, txn: &TxnId, site: SiteId) -> bool
+        ensures { result ≡ waits_for txn.now site self.now.decisions }
+    {
+        self.decisions
+            .as_slice()
+            .iter()
+            .any(|d| is_waiting(d, txn, site))
+    }
+
+    /// The site has acknowledged the decision.
+    pub fn acknowledge(&mut self, txn: &TxnId, from: SiteId)
+        ensures { self.new ≡ with_acknowledged txn.now from self.old }
+    {
+        acknowledge(&mut self.decisions, txn, from)
+    }
+
+    pub fn is_live(&self, txn: &TxnId) -> bool
+        ensures { result ≡ is_live txn.now self.now.live }
+    {
+        self.live.has(txn)
+    }
+
+    pub fn is_decided(&self, txn: &TxnId) -> bool
+        ensures { result ≡ is_decided txn.now self.now.decisions }
+    {
+        find_txn(self.decisions.as_slice(), txn).is_some()
+    }
+
+    /// The transaction goes back into its place.
+    pub fn put_live(&mut self, t: Live)
+        requires { waits t ≡ true }
+        ensures { self.new ≡ put_live t self.old }
+    {
+        self.live.put(t)
+    }
+
+    /// Takes all live transactions out.
+    pub fn take_all(&mut self) -> Vec<Live>
+        ensures taken { result.items ≡ self.old.live }
+        ensures rest { self.new ≡ record self.old { live = [] } }
+    {
+        let none = LiveTxns::new(self.live.allocator());
+        mem::replace(&mut self.live, none).into_vec()
+    }
+
+    /// Copies of the live transactions whose calls were pending at the tick before.
+    pub fn late(&self) -> Result<Vec<Live>, NoMemory>
+        ensures late { IfOk result (λ late. late.items ≡ filter (λ t. is_marked_call t.pending) self.now.live) }
+        ensures waiting { all_wait self.now.live ≡ true }
+    {
+        self.live.late()
+    }
+
+    /// A tick has seen the calls that are pending.
+    pub fn mark(&mut self)
+        ensures { self.new ≡ with_marks self.old }
+    {
+        self.live.mark()
+    }
+
+    /// Tells each decision again to the sites that it waits for.
+    pub fn resend(&self, id: SiteId, effects: &mut Effects) -> Result<(), NoMemory>
+        ensures { OnOk result (effects.new ≡ with_outcomes id self.now.decisions effects.old) }
+    {
+        resend(id, self.decisions.as_slice(), effects)
+    }
+
+    /// The end of the transaction is kept, beside those of the 1,023 that ended last before it. Its answers go there.
+    pub fn finish(
+        &mut self,
+        t: &mut Live,
+        why: Ending,
+        effects: &mut Effects,
+    ) -> Result<(), NoMemory>
+        ensures kept { OnOk result (self.new ≡ with_finished t.old why self.old) }
+        ensures effects { OnOk result (effects.new ≡ with_pending_reply t.old.txn why t.old.pending effects.old) }
+    {
+        answer_pending(t, &why, effects)?;
+        self.live.remove(&t.txn);
+        let none = Seq::new(t.answers.allocator());
+        let end = Finished {
+            txn: t.txn,
+            answers: mem::replace(&mut t.answers, none),
+            ending: why,
+        };
+        keep_end(&mut self.finished, end)
+    }
+
+    pub fn keep_decision(&mut self, txn: &TxnId, waiting: Sites) -> Result<(), NoMemory>
+        ensures { OnOk result (self.new ≡ with_kept txn.now waiting self.old) }
+    {
+        if waiting.as_slice().is_empty() {
+            return Ok(());
+        }
+        put_in(&mut self.decisions, Decision { txn: *txn, waiting })
+    }
+
+    /// What a call is told whose transaction is not live.
+    pub fn told_after(&self, txn: &TxnId, number: CallNo) -> Result<Option<Answer>, NoMemory>
+        ensures { IfOk result (λ told. told ≡ told_after txn.now number (finished_of txn.now self.now.finished)) }
+    {
+        told_in(&self.finished, txn, number)
+    }
+}
+
+/// The parts of the transaction are told how it ended.
+pub fn tell_outcome(
+    id: SiteId,
+    txn: &TxnId,
+    commit: bool,
+    parts: &[SiteId],
+    effects: &mut Effects,
+) -> Result<(), NoMemory>
+    ensures { OnOk result (effects.new ≡ with_messages id (message.Outcome txn.now commit) parts.now effects.old) }
+{
+    let outcome = Message::Outcome { txn: *txn, commit };
+    effects.send_all(id, parts, &outcome)
+}
+
+fn resend(id: SiteId, decisions: &[Decision], effects: &mut Effects) -> Result<(), NoMemory>
+    ensures { OnOk result (effects.new ≡ with_outcomes id decisions.now effects.old) }
+{
+    for decision in decisions {
+        tell_outcome(
+            id,
+            &decision.txn,
+            true,
+            decision.waiting.as_slice(),
+            effects,
+        )?;
+    }
+    Ok(())
+}
+
+fn is_waiting(decision: &Decision, txn: &TxnId, site: SiteId) -> bool
+    ensures { result ≡ (same_txn decision.now.txn txn.now && has decision.now.waiting site) }
+{
+    is_same_txn(&decision.txn, txn) && has_site(decision.waiting.as_slice(), site)
+}
+
+/// The pending call of the transaction, where it waits for the site.
+fn pending_for(t: &Live, from: SiteId) -> Result<Option<Pending>, NoMemory>
+    ensures { IfOk result (λ p. p ≡ pending_for from t.now) }
+{
+    match &t.pending {
+        None => Ok(None),
+        Some(p) => copy_if_missing(p, from),
+    }
+}
+
+/// The call, where it waits for the site.
+fn copy_if_missing(p: &Pending, from: SiteId) -> Result<Option<Pending>, NoMemory>
+    ensures { IfOk result (λ copy. copy ≡ (if has p.now.missing from then Some p.now else None)) }
+{
+    if has_site(p.missing.as_slice(), from) {
+        Ok(Some(p.copy_of()?))
+    } else {
+        Ok(None)
+    }
+}
+
+fn keep_end(finished: &mut VecDeque<Finished>, end: Finished) -> Result<(), NoMemory>
+    ensures { OnOk result (finished.new.items ≡ at_most 1024 (finished.old.items ++ end ∷ [])) }
+{
+    finished.push_back(end)?;
+    if finished.len() > 1024 {
+        let _ = finished.pop_front();
+    }
+    Ok(())
+}
+
+fn find_finished<'a>(finished: &'a VecDeque<Finished>, txn: &TxnId) -> Option<&'a Finished>
+    ensures { option_copied result ≡ finished_of txn.now finished.now.items }
+{
+    finished.iter().find(|f| f.is_of(txn))
+}
+
+fn told_in(
+    finished: &VecDeque<Finished>,
+    txn: &TxnId,
+    number: CallNo,
+) -> Result<Option<Answer>, NoMemory>
+    ensures { IfOk result (λ told. told ≡ told_after txn.now number (finished_of txn.now finished.now.items)) }
+{
+    match find_finished(finished, txn) {
+        None => Ok(Some(Answer::Unknown { txn: *txn })),
+        Some(f) => told_by(f, number),
+    }
+}
+
+fn told_by(f: &Finished, number: CallNo) -> Result<Option<Answer>, NoMemory>
+    ensures { IfOk result (λ told. told ≡ told_by number f.now) }
+{
+    let answers = f.answers.as_slice();
+    if number.get() as usize > answers.len() {
+        return Ok(Some(answer_to(&f.txn, number, &f.ending)?));
+    }
+    told_again(answers, number)
+}
