@@ -163,7 +163,7 @@ class RoundTrips:
             self._socket.recvfrom(LONGEST)
 
     def close(self):
-        self._process.terminate()
+        self._process.kill()
         self._process.join()
 
 
