@@ -5,8 +5,9 @@ usage: cost_of_writes.py PROGRAM [COUNT [REFERENCE]]
 
 PROGRAM has the command `node`; REFERENCE is the folder of the reference implementation. Three nodes serve one record with a copy at each,
 with their logs in a temporary folder (TMPDIR says where). COUNT transactions of each kind are done (200, if nothing is said) by one
-client at site 1, in chunks of 20, and behind each chunk as many plain fsyncs or round trips, so that both meet the same load of the
-machine. What counts is the median of the chunks' ratios.
+client at site 1, in chunks of 12, each beside as many plain fsyncs or round trips, so that both meet the same load of the machine;
+which of them comes first changes. What counts is the median of the chunks' ratios. It says little on a busy machine, where one fsync may
+take fifty times as long as the next.
 
 A write is `begin`, `write` and `commit`. Each append to a log is two syncs: one of the batch with a closed gate behind it, one of the
 gate as it is opened. On the way from the first call to the answer of the commit there are
@@ -15,12 +16,12 @@ gate as it is opened. On the way from the first call to the answer of the commit
 - 5 round trips: three of the client to site 1, one of the write to the other sites, one of the prepare.
 
 Behind the answer each other site forces the outcome before it acknowledges it (2 at both at once), and site 1 each of the two
-acknowledgements (4). Where the client goes on at once, its next write meets them: it is answered behind them all. So writes in a row cost 10
-syncs each. Both are timed: alone, with all queues empty before, against 4 plain fsyncs, and in a row, against 10.
+acknowledgements (4). Where the client goes on at once, its next write is answered behind all of them, so writes in a row cost 10 syncs
+each. Both are timed: alone, with all queues empty before, against 4 plain fsyncs, and in a row, against 10.
 
 A plain fsync is that of a file in the same folder behind a write of as many bytes as the batch has, or of one byte for its gate. As two
-fsyncs at once take longer than one, writes alone are also told as a multiple of fsyncs in the same pattern: two threads, two each, and
-then two more.
+fsyncs at once are another thing than one, writes alone are also told as a multiple of fsyncs in the same pattern: two threads, two
+each, and then two more.
 
 A read-only transaction, `begin`, `read` and `commit` at a site with a copy, appends nothing and sends nothing to other sites: it is 3
 round trips. A plain round trip is that of the same bytes between this process and one that sends back what comes.
@@ -38,7 +39,7 @@ from types import SimpleNamespace
 from comparison import REFERENCE, modules
 from node_processes import HOST, LONGEST, Caller, Nodes, bound, catalogue, free_ports
 
-CHUNK, SITES, NAME = 20, (1, 2, 3), "x"
+CHUNK, SITES, NAME = 12, (1, 2, 3), "x"
 MODULES = ("base", "client", "records", "wire")
 
 
@@ -95,11 +96,16 @@ class Writes:
             self._caller.ask(site, "abort", self._nobody, 1)
 
 
-def timed(deed, *words):
+def timed(deed):
     """The seconds that the deed takes."""
     begin = time.monotonic()
-    deed(*words)
+    deed()
     return time.monotonic() - begin
+
+
+def chunk_of(deed):
+    """The deed, so many times as a chunk has."""
+    return lambda: [deed() for _ in range(CHUNK)]
 
 
 class Costs:
@@ -119,23 +125,23 @@ class Costs:
         list(self.threads.map(lambda file: file.append(self.appends["yes"]), self.files))
         self.files[0].append(self.appends["commit"])
 
+    def in_turns(self, deeds, first):
+        """The seconds of each deed, done with all queues empty before. The deed at the place `first`, or as much beyond, comes first."""
+        seconds = dict.fromkeys(range(len(deeds)))
+        for place in (*range(first % len(deeds), len(deeds)), *range(first % len(deeds))):
+            self.writes.empty_queues()
+            seconds[place] = timed(deeds[place])
+        return list(seconds.values())
+
     def alone(self):
         """The seconds of a chunk of writes, of its plain fsyncs, and of fsyncs in the same pattern."""
-        sums = [0.0, 0.0, 0.0]
-        for _ in range(CHUNK):
-            self.writes.empty_queues()
-            sums[0] += timed(self.writes.write)
-            self.writes.empty_queues()
-            sums[1] += timed(self.plainly, "yes", "commit")
-            sums[2] += timed(self.in_pattern)
-        return sums
+        deeds = self.writes.write, lambda: self.plainly("yes", "commit"), self.in_pattern
+        return list(map(sum, zip(*(self.in_turns(deeds, first) for first in range(CHUNK)))))
 
-    def in_a_row(self):
+    def in_a_row(self, first):
         """The seconds of a chunk of writes and of its plain fsyncs."""
-        self.writes.empty_queues()
-        mine = timed(lambda: [self.writes.write() for _ in range(CHUNK)])
-        self.writes.empty_queues()
-        return mine, timed(lambda: [self.plainly("yes", "commit", "outcome", "acked", "acked") for _ in range(CHUNK)])
+        appends = "yes", "commit", "outcome", "acked", "acked"
+        return self.in_turns([chunk_of(self.writes.write), chunk_of(lambda: self.plainly(*appends))], first)
 
 
 def send_back(sock):
@@ -187,8 +193,8 @@ def main():
         writes, trips = Writes(reference, ports), RoundTrips(reference)
         costs = Costs(writes, nodes.folder, lengths(reference))
         alone = [costs.alone() for _ in chunks]
-        row = [costs.in_a_row() for _ in chunks]
-        reads = [[timed(lambda: [deed() for _ in range(CHUNK)]) for deed in (writes.read, trips.three)] for _ in chunks]
+        row = [costs.in_a_row(first) for first in chunks]
+        reads = [costs.in_turns([chunk_of(writes.read), chunk_of(trips.three)], first) for first in chunks]
         trips.close()
     tell("a committed write, alone", "4 plain fsyncs", alone)
     tell("a committed write, alone", "4 fsyncs of which two and two are at once", alone, 2)

@@ -4,7 +4,7 @@
 usage: torment.py PROGRAM [SEED [COUNT [REFERENCE]]]
 
 PROGRAM has the commands `node`, `replay` and `check`; REFERENCE is the folder of the reference implementation. Transactions are begun
-until there are COUNT of them, in rounds of 250. The round of a seed draws three to five sites and 24 accounts, each with copies at
+until there are COUNT of them, in rounds of 150. The round of a seed draws three to five sites and 24 accounts, each with copies at
 three sites or more, and starts a process for each site, with its log in a temporary folder (TMPDIR says where). Four clients on ports
 of their own do transfers at any site: read two accounts, write two, commit. All the while nodes are ticked and probed; after each 20 to
 80 transactions one is killed (kill -9), and started again up to half a second later; and a proxy between the nodes drops one datagram
@@ -37,7 +37,7 @@ from lossy_network import Client, Loop, Proxy
 from node_processes import HOST, Nodes, bound, catalogue, free_ports
 from recordings import Fault, has_unprinted_turn, insist, insist_on_outs, merged, serial_map
 
-ROUND, CLIENTS, ACCOUNTS, BALANCE = 250, 4, 24, 100
+ROUND, CLIENTS, ACCOUNTS, BALANCE = 150, 4, 24, 100
 DROPPING, REPEATING = 0.01, 0.03
 MODULES = ("answers", "base", "catalog", "client", "log", "messages", "node", "wire")
 DIFFERS = 15  # the status of a merge
@@ -117,18 +117,23 @@ class Torment:
             self._order(next(sites), self.reference.wire.ProbeNow)
             self.loop.at(self.draw.uniform(0.1, 0.3), lambda: self._probe(sites))
 
+    def _is_up(self, site):
+        """Has the site a process? One that ended by itself is a fault."""
+        node = self.nodes[site]
+        insist(not node.up or node.lives[-1].process.poll() is None, "a node that ended by itself", site)
+        return node.up
+
     def _kill(self):
-        up = [site for site in self.sites if self.nodes[site].up]
+        up = list(filter(self._is_up, self.sites))
         if self.over or not up:
             return
         site = self.draw.choice(up)
-        insist(self.nodes[site].lives[-1].process.poll() is None, "a node that ended by itself", site)
         self.nodes[site].kill()
         self.counts["kills"] += 1
         self.loop.at(self.draw.uniform(0.0, 0.5), lambda: self._start(site))
 
     def _start(self, site):
-        if not self.nodes[site].up:
+        if not self._is_up(site):
             self.nodes[site].start()
             self.counts["restarts"] += 1
 
