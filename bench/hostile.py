@@ -168,7 +168,7 @@ def main():
     reference = SimpleNamespace(**dict(zip(MODULES, modules(folder, *MODULES))))
     try:
         run(program, reference, seed, count, tempfile.mkdtemp(prefix="hostile."))
-    except Fault as fault:
+    except (Fault, TimeoutError) as fault:
         print(f"seed {seed}:", *fault.args)
         return 1
     return 0
