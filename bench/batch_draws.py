@@ -4,12 +4,12 @@ from frame_draws import VALUE_BYTES, Draws
 
 
 class BatchDraws(Draws):
-    """Draws log records of all kinds; of the last, the checkpoint, only where it is asked for."""
+    """Draws log records of all kinds of version 1; of the last, the checkpoint, only where it is asked for."""
 
     def __init__(self, wire, records, draw, checkpoints=True):
         super().__init__(wire, draw)
         self.records = records
-        self.codes = [code for code in records.RECORDS if checkpoints or code < 8]
+        self.codes = range(1, 9 if checkpoints else 8)
 
     def sites_or_none(self):
         return self.sites() if self.draw.randrange(3) else ()

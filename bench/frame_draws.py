@@ -1,4 +1,6 @@
-"""Random frames of all kinds, and damaged ones, out of the fields that the reference implementation's module `wire` has."""
+"""Random frames of all kinds of version 1, and damaged ones, out of the fields that the reference implementation's module `wire` has."""
+import importlib
+
 from damage import damaged, with_list_disordered
 
 NUMBERS = {width: [1, 2, 16, 17, 255, 256, 2 ** (8 * width - 1), 2 ** (8 * width) - 2, 2 ** (8 * width) - 1] for width in (4, 8)}
@@ -11,12 +13,13 @@ class Draws:
 
     def __init__(self, wire, draw):
         self.wire, self.draw = wire, draw
+        change = importlib.import_module("base").Change
         self.of = {
             wire.VIEW: self.view, wire.TXN: self.txn, wire.NUMBER: lambda: self.number(4), wire.REC: self.rec,
             wire.NAME: lambda: self.word(16, NAME_BYTES), wire.VALUE: lambda: self.word(64, VALUE_BYTES),
             wire.FLAG: lambda: draw.randrange(2) == 1, wire.SITE: self.site, wire.SITES: self.sites,
             wire.OPTIONAL_VIEW: lambda: self.view() if draw.randrange(2) else None, wire.OWNER: self.owner,
-            wire.RECS: self.recs, wire.WRITES: lambda: tuple((rec, self.word(64, VALUE_BYTES)) for rec in self.recs()),
+            wire.RECS: self.recs, wire.WRITES: lambda: tuple((rec, change(self.word(64, VALUE_BYTES))) for rec in self.recs()),
             wire.ANY_U32: lambda: self.number(4) if draw.randrange(4) else 0,
             wire.ANY_U64: lambda: self.number(8) if draw.randrange(4) else 0,
         }
@@ -53,13 +56,19 @@ class Draws:
             return self.wire.ms.Held(self.owner())
         return self.wire.ms.OtherView(self.of[self.wire.OPTIONAL_VIEW]())
 
+    def field(self, field):
+        if type(field) is self.wire.NoTable:
+            return None
+        return self.of[field]() if field in self.of else self.why()
+
     def fields(self, fields):
-        return [self.of[field]() if field in self.of else self.why() for field in fields]
+        return [self.field(field) for field in fields]
 
     def frame(self):
         """A frame of any kind: each message, answer and call is as likely as another."""
         wire = self.wire
-        rows = [*wire.MESSAGES.values(), *wire.ANSWERS.values(), *wire.CALLS.values(), *((make,) for make in wire.BARE.values())]
+        tables = wire.MESSAGES_1, wire.ANSWERS_1, wire.CALLS_1
+        rows = [*(row for table in tables for row in table.values()), *((make,) for make in wire.BARE.values())]
         make, *fields = self.draw.choice(rows)
         values = self.fields(fields)
         body = wire.Call(make, *values) if isinstance(make, str) else make(*values)
