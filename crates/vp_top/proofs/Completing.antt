@@ -8,6 +8,7 @@ use Rattle.vp_model.specs.Limits.{world_limits, limit_reached}
 use Rattle.vp_model.specs.Texts.Trace.{trace_text}
 use Rattle.vp_model.specs.Texts.History.{history_text}
 use Rattle.vp_outside.specs.Input.{SourceState, IsEnded}
+use Rattle.vp_outside.specs.Links.{LinkState}
 use Rattle.vp_outside.specs.Output.{SinkState}
 use Rattle.vp_schedule.specs.Document.{IsScheduleText}
 use Rattle.vp_schedule.specs.Document.{IsOnly as IsOnlySchedule}
@@ -17,16 +18,16 @@ use Rattle.vp_onecopy.specs.Passing.{AnsweredAll, IsOnly}
 use Rattle.vp_onecopy.specs.declared.map.History.{History}
 use Rattle.vp_onecopy.specs.declared.fault.HistoryFault.{HistoryFault}
 use Rattle.vp_onecopy.specs.declared.fault.HistoryFault.TheVariants as history_faults
-use Rattle.vp_top.specs.Checked.{IsVerdict, IsChecked, IsMisspelled, Finds}
-use Rattle.vp_top.specs.Replayed.{IsReplayed, IsRefused, Tells}
-use Rattle.vp_top.specs.Commands.{command_of}
+use Rattle.vp_replay.specs.Checked.{IsVerdict, IsChecked, IsMisspelled, Finds}
+use Rattle.vp_replay.specs.Replayed.{IsReplayed, IsRefused, Tells}
+use Rattle.vp_words.specs.Commands.{command_of}
 use Rattle.vp_top.specs.Complete.{IsGiven}
-use Rattle.vp_top.specs.Ends.{Ends}
+use Rattle.vp_top.specs.Ends.{EndsInText}
 use Rattle.vp_top.specs.Program.{HasRead, IsAnswer, IsAnswered, IsTooLong}
-use Rattle.vp_top.specs.declared.status.Status.{Status}
-use Rattle.vp_top.specs.declared.status.Status.TheVariants as status
-use Rattle.vp_top.specs.declared.words.Command.{Command}
-use Rattle.vp_top.specs.declared.words.Command.TheVariants as commands
+use Rattle.vp_status.specs.declared.status.Status.{Status}
+use Rattle.vp_status.specs.declared.status.Status.TheVariants as status
+use Rattle.vp_words.specs.declared.words.Command.{Command}
+use Rattle.vp_words.specs.declared.words.Command.TheVariants as commands
 
 -- ---- the bytes that were taken
 
@@ -46,13 +47,13 @@ taken_few (Some xs) (Some ys) given bytes e gone =
     rw (same, gone) (omega (arith, parts))
 
 -- what the answer of a command is, which the words are
-command_answers : (words : List (List ℕ)) (bytes : List ℕ) (ended : Type 0) (end : Status) (text : List ℕ) (c : Command) → IsAnswered words bytes ended end text → command_of words ≡ Some c → HasRead c bytes ended × IsAnswer c bytes end text
-command_answers words bytes ended end text c a w =
+command_answers : (words : List (List ℕ)) (bytes : List ℕ) (ended : Type 0) (link link' : LinkState) (end : Status) (text : List ℕ) (c : Command) → IsAnswered words bytes ended link link' end text → command_of words ≡ Some c → HasRead c bytes ended × IsAnswer c bytes link link' end text
+command_answers words bytes ended link link' end text c a w =
     let some : Some a.command ≡ Some c = sym a.words_are ∙ w in
     let same : a.command ≡ c = cc in
-    (subst (λ c. HasRead c bytes ended) same a.read, subst (λ c. IsAnswer c bytes end text) same a.answer)
+    (subst (λ c. HasRead c bytes ended) same a.read, subst (λ c. IsAnswer c bytes link link' end text) same a.answer)
 
-module _ (words : List (List ℕ)) (source source' : SourceState) (sink sink' : SinkState) (bytes : List ℕ) (given : IsGiven source source' sink sink' bytes) where
+module _ (words : List (List ℕ)) (source source' : SourceState) (link link' : LinkState) (sink sink' : SinkState) (bytes : List ℕ) (given : IsGiven source source' sink sink' bytes) where
   no_usage : (c : Command) → command_of words ≡ Some c → command_of words ≡ None → ⊥
   no_usage c w none = let bad : Some c ≡ None = sym w ∙ none in cc
 
@@ -93,32 +94,49 @@ module _ (words : List (List ℕ)) (source source' : SourceState) (sink sink' : 
         let bad : None ≡ Some r.gives.counted = sym none ∙ ap (limit_reached world_limits) (sym is) ∙ reached in
         cc
 
-    pub replay_ends : (end : Status) → Ends words source source' sink sink' end → ((end ≡ status.Done) × Appends sink.held sink'.held (trace_text schedule ++ history_text schedule)) ⊎ (end ≡ status.NoMemory)
+    pub replay_ends : (end : Status) → EndsInText words source source' link link' sink sink' end → ((end ≡ status.Done) × Appends sink.held sink'.held (trace_text schedule ++ history_text schedule)) ⊎ (end ≡ status.NoMemory)
     replay_ends status.NoMemory e = inr refl
     replay_ends status.SourceFault e = absurd (given.no_source_fault e.1)
     replay_ends status.SinkFault e = absurd (given.no_sink_fault e.0)
-    replay_ends status.Usage e = absurd (no_usage commands.Replay w e.defines.defined.0)
+    replay_ends status.Usage e =
+        let d = e.defines in
+        absurd (⊎_elim (λ none. no_usage commands.Replay w none.0.0) (λ answered. (command_answers words d.bytes (IsEnded source') link link' status.Usage e.text commands.Replay answered w).1) d.defined)
+    replay_ends status.LinkFault e =
+        let d = e.defines in
+        absurd (command_answers words d.bytes (IsEnded source') link link' status.LinkFault e.text commands.Replay d.defined w).1
+    replay_ends status.DiskFault e =
+        let d = e.defines in
+        absurd (command_answers words d.bytes (IsEnded source') link link' status.DiskFault e.text commands.Replay d.defined w).1
+    replay_ends status.BadLog e =
+        let d = e.defines in
+        absurd (command_answers words d.bytes (IsEnded source') link link' status.BadLog e.text commands.Replay d.defined w).1
+    replay_ends status.NoAnswer e =
+        let d = e.defines in
+        absurd (command_answers words d.bytes (IsEnded source') link link' status.NoAnswer e.text commands.Replay d.defined w).1
+    replay_ends status.LivesSpent e =
+        let d = e.defines in
+        absurd (command_answers words d.bytes (IsEnded source') link link' status.LivesSpent e.text commands.Replay d.defined w).1
     replay_ends status.Done e =
         let d = e.defines in
-        let a = command_answers words d.bytes (IsEnded source') status.Done e.text commands.Replay d.defined w in
+        let a = command_answers words d.bytes (IsEnded source') link link' status.Done e.text commands.Replay d.defined w in
         let all = taken_all source.left source'.left bytes d.bytes given.left d.took.bytes_gone a.0.1.1 in
         let is = same_schedule d.bytes a.1.schedule all a.1.only in
         inl (refl, subst (Appends sink.held sink'.held) (a.1.gives.printed ∙ ap (λ (s : Schedule). trace_text s ++ history_text s) is) e.appended)
     replay_ends status.BadLine e =
         let d = e.defines in
-        let a = command_answers words d.bytes (IsEnded source') status.BadLine e.text commands.Replay d.defined w in
+        let a = command_answers words d.bytes (IsEnded source') link link' status.BadLine e.text commands.Replay d.defined w in
         absurd (refused status.BadLine e.text d.bytes (taken_all source.left source'.left bytes d.bytes given.left d.took.bytes_gone a.0.1.1) a.1)
     replay_ends status.Limit e =
         let d = e.defines in
-        absurd (⊎_elim (not_long e.text d.bytes d.took.bytes_gone)
+        absurd (⊎_elim (λ long. not_long e.text d.bytes d.took.bytes_gone long.0)
         (λ answered.
-        let a = command_answers words d.bytes (IsEnded source') status.Limit e.text commands.Replay answered w in
+        let a = command_answers words d.bytes (IsEnded source') link link' status.Limit e.text commands.Replay answered w in
         let all = taken_all source.left source'.left bytes d.bytes given.left d.took.bytes_gone a.0.1.1 in
         ⊎_elim (unlimited e.text d.bytes all) (refused status.Limit e.text d.bytes all) a.1)
         d.defined)
     replay_ends status.Differs e =
         let d = e.defines in
-        absurd (command_answers words d.bytes (IsEnded source') status.Differs e.text commands.Replay d.defined w).1
+        absurd (command_answers words d.bytes (IsEnded source') link link' status.Differs e.text commands.Replay d.defined w).1
 
   module _ (history : History) (spelled : AnsweredAll bytes (Ok history)) (w : command_of words ≡ Some commands.Check) where
     finds_none : (end : Status) (text : List ℕ) → Finds history_faults.NoMemory end text → ⊥
@@ -143,23 +161,40 @@ module _ (words : List (List ℕ)) (source source' : SourceState) (sink sink' : 
     verdict : (end : Status) (text d : List ℕ) → d ≡ bytes → IsChecked d end text → IsVerdict history end text
     verdict end text d e r = subst (λ (h : History). IsVerdict h end text) (same_history d r.history e r.only) r.verdict
 
-    pub check_ends : (end : Status) → Ends words source source' sink sink' end → ((text : List ℕ) × IsVerdict history end text × Appends sink.held sink'.held text) ⊎ (end ≡ status.NoMemory)
+    pub check_ends : (end : Status) → EndsInText words source source' link link' sink sink' end → ((text : List ℕ) × IsVerdict history end text × Appends sink.held sink'.held text) ⊎ (end ≡ status.NoMemory)
     check_ends status.NoMemory e = inr refl
     check_ends status.SourceFault e = absurd (given.no_source_fault e.1)
     check_ends status.SinkFault e = absurd (given.no_sink_fault e.0)
-    check_ends status.Usage e = absurd (no_usage commands.Check w e.defines.defined.0)
+    check_ends status.Usage e =
+        let d = e.defines in
+        absurd (⊎_elim (λ none. no_usage commands.Check w none.0.0) (λ answered. (command_answers words d.bytes (IsEnded source') link link' status.Usage e.text commands.Check answered w).1) d.defined)
+    check_ends status.LinkFault e =
+        let d = e.defines in
+        absurd (command_answers words d.bytes (IsEnded source') link link' status.LinkFault e.text commands.Check d.defined w).1
+    check_ends status.DiskFault e =
+        let d = e.defines in
+        absurd (command_answers words d.bytes (IsEnded source') link link' status.DiskFault e.text commands.Check d.defined w).1
+    check_ends status.BadLog e =
+        let d = e.defines in
+        absurd (command_answers words d.bytes (IsEnded source') link link' status.BadLog e.text commands.Check d.defined w).1
+    check_ends status.NoAnswer e =
+        let d = e.defines in
+        absurd (command_answers words d.bytes (IsEnded source') link link' status.NoAnswer e.text commands.Check d.defined w).1
+    check_ends status.LivesSpent e =
+        let d = e.defines in
+        absurd (command_answers words d.bytes (IsEnded source') link link' status.LivesSpent e.text commands.Check d.defined w).1
     check_ends status.Done e =
         let d = e.defines in
-        let a = command_answers words d.bytes (IsEnded source') status.Done e.text commands.Check d.defined w in
+        let a = command_answers words d.bytes (IsEnded source') link link' status.Done e.text commands.Check d.defined w in
         inl (e.text, verdict status.Done e.text d.bytes (taken_all source.left source'.left bytes d.bytes given.left d.took.bytes_gone a.0.1.1) a.1, e.appended)
     check_ends status.Differs e =
         let d = e.defines in
-        let a = command_answers words d.bytes (IsEnded source') status.Differs e.text commands.Check d.defined w in
+        let a = command_answers words d.bytes (IsEnded source') link link' status.Differs e.text commands.Check d.defined w in
         inl (e.text, verdict status.Differs e.text d.bytes (taken_all source.left source'.left bytes d.bytes given.left d.took.bytes_gone a.0.1.1) a.1, e.appended)
     check_ends status.BadLine e =
         let d = e.defines in
-        let a = command_answers words d.bytes (IsEnded source') status.BadLine e.text commands.Check d.defined w in
+        let a = command_answers words d.bytes (IsEnded source') link link' status.BadLine e.text commands.Check d.defined w in
         absurd (misspelled status.BadLine e.text d.bytes (taken_all source.left source'.left bytes d.bytes given.left d.took.bytes_gone a.0.1.1) a.1)
     check_ends status.Limit e =
         let d = e.defines in
-        absurd (⊎_elim (not_long e.text d.bytes d.took.bytes_gone) (λ answered. (command_answers words d.bytes (IsEnded source') status.Limit e.text commands.Check answered w).1) d.defined)
+        absurd (⊎_elim (λ long. not_long e.text d.bytes d.took.bytes_gone long.0) (λ answered. (command_answers words d.bytes (IsEnded source') link link' status.Limit e.text commands.Check answered w).1) d.defined)

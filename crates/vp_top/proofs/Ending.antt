@@ -1,70 +1,154 @@
 -- What a run comes to at its ends.
-use Rattle.std.proofs.Common.{◌≡◌, ◌<◌, ℕ, List, [], length, None, codes, refl, sym, subst, arith, inl, inr}
+use Rattle.std.proofs.Common.{◌≡◌, ◌∙◌, ◌<◌, ℕ, List, [], ◌∷◌, true, refl, sym, ap, subst, arith, inl, inr, ⊎_elim, ◌⊎◌, is_some}
 use Rattle.std.proofs.KnownBytes.{Consumes-nil}
+use Rattle.std.specs.Prelude.{⊤, Some, Result, Ok, Err}
+use Rattle.std.proofs.lemmas.Bool.Decides.{nat_tests}
 use Rattle.std.specs.Io.KnownBytes.{Appends}
+use Rattle.vp_model.specs.Types.{Answer}
+use Rattle.vp_model.specs.Words.{has, keys, value_at}
+use Rattle.vp_catalog.specs.declared.fault.CatalogFault.{CatalogFault}
+use Rattle.vp_catalog.specs.declared.fault.CatalogFault.TheVariants as faults
 use Rattle.vp_outside.specs.Input.{SourceState, IsEnded, Took}
+use Rattle.vp_outside.specs.Links.{LinkState}
 use Rattle.vp_outside.specs.Output.{SinkState}
-use Rattle.vp_top.specs.declared.status.Status.{Status}
-use Rattle.vp_top.specs.declared.status.Status.TheVariants as status
-use Rattle.vp_top.specs.declared.words.Command.{Command}
-use Rattle.vp_top.specs.declared.words.Command.TheVariants as commands
-use Rattle.vp_top.specs.Commands.{command_of}
-use Rattle.vp_top.specs.Program.{most_bytes, AreReader, IsAnswer, IsAnswered, IsDefined}
-use Rattle.vp_top.specs.Ends.{Defines, Ends}
+use Rattle.vp_client.specs.declared.asking.AskFault.{AskFault}
+use Rattle.vp_client.specs.declared.asking.AskFault.TheVariants as ask
+use Rattle.vp_status.specs.declared.status.Status.{Status}
+use Rattle.vp_status.specs.declared.status.Status.TheVariants as status
+use Rattle.vp_words.specs.Commands.{command_of}
+use Rattle.vp_words.specs.declared.words.Command.{Command}
+use Rattle.vp_words.specs.declared.words.Command.TheVariants as commands
+use Rattle.vp_commands.specs.Asked.{Tells, ClientGives, SignalGives}
+use Rattle.vp_top.specs.Ends.{Defines, EndsInText}
+use Rattle.vp_top.specs.Plans.{Plans, PlansFor, Prints}
+use Rattle.vp_top.specs.Program.{HasRead, IsAnswer, IsAnswered, IsDefined, IsNowhere, IsToldAt, AtSite, Reads, TellsFault}
+use Rattle.vp_top.specs.declared.plan.Plan.{Plan}
+use Rattle.vp_top.specs.declared.plan.Plan.TheVariants as plans
 
-pub took_none : (source : SourceState) → Took [] source source
-took_none source = record { bytes_gone = Consumes-nil source.left; counted = omega arith }
+-- ---- the statuses of texts
 
-pub defines_usage : (words : List (List ℕ)) (source source' : SourceState) (end : Status) (text : List ℕ) → command_of words ≡ None → source' ≡ source → end ≡ status.Usage → text ≡ codes "usage: vpdb replay|check|node|client|tick|probe|stop|generate|soak\n" → Defines words source source' end text
-defines_usage words source source' end text none same e t = record {
+-- No text has the status of a fault of the source or the sink, or of want of memory.
+abbrev HasText : Status → Type 0
+HasText status.NoMemory = ⊥
+HasText status.SourceFault = ⊥
+HasText status.SinkFault = ⊥
+HasText _ = ⊤
+
+fault_has : (fault : CatalogFault) (end : Status) (text : List ℕ) → TellsFault fault end text → HasText end
+fault_has (faults.BadLine line at) status.NoMemory text t = t
+fault_has (faults.BadLine line at) status.SourceFault text t = t
+fault_has (faults.BadLine line at) status.SinkFault text t = t
+fault_has (faults.Twice line) status.NoMemory text t = t
+fault_has (faults.Twice line) status.SourceFault text t = t
+fault_has (faults.Twice line) status.SinkFault text t = t
+fault_has (faults.TooMany line limit) status.NoMemory text t = t
+fault_has (faults.TooMany line limit) status.SourceFault text t = t
+fault_has (faults.TooMany line limit) status.SinkFault text t = t
+fault_has faults.NoMemory status.NoMemory text t = t
+fault_has faults.NoMemory status.SourceFault text t = t
+fault_has faults.NoMemory status.SinkFault text t = t
+fault_has _ _ text t = tt
+
+tells_has : (answered : Result Answer AskFault) (end : Status) (text : List ℕ) → Tells answered end text → HasText end
+tells_has (Ok a) status.NoMemory text t = t
+tells_has (Ok a) status.SourceFault text t = t
+tells_has (Ok a) status.SinkFault text t = t
+tells_has (Err (ask.NoAnswer count)) status.NoMemory text t = t
+tells_has (Err (ask.NoAnswer count)) status.SourceFault text t = t
+tells_has (Err (ask.NoAnswer count)) status.SinkFault text t = t
+tells_has (Err ask.LinkFault) status.NoMemory text t = t
+tells_has (Err ask.LinkFault) status.SourceFault text t = t
+tells_has (Err ask.LinkFault) status.SinkFault text t = t
+tells_has (Err ask.NoMemory) status.NoMemory text t = t
+tells_has (Err ask.NoMemory) status.SourceFault text t = t
+tells_has (Err ask.NoMemory) status.SinkFault text t = t
+tells_has _ _ text t = tt
+
+nowhere_has : (bytes : List ℕ) (site : ℕ) (end : Status) (text : List ℕ) → IsNowhere bytes site end text → HasText end
+nowhere_has bytes site end text n = ⊎_elim (λ none. fault_has none.fault end text none.tells) (λ missing. subst HasText (sym missing.end_is) tt) n
+
+module _ (bytes text : List ℕ) (link link' : LinkState) where
+  client_has : (own turns port site : ℕ) (end : Status) → (words : _) → ClientGives own turns port site words link link' end text → HasText end
+  client_has own turns port site end words g = ⊎_elim (λ asked. tells_has asked.answered end text asked.tells) (λ unbound. subst HasText (sym unbound.1) tt) g
+
+  signal_has : (port site : ℕ) (end : Status) → (given : _) → SignalGives port site given link link' end text → HasText end
+  signal_has port site status.NoMemory given g = g
+  signal_has port site status.SourceFault given g = g
+  signal_has port site status.SinkFault given g = g
+  signal_has port site _ given g = tt
+
+  answer_has : (command : Command) (end : Status) → IsAnswer command bytes link link' end text → HasText end
+  answer_has commands.Replay status.NoMemory a = a
+  answer_has commands.Replay status.SourceFault a = a
+  answer_has commands.Replay status.SinkFault a = a
+  answer_has commands.Check status.NoMemory a = a
+  answer_has commands.Check status.SourceFault a = a
+  answer_has commands.Check status.SinkFault a = a
+  answer_has (commands.Generate seed count) status.NoMemory a = a
+  answer_has (commands.Generate seed count) status.SourceFault a = a
+  answer_has (commands.Generate seed count) status.SinkFault a = a
+  answer_has (commands.Soak seed count) status.NoMemory a = a
+  answer_has (commands.Soak seed count) status.SourceFault a = a
+  answer_has (commands.Soak seed count) status.SinkFault a = a
+  answer_has (commands.Node site log turns) end a = ⊎_elim (λ nowhere. nowhere_has bytes site end text nowhere.0) (λ told. absurd told.is) a
+  answer_has (commands.Client own turns site words) end a = ⊎_elim (λ nowhere. nowhere_has bytes site end text nowhere.0) (λ told. client_has own turns told.port site end words told.is) a
+  answer_has (commands.Signal site given) end a = ⊎_elim (λ nowhere. nowhere_has bytes site end text nowhere.0) (λ told. signal_has told.port site end given told.is) a
+  answer_has _ _ a = tt
+
+-- ---- what is defined
+
+module _ (words : List (List ℕ)) (source source' : SourceState) (link link' : LinkState) where
+  pub answered_is : (bytes : List ℕ) (ended : Type 0) (end : Status) (text : List ℕ) → IsAnswered words bytes ended link link' end text → IsDefined words bytes ended link link' end text
+  answered_is bytes ended status.Usage text a = inr a
+  answered_is bytes ended status.Limit text a = inr a
+  answered_is bytes ended _ text a = a
+
+  defined_has : (bytes : List ℕ) (ended : Type 0) (end : Status) (text : List ℕ) → IsDefined words bytes ended link link' end text → HasText end
+  defined_has bytes ended status.NoMemory text d = answer_has bytes text link link' d.command status.NoMemory d.answer
+  defined_has bytes ended status.SourceFault text d = answer_has bytes text link link' d.command status.SourceFault d.answer
+  defined_has bytes ended status.SinkFault text d = answer_has bytes text link link' d.command status.SinkFault d.answer
+  defined_has bytes ended _ text d = tt
+
+  -- a command that reads no input takes nothing
+  unread : (command : Command) → (Reads command → ⊥) → HasRead command [] (IsEnded source)
+  unread (commands.Generate seed count) none = refl
+  unread (commands.Soak seed count) none = refl
+  unread commands.Replay none = absurd (none tt)
+  unread commands.Check none = absurd (none tt)
+  unread (commands.Node site log turns) none = absurd (none tt)
+  unread (commands.Client own turns site call) none = absurd (none tt)
+  unread (commands.Signal site given) none = absurd (none tt)
+
+pub plans_unread : (words : List (List ℕ)) (source : SourceState) (link link' : LinkState) (command : Command) (plan : Plan) → command_of words ≡ Some command → (Reads command → ⊥) → PlansFor command [] link link' plan → Plans words source source link link' plan
+plans_unread words source link link' command (plans.Print told) is none p = record {
   bytes = [];
-  took = subst (Took [] source) (sym same) (took_none source);
-  defined = subst (λ x. IsDefined words [] (IsEnded source') x text) (sym e) (none, refl, t);
+  took = record { bytes_gone = Consumes-nil source.left; counted = omega arith };
+  defined = answered_is words source source link link' [] (IsEnded source) told.status told.text.items (record { command = command; words_are = is; read = unread words source source link link' command none; answer = p });
 }
+plans_unread words source link link' command (plans.Serve catalogue site log turns) is none p = absurd (none (subst Reads (sym p.0) tt))
 
-pub defines_too_long : (words : List (List ℕ)) (source source' : SourceState) (end : Status) (text : List ℕ) → AreReader words → (bytes : List ℕ) × (most_bytes < length bytes) × Took bytes source source' → end ≡ status.Limit → text ≡ codes "limit bytes 16777216\n" → Defines words source source' end text
-defines_too_long words source source' end text reader h e t = record {
-  bytes = h.0;
-  took = h.2;
-  defined = subst (λ x. IsDefined words h.0 (IsEnded source') x text) (sym e) (inl (reader, h.1, t));
-}
+-- ---- what is printed
 
--- no command has these statuses
-no_usage : (command : Command) (bytes text : List ℕ) → IsAnswer command bytes status.Usage text → ⊥
-no_usage commands.Replay bytes text a = a
-no_usage commands.Check bytes text a = a
-no_usage (commands.Generate seed count) bytes text a = a
-no_usage (commands.Soak seed count) bytes text a = a
+module _ (words : List (List ℕ)) (source source' : SourceState) (link link' : LinkState) (sink sink' : SinkState) where
+  whole : (end : Status) (text : List ℕ) → HasText end → Defines words source source' link link' end text → Appends sink.held sink'.held text → EndsInText words source source' link link' sink sink' end
+  whole status.NoMemory text has d a = absurd has
+  whole status.SourceFault text has d a = absurd has
+  whole status.SinkFault text has d a = absurd has
+  whole _ text has d a = record { text = text; defines = d; appended = a }
 
-no_memory : (command : Command) (bytes text : List ℕ) → IsAnswer command bytes status.NoMemory text → ⊥
-no_memory commands.Replay bytes text a = a
-no_memory commands.Check bytes text a = a
-no_memory (commands.Generate seed count) bytes text a = a
-no_memory (commands.Soak seed count) bytes text a = a
+  pub printed : (end told : Status) (text : List ℕ) → Defines words source source' link link' end text → Prints end text sink sink' told → EndsInText words source source' link link' sink sink' told
+  printed end told text d p =
+      let Text = EndsInText words source source' link link' sink sink' in
+      let has = defined_has words source source' link link' d.bytes (IsEnded source') end text d.defined in
+      ⊎_elim (λ all. subst Text (sym all.0) (whole end text has d all.1))
+      (λ part. ⊎_elim (λ failed. subst Text (sym failed.0) (failed.1, record { end = end; text = text; defines = d; appended = failed.2 }))
+      (λ none. subst Text (sym none.0) (inl (record { end = end; text = text; defines = d; appended = none.1 }))) part) p
 
-no_source : (command : Command) (bytes text : List ℕ) → IsAnswer command bytes status.SourceFault text → ⊥
-no_source commands.Replay bytes text a = a
-no_source commands.Check bytes text a = a
-no_source (commands.Generate seed count) bytes text a = a
-no_source (commands.Soak seed count) bytes text a = a
+-- ---- a site of a catalogue
 
-no_sink : (command : Command) (bytes text : List ℕ) → IsAnswer command bytes status.SinkFault text → ⊥
-no_sink commands.Replay bytes text a = a
-no_sink commands.Check bytes text a = a
-no_sink (commands.Generate seed count) bytes text a = a
-no_sink (commands.Soak seed count) bytes text a = a
+is_there : (site : ℕ) (sites : List (ℕ × ℕ)) → is_some (value_at site sites) ≡ has (keys sites) site
+is_there site [] = refl
+is_there site (s ∷ sites) = let rest = is_there site sites in grind (arith, nat_tests, rest)
 
-answered_is : (words : List (List ℕ)) (bytes : List ℕ) (ended : Type 0) (end : Status) (text : List ℕ) → IsAnswered words bytes ended end text → IsDefined words bytes ended end text
-answered_is words bytes ended status.Usage text a = absurd (no_usage a.command bytes text a.answer)
-answered_is words bytes ended status.Limit text a = inr a
-answered_is words bytes ended _ text a = a
-
-pub defines_answer : (words : List (List ℕ)) (source source' : SourceState) (end : Status) (text bytes : List ℕ) → Took bytes source source' → IsAnswered words bytes (IsEnded source') end text → Defines words source source' end text
-defines_answer words source source' end text bytes took a = record { bytes = bytes; took = took; defined = answered_is words bytes (IsEnded source') end text a }
-
--- all that is defined was printed
-pub printed : (words : List (List ℕ)) (source source' : SourceState) (sink sink' : SinkState) (end : Status) (text : List ℕ) → Defines words source source' end text → Appends sink.held sink'.held text → Ends words source source' sink sink' end
-printed words source source' sink sink' status.NoMemory text d a = absurd (no_memory d.defined.command d.bytes text d.defined.answer)
-printed words source source' sink sink' status.SourceFault text d a = absurd (no_source d.defined.command d.bytes text d.defined.answer)
-printed words source source' sink sink' status.SinkFault text d a = absurd (no_sink d.defined.command d.bytes text d.defined.answer)
-printed words source source' sink sink' _ text d a = record { text = text; defines = d; appended = a }
+pub listed : (site port : ℕ) (sites : List (ℕ × ℕ)) → value_at site sites ≡ Some port → has (keys sites) site ≡ true
+listed site port sites is = sym (is_there site sites) ∙ ap is_some is

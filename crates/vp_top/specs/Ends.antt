@@ -1,39 +1,80 @@
--- How a run ends: what was taken of the source, what the sink got, and which count rose.
-use Rattle.std.specs.Prelude.{◌⊎◌, ℕ, List, []}
+-- How a run ends: what was taken of the source, what the sink got, what the link and the disk tell, and which count rose.
+use Rattle.std.specs.Prelude.{◌≡◌, ◌≤◌, ◌⊎◌, ℕ, List, [], length, Some}
 use Rattle.std.specs.Io.KnownBytes.{Appends}
+use Rattle.vp_model.specs.Catalogue.{Catalogue}
 use Rattle.vp_outside.specs.Causes.{Rose}
 use Rattle.vp_outside.specs.Input.{SourceState, IsEnded, Took}
+use Rattle.vp_outside.specs.Links.{LinkState}
 use Rattle.vp_outside.specs.Output.{SinkState, AppendsPrefix}
-use Rattle.vp_top.specs.Program.{AreReader, IsDefined}
-use Rattle.vp_top.specs.declared.status.Status.{Status}
-use Rattle.vp_top.specs.declared.status.Status.TheVariants as status
+use Rattle.vp_node.specs.Serving.{Outside}
+use Rattle.vp_words.specs.Commands.{command_of}
+use Rattle.vp_words.specs.declared.words.Command.{Command}
+use Rattle.vp_words.specs.declared.words.Command.TheVariants as commands
+use Rattle.vp_commands.specs.NodeEnds.{NodeEnds, HasCause}
+use Rattle.vp_top.specs.Program.{most_bytes, Reads, AreOf, IsDefined, IsPlaced, MayCall}
+use Rattle.vp_status.specs.declared.status.Status.{Status}
+use Rattle.vp_status.specs.declared.status.Status.TheVariants as status
 
--- The run took these bytes of its source, and the words define this status and this text for them.
-pub record Defines (words : List (List ℕ)) (source source' : SourceState) (end : Status) (text : List ℕ) : Type 0 where
+module _ (words : List (List ℕ)) (source source' : SourceState) (link link' : LinkState) where
+  -- The run took these bytes of its source, and the words define this status and this text for them.
+  pub record Defines (end : Status) (text : List ℕ) : Type 0 where
+    pub bytes : List ℕ
+    pub took : Took bytes source source'
+    pub defined : IsDefined words bytes (IsEnded source') link link' end text
+
+  -- Without memory the link was not called, or what the command may leave of it is left.
+  abbrev pub LeavesLink : Type 0
+  LeavesLink = (link' ≡ link) ⊎ ((command : Command) × (command_of words ≡ Some command) × ((bytes : List ℕ) × Took bytes source source' × MayCall command bytes link link'))
+
+-- ---- a text is printed
+
+module _ (words : List (List ℕ)) (source source' : SourceState) (link link' : LinkState) (sink sink' : SinkState) where
+  -- all of the text that is defined went to the sink
+  pub record IsPrinted (end : Status) : Type 0 where
+    pub text : List ℕ
+    pub defines : Defines words source source' link link' end text
+    pub appended : Appends sink.held sink'.held text
+
+  -- a prefix of a text that is defined went to the sink
+  pub record IsCut : Type 0 where
+    pub end : Status
+    pub text : List ℕ
+    pub defines : Defines words source source' link link' end text
+    pub appended : AppendsPrefix sink.held sink'.held text
+
+  -- nothing went to the sink
+  abbrev pub IsSilent : Type 0
+  IsSilent = Appends sink.held sink'.held []
+
+  abbrev pub EndsInText : Status → Type 0
+  EndsInText status.SourceFault = AreOf Reads words × Rose source.faults source'.faults × IsSilent × (link' ≡ link)
+  EndsInText status.SinkFault = Rose sink.faults sink'.faults × IsCut
+  EndsInText status.NoMemory = IsCut ⊎ (IsSilent × LeavesLink words source source' link link')
+  EndsInText end = IsPrinted end
+
+-- ---- a node serves
+
+-- The words are those of a node, and its catalogue was read.
+pub record IsNode (words : List (List ℕ)) (source source' : SourceState) (catalogue : Catalogue) (site : ℕ) (log : List ℕ) (turns : ℕ) : Type 0 where
+  pub words_are : command_of words ≡ Some (commands.Node site log turns)
   pub bytes : List ℕ
+  pub fits : length bytes ≤ most_bytes
   pub took : Took bytes source source'
-  pub defined : IsDefined words bytes (IsEnded source') end text
+  pub ended : IsEnded source'
+  pub port : ℕ
+  pub placed : IsPlaced bytes catalogue site port
 
--- all of the text that is defined went to the sink
-pub record IsPrinted (words : List (List ℕ)) (source source' : SourceState) (sink sink' : SinkState) (end : Status) : Type 0 where
-  pub text : List ℕ
-  pub defines : Defines words source source' end text
-  pub appended : Appends sink.held sink'.held text
+pub record EndsAsNode (words : List (List ℕ)) (source source' : SourceState) (o : Outside) (end : Status) : Type 0 where
+  pub catalogue : Catalogue
+  pub site : ℕ
+  pub log : List ℕ
+  pub turns : ℕ
+  pub node : IsNode words source source' catalogue site log turns
+  pub ends : NodeEnds catalogue site turns log o end
+  pub cause : HasCause catalogue site log o end
 
--- a prefix of a text that is defined went to the sink
-pub record IsCut (words : List (List ℕ)) (source source' : SourceState) (sink sink' : SinkState) : Type 0 where
-  pub end : Status
-  pub text : List ℕ
-  pub defines : Defines words source source' end text
-  pub appended : AppendsPrefix sink.held sink'.held text
+-- ---- the run
 
--- nothing went to the sink
-abbrev pub IsSilent : SinkState → SinkState → Type 0
-IsSilent sink sink' = Appends sink.held sink'.held []
-
--- what the status of a run says of the source before it and after it, and of the sink
-abbrev pub Ends : List (List ℕ) → SourceState → SourceState → SinkState → SinkState → Status → Type 0
-Ends words source source' sink sink' status.SourceFault = AreReader words × Rose source.faults source'.faults × IsSilent sink sink'
-Ends words source source' sink sink' status.SinkFault = Rose sink.faults sink'.faults × IsCut words source source' sink sink'
-Ends words source source' sink sink' status.NoMemory = IsCut words source source' sink sink' ⊎ IsSilent sink sink'
-Ends words source source' sink sink' end = IsPrinted words source source' sink sink' end
+-- what the status of a run says: a text was printed and the disk was not called, or a node served
+abbrev pub Ends : List (List ℕ) → SourceState → SourceState → Outside → Status → Type 0
+Ends words source source' o end = EndsInText words source source' o.link o.link' o.sink o.sink' end ⊎ EndsAsNode words source source' o end

@@ -1,12 +1,4 @@
-pub mod Codes
-pub mod Commands
-pub mod Parsed
-pub mod Refused
-pub mod Played
-pub mod Replayed
-pub mod Summary
-pub mod Generated
-pub mod Checked
-pub mod Program
-pub mod Ends
 pub mod Complete
+pub mod Ends
+pub mod Plans
+pub mod Program

@@ -1,65 +1,134 @@
--- What the program defines for its words and for the bytes that it takes of its source.
-use Rattle.std.specs.Prelude.{◌≡◌, ◌<◌, ◌≤◌, ◌⊎◌, ⊤, ℕ, List, [], length, codes, Some, None}
-use Rattle.vp_top.specs.Checked.{IsChecked, IsMisspelled}
-use Rattle.vp_top.specs.Commands.{command_of}
-use Rattle.vp_top.specs.Generated.{IsGenerated, IsSoaked}
-use Rattle.vp_top.specs.Replayed.{IsReplayed, IsRefused}
-use Rattle.vp_top.specs.declared.status.Status.{Status}
-use Rattle.vp_top.specs.declared.status.Status.TheVariants as status
-use Rattle.vp_top.specs.declared.words.Command.{Command}
-use Rattle.vp_top.specs.declared.words.Command.TheVariants as commands
+-- What the program defines for its words, for the bytes that it takes of its source, and for what its link tells.
+use Rattle.std.specs.Prelude.{◌≡◌, ◌<◌, ◌≤◌, ◌⊎◌, ⊤, ℕ, List, [], length, codes, Some, None, Ok, Err}
+use Rattle.vp_model.specs.Words.{value_at}
+use Rattle.vp_model.specs.Catalogue.{Catalogue}
+use Rattle.vp_catalog.specs.Document.{Answered}
+use Rattle.vp_catalog.specs.declared.fault.CatalogFault.{CatalogFault}
+use Rattle.vp_catalog.specs.declared.fault.CatalogFault.TheVariants as faults
+use Rattle.vp_outside.specs.Links.{LinkState}
+use Rattle.vp_status.specs.Refused.{bad_line_text, twice_text, limit_text}
+use Rattle.vp_status.specs.declared.status.Status.{Status}
+use Rattle.vp_status.specs.declared.status.Status.TheVariants as status
+use Rattle.vp_words.specs.Commands.{command_of}
+use Rattle.vp_words.specs.declared.words.Command.{Command}
+use Rattle.vp_words.specs.declared.words.Command.TheVariants as commands
+use Rattle.vp_replay.specs.Checked.{IsCheckAnswer}
+use Rattle.vp_replay.specs.Generated.{IsGenerated, IsSoaked}
+use Rattle.vp_replay.specs.Replayed.{IsReplayAnswer}
+use Rattle.vp_commands.specs.Asked.{ClientGives, ClientLeaves, SignalGives, SignalLeaves}
 
 -- the most bytes that an input has
 abbrev pub most_bytes : ℕ
 most_bytes = 16777216
 
--- The text that a command defines for its input at each status; other statuses are none of the command's.
-abbrev pub IsAnswer : Command → List ℕ → Status → List ℕ → Type 0
-IsAnswer commands.Replay bytes status.Done text = IsReplayed bytes status.Done text
-IsAnswer commands.Replay bytes status.BadLine text = IsRefused bytes status.BadLine text
-IsAnswer commands.Replay bytes status.Limit text = IsReplayed bytes status.Limit text ⊎ IsRefused bytes status.Limit text
-IsAnswer commands.Replay bytes _ text = ⊥
-IsAnswer commands.Check bytes status.Done text = IsChecked bytes status.Done text
-IsAnswer commands.Check bytes status.Differs text = IsChecked bytes status.Differs text
-IsAnswer commands.Check bytes status.BadLine text = IsMisspelled bytes status.BadLine text
-IsAnswer commands.Check bytes _ text = ⊥
-IsAnswer (commands.Generate seed count) bytes end text = IsGenerated seed count end text
-IsAnswer (commands.Soak seed count) bytes end text = IsSoaked seed count end text
+abbrev pub usage_text : List ℕ
+usage_text = codes "usage: vpdb replay|check|node|client|tick|probe|stop|generate|soak\n"
+
+-- ---- at a site of a catalogue
+
+-- what is told of a text that is no catalogue
+abbrev pub TellsFault : CatalogFault → Status → List ℕ → Type 0
+TellsFault (faults.BadLine line at) status.BadLine text = text ≡ bad_line_text line at
+TellsFault (faults.Twice line) status.BadLine text = text ≡ twice_text line
+TellsFault (faults.TooMany line limit) status.Limit text = text ≡ limit_text limit
+TellsFault _ _ text = ⊥
+
+pub record IsNoCatalogue (bytes : List ℕ) (end : Status) (text : List ℕ) : Type 0 where
+  pub fault : CatalogFault
+  pub answered : Answered bytes (Err fault)
+  pub tells : TellsFault fault end text
+
+-- The catalogue lacks the site, and the usage is told.
+pub record HasNoSite (bytes : List ℕ) (site : ℕ) (end : Status) (text : List ℕ) : Type 0 where
+  pub catalogue : Catalogue
+  pub answered : Answered bytes (Ok catalogue)
+  pub missing : value_at site catalogue.sites ≡ None
+  pub end_is : end ≡ status.Usage
+  pub text_is : text ≡ usage_text
+
+-- what is told where the input has no such site
+abbrev pub IsNowhere : List ℕ → ℕ → Status → List ℕ → Type 0
+IsNowhere bytes site end text = IsNoCatalogue bytes end text ⊎ HasNoSite bytes site end text
+
+-- The input is this catalogue, in which the site has this port.
+pub record IsPlaced (bytes : List ℕ) (catalogue : Catalogue) (site port : ℕ) : Type 0 where
+  pub answered : Answered bytes (Ok catalogue)
+  pub there : value_at site catalogue.sites ≡ Some port
+
+-- what is told at a site, by its port; where the input has no such site, the link is not called
+pub record IsToldAt (bytes : List ℕ) (site : ℕ) (told : ℕ → Type 0) : Type 0 where
+  pub catalogue : Catalogue
+  pub port : ℕ
+  pub placed : IsPlaced bytes catalogue site port
+  pub is : told port
+
+abbrev pub AtSite : List ℕ → ℕ → LinkState → LinkState → (ℕ → Status → List ℕ → Type 0) → Status → List ℕ → Type 0
+AtSite bytes site link link' gives end text = (IsNowhere bytes site end text × (link' ≡ link)) ⊎ IsToldAt bytes site (λ port. gives port end text)
+
+-- ---- the commands
+
+-- The text that a command defines for its input at each status; other statuses are none of the command's. A node that serves prints as it
+-- goes, and defines no text.
+abbrev pub IsAnswer : Command → List ℕ → LinkState → LinkState → Status → List ℕ → Type 0
+IsAnswer commands.Replay bytes link link' end text = IsReplayAnswer bytes end text
+IsAnswer commands.Check bytes link link' end text = IsCheckAnswer bytes end text
+IsAnswer (commands.Generate seed count) bytes link link' end text = IsGenerated seed count end text
+IsAnswer (commands.Soak seed count) bytes link link' end text = IsSoaked seed count end text
+IsAnswer (commands.Node site log turns) bytes link link' end text = AtSite bytes site link link' (λ port end text. ⊥) end text
+IsAnswer (commands.Client own turns site call) bytes link link' end text = AtSite bytes site link link' (λ port. ClientGives own turns port site call link link') end text
+IsAnswer (commands.Signal site given) bytes link link' end text = AtSite bytes site link link' (λ port. SignalGives port site given link link') end text
+
+-- what a command leaves of its link without memory
+abbrev pub MayCall : Command → List ℕ → LinkState → LinkState → Type 0
+MayCall (commands.Client own turns site call) bytes link link' = (link' ≡ link) ⊎ IsToldAt bytes site (λ port. ClientLeaves own turns port site call link link')
+MayCall (commands.Signal site given) bytes link link' = (link' ≡ link) ⊎ IsToldAt bytes site (λ port. SignalLeaves port site given link link')
+MayCall _ bytes link link' = link' ≡ link
 
 -- the command reads its input
 abbrev pub Reads : Command → Type 0
-Reads commands.Replay = ⊤
-Reads commands.Check = ⊤
 Reads (commands.Generate seed count) = ⊥
 Reads (commands.Soak seed count) = ⊥
+Reads _ = ⊤
 
--- the words are such a command's
-abbrev pub AreReader : List (List ℕ) → Type 0
-AreReader words = (command : Command) × (command_of words ≡ Some command) × Reads command
+-- the command calls its link
+abbrev pub Calls : Command → Type 0
+Calls (commands.Node site log turns) = ⊤
+Calls (commands.Client own turns site call) = ⊤
+Calls (commands.Signal site given) = ⊤
+Calls _ = ⊥
+
+-- the command is that of a node
+abbrev pub IsForNode : Command → Type 0
+IsForNode (commands.Node site log turns) = ⊤
+IsForNode _ = ⊥
+
+-- the words are a command's with this
+abbrev pub AreOf : (Command → Type 0) → List (List ℕ) → Type 0
+AreOf P words = (command : Command) × (command_of words ≡ Some command) × P command
 
 -- A command reads its input to the end, and it is not too long; or it reads nothing.
 abbrev pub HasRead : Command → List ℕ → Type 0 → Type 0
-HasRead commands.Replay bytes ended = (length bytes ≤ most_bytes) × ended
-HasRead commands.Check bytes ended = (length bytes ≤ most_bytes) × ended
 HasRead (commands.Generate seed count) bytes ended = bytes ≡ []
 HasRead (commands.Soak seed count) bytes ended = bytes ≡ []
+HasRead _ bytes ended = (length bytes ≤ most_bytes) × ended
 
 -- The words are a command's, its input was read, and this is its answer.
-pub record IsAnswered (words : List (List ℕ)) (bytes : List ℕ) (ended : Type 0) (end : Status) (text : List ℕ) : Type 0 where
+pub record IsAnswered (words : List (List ℕ)) (bytes : List ℕ) (ended : Type 0) (link link' : LinkState) (end : Status) (text : List ℕ) : Type 0 where
   pub command : Command
   pub words_are : command_of words ≡ Some command
   pub read : HasRead command bytes ended
-  pub answer : IsAnswer command bytes end text
+  pub answer : IsAnswer command bytes link link' end text
 
 -- The words are those of a command that reads its input, and that is too long.
 abbrev pub IsTooLong : List (List ℕ) → List ℕ → List ℕ → Type 0
-IsTooLong words bytes text = AreReader words × (most_bytes < length bytes) × (text ≡ codes "limit bytes 16777216\n")
+IsTooLong words bytes text = AreOf Reads words × (most_bytes < length bytes) × (text ≡ codes "limit bytes 16777216\n")
+
+-- The words are no command's.
+abbrev pub IsNoCommand : List (List ℕ) → List ℕ → List ℕ → Type 0
+IsNoCommand words bytes text = (command_of words ≡ None) × (bytes ≡ []) × (text ≡ usage_text)
 
 -- The text that the program defines for its words at each status, where it took these bytes of its source, and found its end or didn't.
-abbrev pub IsDefined : List (List ℕ) → List ℕ → Type 0 → Status → List ℕ → Type 0
-IsDefined words bytes ended status.Usage text =
-    (command_of words ≡ None)
-    × (bytes ≡ [])
-    × (text ≡ codes "usage: vpdb replay|check|node|client|tick|probe|stop|generate|soak\n")
-IsDefined words bytes ended status.Limit text = IsTooLong words bytes text ⊎ IsAnswered words bytes ended status.Limit text
-IsDefined words bytes ended end text = IsAnswered words bytes ended end text
+abbrev pub IsDefined : List (List ℕ) → List ℕ → Type 0 → LinkState → LinkState → Status → List ℕ → Type 0
+IsDefined words bytes ended link link' status.Usage text = (IsNoCommand words bytes text × (link' ≡ link)) ⊎ IsAnswered words bytes ended link link' status.Usage text
+IsDefined words bytes ended link link' status.Limit text = (IsTooLong words bytes text × (link' ≡ link)) ⊎ IsAnswered words bytes ended link link' status.Limit text
+IsDefined words bytes ended link link' end text = IsAnswered words bytes ended link link' end text

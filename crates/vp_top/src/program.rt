@@ -1,23 +1,25 @@
-//! The top call: from the words and the source to the sink and the status.
+//! The top call: from the words and the source to the sink, the link, the disk and the status.
 
-ghost use Rattle.std.specs.Prelude.{◌≡◌, ◌≤◌, ◌<◌, IfOk, IfSome, IsErrOf, None, ℕ, List, codes, length};
-ghost use Rattle.vp_outside.specs.Input.{IsEnded, Took};
-ghost use Rattle.vp_top.specs.declared.status.Status.TheVariants as status;
+ghost use Rattle.std.specs.Prelude.{◌≡◌, ◌≤◌, ◌<◌, ◌↔◌, IfOk, IfSome, IsErrOf, IsTrue, None, ℕ, List, length};
 ghost use Rattle.vp_outside.specs.Causes.{Rose};
-ghost use Rattle.vp_top.specs.Program.{AreReader};
-ghost use Rattle.vp_top.specs.Ends.{Defines, Ends};
+ghost use Rattle.vp_outside.specs.Input.{IsEnded, Took};
+ghost use Rattle.vp_top.specs.Ends.{Ends, EndsAsNode, EndsInText, LeavesLink};
+ghost use Rattle.vp_top.specs.Plans.{Plans, Prints};
+ghost use Rattle.vp_top.specs.Program.{AreOf, Calls, IsForNode, Reads};
+ghost use Rattle.vp_top.specs.declared.program.Stop.TheVariants as stops;
 
-use crate::status::{Defined, Status, limit_line, usage_line};
-use crate::words::Command;
-use crate::{check, generating, replay, soaking};
+use crate::plan::{Plan, plan_of, too_long, usage};
 use std::alloc::{AllocError, Global};
 use vp_base::{NoMemory, Word};
-use vp_outside::{InputFault, OutFault, Sink, Source, read_to_end, write_all};
+use vp_commands::serve_log;
+use vp_outside::{Disk, InputFault, Link, OutFault, Sink, Source, read_to_end, write_all};
+use vp_status::{Defined, Status};
+use vp_words::Command;
 
 /// The most bytes that an input has.
 pub const MOST_BYTES: usize = 16_777_216;
 
-/// Why nothing is defined.
+/// Why there is no plan.
 #[derive(Clone, Copy, Drop)]
 enum Stop {
     SourceFault,
@@ -25,8 +27,6 @@ enum Stop {
 }
 
 impl From<NoMemory> for Stop {
-    ghost use Rattle.vp_top.specs.declared.program.Stop.TheVariants as stops;
-
     ghost from_gives = { λ _ stop. stop ≡ stops.NoMemory };
 
     fn from(_: NoMemory) -> Stop {
@@ -35,8 +35,6 @@ impl From<NoMemory> for Stop {
 }
 
 impl From<AllocError> for Stop {
-    ghost use Rattle.vp_top.specs.declared.program.Stop.TheVariants as stops;
-
     ghost from_gives = { λ _ stop. stop ≡ stops.NoMemory };
 
     fn from(_: AllocError) -> Stop {
@@ -44,53 +42,102 @@ impl From<AllocError> for Stop {
     }
 }
 
-/// Does all that the program does: tests the words, reads the source to its end, and prints what the words define for
-/// what was read. Nothing is printed before the source was read.
-pub fn run<S: Source, K: Sink>(
+/// Does all that the program does: tests the words, reads the source to its end where the command reads one, and prints what the words
+/// define for what was read, or serves a node, which prints as it goes. Nothing is printed, and neither link nor disk is called, before
+/// the source was read.
+pub fn run<S: Source, K: Sink, L: Link, D: Disk>(
     alloc: Global,
     words: &[Word],
     source: &mut S,
     sink: &mut K,
+    link: &mut L,
+    disk: &mut D,
 ) -> Status
-    ensures ends { Ends words.now (S.state source.old) (S.state source.new) (K.state sink.old) (K.state sink.new) result }
-    ensures uncalled { (AreReader words.now → ⊥) → source.new ≡ source.old }
+    requires fresh { (L.state link.old).asked ≡ None }
+    ensures ends { Ends words.now (S.state source.old) (S.state source.new)
+        (record {
+          link = L.state link.old;
+          link' = L.state link.new;
+          sink = K.state sink.old;
+          sink' = K.state sink.new;
+          disk = D.state disk.old;
+          disk' = D.state disk.new;
+        })
+        result }
+    // Whatever is no node prints a text.
+    ensures text { (AreOf IsForNode words.now → ⊥)
+        → EndsInText words.now (S.state source.old) (S.state source.new) (L.state link.old) (L.state link.new) (K.state sink.old) (K.state sink.new) result }
+    ensures source_uncalled { (AreOf Reads words.now → ⊥) → source.new ≡ source.old }
+    ensures link_uncalled { (AreOf Calls words.now → ⊥) → link.new ≡ link.old }
+    // Unless a node serves.
+    ensures disk_uncalled { (EndsAsNode words.now (S.state source.old) (S.state source.new)
+        (record {
+          link = L.state link.old;
+          link' = L.state link.new;
+          sink = K.state sink.old;
+          sink' = K.state sink.new;
+          disk = D.state disk.old;
+          disk' = D.state disk.new;
+        })
+        result → ⊥) → disk.new ≡ disk.old }
 {
-    match define(alloc, words, source) {
-        Ok(defined) => match write_all(sink, &defined.text) {
-            Ok(()) => defined.status,
-            Err(OutFault::Failed) => Status::SinkFault,
-            Err(OutFault::NoMemory) => Status::NoMemory,
-        },
+    match plan(alloc, words, source, link) {
+        Ok(Plan::Print(defined)) => print(sink, &defined),
+        Ok(
+            Plan::Serve {
+                catalog,
+                site,
+                log,
+                turns,
+            },
+        ) => serve_log(&catalog, site, &log, link, disk, sink, turns),
         Err(Stop::SourceFault) => Status::SourceFault,
         Err(Stop::NoMemory) => Status::NoMemory,
     }
 }
 
-/// The status and the text for the words and what the source has.
-fn define<S: Source>(alloc: Global, words: &[Word], source: &mut S) -> Result<Defined, Stop>
-    ensures defines { IfOk result (λ defined. Defines words.now (S.state source.old) (S.state source.new)
-        defined.status defined.text.items) }
-    ensures source { IsErrOf result Stop.SourceFault → AreReader words.now × Rose (S.state source.old).faults (S.state source.new).faults }
-    ensures uncalled { (AreReader words.now → ⊥) → source.new ≡ source.old }
+/// Prints the text, and answers its status.
+fn print<K: Sink>(sink: &mut K, defined: &Defined) -> Status
+    ensures { Prints defined.now.status defined.now.text.items (K.state sink.old) (K.state sink.new) result }
+{
+    match write_all(sink, &defined.text) {
+        Ok(()) => defined.status,
+        Err(OutFault::Failed) => Status::SinkFault,
+        Err(OutFault::NoMemory) => Status::NoMemory,
+    }
+}
+
+/// What is to be done for the words and for what the source has.
+fn plan<S: Source, L: Link>(
+    alloc: Global,
+    words: &[Word],
+    source: &mut S,
+    link: &mut L,
+) -> Result<Plan, Stop>
+    requires fresh { (L.state link.old).asked ≡ None }
+    ensures plans { IfOk result (Plans words.now (S.state source.old) (S.state source.new) (L.state link.old) (L.state link.new)) }
+    ensures no_memory { IsErrOf result stops.NoMemory → LeavesLink words.now (S.state source.old) (S.state source.new) (L.state link.old) (L.state link.new) }
+    ensures source_fault { IsErrOf result stops.SourceFault → AreOf Reads words.now × Rose (S.state source.old).faults (S.state source.new).faults × (L.state link.new ≡ L.state link.old) }
+    ensures source_uncalled { (AreOf Reads words.now → ⊥) → source.new ≡ source.old }
+    ensures link_uncalled { (AreOf Calls words.now → ⊥) → link.new ≡ link.old }
 {
     let Some(command) = Command::of(alloc, words)? else {
-        return Ok(Defined {
-            status: Status::Usage,
-            text: usage_line(alloc)?,
-        });
+        return Ok(Plan::Print(usage(alloc)?));
     };
-    match command {
-        Command::Replay => match input_of(alloc, source)? {
-            Some(input) => Ok(replay::answer(alloc, &input)?),
-            None => Ok(too_long(alloc)?),
-        },
-        Command::Check => match input_of(alloc, source)? {
-            Some(input) => Ok(check::answer(alloc, &input)?),
-            None => Ok(too_long(alloc)?),
-        },
-        Command::Generate { seed, count } => Ok(generating::answer(alloc, seed, count)?),
-        Command::Soak { seed, count } => Ok(soaking::answer(alloc, seed, count)?),
+    if !reads(&command) {
+        return Ok(plan_of(alloc, command, &[], link)?);
     }
+    match input_of(alloc, source)? {
+        Some(input) => Ok(plan_of(alloc, command, &input, link)?),
+        None => Ok(Plan::Print(too_long(alloc)?)),
+    }
+}
+
+/// Whether the command reads its input.
+fn reads(command: &Command) -> bool
+    ensures { IsTrue result ↔ Reads command.now }
+{
+    !matches!(command, Command::Generate { .. } | Command::Soak { .. })
 }
 
 /// The input, read to its end; none where it is too long.
@@ -99,7 +146,7 @@ fn input_of<S: Source>(alloc: Global, source: &mut S) -> Result<Option<Vec<u8>>,
         × IsEnded (S.state source.new) × Took input.items (S.state source.old) (S.state source.new))) }
     ensures too_long { IfOk result (λ found. found ≡ None → ((bytes : List ℕ) × (16777216 < length bytes)
         × Took bytes (S.state source.old) (S.state source.new))) }
-    ensures cause { IsErrOf result Stop.SourceFault → Rose (S.state source.old).faults (S.state source.new).faults }
+    ensures cause { IsErrOf result stops.SourceFault → Rose (S.state source.old).faults (S.state source.new).faults }
 {
     match read_to_end(alloc, source, MOST_BYTES) {
         Ok(input) => Ok(Some(input)),
@@ -107,14 +154,4 @@ fn input_of<S: Source>(alloc: Global, source: &mut S) -> Result<Option<Vec<u8>>,
         Err(InputFault::TooLong) => Ok(None),
         Err(InputFault::NoMemory) => Err(Stop::NoMemory),
     }
-}
-
-/// What is told of an input that is too long.
-fn too_long(alloc: Global) -> Result<Defined, NoMemory>
-    ensures { IfOk result (λ defined. (defined.status ≡ status.Limit) × (defined.text.items ≡ codes "limit bytes 16777216\n")) }
-{
-    Ok(Defined {
-        status: Status::Limit,
-        text: limit_line(alloc)?,
-    })
 }

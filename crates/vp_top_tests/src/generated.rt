@@ -1,10 +1,12 @@
 //! Schedules of the generator, and soaks: each takes nothing of the source.
 
+use crate::runs::run_alone;
 use std::alloc::{AllocError, Global};
 use std::test::Fail;
 use vp_base::Word;
 use vp_outside::{SureSink, SureSource};
-use vp_top::{Status, generate, run};
+use vp_replay::generate;
+use vp_status::Status;
 
 /// What the program prints for the words, where it is done.
 fn printed(alloc: Global, command: &str, seed: &str, count: &str) -> Result<SureSink, AllocError> {
@@ -14,7 +16,7 @@ fn printed(alloc: Global, command: &str, seed: &str, count: &str) -> Result<Sure
     }
     let mut source = SureSource::new(Vec::from_slice(alloc, b"left alone")?);
     let mut sink = SureSink::new(alloc);
-    if run(alloc, &words, &mut source, &mut sink) != Status::Done {
+    if run_alone(alloc, &words, &mut source, &mut sink) != Status::Done {
         return Ok(SureSink::new(alloc));
     }
     Ok(sink)

@@ -3,9 +3,22 @@
 use std::alloc::{AllocError, Global};
 use std::test::Fail;
 use vp_base::Word;
-use vp_outside::{SureSink, SureSource, TextSink, TextSource};
+use vp_outside::{Sink, Source, SureDisk, SureLink, SureSink, SureSource, TextSink, TextSource};
+use vp_status::Status;
 use vp_text::print_number;
-use vp_top::{MOST_BYTES, Status, run};
+use vp_top::{MOST_BYTES, run};
+
+/// A run beside a link that has nothing to give and an empty log.
+pub fn run_alone<S: Source, K: Sink>(
+    alloc: Global,
+    words: &[Word],
+    source: &mut S,
+    sink: &mut K,
+) -> Status {
+    let mut link = SureLink::new(alloc, Vec::new(alloc));
+    let mut disk = SureDisk::new(alloc);
+    run(alloc, words, source, sink, &mut link, &mut disk)
+}
 
 fn words(alloc: Global, texts: &[&str]) -> Result<Vec<Word>, AllocError> {
     let mut words = Vec::new(alloc);
@@ -23,7 +36,7 @@ fn run_on(
 ) -> Result<Status, AllocError> {
     let mut source = SureSource::new(Vec::from_slice(alloc, input.as_bytes())?);
     let words = words(alloc, &[command])?;
-    Ok(run(alloc, &words, &mut source, sink))
+    Ok(run_alone(alloc, &words, &mut source, sink))
 }
 
 const HEAD: &str = "site 1 7001\nrecord x 10 1:1\nevents\n";
@@ -176,7 +189,7 @@ fn replay(text: Vec<u8>, sink: &mut SureSink) -> Result<Status, AllocError> {
     let alloc = *text.allocator();
     let words = words(alloc, &["replay"])?;
     let mut source = SureSource::new(text);
-    Ok(run(alloc, &words, &mut source, sink))
+    Ok(run_alone(alloc, &words, &mut source, sink))
 }
 
 /// Appends the line so many times.
@@ -288,7 +301,7 @@ fn is_refused(alloc: Global, texts: &[&str]) -> Result<bool, AllocError> {
     let words = words(alloc, texts)?;
     let mut source = SureSource::new(Vec::new(alloc));
     let mut sink = SureSink::new(alloc);
-    let end = run(alloc, &words, &mut source, &mut sink);
+    let end = run_alone(alloc, &words, &mut source, &mut sink);
     Ok(end == Status::Usage && sink.bytes().starts_with(b"usage: vpdb replay|"))
 }
 
@@ -308,13 +321,13 @@ fn failures_are_told(rt: HostRuntime) -> Result<(), Fail> {
     let text = Vec::from_slice(alloc, HEAD.as_bytes())?;
     let mut source = TextSource::new(text, Vec::from_slice(alloc, &[2])?);
     let mut sink = TextSink::new(alloc, Vec::new(alloc));
-    assert!(rt; run(alloc, &words, &mut source, &mut sink) == Status::SourceFault);
+    assert!(rt; run_alone(alloc, &words, &mut source, &mut sink) == Status::SourceFault);
     assert!(rt; sink.bytes().is_empty());
     let text = Vec::from_slice(alloc, HEAD.as_bytes())?;
     let mut source = TextSource::new(text, Vec::new(alloc));
     let mut sink = TextSink::new(alloc, Vec::from_slice(alloc, &[2])?);
     sink.most = 5;
-    assert!(rt; run(alloc, &words, &mut source, &mut sink) == Status::SinkFault);
+    assert!(rt; run_alone(alloc, &words, &mut source, &mut sink) == Status::SinkFault);
     assert!(rt; sink.bytes() == b"histo".as_slice());
     Ok(())
 }
@@ -327,7 +340,7 @@ fn too_many_bytes_are_refused(rt: HostRuntime) -> Result<(), Fail> {
     bytes.resize(MOST_BYTES + 1, b'a')?;
     let mut source = SureSource::new(bytes);
     let mut sink = SureSink::new(alloc);
-    assert!(rt; run(alloc, &words, &mut source, &mut sink) == Status::Limit);
+    assert!(rt; run_alone(alloc, &words, &mut source, &mut sink) == Status::Limit);
     assert!(rt; sink.bytes() == b"limit bytes 16777216\n".as_slice());
     Ok(())
 }

@@ -6,12 +6,15 @@ mod socket;
 #[cfg(test)]
 mod tests;
 
+use crate::log_files::LogFiles;
+use crate::socket::Socket;
 use std::alloc::AllocError;
 use std::process::ExitCode;
 use std::{env, io};
 use vp_base::Word;
 use vp_outside::{Reading, Writing};
-use vp_top::{Status, run};
+use vp_status::Status;
+use vp_top::run;
 
 /// The words of the command line, without the program's name.
 fn words_of(args: env::Args, words: &mut Vec<Word>) -> Result<(), AllocError> {
@@ -37,6 +40,15 @@ fn main(rt: HostRuntime) -> ExitCode {
     }
     let mut source = Reading::new(rt.stdin());
     let mut sink = Writing::new(rt.stdout());
-    let status = run(rt.alloc(), &words, &mut source, &mut sink);
+    let mut link = Socket::new(&rt);
+    let mut disk = LogFiles::new(&rt);
+    let status = run(
+        rt.alloc(),
+        &words,
+        &mut source,
+        &mut sink,
+        &mut link,
+        &mut disk,
+    );
     ExitCode::from(status.code())
 }

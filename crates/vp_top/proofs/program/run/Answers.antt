@@ -1,9 +1,18 @@
-use Rattle.std.proofs.Common.{subst}
-use Rattle.std.specs.Io.KnownBytes.{Appends}
-use Rattle.vp_top.proofs.Ending.{printed}
+use Rattle.std.proofs.Common.{rules, inl}
+use Rattle.vp_top.proofs.Ending.{listed, printed}
 use Rattle.vp_top.proofs.program.run.Goals as goal
 
-pub returns-in-Ok-write_all-clause-ends : goal.returns-in-Ok-write_all-clause-ends
-returns-in-Ok-write_all-clause-ends g c =
-    printed c.args.words.now _ _ _ _ c.in-Ok.defined.status c.in-Ok.defined.text.items c.in-Ok.ensures.defines
-    (subst (λ bytes. Appends (g.K.Sink.state c.args.sink.now).held (g.K.Sink.state c.write_all.new.sink).held bytes) c.deref.ensures.value c.in-Ok-write_all.ensures.ok)
+pub serve_log-requires-clause-id : goal.serve_log-requires-clause-id
+serve_log-requires-clause-id g c =
+    let planned = rw c.in-Ok-Serve.field-0-is at c.in-Ok-Serve.ensures.plans in
+    listed c.in-Ok-Serve.site planned.0.port c.in-Ok-Serve.catalog.sites planned.0.placed.there
+
+pub returns-in-Ok-Print-clause-ends : goal.returns-in-Ok-Print-clause-ends
+returns-in-Ok-Print-clause-ends g c =
+    let planned = rw c.in-Ok-Print.field-0-is at c.in-Ok-Print.ensures.plans in
+    inl (printed c.args.words.now _ _ _ _ _ _ c.in-Ok-Print.defined.status c.print.result c.in-Ok-Print.defined.text.items planned c.print.ensures)
+
+pub returns-in-Ok-Print-clause-text : goal.returns-in-Ok-Print-clause-text
+returns-in-Ok-Print-clause-text g c no_node =
+    let planned = rw c.in-Ok-Print.field-0-is at c.in-Ok-Print.ensures.plans in
+    printed c.args.words.now _ _ _ _ _ _ c.in-Ok-Print.defined.status c.print.result c.in-Ok-Print.defined.text.items planned c.print.ensures

@@ -1,0 +1,8 @@
+pub mod Turns
+pub mod Values
+pub mod Replays
+pub mod GeneratedCatalogue
+pub mod Making
+pub mod Shaped
+pub mod Counting
+pub mod Soaks

@@ -1,0 +1,5 @@
+pub mod Played
+pub mod Replayed
+pub mod Summary
+pub mod Generated
+pub mod Checked

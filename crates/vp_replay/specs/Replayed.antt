@@ -1,0 +1,61 @@
+-- What the replay of a schedule prints.
+use Rattle.std.specs.Prelude.{◌≡◌, ◌⊎◌, ℕ, List, ◌++◌, Some, None, Ok, Err}
+use Rattle.vp_model.specs.Types.{Counted}
+use Rattle.vp_model.specs.World.{Schedule}
+use Rattle.vp_model.specs.Headline.{IsOneCopy}
+use Rattle.vp_model.specs.Limits.{world_limits, limit_reached, trace_text_within}
+use Rattle.vp_model.specs.Texts.Trace.{trace_text}
+use Rattle.vp_model.specs.Texts.History.{history_text}
+use Rattle.vp_schedule.specs.Document.{Answered, IsOnly}
+use Rattle.vp_schedule.specs.declared.fault.ScheduleFault.{ScheduleFault}
+use Rattle.vp_schedule.specs.declared.fault.ScheduleFault.TheVariants as faults
+use Rattle.vp_status.specs.Refused.{bad_line_text, twice_text, limit_text}
+use Rattle.vp_status.specs.declared.status.Status.{Status}
+use Rattle.vp_status.specs.declared.status.Status.TheVariants as status
+use Rattle.vp_world.specs.Limits.{limit_of}
+
+-- No limit is reached, what is printed is the schedule's trace and then its history, and the schedule is one copy.
+pub record IsDone (s : Schedule) (text : List ℕ) : Type 0 where
+  pub whole : limit_reached world_limits s ≡ None
+  pub printed : text ≡ trace_text s ++ history_text s
+  pub one_copy : IsOneCopy s
+
+-- A limit of the world ends the schedule: what is printed is the trace of the steps before, and the limit.
+pub record IsLimited (s : Schedule) (text : List ℕ) : Type 0 where
+  pub counted : Counted
+  pub reached : limit_reached world_limits s ≡ Some counted
+  pub printed : text ≡ trace_text_within world_limits s ++ limit_text (limit_of counted)
+
+-- what a schedule gives
+abbrev pub Gives : Schedule → Status → List ℕ → Type 0
+Gives s status.Done text = IsDone s text
+Gives s status.Limit text = IsLimited s text
+Gives s _ text = ⊥
+
+-- the bytes are the text of this schedule and of no other, and this is what it gives
+pub record IsReplayed (bytes : List ℕ) (end : Status) (text : List ℕ) : Type 0 where
+  pub schedule : Schedule
+  pub spelled : Answered bytes (Ok schedule)
+  pub only : IsOnly bytes (Ok schedule)
+  pub gives : Gives schedule end text
+
+-- how a fault is told
+abbrev pub Tells : ScheduleFault → Status → List ℕ → Type 0
+Tells (faults.BadLine line at) status.BadLine text = text ≡ bad_line_text line at
+Tells (faults.Twice line) status.BadLine text = text ≡ twice_text line
+Tells (faults.TooMany line limit) status.Limit text = text ≡ limit_text limit
+Tells _ _ text = ⊥
+
+-- the bytes are no such text: this is their one fault, at the first line where one stands
+pub record IsRefused (bytes : List ℕ) (end : Status) (text : List ℕ) : Type 0 where
+  pub fault : ScheduleFault
+  pub answered : Answered bytes (Err fault)
+  pub only : IsOnly bytes (Err fault)
+  pub told : Tells fault end text
+
+-- The text that is defined for an input of `replay` at each status; other statuses are none of its.
+abbrev pub IsReplayAnswer : List ℕ → Status → List ℕ → Type 0
+IsReplayAnswer bytes status.Done text = IsReplayed bytes status.Done text
+IsReplayAnswer bytes status.BadLine text = IsRefused bytes status.BadLine text
+IsReplayAnswer bytes status.Limit text = IsReplayed bytes status.Limit text ⊎ IsRefused bytes status.Limit text
+IsReplayAnswer bytes _ text = ⊥

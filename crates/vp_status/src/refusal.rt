@@ -1,0 +1,50 @@
+//! The lines that refuse an input.
+
+ghost use Rattle.std.specs.Prelude.{◌≡◌, ◌++◌, OnOk};
+ghost use Rattle.vp_status.specs.Refused.{bad_line_text, twice_text, limited, limit_text};
+
+use vp_base::NoMemory;
+use vp_text::print_number;
+
+pub fn print_bad_line(line: usize, at: usize, out: &mut Vec<u8>) -> Result<(), NoMemory>
+    ensures { OnOk result (out.new.items ≡ out.old.items ++ bad_line_text line at) }
+{
+    out.extend_from_slice(b"bad line ")?;
+    print_number(out, line as u64)?;
+    out.extend_from_slice(b" at ")?;
+    print_number(out, at as u64)?;
+    out.push(b'\n')?;
+    Ok(())
+}
+
+pub fn print_twice(line: usize, out: &mut Vec<u8>) -> Result<(), NoMemory>
+    ensures { OnOk result (out.new.items ≡ out.old.items ++ twice_text line) }
+{
+    out.extend_from_slice(b"twice line ")?;
+    print_number(out, line as u64)?;
+    out.push(b'\n')?;
+    Ok(())
+}
+
+/// What there may be so many of.
+fn limited(limit: u32) -> &'static [u8]
+    ensures { result.now ≡ limited limit }
+{
+    if limit == 256 {
+        b"records "
+    } else if limit == 2_000_000 {
+        b"messages "
+    } else {
+        b"events "
+    }
+}
+
+pub fn print_limit(limit: u32, out: &mut Vec<u8>) -> Result<(), NoMemory>
+    ensures { OnOk result (out.new.items ≡ out.old.items ++ limit_text limit) }
+{
+    out.extend_from_slice(b"limit ")?;
+    out.extend_from_slice(limited(limit))?;
+    print_number(out, u64::from(limit))?;
+    out.push(b'\n')?;
+    Ok(())
+}

@@ -1,9 +1,0 @@
-use Rattle.std.proofs.Common.{rules}
-use Rattle.vp_top.proofs.Replays.{replay_is_done, replay_is_limited}
-use Rattle.vp_top.proofs.replay.serve.Goals as goal
-
-pub returns-in-Ok : goal.returns-in-Ok
-returns-in-Ok c = replay_is_done c.args.schedule c.in-Ok.world c.play-played.new.observer c.print_end.new.out.items c.requires (search rules) (search rules)
-
-pub returns-in-Err-Limit : goal.returns-in-Err-Limit
-returns-in-Err-Limit c = replay_is_limited c.args.schedule c.in-Err-Limit.field-0-0 c.in-Err-Limit.limit c.play-played.new.observer c.print_limit.new.out.items (search rules) (search rules)
