@@ -1,1 +1,2 @@
 mod Attached
+mod Calm

@@ -1,6 +1,7 @@
 -- How the command that runs a node ends: the log that it attached, how serving ended, and what was printed behind the recording.
-use Rattle.std.specs.Prelude.{◌≡◌, ◌⊎◌, ◌≤◌, ℕ, true, List, [], Some, Err}
+use Rattle.std.specs.Prelude.{◌≡◌, ◌⊎◌, ◌<◌, ◌≤◌, ◌-◌, ◌^◌, ℕ, true, List, [], Some, Err, IfSome}
 use Rattle.std.specs.Io.KnownBytes.{Appends}
+use Rattle.vp_model.specs.Types.{LogRecord}
 use Rattle.vp_model.specs.Catalogue.{Catalogue}
 use Rattle.vp_model.specs.Words.{value_at}
 use Rattle.vp_outside.specs.Causes.{Rose}
@@ -9,7 +10,10 @@ use Rattle.vp_outside.specs.DiskCalls.{Attaches}
 use Rattle.vp_outside.specs.Output.{SinkState, AppendsPrefix}
 use Rattle.vp_outside.specs.declared.sink.OutFault.{OutFault}
 use Rattle.vp_outside.specs.declared.sink.OutFault.TheVariants as output
+use Rattle.vp_stable.specs.Halves.{HaveBatches, AreBadLog}
 use Rattle.vp_stable.specs.Moments.{LeavesOthers}
+use Rattle.vp_runs.specs.Keeping.{durable_in}
+use Rattle.vp_node.specs.Nodes.{IsSpent}
 use Rattle.vp_node.specs.Serving.{Outside, Serves}
 use Rattle.vp_node.specs.declared.end.End.{End}
 use Rattle.vp_node.specs.declared.end.End.TheVariants as ends
@@ -82,3 +86,41 @@ pub record HasCause (catalogue : Catalogue) (id : ℕ) (name : List ℕ) (o : Ou
   pub link : told ≡ status.LinkFault → Rose o.link.faults o.link'.faults × (o.link'.asked ≡ value_at id catalogue.sites)
   pub disk : told ≡ status.DiskFault → Rose o.disk.faults o.disk'.faults × (o.disk'.asked ≡ Some name)
   pub sink : told ≡ status.SinkFault → Rose o.sink.faults o.sink'.faults
+
+-- ---- where nothing fails
+
+-- No call failed of the link but `send`, of the disk or of the sink.
+pub record IsCalm (o : Outside) : Type 0 where
+  pub link : Rose o.link.faults o.link'.faults → ⊥
+  pub disk : Rose o.disk.faults o.disk'.faults → ⊥
+  pub sink : Rose o.sink.faults o.sink'.faults → ⊥
+
+module _ (catalogue : Catalogue) (id : ℕ) (name : List ℕ) (o : Outside) where
+  -- The log has these batches, with a life left.
+  pub record HasLife : Type 0 where
+    pub batches : List (List LogRecord)
+    pub had : IfSome (o.disk.logs (Some name)) (HaveBatches batches)
+    pub lives : (durable_in catalogue id batches).life < 2 ^ 32 - 1
+
+  -- It is no log at this byte of the half, and that alone was printed.
+  pub record IsBad : Type 0 where
+    pub half : ℕ
+    pub at : ℕ
+    pub bad : IfSome (o.disk.logs (Some name)) (AreBadLog half at)
+    pub printed : Appends o.sink.held o.sink'.held (bad_log_text half at)
+
+  -- It ends in the last life, and that alone was printed.
+  pub record IsLast : Type 0 where
+    pub spent : IsSpent catalogue id (2 ^ 32 - 1) (attached_to name o.disk)
+    pub printed : Appends o.sink.held o.sink'.held lives_spent_text
+
+  -- the status that the log decides, unless memory ran out
+  abbrev pub DecidedByLog : Status → Type 0
+  DecidedByLog status.Done = HasLife
+  DecidedByLog status.BadLog = IsBad
+  DecidedByLog status.LivesSpent = IsLast
+  DecidedByLog status.NoMemory = Unit {0}
+  DecidedByLog _ = ⊥
+
+  abbrev pub DecidedIfCalm : Status → Type 0
+  DecidedIfCalm told = IsCalm o → DecidedByLog told

@@ -4,7 +4,7 @@ ghost use Rattle.std.specs.Prelude.{◌≡◌, ◌++◌, None, true, IfOk, OnOk}
 ghost use Rattle.vp_model.specs.Words.{has};
 ghost use Rattle.vp_model.specs.Catalogue.{sites_of};
 ghost use Rattle.vp_commands.specs.Lines.{bad_log_text};
-ghost use Rattle.vp_commands.specs.NodeEnds.{HasCause, NodeEnds, Tells, last_line, status_of};
+ghost use Rattle.vp_commands.specs.NodeEnds.{DecidedIfCalm, HasCause, NodeEnds, Tells, last_line, status_of};
 
 use crate::status::Status;
 use std::alloc::Global;
@@ -37,6 +37,16 @@ pub fn serve_log<L: Link, D: Disk, K: Sink>(
         })
         result }
     ensures cause { HasCause catalog.now id log.now
+        (record {
+          link = L.state link.old;
+          link' = L.state link.new;
+          sink = K.state sink.old;
+          sink' = K.state sink.new;
+          disk = D.state disk.old;
+          disk' = D.state disk.new;
+        })
+        result }
+    ensures decided { DecidedIfCalm catalog.now id log.now
         (record {
           link = L.state link.old;
           link' = L.state link.new;
