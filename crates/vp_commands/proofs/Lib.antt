@@ -1,0 +1,2 @@
+mod Attached
+mod Calm

@@ -1,0 +1,19 @@
+-- The lines that commands print of what failed.
+use Rattle.std.specs.Prelude.{ℕ, List, [], ◌∷◌, ◌++◌, codes}
+use Rattle.std.specs.Fmt.{decimal}
+
+abbrev pub link_fault_text : List ℕ
+link_fault_text = codes "link fault\n"
+
+abbrev pub disk_fault_text : List ℕ
+disk_fault_text = codes "disk fault\n"
+
+abbrev pub no_answer_text : List ℕ
+no_answer_text = codes "no answer\n"
+
+abbrev pub lives_spent_text : List ℕ
+lives_spent_text = codes "lives spent\n"
+
+-- the half of the log that is no log, and the byte
+abbrev pub bad_log_text : ℕ → ℕ → List ℕ
+bad_log_text half at = codes "bad log " ++ (decimal half ++ (codes " at " ++ (decimal at ++ 10 ∷ [])))

@@ -1,0 +1,120 @@
+//! The command that runs a node.
+
+ghost use Rattle.std.specs.Prelude.{◌≡◌, ◌++◌, None, true, IfOk, OnOk};
+ghost use Rattle.vp_model.specs.Words.{has};
+ghost use Rattle.vp_model.specs.Catalogue.{sites_of};
+ghost use Rattle.vp_commands.specs.Lines.{bad_log_text};
+ghost use Rattle.vp_commands.specs.NodeEnds.{DecidedIfCalm, HasCause, NodeEnds, Tells, last_line, status_of};
+
+use crate::status::Status;
+use std::alloc::Global;
+use vp_base::{NoMemory, SiteId, Word};
+use vp_catalog::Catalog;
+use vp_node::{End, serve};
+use vp_outside::{Disk, Link, OutFault, Sink, write_all};
+use vp_text::print_number;
+
+/// Attaches the log of this name, serves the node on it for at most `turns` datagrams, and prints why it ended behind its recording.
+pub fn serve_log<L: Link, D: Disk, K: Sink>(
+    catalog: &Catalog,
+    id: SiteId,
+    log: &Word,
+    link: &mut L,
+    disk: &mut D,
+    sink: &mut K,
+    turns: u64,
+) -> Status
+    requires fresh { (L.state link.old).asked ≡ None }
+    requires id { has (sites_of catalog.now) id ≡ true }
+    ensures ends { NodeEnds catalog.now id turns log.now
+        (record {
+          link = L.state link.old;
+          link' = L.state link.new;
+          sink = K.state sink.old;
+          sink' = K.state sink.new;
+          disk = D.state disk.old;
+          disk' = D.state disk.new;
+        })
+        result }
+    ensures cause { HasCause catalog.now id log.now
+        (record {
+          link = L.state link.old;
+          link' = L.state link.new;
+          sink = K.state sink.old;
+          sink' = K.state sink.new;
+          disk = D.state disk.old;
+          disk' = D.state disk.new;
+        })
+        result }
+    ensures decided { DecidedIfCalm catalog.now id log.now
+        (record {
+          link = L.state link.old;
+          link' = L.state link.new;
+          sink = K.state sink.old;
+          sink' = K.state sink.new;
+          disk = D.state disk.old;
+          disk' = D.state disk.new;
+        })
+        result }
+{
+    let end = match disk.attach(log) {
+        Ok(()) => serve(catalog, id, link, disk, sink, turns),
+        Err(OutFault::Failed) => End::DiskFault,
+        Err(OutFault::NoMemory) => End::NoMemory,
+    };
+    tell(catalog.sites().allocator(), sink, end)
+}
+
+/// Prints the line behind the recording, and answers the status.
+fn tell<K: Sink>(alloc: Global, sink: &mut K, end: End) -> Status
+    ensures { Tells end (K.state sink.old) (K.state sink.new) result }
+{
+    let Ok(line) = last_line(alloc, end) else {
+        return Status::NoMemory;
+    };
+    match write_all(sink, &line) {
+        Ok(()) => status_of(end),
+        Err(OutFault::Failed) => Status::SinkFault,
+        Err(OutFault::NoMemory) => Status::NoMemory,
+    }
+}
+
+fn status_of(end: End) -> Status
+    ensures { result ≡ status_of end }
+{
+    match end {
+        End::Stopped | End::TurnsDone => Status::Done,
+        End::LinkFault => Status::LinkFault,
+        End::DiskFault => Status::DiskFault,
+        End::WriteFault => Status::SinkFault,
+        End::BadLog { .. } => Status::BadLog,
+        End::LivesSpent { .. } => Status::LivesSpent,
+        End::NoMemory => Status::NoMemory,
+    }
+}
+
+/// The line that tells an end; empty where the recording tells it, and where nothing more can be printed.
+fn last_line(alloc: Global, end: End) -> Result<Vec<u8>, NoMemory>
+    ensures { IfOk result (λ line. line.items ≡ last_line end) }
+{
+    let mut line = Vec::new(alloc);
+    match end {
+        End::Stopped | End::TurnsDone | End::WriteFault | End::NoMemory => {}
+        End::LinkFault => line.extend_from_slice(b"link fault\n")?,
+        End::DiskFault => line.extend_from_slice(b"disk fault\n")?,
+        End::BadLog { half, at } => print_bad_log(half, at, &mut line)?,
+        End::LivesSpent { .. } => line.extend_from_slice(b"lives spent\n")?,
+    }
+    Ok(line)
+}
+
+fn print_bad_log(half: u8, at: u64, out: &mut Vec<u8>) -> Result<(), NoMemory>
+    ensures { OnOk result (out.new.items ≡ out.old.items ++ bad_log_text half at) }
+{
+    out.extend_from_slice(b"bad log ")?;
+    print_number(out, u64::from(half))?;
+    out.extend_from_slice(b" at ")?;
+    print_number(out, at)?;
+    out.push(b'\n')?;
+    Ok(())
+}

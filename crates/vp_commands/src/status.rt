@@ -1,0 +1,78 @@
+//! How a run of the program ends.
+
+ghost use Rattle.std.specs.Prelude.{◌≡◌, IfOk};
+ghost use Rattle.vp_commands.specs.Codes.{code_of};
+ghost use Rattle.vp_commands.specs.Lines.{link_fault_text};
+ghost use Rattle.vp_commands.specs.declared.status.Status.TheVariants.{LinkFault as LinkFailed};
+
+use std::alloc::Global;
+use vp_base::NoMemory;
+
+/// The end of a run; its number is the exit status of the process.
+#[derive(Clone, Copy, Debug, PartialEq, Eq)]
+pub enum Status {
+    /// All was done.
+    Done = 0,
+    /// The input isn't in its grammar.
+    BadLine = 1,
+    /// The words are no command, or name a site that the catalogue lacks.
+    Usage = 2,
+    /// There was no memory. What was printed is a prefix of what is defined.
+    NoMemory = 3,
+    /// The source failed, and nothing was printed.
+    SourceFault = 4,
+    /// The sink failed. What was printed is a prefix of what is defined.
+    SinkFault = 5,
+    /// The link failed: the port wasn't bound, no datagram was received, or the one frame of a command wasn't sent.
+    LinkFault = 6,
+    /// The disk failed.
+    DiskFault = 7,
+    /// The log is no log.
+    BadLog = 8,
+    /// The input has more than 16,777,216 bytes, 256 records or 100,000 events, or the next step would make more than 100,000 steps or
+    /// 2,000,000 messages.
+    Limit = 9,
+    /// A history has a read of another value than its one copy kept.
+    Differs = 10,
+    /// As many datagrams came as were to be waited for, and none was the answer.
+    NoAnswer = 11,
+    /// The life in the log is the last one.
+    LivesSpent = 12,
+}
+
+impl Status {
+    /// The exit status of the process.
+    pub fn code(self) -> u8
+        ensures { result ≡ code_of self }
+    {
+        self as u8
+    }
+}
+
+/// What is defined for a run: its status, and all that it prints.
+#[derive(Drop)]
+pub struct Defined {
+    pub status: Status,
+    pub text: Vec<u8>,
+}
+
+impl Defined {
+    /// This status with a copy of this text.
+    pub fn new(alloc: Global, status: Status, text: &[u8]) -> Result<Defined, NoMemory>
+        ensures status { IfOk result (λ it. it.status ≡ status) }
+        ensures text { IfOk result (λ it. it.text.items ≡ text.now) }
+    {
+        Ok(Defined {
+            status,
+            text: Vec::from_slice(alloc, text)?,
+        })
+    }
+
+    /// A link failed.
+    pub fn link_fault(alloc: Global) -> Result<Defined, NoMemory>
+        ensures status { IfOk result (λ it. it.status ≡ LinkFailed) }
+        ensures text { IfOk result (λ it. it.text.items ≡ link_fault_text) }
+    {
+        Defined::new(alloc, Status::LinkFault, b"link fault\n")
+    }
+}

@@ -1,0 +1,11 @@
+//! The tests of the commands that use a network, outside the crate that has them: a crate with tests is proved twice.
+#![tactic(auto)]
+
+#[cfg(test)]
+mod calls;
+#[cfg(test)]
+mod fixtures;
+#[cfg(test)]
+mod nodes;
+#[cfg(test)]
+mod signals;
