@@ -18,7 +18,7 @@ use Rattle.vp_node.specs.Serving.{Outside, Course, run_of, Did, IsKeptAs, Leaves
 use Rattle.vp_node.specs.declared.end.End.{End}
 use Rattle.vp_node.specs.declared.end.End.TheVariants as ends
 use Rattle.vp_commands.specs.NodeEnds.{attached_to, end_of_attach, Tells, NodeEnds}
-use Rattle.vp_commands.specs.declared.status.Status.{Status}
+use Rattle.vp_status.specs.declared.status.Status.{Status}
 
 -- ---- two states of a disk with the same log attached, where the second is honest only if the first is
 

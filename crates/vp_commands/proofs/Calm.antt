@@ -19,10 +19,10 @@ use Rattle.vp_node.specs.declared.end.End.{End}
 use Rattle.vp_node.specs.declared.end.End.TheVariants as ends
 use Rattle.vp_commands.specs.Asked.{Tells as TellsAnswer}
 use Rattle.vp_commands.specs.Claims.{AnswersAreTold, SignalsAreDone}
-use Rattle.vp_commands.specs.Lines.{bad_log_text, lives_spent_text}
+use Rattle.vp_status.specs.Lines.{bad_log_text, lives_spent_text}
 use Rattle.vp_commands.specs.NodeEnds.{Tells, NodeEnds, IsCalm, DecidedByLog, attached_to, end_of_attach, last_line, status_of}
-use Rattle.vp_commands.specs.declared.status.Status.{Status}
-use Rattle.vp_commands.specs.declared.status.Status.TheVariants as status
+use Rattle.vp_status.specs.declared.status.Status.{Status}
+use Rattle.vp_status.specs.declared.status.Status.TheVariants as status
 
 rose_later : (a b c : ℕ) → a ≤ b → Rose b c → Rose a c
 rose_later a b c h r = omega (arith, h, r)

@@ -12,11 +12,11 @@ use Rattle.vp_runs.specs.Turns.{datagram_to}
 use Rattle.vp_client.specs.Asked.{Asks, Came, MaySent}
 use Rattle.vp_client.specs.declared.asking.AskFault.{AskFault}
 use Rattle.vp_client.specs.declared.asking.AskFault.TheVariants as faults
-use Rattle.vp_commands.specs.Lines.{link_fault_text, no_answer_text}
-use Rattle.vp_commands.specs.declared.signalling.Signal.{Signal}
-use Rattle.vp_commands.specs.declared.signalling.Signal.TheVariants as signals
-use Rattle.vp_commands.specs.declared.status.Status.{Status}
-use Rattle.vp_commands.specs.declared.status.Status.TheVariants as status
+use Rattle.vp_status.specs.Lines.{link_fault_text, no_answer_text}
+use Rattle.vp_words.specs.declared.words.Signal.{Signal}
+use Rattle.vp_words.specs.declared.words.Signal.TheVariants as signals
+use Rattle.vp_status.specs.declared.status.Status.{Status}
+use Rattle.vp_status.specs.declared.status.Status.TheVariants as status
 
 -- ---- the port of the command
 

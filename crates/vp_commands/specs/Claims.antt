@@ -7,9 +7,9 @@ use Rattle.vp_outside.specs.declared.datagram.Datagram.{Datagram}
 use Rattle.vp_runs.specs.Asking.{first_answer}
 use Rattle.vp_client.specs.Asked.{HasFailed}
 use Rattle.vp_commands.specs.Asked.{ClientGives, SignalGives}
-use Rattle.vp_commands.specs.declared.signalling.Signal.{Signal}
-use Rattle.vp_commands.specs.declared.status.Status.{Status}
-use Rattle.vp_commands.specs.declared.status.Status.TheVariants as status
+use Rattle.vp_words.specs.declared.words.Signal.{Signal}
+use Rattle.vp_status.specs.declared.status.Status.{Status}
+use Rattle.vp_status.specs.declared.status.Status.TheVariants as status
 
 -- The answer that is among the datagrams that a link has left, as many as are waited for, is told.
 abbrev pub AnswersAreTold : Type 0

@@ -1,5 +1,3 @@
 pub mod Asked
 pub mod Claims
-pub mod Codes
-pub mod Lines
 pub mod NodeEnds

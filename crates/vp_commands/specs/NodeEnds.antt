@@ -17,9 +17,9 @@ use Rattle.vp_node.specs.Nodes.{IsSpent}
 use Rattle.vp_node.specs.Serving.{Outside, Serves}
 use Rattle.vp_node.specs.declared.end.End.{End}
 use Rattle.vp_node.specs.declared.end.End.TheVariants as ends
-use Rattle.vp_commands.specs.Lines.{link_fault_text, disk_fault_text, lives_spent_text, bad_log_text}
-use Rattle.vp_commands.specs.declared.status.Status.{Status}
-use Rattle.vp_commands.specs.declared.status.Status.TheVariants as status
+use Rattle.vp_status.specs.Lines.{link_fault_text, disk_fault_text, lives_spent_text, bad_log_text}
+use Rattle.vp_status.specs.declared.status.Status.{Status}
+use Rattle.vp_status.specs.declared.status.Status.TheVariants as status
 
 -- ---- what is told of an end
 

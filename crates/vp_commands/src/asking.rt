@@ -4,14 +4,14 @@ ghost use Rattle.std.specs.Prelude.{◌≡◌, ◌++◌, ◌∷◌, [], None, If
 ghost use Rattle.vp_base.specs.Calls.{IsCall};
 ghost use Rattle.vp_model.specs.Texts.Answers.{answer_text};
 ghost use Rattle.vp_commands.specs.Asked.{ClientGives, ClientLeaves, Tells};
-ghost use Rattle.vp_commands.specs.declared.status.Status.TheVariants.{Done as IsDone};
+ghost use Rattle.vp_status.specs.declared.status.Status.TheVariants.{Done as IsDone};
 
-use crate::status::{Defined, Status};
 use std::alloc::Global;
 use vp_base::{Answer, Call, NoMemory, SiteId};
 use vp_client::{AskFault, ask};
 use vp_outside::Link;
 use vp_schedule::print_answer;
+use vp_status::{Defined, Status};
 
 /// Binds the client's own port, asks the site at its port, and defines the line of the answer, which may be any reply. At most `turns`
 /// datagrams are waited for.

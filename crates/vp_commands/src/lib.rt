@@ -6,10 +6,8 @@ mod asking;
 mod claims;
 mod node;
 mod signalling;
-mod status;
 
 pub use asking::call_site;
 pub use claims::{answers_are_told, signals_are_done};
 pub use node::serve_log;
-pub use signalling::{Signal, signal_site};
-pub use status::{Defined, Status};
+pub use signalling::signal_site;

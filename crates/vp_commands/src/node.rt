@@ -3,15 +3,15 @@
 ghost use Rattle.std.specs.Prelude.{◌≡◌, ◌++◌, None, true, IfOk, OnOk};
 ghost use Rattle.vp_model.specs.Words.{has};
 ghost use Rattle.vp_model.specs.Catalogue.{sites_of};
-ghost use Rattle.vp_commands.specs.Lines.{bad_log_text};
+ghost use Rattle.vp_status.specs.Lines.{bad_log_text};
 ghost use Rattle.vp_commands.specs.NodeEnds.{DecidedIfCalm, HasCause, NodeEnds, Tells, last_line, status_of};
 
-use crate::status::Status;
 use std::alloc::Global;
 use vp_base::{NoMemory, SiteId, Word};
 use vp_catalog::Catalog;
 use vp_node::{End, serve};
 use vp_outside::{Disk, Link, OutFault, Sink, write_all};
+use vp_status::Status;
 use vp_text::print_number;
 
 /// Attaches the log of this name, serves the node on it for at most `turns` datagrams, and prints why it ended behind its recording.

@@ -6,33 +6,21 @@ ghost use Rattle.vp_wire.specs.Frames.{frame_of};
 ghost use Rattle.vp_wire.specs.Grammar.{frame_bytes};
 ghost use Rattle.vp_commands.specs.Asked.{SignalGives, SignalLeaves, signal_body};
 
-use crate::status::{Defined, Status};
 use bytes::BytesMut;
 use std::alloc::Global;
 use vp_base::{NoMemory, SiteId};
 use vp_outside::{Link, OutFault};
+use vp_status::{Defined, Status};
 use vp_wire::{Body, Frame, encode};
+use vp_words::Signal;
 
-/// What a node is told to do.
-#[derive(Clone, Copy, Debug, PartialEq, Eq)]
-pub enum Signal {
-    /// Time has passed: calls that wait are late.
-    Tick,
-    /// The monitor asks the other sites of the view.
-    Probe,
-    /// The node ends.
-    Stop,
-}
-
-impl Signal {
-    fn body(self) -> Body
-        ensures { result ≡ signal_body self }
-    {
-        match self {
-            Signal::Tick => Body::Tick,
-            Signal::Probe => Body::ProbeNow,
-            Signal::Stop => Body::Stop,
-        }
+fn body_of(signal: Signal) -> Body
+    ensures { result ≡ signal_body signal }
+{
+    match signal {
+        Signal::Tick => Body::Tick,
+        Signal::Probe => Body::ProbeNow,
+        Signal::Stop => Body::Stop,
     }
 }
 
@@ -73,7 +61,7 @@ fn send<L: Link>(
     let frame = Frame {
         from: 0,
         to: site.get(),
-        body: signal.body(),
+        body: body_of(signal),
     };
     let mut bytes = BytesMut::new(alloc);
     encode(&frame, &mut bytes)?;

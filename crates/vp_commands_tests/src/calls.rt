@@ -6,8 +6,9 @@ use crate::fixtures::{BEGIN, BEGUN, PORT, datagram, is_all, is_defined};
 use std::alloc::Global;
 use std::test::Fail;
 use vp_base::{Call, NoMemory, SiteId};
-use vp_commands::{Defined, Status, call_site};
+use vp_commands::call_site;
 use vp_outside::{Link, MemLink};
+use vp_status::{Defined, Status};
 
 /// What is defined for a begin at site 1, from port 7100.
 fn begin<L: Link>(alloc: Global, link: &mut L, turns: u64) -> Result<Defined, NoMemory>

@@ -2,8 +2,8 @@
 
 use bytes::Bytes;
 use std::alloc::{AllocError, Global};
-use vp_commands::{Defined, Status};
 use vp_outside::Datagram;
+use vp_status::{Defined, Status};
 
 /// The port of site 1.
 pub const PORT: u16 = 7001;

@@ -9,8 +9,9 @@ use std::alloc::Global;
 use std::test::Fail;
 use vp_base::{SiteId, Word};
 use vp_catalog::{Catalog, has_site};
-use vp_commands::{Status, serve_log};
+use vp_commands::serve_log;
 use vp_outside::{Datagram, MemDisk, MemLink, TextSink};
+use vp_status::Status;
 
 /// The log's first half with Start of the last life.
 const LAST_LIFE: &[u8] = b"\x01\0\0\0\0\0\0\0\x05\x01\xff\xff\xff\xff\0";

@@ -3,8 +3,10 @@
 use crate::fixtures::{PORT, STOP, is_all, is_defined};
 use std::test::Fail;
 use vp_base::SiteId;
-use vp_commands::{Signal, Status, signal_site};
+use vp_commands::signal_site;
 use vp_outside::MemLink;
+use vp_status::Status;
+use vp_words::Signal;
 
 #[test]
 fn each_signal_has_its_frame(rt: HostRuntime) -> Result<(), Fail> {

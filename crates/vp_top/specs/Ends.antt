@@ -10,7 +10,7 @@ use Rattle.vp_node.specs.Serving.{Outside}
 use Rattle.vp_words.specs.Commands.{command_of}
 use Rattle.vp_words.specs.declared.words.Command.{Command}
 use Rattle.vp_words.specs.declared.words.Command.TheVariants as commands
-use Rattle.vp_commands.specs.NodeEnds.{NodeEnds, HasCause}
+use Rattle.vp_commands.specs.NodeEnds.{NodeEnds, HasCause, DecidedIfCalm}
 use Rattle.vp_top.specs.Program.{most_bytes, Reads, AreOf, IsDefined, IsPlaced, MayCall}
 use Rattle.vp_status.specs.declared.status.Status.{Status}
 use Rattle.vp_status.specs.declared.status.Status.TheVariants as status
@@ -72,6 +72,7 @@ pub record EndsAsNode (words : List (List ℕ)) (source source' : SourceState) (
   pub node : IsNode words source source' catalogue site log turns
   pub ends : NodeEnds catalogue site turns log o end
   pub cause : HasCause catalogue site log o end
+  pub decided : DecidedIfCalm catalogue site log o end
 
 -- ---- the run
 
