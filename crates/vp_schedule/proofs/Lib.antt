@@ -1,4 +1,4 @@
-mod Exact
+pub mod Exact
 mod KindWords
 mod OtherSites
 mod Printed

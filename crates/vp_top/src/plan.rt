@@ -1,7 +1,7 @@
 //! What is to be done for a command and its input.
 
 ghost use Rattle.std.specs.Prelude.{◌≡◌, None, IfOk, OnErr, codes};
-ghost use Rattle.vp_words.specs.Commands.{Fits};
+ghost use Rattle.vp_words.specs.Commands.{IsAllowed};
 ghost use Rattle.vp_status.specs.declared.status.Status.TheVariants as status;
 ghost use Rattle.vp_top.specs.Plans.{IsFound, PlansFor};
 ghost use Rattle.vp_top.specs.Program.{Calls, MayCall, TellsFault, usage_text};
@@ -46,7 +46,7 @@ pub fn plan_of<L: Link>(
     link: &mut L,
 ) -> Result<Plan, NoMemory>
     requires fresh { (L.state link.old).asked ≡ None }
-    requires command { Fits command }
+    requires command { IsAllowed command }
     ensures plans { IfOk result (PlansFor command input.now (L.state link.old) (L.state link.new)) }
     ensures no_memory { OnErr result (MayCall command input.now (L.state link.old) (L.state link.new)) }
     ensures uncalled { (Calls command → ⊥) → link.new ≡ link.old }

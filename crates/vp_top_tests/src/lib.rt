@@ -9,5 +9,3 @@ mod runs;
 mod transactions;
 #[cfg(test)]
 mod views;
-#[cfg(test)]
-mod words;

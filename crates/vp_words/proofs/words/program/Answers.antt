@@ -1,0 +1,21 @@
+use Rattle.std.proofs.Common.{◌≡◌, ◌∙◌, List, ap, codes}
+use Rattle.std.proofs.lemmas.Result.{IfOk-weaker}
+use Rattle.clap.specs.Words.{App, Text}
+use Rattle.vp_words.specs.Parsed.{operand_app, with_command}
+use Rattle.vp_words.proofs.Parsing.{alone_ids, client_ids, draws_ids, node_ids, signal_ids}
+use Rattle.vp_words.proofs.words.program.Goals as goal
+
+onto : (name : Text) (ids : List Text) (a b : App) → a ≡ b → with_command a (operand_app name ids) ≡ with_command b (operand_app name ids)
+onto name ids a b same = ap (λ (app : App). with_command app (operand_app name ids)) same
+
+pub returns : goal.returns
+returns c =
+    let replay = c.in_ok-program.ensures ∙ onto (codes "replay") alone_ids _ _ c.bare.ensures in
+    let check = c.in_ok-program-2.ensures ∙ onto (codes "check") alone_ids _ _ replay in
+    let node = c.in_ok-program-3.ensures ∙ onto (codes "node") node_ids _ _ check in
+    let client = c.in_ok-program-4.ensures ∙ onto (codes "client") client_ids _ _ node in
+    let tick = c.in_ok-program-5.ensures ∙ onto (codes "tick") signal_ids _ _ client in
+    let probe = c.in_ok-program-6.ensures ∙ onto (codes "probe") signal_ids _ _ tick in
+    let stop = c.in_ok-program-7.ensures ∙ onto (codes "stop") signal_ids _ _ probe in
+    let generate = c.in_ok-program-8.ensures ∙ onto (codes "generate") draws_ids _ _ stop in
+    IfOk-weaker c.with_command-9.result _ _ (λ r h. h ∙ onto (codes "soak") draws_ids _ _ generate) c.with_command-9.ensures

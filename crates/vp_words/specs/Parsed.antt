@@ -1,0 +1,90 @@
+-- The program's commands as `clap` knows them, and what its matches say.
+use Rattle.std.specs.Prelude.{ℕ, List, [], ◌∷◌, codes, true, Bool, not, fold, Option, Some, None, option_map, option_and_then, if◌then◌else◌}
+use Rattle.std.specs.List.{list_any, take_while}
+use Rattle.std.specs.Str.{bytes_eq}
+use Rattle.clap.specs.Words.{App, Row, Rule, Text, first_of, new_app, new_rule, with_rule, with_subcommand}
+use Rattle.vp_words.specs.Commands.{call, client, draws, node, site}
+use Rattle.vp_words.specs.declared.words.Command.{Command}
+use Rattle.vp_words.specs.declared.words.Command.TheVariants as commands
+use Rattle.vp_words.specs.declared.words.Signal.{Signal}
+use Rattle.vp_words.specs.declared.words.Signal.TheVariants as signals
+
+-- A `-` alone stands before the first `--`. `clap` takes it for an operand.
+unfoldable pub has_hyphen : List Text → Bool
+has_hyphen words = list_any (λ word. bytes_eq word (codes "-")) (take_while (λ word. not (bytes_eq word (codes "--"))) words)
+
+abbrev pub required_rule : Text → Rule
+required_rule id = record (new_rule id) { required = true }
+
+abbrev pub with_operand : App → Text → App
+with_operand app id = with_rule app (required_rule id)
+
+-- a command of operands that all have to be there
+abbrev pub operand_app : Text → List Text → App
+operand_app name ids = fold with_operand (new_app name) ids
+
+abbrev pub node_app : App
+node_app = operand_app (codes "node") (codes "SITE" ∷ codes "LOG" ∷ codes "TURNS" ∷ [])
+
+abbrev pub client_app : App
+client_app = operand_app (codes "client") (codes "PORT" ∷ codes "TURNS" ∷ codes "SITE" ∷ codes "CALL" ∷ [])
+
+abbrev pub signal_app : Text → App
+signal_app name = operand_app name (codes "SITE" ∷ [])
+
+abbrev pub drawing_app : Text → App
+drawing_app name = operand_app name (codes "SEED" ∷ codes "COUNT" ∷ [])
+
+-- no options, and no word for help
+abbrev pub bare_app : App
+bare_app = let app = new_app (codes "vpdb") in record app {
+  top = record app.top { no_binary_name = true; disable_help_flag = true; disable_help_subcommand = true };
+}
+
+abbrev pub with_command : App → App → App
+with_command app command = with_subcommand app command.top
+
+abbrev pub program_app : App
+program_app = fold with_command bare_app (
+    new_app (codes "replay") ∷ new_app (codes "check") ∷ node_app ∷ client_app ∷ signal_app (codes "tick")
+    ∷ signal_app (codes "probe") ∷ signal_app (codes "stop") ∷ drawing_app (codes "generate") ∷ drawing_app (codes "soak") ∷ [])
+
+-- ---- what the rows of the operands say
+
+abbrev pub with_first : {A : Type 0} → Text → List Row → (Text → Option A) → Option A
+with_first id rows goes = option_and_then goes (first_of id rows)
+
+abbrev pub drawn : List Row → Option (ℕ × ℕ)
+drawn rows = with_first (codes "SEED") rows (λ seed. with_first (codes "COUNT") rows (λ count. draws seed count))
+
+abbrev pub node_operands : List Row → Option (ℕ × Text × ℕ)
+node_operands rows = with_first (codes "SITE") rows (λ site. with_first (codes "LOG") rows (λ log. with_first (codes "TURNS") rows (λ turns. node site log turns)))
+
+abbrev pub served : List Row → Option Command
+served rows = option_map (λ n. commands.Node n.0 n.1 n.2) (node_operands rows)
+
+-- with the word of the call
+abbrev pub client_operands : List Row → Option (ℕ × ℕ × ℕ × Text)
+client_operands rows =
+    with_first (codes "PORT") rows (λ port. with_first (codes "TURNS") rows (λ turns. with_first (codes "SITE") rows (λ site.
+    with_first (codes "CALL") rows (λ call. option_map (λ o. (o.0, o.1, o.2, call)) (client port turns site)))))
+
+abbrev pub called : List Row → Option Command
+called rows = option_and_then (λ o. option_map (λ call. commands.Client o.0 o.1 o.2 call) (call o.3)) (client_operands rows)
+
+abbrev pub signalled : Signal → List Row → Option Command
+signalled given rows = with_first (codes "SITE") rows (λ s. option_map (λ site. commands.Signal site given) (site s))
+
+-- the command that a subcommand with its rows stands for
+abbrev pub meant : Text → List Row → Option Command
+meant name rows =
+    if bytes_eq name (codes "replay") then Some commands.Replay
+    else (if bytes_eq name (codes "check") then Some commands.Check
+    else (if bytes_eq name (codes "node") then served rows
+    else (if bytes_eq name (codes "client") then called rows
+    else (if bytes_eq name (codes "tick") then signalled signals.Tick rows
+    else (if bytes_eq name (codes "probe") then signalled signals.Probe rows
+    else (if bytes_eq name (codes "stop") then signalled signals.Stop rows
+    else (if bytes_eq name (codes "generate") then option_map (λ d. commands.Generate d.0 d.1) (drawn rows)
+    else (if bytes_eq name (codes "soak") then option_map (λ d. commands.Soak d.0 d.1) (drawn rows)
+    else None))))))))

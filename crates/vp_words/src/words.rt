@@ -1,0 +1,299 @@
+//! The words of the command line, as `clap` reads them.
+
+ghost use Rattle.std.specs.Prelude.{◌≡◌, ◌≤◌, IfOk, IfSome, Some, None, codes, false, map, option_and_then, option_map, if◌then◌else◌};
+ghost use Rattle.std.specs.List.{list_all};
+ghost use Rattle.std.specs.Str.{is_utf8};
+ghost use Rattle.clap.specs.Words.{app_of, found_of, rows_of, subcommand_rows_of};
+ghost use Rattle.clap.specs.declared.builder.command.Command.TheViews.{out-Command};
+ghost use Rattle.vp_text.specs.Reading.{Reads, number_at, whole};
+ghost use Rattle.vp_words.specs.Commands.{IsAllowed, command_of, number, site};
+ghost use Rattle.vp_words.specs.Parsed.{bare_app, called, client_operands, drawn, has_hyphen, meant, node_operands, operand_app, program_app, served, signalled, with_command};
+
+use clap::error::ErrorKind;
+use clap::{Arg, ArgMatches};
+use std::alloc::{AllocError, Global};
+use vp_base::{Call, NameFault, NoMemory, SiteId, Word};
+use vp_schedule::read_call;
+use vp_text::{Cursor, Unexpected};
+
+/// The largest seed.
+const MOST_SEED: u64 = 2_147_483_647;
+
+/// The most events that are drawn.
+const MOST_COUNT: u64 = 2_400;
+
+/// What the program is asked to do.
+#[derive(Drop)]
+pub enum Command {
+    /// Replays a schedule.
+    Replay,
+    /// Checks a history.
+    Check,
+    /// Runs the node of the site on the log; it takes so many datagrams at most.
+    Node {
+        site: SiteId,
+        log: Word,
+        turns: u64,
+    },
+    /// Sends the call to the node of the site, from the client's own port, and waits for so many datagrams at most.
+    Client {
+        port: u16,
+        turns: u64,
+        site: SiteId,
+        call: Call,
+    },
+    /// Sends the signal to the node of the site.
+    Signal {
+        site: SiteId,
+        signal: Signal,
+    },
+    /// Draws a schedule: the seed is at most 2147483647, and the count of its events at most 2400.
+    Generate {
+        seed: u32,
+        count: u32,
+    },
+    /// Draws a schedule as `Generate` does, plays it, and counts what came of it.
+    Soak {
+        seed: u32,
+        count: u32,
+    },
+}
+
+/// What a node is told to do.
+#[derive(Clone, Copy, Debug, PartialEq, Eq)]
+pub enum Signal {
+    /// Time has passed: calls that wait are late.
+    Tick,
+    /// The monitor asks the other sites of the view.
+    Probe,
+    /// The node ends.
+    Stop,
+}
+
+impl Command {
+    /// The command of the words: its name and its operands, with or without one `--` among them.
+    ///
+    /// Whatever `clap` answers, other than matches or want of memory, makes the words no command. So does a call for help.
+    pub fn of(alloc: Global, words: &[Word]) -> Result<Option<Command>, NoMemory>
+        ensures command { IfOk result (λ command. command ≡ command_of words.now) }
+        ensures allowed { IfOk result (λ command. IfSome command IsAllowed) }
+    {
+        let Some(texts) = texts_of(alloc, words)? else {
+            return Ok(None);
+        };
+        if has_hyphen(texts.as_slice()) {
+            return Ok(None);
+        }
+        match program(alloc)?.try_get_matches_from(texts.as_slice()) {
+            Ok(matches) => meant(alloc, &matches),
+            Err(error) if error.kind() == ErrorKind::OutOfMemory => Err(NoMemory),
+            Err(_) => Ok(None),
+        }
+    }
+}
+
+/// The words as text, where each is UTF-8.
+fn texts_of(alloc: Global, words: &[Word]) -> Result<Option<Vec<&str>>, NoMemory>
+    ensures { IfOk result (λ found. option_map (λ texts. map (λ text. text.now) texts.items) found
+        ≡ (if list_all is_utf8 words.now then Some words.now else None)) }
+{
+    let mut texts = Vec::new(alloc);
+    for word in words {
+        let Ok(text) = str::from_utf8(word.as_slice()) else {
+            return Ok(None);
+        };
+        texts.push(text)?;
+    }
+    Ok(Some(texts))
+}
+
+/// Whether a `-` alone stands before the first `--`. `clap` would take it for an operand.
+fn has_hyphen(texts: &[&str]) -> bool
+    ensures { result ≡ has_hyphen (map (λ text. text.now) texts.now) }
+{
+    for text in texts {
+        if *text == "--" {
+            return false;
+        }
+        if *text == "-" {
+            return true;
+        }
+    }
+    false
+}
+
+/// The program's commands.
+fn program<'a>(alloc: Global) -> Result<clap::Command<'a>, AllocError>
+    ensures { IfOk result (λ c. app_of c ≡ program_app) }
+{
+    let program = with_command(alloc, bare(alloc), "replay", &[])?;
+    let program = with_command(alloc, program, "check", &[])?;
+    let program = with_command(alloc, program, "node", &["SITE", "LOG", "TURNS"])?;
+    let program = with_command(alloc, program, "client", &["PORT", "TURNS", "SITE", "CALL"])?;
+    let program = with_command(alloc, program, "tick", &["SITE"])?;
+    let program = with_command(alloc, program, "probe", &["SITE"])?;
+    let program = with_command(alloc, program, "stop", &["SITE"])?;
+    let program = with_command(alloc, program, "generate", &["SEED", "COUNT"])?;
+    with_command(alloc, program, "soak", &["SEED", "COUNT"])
+}
+
+/// The program without its commands. There are no options, and so none that asks for help.
+fn bare<'a>(alloc: Global) -> clap::Command<'a>
+    ensures { app_of result ≡ bare_app }
+{
+    clap::Command::new(alloc, "vpdb")
+        .no_binary_name(true)
+        .disable_help_flag(true)
+        .disable_help_subcommand(true)
+}
+
+/// The program with one command more.
+fn with_command<'a>(
+    alloc: Global,
+    program: clap::Command<'a>,
+    name: &'a str,
+    operands: &[&'a str],
+) -> Result<clap::Command<'a>, AllocError>
+    ensures { IfOk result (λ c. app_of c ≡ with_command (app_of program.entry) (operand_app name.entry.now (map (λ id. id.now) operands.now))) }
+{
+    program.subcommand(taking(alloc, name, operands)?)
+}
+
+/// A command of operands that all have to be there.
+fn taking<'a>(
+    alloc: Global,
+    name: &'a str,
+    operands: &[&'a str],
+) -> Result<clap::Command<'a>, AllocError>
+    ensures app { IfOk result (λ c. app_of c ≡ operand_app name.entry.now (map (λ id. id.now) operands.now)) }
+    ensures local { IfOk result (λ c. (out-Command c).has_globals ≡ false) }
+{
+    let mut command = clap::Command::new(alloc, name);
+    for operand in operands {
+        command = command.arg(Arg::new(alloc, *operand).required(true))?;
+    }
+    Ok(command)
+}
+
+/// The command that the matches stand for.
+fn meant(alloc: Global, matches: &ArgMatches) -> Result<Option<Command>, NoMemory>
+    ensures command { IfOk result (λ command. command ≡ option_and_then (λ m. meant m.0 m.1) (subcommand_rows_of matches.now)) }
+    ensures allowed { IfOk result (λ command. IfSome command IsAllowed) }
+{
+    let Some((name, matches)) = matches.subcommand() else {
+        return Ok(None);
+    };
+    match name {
+        "replay" => Ok(Some(Command::Replay)),
+        "check" => Ok(Some(Command::Check)),
+        "node" => served(alloc, matches),
+        "client" => called(alloc, matches),
+        "tick" => Ok(signalled(matches, Signal::Tick)),
+        "probe" => Ok(signalled(matches, Signal::Probe)),
+        "stop" => Ok(signalled(matches, Signal::Stop)),
+        "generate" => Ok(drawn(matches).map(|(seed, count)| Command::Generate { seed, count })),
+        "soak" => Ok(drawn(matches).map(|(seed, count)| Command::Soak { seed, count })),
+        _ => Ok(None),
+    }
+}
+
+/// The seed and the count of a command that has them.
+#[tactic(auto, using(crate::proofs::Texts::first_rows))]
+fn drawn(matches: &ArgMatches) -> Option<(u32, u32)>
+    ensures numbers { result ≡ drawn (rows_of (found_of matches.now)) }
+    ensures ranges { IfSome result (λ d. (d.0 ≤ 2147483647) × (d.1 ≤ 2400)) }
+{
+    let seed = number(matches.get_str("SEED")?, 0, MOST_SEED)?;
+    let count = number(matches.get_str("COUNT")?, 0, MOST_COUNT)?;
+    Some((seed as u32, count as u32))
+}
+
+/// The command of a node.
+fn served(alloc: Global, matches: &ArgMatches) -> Result<Option<Command>, NoMemory>
+    ensures command { IfOk result (λ command. command ≡ served (rows_of (found_of matches.now))) }
+    ensures allowed { IfOk result (λ command. IfSome command IsAllowed) }
+{
+    let Some((site, log, turns)) = node_operands(matches) else {
+        return Ok(None);
+    };
+    let log = Word::from_vec(log.as_bytes().to_vec(alloc)?);
+    Ok(Some(Command::Node { site, log, turns }))
+}
+
+#[tactic(auto, using(crate::proofs::Texts::first_rows))]
+fn node_operands<'a>(matches: &ArgMatches<'a>) -> Option<(SiteId, &'a str, u64)>
+    ensures { option_map (λ o. (o.0, o.1.now, o.2)) result ≡ node_operands (rows_of (found_of matches.now)) }
+{
+    let site = site(matches.get_str("SITE")?)?;
+    let log = matches.get_str("LOG")?;
+    let turns = number(matches.get_str("TURNS")?, 0, u64::MAX)?;
+    Some((site, log, turns))
+}
+
+/// The command of a client's call.
+fn called(alloc: Global, matches: &ArgMatches) -> Result<Option<Command>, NoMemory>
+    ensures command { IfOk result (λ command. command ≡ called (rows_of (found_of matches.now))) }
+    ensures allowed { IfOk result (λ command. IfSome command IsAllowed) }
+{
+    let Some(operands) = client_operands(matches) else {
+        return Ok(None);
+    };
+    match read_call(alloc, operands.3.as_bytes()) {
+        Ok(call) => Ok(Some(Command::Client {
+            port: operands.0,
+            turns: operands.1,
+            site: operands.2,
+            call,
+        })),
+        Err(NameFault::NoMemory) => Err(NoMemory),
+        Err(NameFault::BadName { .. }) => Ok(None),
+    }
+}
+
+#[tactic(auto, using(crate::proofs::Texts::first_rows))]
+fn client_operands<'a>(matches: &ArgMatches<'a>) -> Option<(u16, u64, SiteId, &'a str)>
+    ensures { option_map (λ o. (o.0, o.1, o.2, o.3.now)) result ≡ client_operands (rows_of (found_of matches.now)) }
+{
+    let port = number(matches.get_str("PORT")?, 1, u64::from(u16::MAX))?;
+    let turns = number(matches.get_str("TURNS")?, 0, u64::MAX)?;
+    let site = site(matches.get_str("SITE")?)?;
+    let call = matches.get_str("CALL")?;
+    Some((port as u16, turns, site, call))
+}
+
+/// The command of a signal.
+#[tactic(auto, using(crate::proofs::Texts::first_rows))]
+fn signalled(matches: &ArgMatches, signal: Signal) -> Option<Command>
+    ensures command { result ≡ signalled signal (rows_of (found_of matches.now)) }
+    ensures allowed { IfSome result IsAllowed }
+{
+    let site = site(matches.get_str("SITE")?)?;
+    Some(Command::Signal { site, signal })
+}
+
+/// The site that the whole text is the number of.
+fn site(text: &str) -> Option<SiteId>
+    ensures { result ≡ site text.now }
+{
+    let number = number(text, 1, 16)?;
+    Some(SiteId::of(number as u8))
+}
+
+/// The number of the range that the whole text is in decimal, without leading zeros.
+fn number(text: &str, least: u64, most: u64) -> Option<u64>
+    requires { least ≤ most }
+    ensures number { result ≡ number least most text.now }
+    ensures range { IfSome result (λ n. (least ≤ n) × (n ≤ most)) }
+{
+    let mut cursor = Cursor::new(text.as_bytes());
+    whole_number(&mut cursor, least, most).ok()
+}
+
+fn whole_number(cursor: &mut Cursor, least: u64, most: u64) -> Result<u64, Unexpected>
+    ensures read { Reads (λ n. n) (λ e. e.left) result cursor.new (whole (number_at least most) cursor.old) }
+    ensures range { IfOk result (λ n. (least ≤ n) × (n ≤ most)) }
+{
+    let number = cursor.number(least, most)?;
+    cursor.end()?;
+    Ok(number)
+}
