@@ -1,3 +1,9 @@
+mod Arrived
+mod Ended
 mod Kept
+mod Prefixes
 mod Printed
+mod RunTurns
+mod Served
 mod Taken
+mod TurnEnds

@@ -5,7 +5,7 @@ use Rattle.vp_model.specs.Catalogue.{Catalogue}
 use Rattle.vp_model.specs.Site.{SiteState}
 use Rattle.vp_model.specs.Step.{durable_of}
 use Rattle.vp_laws.specs.Shapes.{IsShaped}
-use Rattle.vp_outside.specs.Disk.{Halves, DiskState, log_of, Only}
+use Rattle.vp_outside.specs.Disk.{Halves, DiskState, log_of, Steps, Only}
 use Rattle.vp_outside.specs.declared.datagram.Datagram.{Datagram}
 use Rattle.vp_stable.specs.Halves.{Standing, StandsAt, HaveBatches, AreBadLog}
 use Rattle.vp_runs.specs.declared.arrival.Arrival.{Arrival}
@@ -45,7 +45,7 @@ pub record Starts (catalogue : Catalogue) (id : ℕ) (node : NodeValue) (old new
   pub batches : List (List LogRecord)
   pub had : IfSome (log_of old) (HaveBatches batches)
   pub site : node.site ≡ (start_node catalogue id batches).site
-  pub has : IfSome (new.logs old.asked) (StandsAt node.at (start_node catalogue id batches).batches)
+  pub has : Steps (λ _ log. StandsAt node.at (start_node catalogue id batches).batches log) old new
 
 -- Of the log that was there its batches are left, or these with the start; where it was no log it is none.
 pub record MayStart (catalogue : Catalogue) (id : ℕ) (old new : Halves) : Type 0 where
