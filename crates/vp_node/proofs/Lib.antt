@@ -1,4 +1,5 @@
 mod Arrived
+mod Begun
 mod Ended
 mod Kept
 mod Prefixes

@@ -26,7 +26,7 @@ use Rattle.vp_runs.specs.Runs.{NodeRun, node_run, recorded}
 use Rattle.vp_runs.proofs.Runs.{runs_keep}
 use Rattle.vp_node.specs.Keeping.{KeepsAt}
 use Rattle.vp_node.specs.Nodes.{NodeValue, IsNode, IsKept, Keeps, MaySave, Saves, turn_of}
-use Rattle.vp_node.specs.Serving.{Outside, Course, IsPrefix, Did, IsKeptAs, IsSafe, LeavesFrom}
+use Rattle.vp_node.specs.Serving.{Outside, Course, IsPrefix, Did, IsKeptAs, IsSafe, LeavesFrom, Serves, either}
 use Rattle.vp_node.specs.Telling.{HasTurned, MayHaveTurned, Tells, Takes, lines_of, end_of_output}
 use Rattle.vp_node.specs.declared.end.End.{End}
 use Rattle.vp_node.specs.declared.end.End.TheVariants as ends
@@ -117,6 +117,9 @@ module _ (catalogue : Catalogue) (id : ℕ) (batches : List (List LogRecord)) (a
         (run.node.batches, subst (HaveBatches run.node.batches) (sym (keeps.1 image left)) keeps.0, rw (take-length arrived) (sym (runs_keep catalogue id batches arrived))),
       )
 
+abbrev MaySaved : Catalogue → NodeValue → Datagram → (Halves → Type 0) → Halves → Type 0
+MaySaved catalogue node d images log = (image : Halves) → images image → MaySave catalogue node (turn_of catalogue node d) log image
+
 -- The last turn may be in the log, and those before it are.
 pub safe_torn : (catalogue : Catalogue) (id : ℕ) (batches : List (List LogRecord)) (front : List Datagram) (d : Datagram) (node : NodeValue) (disk disk1 disk2 : DiskState)
     → node.site ≡ (node_run catalogue id batches front).node.site → (node_run catalogue id batches front).stopped ≡ false
@@ -130,15 +133,12 @@ safe_torn catalogue id batches front d node disk disk1 disk2 site going stands o
   left = λ honest. by (log_of disk) (disk1.logs disk.asked) stands (here honest);
 }
   where
-    abbrev MaySaved : Halves → Type 0
-    MaySaved log = (image : Halves) → disk2.may_leave disk.asked image → MaySave catalogue node (turn_of catalogue node d) log image
-
-    here : disk.honest → IfSome (disk1.logs disk.asked) MaySaved
+    here : disk.honest → IfSome (disk1.logs disk.asked) (MaySaved catalogue node d (disk2.may_leave disk.asked))
     here honest =
-        subst (λ name. IfSome (disk1.logs name) (λ log. (image : Halves) → disk2.may_leave name image → MaySave catalogue node (turn_of catalogue node d) log image))
+        subst (λ name. IfSome (disk1.logs name) (MaySaved catalogue node d (disk2.may_leave name)))
         others.stays.same_name (may (others.honest.0 honest))
 
-    by : (a b : Option Halves) → Becomes (λ _ log. StandsAt node.at (node_run catalogue id batches front).node.batches log) a b → IfSome b MaySaved
+    by : (a b : Option Halves) → Becomes (λ _ log. StandsAt node.at (node_run catalogue id batches front).node.batches log) a b → IfSome b (MaySaved catalogue node d (disk2.may_leave disk.asked))
         → IfSome a (λ _. (image : Halves) → disk2.may_leave disk.asked image → LeavesFrom catalogue id batches (front ++ d ∷ []) (length front) image)
     by None b stands may = tt
     by (Some a) None stands may = absurd stands
@@ -148,3 +148,7 @@ safe_torn catalogue id batches front d node disk disk1 disk2 site going stands o
         (λ e. (length front, omega arith, omega (arith, one_longer front d), (left.0, left.1, rw (take-append_seam front (d ∷ [])) e)))
         (λ e. (length (front ++ d ∷ []), omega (arith, one_longer front d), omega arith, (left.0, left.1, rw (take-length (front ++ d ∷ [])) e)))
         (left_folds catalogue id batches front d node site going left.0 left.2)
+
+-- an end that comes as a fault is that end
+pub as_end : (catalogue : Catalogue) (id turns : ℕ) (o : Outside) (result : Result End End) (e : End) → result ≡ Err e → Serves catalogue id turns o e → Serves catalogue id turns o (either result)
+as_end catalogue id turns o result e is serves = subst (λ r. Serves catalogue id turns o (either r)) (sym is) serves
