@@ -30,8 +30,7 @@ module _ (lines : List (List ℕ)) (i : ℕ) (line : List ℕ) (is : line ≡ ge
       let front = concat (take i lines) in
       let rest = concat (drop (i + 1) lines) in
       let joined : take (length front + n) (concat lines) ≡ front ++ take n line =
-      ap (take (length front + n)) all_lines ∙ take-append-add front (line ++ rest) n ∙ ap (λ l. front ++ l) (take-append-le n line rest le) in
-      (
+      ap (take (length front + n)) all_lines ∙ take-append-add front (line ++ rest) n ∙ ap (λ l. front ++ l) (take-append-le n line rest le) in (
         length front + n,
         rw all_lines (omega (arith, le, length-append front (line ++ rest), length-append line rest)),
         subst (Appends a c) (sym joined) (Appends-trans a b c front (take n line) before next),

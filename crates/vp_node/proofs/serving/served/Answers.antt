@@ -1,4 +1,4 @@
-use Rattle.std.proofs.Common.{◌≡◌, ◌≤◌, true, false, Result, Err, inl, inr, refl, subst, rules, arith}
+use Rattle.std.proofs.Common.{◌≡◌, ◌≤◌, ◌+◌, true, false, Result, Err, inl, inr, refl, subst, rules, arith}
 use Rattle.vp_stable.proofs.Times.{others_join}
 use Rattle.vp_node.specs.Causes.{end_of_node}
 use Rattle.vp_node.specs.Telling.{end_of_output}
