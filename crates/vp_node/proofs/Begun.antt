@@ -1,105 +1,155 @@
--- What a start leaves of a log, and what starts.
-use Rattle.std.proofs.Common.{◌≡◌, ◌∙◌, inl, inr, ⊎_elim, ◌⊎◌, ℕ, ◌+◌, ◌-◌, ◌<◌, ◌^◌, true, List, [], ◌∷◌, ◌++◌, refl, sym, subst, arith}
-use Rattle.std.specs.List.{AllByRecursion}
-use Rattle.std.specs.declared.option.Option.{Option}
-use Rattle.std.specs.declared.option.Option.TheVariants.{Some, None}
-use Rattle.std.specs.Prelude.{IfSome}
-use Rattle.vp_catalog.specs.Document.{IsCatalogue}
-use Rattle.vp_records.specs.Batches.{IsBatch}
+-- How serving begins.
+use Rattle.std.proofs.Common.{◌≡◌, ◌∙◌, ◌⊎◌, inl, inr, ℕ, ◌+◌, ◌-◌, ◌^◌, ◌<◌, ◌≤◌, true, false, List, [], ◌++◌, length, take, refl, sym, ap, subst, arith, append-nil}
+use Rattle.std.specs.Prelude.{IfSome, Result, Ok, Err, IsErrOf}
+use Rattle.std.specs.Io.KnownBytes.{Appends}
+use Rattle.std.proofs.KnownBytes.{Appends-nil}
 use Rattle.vp_model.specs.Types.{LogRecord}
-use Rattle.vp_model.specs.Words.{has}
-use Rattle.vp_model.specs.Catalogue.{Catalogue, sites_of}
+use Rattle.vp_model.specs.Catalogue.{Catalogue}
 use Rattle.vp_model.specs.Site.{SiteState}
-use Rattle.vp_model.specs.Step.{start, start_record, durable_of}
-use Rattle.vp_laws.specs.Shapes.{IsShaped}
-use Rattle.vp_outside.specs.Disk.{Halves, DiskState, Becomes, Elapses}
-use Rattle.vp_stable.specs.Halves.{Standing, StandsAt, HaveBatches, AreSettled, ReadAlike, GainsAt, MayGainAt, HalvesAreOneLog, BadHalvesHaveNoBatches}
-use Rattle.vp_stable.specs.Moments.{LeavesOnly}
-use Rattle.vp_stable.proofs.Times.{elapses_then, leaves_only}
+use Rattle.vp_model.specs.Step.{start}
+use Rattle.vp_outside.specs.Causes.{Rose, count_after}
+use Rattle.vp_outside.specs.Disk.{DiskState, Steps, log_of}
+use Rattle.vp_outside.specs.Links.{LinkState}
+use Rattle.vp_outside.specs.Output.{SinkState, AppendsPrefix}
+use Rattle.vp_stable.specs.Halves.{StandsAt, AreBadLog, ReadAlike}
+use Rattle.vp_stable.specs.Moments.{LeavesOthers}
 use Rattle.vp_runs.specs.Keeping.{durable_in}
-use Rattle.vp_runs.specs.Runs.{start_node, node_run}
-use Rattle.vp_runs.proofs.Runs.{runs_keep}
-use Rattle.vp_runs.proofs.Shaped.{runs_are_shaped}
-use Rattle.vp_node.specs.Nodes.{NodeValue, Keeps, MayStart}
-use Rattle.vp_node.proofs.Kept.{has as have}
+use Rattle.vp_runs.specs.Turns.{start_line}
+use Rattle.vp_runs.specs.Runs.{NodeRun, node_run, recorded}
+use Rattle.vp_node.specs.Causes.{HasNodeCause, end_of_node}
+use Rattle.vp_node.specs.Nodes.{NodeValue, IsNode, IsKept, Starts, MayStart, IsSpent}
+use Rattle.vp_node.specs.Serving.{Course, IsIdle, IsUnbound, IsBroken, IsUnwritten, HasNotStarted, Serves}
+use Rattle.vp_node.specs.Telling.{AsksPort, IsBound, Begins}
+use Rattle.vp_node.specs.declared.end.NodeEnd.{NodeEnd}
+use Rattle.vp_node.specs.declared.end.NodeEnd.TheVariants as node_ends
+use Rattle.vp_node.specs.declared.end.End.{End}
+use Rattle.vp_node.specs.declared.end.End.TheVariants as ends
+use Rattle.vp_node.proofs.Arrived.{count_none, gave_none, hands_none}
+use Rattle.vp_node.proofs.Prefixes.{prefix_all, prefix_take}
+use Rattle.vp_node.proofs.Served.{SoFar, outside, kept_as, safe_all}
 
-module _ (catalogue : Catalogue) (id : ℕ) where
-  -- ---- the log
+-- ---- the node doesn't start
 
-  pub may_start_alike : (old new : Halves) → ReadAlike old new → MayStart catalogue id old new
-  may_start_alike old new alike = record { batches = λ batches h. inl (alike.batches batches h); faults = alike.faults }
+module _ (catalogue : Catalogue) (id turns : ℕ) (link : LinkState) (sink : SinkState) (disk0 disk1 : DiskState) where
+  idle : IsIdle catalogue id turns (outside link link sink sink disk0 disk1)
+  idle = record { none = gave_none link.left link.left refl; uncounted = refl; did = record { writes = Appends-nil sink.held; hands = hands_none link.handed link.handed refl } }
 
-  module _ (one : HalvesAreOneLog) (none : BadHalvesHaveNoBatches) (at : Standing) (batches : List (List LogRecord)) where
-    abbrev pub begun : List LogRecord
-    begun = start_record (durable_in catalogue id batches) ∷ []
+  pub unstarted : {T : Type 0} (e : NodeEnd)
+      → ((half at : ℕ) → IsErrOf {T = T} (Err e) (node_ends.BadLog half at) → IfSome (log_of disk0) (AreBadLog half at))
+      → ((life : ℕ) → IsErrOf {T = T} (Err e) (node_ends.LivesSpent life) → IsSpent catalogue id life disk0)
+      → ((half at life : ℕ) → IsErrOf {T = T} (Err e) (node_ends.BadLog half at) ⊎ IsErrOf {T = T} (Err e) (node_ends.LivesSpent life) → Steps ReadAlike disk0 disk1)
+      → Steps (MayStart catalogue id) disk0 disk1 → HasNodeCause {T = T} disk0.faults disk1.faults (Err e)
+      → Serves catalogue id turns (outside link link sink sink disk0 disk1) (end_of_node e)
+  unstarted node_ends.DiskFault bad spent same may cause = (cause.failed refl, inl (record { idle = idle; unasked = refl; log = may }))
+  unstarted (node_ends.BadLog half at) bad spent same may cause = (record { idle = idle; unasked = refl; log = same half at 0 (inl refl) }, bad half at refl)
+  unstarted (node_ends.LivesSpent life) bad spent same may cause = (record { idle = idle; unasked = refl; log = same 0 0 life (inr refl) }, spent life refl)
+  unstarted node_ends.NoMemory bad spent same may cause = inl (record { idle = idle; unasked = refl; log = may })
 
-    pub may_start_then : (a b c : Halves) → ReadAlike a b → StandsAt at batches b → MayGainAt begun at b c → MayStart catalogue id a c
-    may_start_then a b c alike stands may = record {
-      batches = λ others h. subst (λ bs. HaveBatches bs c ⊎ HaveBatches (start_node catalogue id bs).batches c) (one batches others b (have stands) (alike.batches others h)) (may batches stands);
-      faults = λ half place bad. absurd (none half place batches b (alike.faults half place bad) (have stands));
-    }
+-- ---- it starts
 
-    pub starts_then : (o p q : Option Halves) → Becomes ReadAlike o p → IfSome p (StandsAt at batches) → Becomes (MayGainAt begun at) p q → Becomes (MayStart catalogue id) o q
-    starts_then (Some a) (Some b) (Some c) alike stands may = may_start_then a b c alike stands may
-    starts_then (Some a) (Some b) None alike stands may = may
-    starts_then (Some a) None q alike stands may = absurd alike
-    starts_then None (Some b) q alike stands may = absurd alike
-    starts_then None None (Some c) alike stands may = may
-    starts_then None None None alike stands may = tt
+module _ (catalogue : Catalogue) (id turns : ℕ) (link0 link1 : LinkState) (sink0 sink1 : SinkState) (disk0 disk1 : DiskState) (node : NodeValue)
+    (started : Starts catalogue id node disk0 disk1) (node_is : IsNode catalogue node) (kept : IsKept catalogue node disk1) (lives : node.site.life < 2 ^ 32) (others : LeavesOthers disk0 disk1)
+    (asks : AsksPort catalogue id link0 link1) (life : ℕ) (life_is : life ≡ node.site.life) where
+  abbrev run : NodeRun
+  run = node_run catalogue id started.batches []
 
-    -- a crash before the append leaves what a recovery may leave, and a later one the batches, with the start or without
-    pub leaves_start_then : (old mid new : DiskState) → mid.asked ≡ old.asked → (before : Halves → Type 0) → (o p : Option Halves) → Becomes ReadAlike o p → IfSome p (StandsAt at batches)
-        → IfSome o (λ log. LeavesOnly old mid (λ image. before image ⊎ ReadAlike log image)) → IfSome p (λ log. LeavesOnly mid new (MayGainAt begun at log))
-        → IfSome o (λ log. LeavesOnly old new (λ image. before image ⊎ MayStart catalogue id log image))
-    leaves_start_then old mid new name before (Some a) (Some b) alike stands first second =
-        let onward : Elapses old.asked mid new (MayGainAt begun at b) = subst (λ log. Elapses log mid new (MayGainAt begun at b)) name second.time in
-        let early : (image : Halves) → before image ⊎ ReadAlike a image → before image ⊎ MayStart catalogue id a image = λ image left. ⊎_elim (λ was. inl was) (λ same. inr (may_start_alike a image same)) left in
-        let late : (image : Halves) → MayGainAt begun at b image → before image ⊎ MayStart catalogue id a image = λ image may. inr (may_start_then a b image alike stands may) in
-        let time = elapses_then old.asked old mid new (λ image. before image ⊎ ReadAlike a image) (MayGainAt begun at b) (λ image. before image ⊎ MayStart catalogue id a image) first.time onward early late in
-        leaves_only old new (λ image. before image ⊎ MayStart catalogue id a image) time (λ image left. early image (first.each image (first.time.keeps old.moment image (omega arith) left)))
-    leaves_start_then old mid new name before (Some a) None alike stands first second = absurd alike
-    leaves_start_then old mid new name before None (Some b) alike stands first second = tt
-    leaves_start_then old mid new name before None None alike stands first second = tt
-
-  -- the log has the start behind its batches, and is told as it was
-  pub stands_begun : (at to : Standing) (batches : List (List LogRecord)) → (o p q : Option Halves) → Becomes ReadAlike o p → IfSome p (StandsAt at batches)
-      → Becomes (GainsAt (start_record (durable_in catalogue id batches) ∷ []) at to) p q → Becomes (λ before log. StandsAt to (start_node catalogue id batches).batches log) o q
-  stands_begun at to batches (Some a) (Some b) (Some c) alike stands gains = gains batches stands
-  stands_begun at to batches (Some a) (Some b) None alike stands gains = gains
-  stands_begun at to batches (Some a) None q alike stands gains = absurd alike
-  stands_begun at to batches None (Some b) q alike stands gains = absurd alike
-  stands_begun at to batches None None (Some c) alike stands gains = gains
-  stands_begun at to batches None None None alike stands gains = tt
-
-  -- ---- the node
-
-  pub starts_shaped : (batches : List (List LogRecord)) → IsCatalogue catalogue → has (sites_of catalogue) id ≡ true → AllByRecursion IsBatch batches → (durable_in catalogue id batches).life < 2 ^ 32 - 1
-      → IsShaped catalogue (start_node catalogue id batches).site
+  site : node.site ≡ run.node.site
   unfolding node_run
-  starts_shaped batches k listed are left = (runs_are_shaped catalogue id batches [] k listed are (omega (arith, left)) tt).0
+  site = started.site
 
-  -- the log folds to what the site that starts has to keep
-  start_folds : (batches : List (List LogRecord)) → durable_of (start_node catalogue id batches).site ≡ durable_in catalogue id (start_node catalogue id batches).batches
+  stands : Steps (λ _ log. StandsAt node.at run.node.batches log) disk0 disk1
   unfolding node_run
-  start_folds batches = runs_keep catalogue id batches []
+  stands = started.has
 
-  same_id : (batches : List (List LogRecord)) → (start_node catalogue id batches).site.id ≡ id
+  recorded_is : recorded run ≡ start_line life
+  unfolding node_run
+  recorded_is = append-nil _ ∙ ap start_line (ap (λ (s : SiteState). s.life) (sym started.site) ∙ sym life_is)
+
+  none_sent : run.datagrams ≡ []
+  unfolding node_run
+  none_sent = refl
+
+  going : run.stopped ≡ false
+  unfolding node_run
+  going = refl
+
+  lives_left : (durable_in catalogue id started.batches).life < 2 ^ 32 - 1
   unfolding start
-  same_id batches = refl
+  lives_left = let is : node.site.life ≡ (durable_in catalogue id started.batches).life + 1 = ap (λ (s : SiteState). s.life) started.site in omega (arith, is, lives)
 
-  pub starts_life : (batches : List (List LogRecord)) → (durable_in catalogue id batches).life < 2 ^ 32 - 1 → (start_node catalogue id batches).site.life < 2 ^ 32
-  unfolding start
-  starts_life batches left = omega (arith, left)
-
-  pub keeps_start : (at to : Standing) (batches : List (List LogRecord)) (site : SiteState) → site ≡ (start_node catalogue id batches).site → (images : Halves → Type 0) → (p q : Option Halves) → IfSome p (StandsAt at batches)
-      → Becomes (GainsAt (start_record (durable_in catalogue id batches) ∷ []) at to) p q → IfSome q (λ log. AreSettled to log images) → IfSome q (λ log. Keeps catalogue (record { site = site; at = to }) log images)
-  keeps_start at to batches site is images (Some b) (Some c) stands gains settled = record {
-    synced = settled.synced;
-    batches = (start_node catalogue id batches).batches;
-    stands = gains batches stands;
-    folds = subst (λ (s : SiteState). durable_in catalogue s.id (start_node catalogue id batches).batches ≡ durable_of s) (sym is)
-        (subst (λ n. durable_in catalogue n (start_node catalogue id batches).batches ≡ durable_of (start_node catalogue id batches).site) (sym (same_id batches)) (sym (start_folds batches)));
+  pub begun : (t : Unit {0}) → Begins life link0 link1 sink0 sink1 (Ok t) → disk1.faults ≡ disk0.faults → SoFar catalogue id 0 false (outside link0 link1 sink0 sink1 disk0 disk1) node
+  begun t (bound, printed, same) same_disk = record {
+    batches = started.batches;
+    had = started.had;
+    lives = lives_left;
+    asked = asks.asked;
+    bound = bound.bound;
+    arrived = [];
+    gave = gave_none link0.left link1.left asks.gives_none.same_left;
+    counted = asks.gives_none.same_given ∙ count_none link0.given;
+    many = refl;
+    stopped_is = going;
+    ended = λ e. absurd cc;
+    site = site;
+    stands = stands;
+    did = record { writes = rw recorded_is printed; hands = rw none_sent (hands_none link0.handed link1.handed asks.hands_none.same_handed) };
+    node_is = node_is;
+    kept = kept;
+    others = others;
+    same_link = bound.same_faults;
+    same_sink = same;
+    same_disk = same_disk;
   }
-  keeps_start at to batches site is images (Some b) None stands gains settled = absurd gains
-  keeps_start at to batches site is images None (Some c) stands gains settled = absurd gains
-  keeps_start at to batches site is images None None stands gains settled = tt
+
+  abbrev course : IsBound link0 link1 → Course catalogue id turns (outside link0 link1 sink0 sink1 disk0 disk1)
+  course bound = record {
+    batches = started.batches;
+    had = started.had;
+    lives = lives_left;
+    asked = asks.asked;
+    bound = bound.bound;
+    arrived = [];
+    gave = gave_none link0.left link1.left asks.gives_none.same_left;
+    counted = asks.gives_none.same_given ∙ count_none link0.given;
+    few = omega arith;
+  }
+
+  abbrev broken : IsBound link0 link1 → AppendsPrefix sink0.held sink1.held (start_line life) → IsBroken catalogue id turns (outside link0 link1 sink0 sink1 disk0 disk1)
+  broken bound cut = record {
+    course = course bound;
+    end = [];
+    end_is = inl refl;
+    written = take cut.0 (start_line life);
+    handed = [];
+    did = record { writes = cut.2; hands = hands_none link0.handed link1.handed asks.hands_none.same_handed };
+    written_of = subst (λ (l : List ℕ). take cut.0 (start_line life) ≡ take (length (take cut.0 (start_line life))) l) (sym (append-nil (recorded run) ∙ recorded_is)) (prefix_take cut.0 (start_line life) cut.1);
+    handed_of = refl;
+    safe = safe_all catalogue id started.batches [] node disk0 disk1 stands kept others [] refl;
+  }
+
+  unwritten : IsBound link0 link1 → AppendsPrefix sink0.held sink1.held (start_line life) → IsUnwritten catalogue id turns (outside link0 link1 sink0 sink1 disk0 disk1)
+  unwritten bound cut = record { broken = broken bound cut; turns_done = 0; few = omega arith; last = omega arith; handed = sym none_sent; printed = inl refl }
+
+  pub unbegun : (e : End) → Begins life link0 link1 sink0 sink1 (Err e) → Serves catalogue id turns (outside link0 link1 sink0 sink1 disk0 disk1) e
+  unbegun ends.LinkFault (rose, unbound, same) = (
+    rose,
+    inl (record {
+      idle = record {
+        none = gave_none link0.left link1.left asks.gives_none.same_left;
+        uncounted = asks.gives_none.same_given;
+        did = record { writes = rw same (Appends-nil sink0.held); hands = hands_none link0.handed link1.handed asks.hands_none.same_handed };
+      };
+      asked = asks.asked;
+      unbound = unbound;
+      batches = started.batches;
+      had = started.had;
+      kept = kept_as catalogue id started.batches [] node disk0 disk1 stands kept others;
+    }),
+  )
+  unbegun ends.WriteFault (rose, bound, cut) = (rose, unwritten bound cut)
+  unbegun ends.NoMemory (bound, cut) = inr (inr (broken bound cut))
+  unbegun ends.Stopped b = absurd b
+  unbegun ends.TurnsDone b = absurd b
+  unbegun ends.DiskFault b = absurd b
+  unbegun (ends.BadLog half at) b = absurd b
+  unbegun (ends.LivesSpent spent) b = absurd b

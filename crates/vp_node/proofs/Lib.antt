@@ -1,4 +1,12 @@
-pub mod Begun
-pub mod Kept
-pub mod Taken
-pub mod Turning
+mod Arrived
+mod Begun
+mod Ended
+mod Kept
+mod Prefixes
+mod Printed
+mod Revived
+mod RunTurns
+mod Served
+mod Taken
+mod TurnEnds
+mod Turning

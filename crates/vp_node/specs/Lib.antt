@@ -3,3 +3,4 @@ pub mod Keeping
 pub mod Nodes
 pub mod Serving
 pub mod Taking
+pub mod Telling

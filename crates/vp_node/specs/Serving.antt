@@ -1,5 +1,5 @@
 -- How serving ends: which turns were taken, what was recorded, handed over and kept in the log.
-use Rattle.std.specs.Prelude.{◌≡◌, ◌⊎◌, ◌+◌, ◌-◌, ◌^◌, ◌<◌, ◌≤◌, ℕ, Bool, true, false, List, [], ◌∷◌, ◌++◌, length, take, IfSome}
+use Rattle.std.specs.Prelude.{◌≡◌, ◌⊎◌, ◌+◌, ◌-◌, ◌^◌, ◌<◌, ◌≤◌, ℕ, Bool, true, false, List, [], ◌∷◌, ◌++◌, length, take, IfSome, Result, Ok, Err}
 use Rattle.std.specs.Io.KnownBytes.{Appends}
 use Rattle.vp_model.specs.Types.{LogRecord}
 use Rattle.vp_model.specs.Words.{value_at}
@@ -168,3 +168,8 @@ module _ (catalogue : Catalogue) (id turns : ℕ) (o : Outside) where
   Serves (ends.BadLog half at) = HasNotStarted ReadAlike × IfSome (log_of o.disk) (AreBadLog half at)
   Serves (ends.LivesSpent life) = HasNotStarted ReadAlike × IsSpent catalogue id life o.disk
   Serves ends.NoMemory = HasNotStarted (MayStart catalogue id) ⊎ (IsUnbound ⊎ IsBroken)
+
+-- the end that an answer has, in either case
+abbrev pub either : Result End End → End
+either (Ok end) = end
+either (Err end) = end

@@ -2,9 +2,12 @@
 
 ghost use Rattle.std.specs.Prelude.{◌≡◌};
 ghost use Rattle.vp_node.specs.Causes.{end_of_log, end_of_start, end_of_append, end_of_node};
+ghost use Rattle.vp_node.specs.Telling.{end_of_output};
 ghost use Rattle.vp_node.specs.declared.end.NodeEnd.TheVariants.{NoMemory as OutOfMemory};
+ghost use Rattle.vp_node.specs.declared.end.End.TheVariants as served;
 
 use vp_base::NoMemory;
+use vp_outside::{Failed, OutFault};
 use vp_site::StartFault;
 use vp_stable::{AppendFault, LogFault};
 
@@ -92,5 +95,32 @@ impl From<NodeEnd> for End {
             NodeEnd::LivesSpent { life } => End::LivesSpent { life },
             NodeEnd::NoMemory => End::NoMemory,
         }
+    }
+}
+
+impl From<Failed> for End {
+    ghost from_gives = { λ _ given. given ≡ served.LinkFault };
+
+    fn from(_: Failed) -> End {
+        End::LinkFault
+    }
+}
+
+impl From<OutFault> for End {
+    ghost from_gives = { λ fault given. given ≡ end_of_output fault };
+
+    fn from(fault: OutFault) -> End {
+        match fault {
+            OutFault::Failed => End::WriteFault,
+            OutFault::NoMemory => End::NoMemory,
+        }
+    }
+}
+
+impl From<NoMemory> for End {
+    ghost from_gives = { λ _ given. given ≡ served.NoMemory };
+
+    fn from(_: NoMemory) -> End {
+        End::NoMemory
     }
 }

@@ -14,6 +14,7 @@ mod sending;
 mod serving;
 mod starting;
 mod taking;
+mod telling;
 mod turned;
 
 pub use end::{End, NodeEnd};
