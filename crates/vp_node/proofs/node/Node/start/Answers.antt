@@ -49,7 +49,7 @@ returns-in_err-append-clause-fault g c =
     let disk = g.D.Disk.state c.args.disk.now in
     let at = c.in_ok-log.log in
     let fault = subst (λ (batch : List LogRecord). Becomes (MayGainAt batch at) ((g.D.Disk.state c.recover.new.disk).logs disk.asked) ((g.D.Disk.state c.append.new.disk).logs disk.asked)) c.in_ok-site.ensures.batch
-        (rw c.recover.ensures.others.stays.same_name at c.in_err-append.ensures.fault) in
+    (rw c.recover.ensures.others.stays.same_name at c.in_err-append.ensures.fault) in
     on_err c.from_residual-in_err-append.result
     (starts_then c.args.catalog.now c.args.id c.halves_are_one_log.ensures.batches c.halves_are_one_log.ensures.bad at c.in_ok-log.batches _ _ _ c.recover.ensures.alike c.in_ok-log.ensures.stands fault)
 
@@ -59,7 +59,7 @@ returns-in_err-append-clause-any_moment g c honest =
     let mid = g.D.Disk.state c.recover.new.disk in
     let at = c.in_ok-log.log in
     let moment = subst (λ (batch : List LogRecord). IfSome (mid.logs disk.asked) (λ log. LeavesOnly mid (g.D.Disk.state c.append.new.disk) (MayGainAt batch at log))) c.in_ok-site.ensures.batch
-        (subst (λ name. IfSome (mid.logs name) (λ log. LeavesOnly mid (g.D.Disk.state c.append.new.disk) (MayGainAt c.in_ok-site.begun at log))) c.recover.ensures.others.stays.same_name (c.append.ensures.any_moment (c.recover.ensures.others.honest.0 honest))) in
+    (subst (λ name. IfSome (mid.logs name) (λ log. LeavesOnly mid (g.D.Disk.state c.append.new.disk) (MayGainAt c.in_ok-site.begun at log))) c.recover.ensures.others.stays.same_name (c.append.ensures.any_moment (c.recover.ensures.others.honest.0 honest))) in
     leaves_start_then c.args.catalog.now c.args.id c.halves_are_one_log.ensures.batches c.halves_are_one_log.ensures.bad at c.in_ok-log.batches disk mid (g.D.Disk.state c.append.new.disk) c.recover.ensures.others.stays.same_name
     (disk.may_leave disk.asked) _ _ c.recover.ensures.alike c.in_ok-log.ensures.stands (c.recover.ensures.any_moment honest) moment
 
@@ -75,7 +75,7 @@ returns-clause-started g c =
     let new = g.D.Disk.state c.append.new.disk in
     let at = c.in_ok-log.log in
     let gains = subst (λ (batch : List LogRecord). Becomes (GainsAt batch at c.append.new.self) (mid.logs disk.asked) (new.logs disk.asked)) c.in_ok-site.ensures.batch
-        (rw c.recover.ensures.others.stays.same_name at c.in_ok-append.ensures.appended) in
+    (rw c.recover.ensures.others.stays.same_name at c.in_ok-append.ensures.appended) in
     record {
       batches = c.in_ok-log.batches;
       had = c.in_ok-log.ensures.answer;
@@ -111,7 +111,7 @@ returns-clause-any_moment g c honest =
     let mid = g.D.Disk.state c.recover.new.disk in
     let at = c.in_ok-log.log in
     let moment = subst (λ (batch : List LogRecord). IfSome (mid.logs disk.asked) (λ log. LeavesOnly mid (g.D.Disk.state c.append.new.disk) (MayGainAt batch at log))) c.in_ok-site.ensures.batch
-        (subst (λ name. IfSome (mid.logs name) (λ log. LeavesOnly mid (g.D.Disk.state c.append.new.disk) (MayGainAt c.in_ok-site.begun at log))) c.recover.ensures.others.stays.same_name (c.append.ensures.any_moment (c.recover.ensures.others.honest.0 honest))) in
+    (subst (λ name. IfSome (mid.logs name) (λ log. LeavesOnly mid (g.D.Disk.state c.append.new.disk) (MayGainAt c.in_ok-site.begun at log))) c.recover.ensures.others.stays.same_name (c.append.ensures.any_moment (c.recover.ensures.others.honest.0 honest))) in
     leaves_start_then c.args.catalog.now c.args.id c.halves_are_one_log.ensures.batches c.halves_are_one_log.ensures.bad at c.in_ok-log.batches disk mid (g.D.Disk.state c.append.new.disk) c.recover.ensures.others.stays.same_name
     (disk.may_leave disk.asked) _ _ c.recover.ensures.alike c.in_ok-log.ensures.stands (c.recover.ensures.any_moment honest) moment
 
