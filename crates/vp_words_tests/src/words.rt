@@ -6,7 +6,7 @@ use vp_schedule::print_call;
 use vp_words::{Command, Signal};
 
 /// The text of the command of the words, which is empty where they are none.
-pub fn told(alloc: Global, texts: &[&[u8]]) -> Result<Vec<u8>, NoMemory> {
+pub(crate) fn told(alloc: Global, texts: &[&[u8]]) -> Result<Vec<u8>, NoMemory> {
     let mut words = Vec::new(alloc);
     for text in texts {
         words.push(Word::from_vec(Vec::from_slice(alloc, text)?))?;
@@ -57,7 +57,7 @@ fn tell(alloc: Global, command: &Command, out: &mut Vec<u8>) -> Result<(), NoMem
 }
 
 /// The text of the command of the words that the separator parts.
-pub fn told_in(alloc: Global, line: &str, separator: char) -> Result<Vec<u8>, NoMemory> {
+pub(crate) fn told_in(alloc: Global, line: &str, separator: char) -> Result<Vec<u8>, NoMemory> {
     let mut texts = Vec::new(alloc);
     for text in line.split(separator) {
         texts.push(text.as_bytes())?;
