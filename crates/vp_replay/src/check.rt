@@ -13,7 +13,7 @@ use vp_status::{Defined, Status, print_bad_line, print_twice};
 use vp_text::print_number;
 
 /// The status and the text that are defined for an input of `check`.
-pub fn answer(alloc: Global, input: &[u8]) -> Result<Defined, NoMemory>
+pub fn checked(alloc: Global, input: &[u8]) -> Result<Defined, NoMemory>
     ensures { IfOk result (λ defined. IsCheckAnswer input.now defined.status defined.text.items) }
 {
     match read_history(alloc, input) {

@@ -85,7 +85,7 @@ fn print_events(events: Events, out: &mut Vec<u8>) -> Result<(), NoMemory>
 }
 
 /// The status and the text that are defined for `generate`.
-pub fn answer(alloc: Global, seed: u32, count: u32) -> Result<Defined, NoMemory>
+pub fn generated(alloc: Global, seed: u32, count: u32) -> Result<Defined, NoMemory>
     requires seed { seed ≤ 2147483647 }
     requires few { count ≤ 2400 }
     ensures { IfOk result (λ defined. IsGenerated seed count defined.status defined.text.items) }

@@ -11,7 +11,7 @@ mod playing;
 mod replay;
 mod soaking;
 
-pub use check::answer as check;
-pub use generating::{answer as generated, generate};
-pub use replay::answer as replay;
-pub use soaking::answer as soak;
+pub use check::checked;
+pub use generating::{generate, generated};
+pub use replay::replayed;
+pub use soaking::soaked;

@@ -17,7 +17,7 @@ use vp_status::{Defined, Status, print_bad_line, print_limit, print_twice};
 use vp_world::{World, WorldEnd};
 
 /// The status and the text that are defined for an input of `replay`.
-pub fn answer(alloc: Global, input: &[u8]) -> Result<Defined, NoMemory>
+pub fn replayed(alloc: Global, input: &[u8]) -> Result<Defined, NoMemory>
     ensures { IfOk result (λ defined. IsReplayAnswer input.now defined.status defined.text.items) }
 {
     match read(alloc, input) {

@@ -16,7 +16,7 @@ use vp_text::print_number;
 use vp_world::{World, WorldEnd};
 
 /// The status and the text that are defined for `soak`.
-pub fn answer(alloc: Global, seed: u32, count: u32) -> Result<Defined, NoMemory>
+pub fn soaked(alloc: Global, seed: u32, count: u32) -> Result<Defined, NoMemory>
     requires seed { seed ≤ 2147483647 }
     requires few { count ≤ 2400 }
     ensures { IfOk result (λ defined. IsSoaked seed count defined.status defined.text.items) }

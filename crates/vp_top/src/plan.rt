@@ -11,7 +11,7 @@ use vp_base::{NoMemory, SiteId, Word};
 use vp_catalog::{Catalog, CatalogFault};
 use vp_commands::{call_site, signal_site};
 use vp_outside::Link;
-use vp_replay::{check, generated, replay, soak};
+use vp_replay::{checked, generated, replayed, soaked};
 use vp_status::{Defined, Status, print_bad_line, print_limit, print_twice};
 use vp_words::Command;
 
@@ -52,10 +52,10 @@ pub fn plan_of<L: Link>(
     ensures uncalled { (Calls command → ⊥) → link.new ≡ link.old }
 {
     match command {
-        Command::Replay => Ok(Plan::Print(replay(alloc, input)?)),
-        Command::Check => Ok(Plan::Print(check(alloc, input)?)),
+        Command::Replay => Ok(Plan::Print(replayed(alloc, input)?)),
+        Command::Check => Ok(Plan::Print(checked(alloc, input)?)),
         Command::Generate { seed, count } => Ok(Plan::Print(generated(alloc, seed, count)?)),
-        Command::Soak { seed, count } => Ok(Plan::Print(soak(alloc, seed, count)?)),
+        Command::Soak { seed, count } => Ok(Plan::Print(soaked(alloc, seed, count)?)),
         Command::Node { site, log, turns } => match find(alloc, input, site)? {
             Found::At { catalog, .. } => Ok(Plan::Serve {
                 catalog,

@@ -1,6 +1,6 @@
 use Rattle.std.proofs.Common.{rules}
 use Rattle.vp_replay.proofs.Soaks.{soak_within, soak_serial, soak_done}
-use Rattle.vp_replay.proofs.soaking.answer.Goals as goal
+use Rattle.vp_replay.proofs.soaking.soaked.Goals as goal
 
 pub serial_commits-requires-clause-within : goal.serial_commits-requires-clause-within
 serial_commits-requires-clause-within c = soak_within c.args.seed c.args.count c.in-Ok.world c.make.new.self c.in-Ok.ensures
