@@ -1,13 +1,10 @@
 -- How serving begins.
-use Rattle.std.proofs.Common.{◌≡◌, ◌∙◌, ◌⊎◌, inl, inr, ℕ, ◌+◌, ◌-◌, ◌^◌, ◌<◌, ◌≤◌, true, false, List, [], ◌++◌, length, take, refl, sym, ap, subst, arith, append-nil}
-use Rattle.std.specs.Prelude.{IfSome, Result, Ok, Err, IsErrOf}
-use Rattle.std.specs.Io.KnownBytes.{Appends}
+use Rattle.std.proofs.Common.{◌≡◌, ◌∙◌, ◌⊎◌, inl, inr, ℕ, ◌+◌, ◌-◌, ◌^◌, ◌<◌, false, List, [], length, take, refl, sym, ap, subst, arith, append-nil}
+use Rattle.std.specs.Prelude.{IfSome, Ok, Err, IsErrOf}
 use Rattle.std.proofs.KnownBytes.{Appends-nil}
-use Rattle.vp_model.specs.Types.{LogRecord}
 use Rattle.vp_model.specs.Catalogue.{Catalogue}
 use Rattle.vp_model.specs.Site.{SiteState}
 use Rattle.vp_model.specs.Step.{start}
-use Rattle.vp_outside.specs.Causes.{Rose, count_after}
 use Rattle.vp_outside.specs.Disk.{DiskState, Steps, log_of}
 use Rattle.vp_outside.specs.Links.{LinkState}
 use Rattle.vp_outside.specs.Output.{SinkState, AppendsPrefix}
@@ -18,14 +15,14 @@ use Rattle.vp_runs.specs.Turns.{start_line}
 use Rattle.vp_runs.specs.Runs.{NodeRun, node_run, recorded}
 use Rattle.vp_node.specs.Causes.{HasNodeCause, end_of_node}
 use Rattle.vp_node.specs.Nodes.{NodeValue, IsNode, IsKept, Starts, MayStart, IsSpent}
-use Rattle.vp_node.specs.Serving.{Course, IsIdle, IsUnbound, IsBroken, IsUnwritten, HasNotStarted, Serves}
+use Rattle.vp_node.specs.Serving.{Course, IsIdle, IsBroken, IsUnwritten, Serves}
 use Rattle.vp_node.specs.Telling.{AsksPort, IsBound, Begins}
 use Rattle.vp_node.specs.declared.end.NodeEnd.{NodeEnd}
 use Rattle.vp_node.specs.declared.end.NodeEnd.TheVariants as node_ends
 use Rattle.vp_node.specs.declared.end.End.{End}
 use Rattle.vp_node.specs.declared.end.End.TheVariants as ends
 use Rattle.vp_node.proofs.Arrived.{count_none, gave_none, hands_none}
-use Rattle.vp_node.proofs.Prefixes.{prefix_all, prefix_take}
+use Rattle.vp_node.proofs.Prefixes.{prefix_take}
 use Rattle.vp_node.proofs.Served.{SoFar, outside, kept_as, safe_all}
 
 -- ---- the node doesn't start

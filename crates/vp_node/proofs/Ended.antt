@@ -1,20 +1,19 @@
 -- How serving ends between two turns.
-use Rattle.std.proofs.Common.{◌≡◌, ◌∙◌, ◌⊎◌, inl, inr, ⊎_elim, ℕ, ◌+◌, ◌<◌, ◌≤◌, Bool, true, false, List, [], ◌++◌, length, take, refl, sym, ap, subst, arith, append-nil}
-use Rattle.std.specs.Prelude.{Result, Ok, Err}
+use Rattle.std.proofs.Common.{◌≡◌, ◌∙◌, ◌⊎◌, inl, inr, ⊎_elim, ℕ, ◌+◌, ◌<◌, ◌≤◌, Bool, true, false, List, ◌++◌, length, take, refl, arith, append-nil}
+use Rattle.std.specs.Prelude.{Err}
 use Rattle.std.specs.Io.KnownBytes.{Appends}
 use Rattle.std.proofs.KnownBytes.{Appends-trans}
 use Rattle.std.proofs.Math.Seq.{take-length}
 use Rattle.vp_model.specs.Catalogue.{Catalogue}
-use Rattle.vp_outside.specs.Causes.{Rose, count_after}
 use Rattle.vp_outside.specs.Disk.{DiskState}
-use Rattle.vp_outside.specs.Links.{LinkState, Gave, Receives}
+use Rattle.vp_outside.specs.Links.{LinkState, Receives}
 use Rattle.vp_outside.specs.Output.{SinkState, AppendsPrefix, HasOutCause}
 use Rattle.vp_outside.specs.declared.sink.OutFault.{OutFault}
 use Rattle.vp_outside.specs.declared.sink.OutFault.TheVariants as output
 use Rattle.vp_runs.specs.Turns.{end_line}
 use Rattle.vp_runs.specs.Runs.{NodeRun, node_run, recorded}
 use Rattle.vp_node.specs.Nodes.{NodeValue}
-use Rattle.vp_node.specs.Serving.{Course, IsWhole, HasStopped, HasDone, HasLost, IsBroken, IsUnwritten, Serves}
+use Rattle.vp_node.specs.Serving.{Course, IsWhole, HasStopped, HasDone, IsBroken, IsUnwritten, Serves}
 use Rattle.vp_node.specs.Telling.{end_of_output}
 use Rattle.vp_node.specs.declared.end.End.TheVariants as ends
 use Rattle.vp_node.proofs.Prefixes.{prefix_all, prefix_front, prefix_take, prefix_behind}

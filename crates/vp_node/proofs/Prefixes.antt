@@ -1,14 +1,11 @@
 -- Beginnings of lists.
-use Rattle.std.proofs.Common.{◌≡◌, ◌∙◌, ℕ, ◌+◌, ◌≤◌, List, [], ◌++◌, length, take, refl, sym, ap, arith, length-append, append-nil}
+use Rattle.std.proofs.Common.{◌∙◌, ℕ, ◌+◌, ◌≤◌, List, ◌++◌, length, take, sym, ap, length-append}
 use Rattle.std.proofs.Math.Seq.{take-append-add, take-append_seam, take-length}
-use Rattle.std.proofs.lemmas.List.{length-take, length-take-le, take-append-le}
+use Rattle.std.proofs.lemmas.List.{length-take-le}
 use Rattle.vp_node.specs.Serving.{IsPrefix}
 
 pub prefix_all : {X : Type 0} (xs : List X) → IsPrefix xs xs
 prefix_all xs = sym (take-length xs)
-
-pub prefix_none : {X : Type 0} (xs : List X) → IsPrefix [] xs
-prefix_none xs = refl
 
 pub prefix_front : {X : Type 0} (xs ys : List X) → IsPrefix xs (xs ++ ys)
 prefix_front xs ys = sym (take-append_seam xs ys)
@@ -19,7 +16,3 @@ prefix_take n xs le = ap (λ m. take m xs) (sym (length-take-le n xs le))
 -- behind the same list
 pub prefix_behind : {X : Type 0} (xs ys zs : List X) → IsPrefix ys zs → IsPrefix (xs ++ ys) (xs ++ zs)
 prefix_behind xs ys zs h = ap (λ l. xs ++ l) h ∙ sym (ap (λ m. take m (xs ++ zs)) (length-append xs ys) ∙ take-append-add xs zs (length ys))
-
--- of a longer list
-pub prefix_of_more : {X : Type 0} (xs ys zs : List X) → IsPrefix xs ys → IsPrefix xs (ys ++ zs)
-prefix_of_more xs ys zs h = h ∙ sym (take-append-le (length xs) ys zs (omega (arith, ap length h, length-take (length xs) ys)))

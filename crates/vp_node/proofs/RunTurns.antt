@@ -1,7 +1,5 @@
 -- One more turn of a run: what it adds, and what its log may keep of it.
 use Rattle.std.proofs.Common.{◌≡◌, ◌∙◌, ◌⊎◌, inl, inr, ⊎_elim, ℕ, false, List, [], ◌∷◌, ◌++◌, refl, sym, ap}
-use Rattle.std.specs.Prelude.{if◌then◌else◌}
-use Rattle.std.specs.List.{concat}
 use Rattle.std.proofs.lemmas.List.Folds.{concat-append}
 use Rattle.vp_laws.proofs.TableDurable.{step-folds}
 use Rattle.vp_model.specs.Types.{LogRecord}

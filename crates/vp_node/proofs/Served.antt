@@ -1,39 +1,30 @@
 -- Serving goes on datagram by datagram.
-use Rattle.std.proofs.Common.{◌≡◌, ◌∙◌, ◌⊎◌, inl, inr, ⊎_elim, ℕ, ◌+◌, ◌-◌, ◌^◌, ◌<◌, ◌≤◌, Bool, true, false, List, [], ◌∷◌, ◌++◌, length, take, refl, sym, ap, subst, arith, append-nil, append_assoc}
-use Rattle.std.specs.Prelude.{Option, Some, None, IfSome, Result, Ok, Err}
-use Rattle.std.specs.Io.KnownBytes.{Appends}
-use Rattle.std.proofs.KnownBytes.{Appends-trans}
+use Rattle.std.proofs.Common.{◌≡◌, ◌⊎◌, ⊎_elim, ℕ, ◌+◌, ◌-◌, ◌^◌, ◌<◌, Bool, true, false, List, [], ◌∷◌, ◌++◌, length, sym, subst, arith}
+use Rattle.std.specs.Prelude.{Option, Some, None, IfSome, Result, Err}
 use Rattle.std.proofs.Math.Seq.{take-length, take-append_seam}
-use Rattle.std.proofs.lemmas.List.{length-append}
 use Rattle.vp_model.specs.Types.{LogRecord}
 use Rattle.vp_model.specs.Words.{value_at}
 use Rattle.vp_model.specs.Catalogue.{Catalogue}
 use Rattle.vp_model.specs.Durable.{DurableState}
-use Rattle.vp_model.specs.Step.{durable_of}
-use Rattle.vp_outside.specs.Causes.{Rose, count_after}
+use Rattle.vp_outside.specs.Causes.{count_after}
 use Rattle.vp_outside.specs.Disk.{Halves, DiskState, Becomes, Steps, Only, log_of}
-use Rattle.vp_outside.specs.Links.{LinkState, Gave, Hands, StaysBound, GivesNone, Receives, received}
-use Rattle.vp_outside.specs.Output.{SinkState, AppendsPrefix, HasOutCause}
+use Rattle.vp_outside.specs.Links.{LinkState, Gave}
+use Rattle.vp_outside.specs.Output.{SinkState}
 use Rattle.vp_outside.specs.declared.datagram.Datagram.{Datagram}
-use Rattle.vp_outside.specs.declared.sink.OutFault.{OutFault}
-use Rattle.vp_outside.specs.declared.sink.OutFault.TheVariants as output
 use Rattle.vp_stable.specs.Halves.{Standing, StandsAt, HaveBatches}
 use Rattle.vp_stable.specs.Moments.{LeavesOthers}
-use Rattle.vp_stable.proofs.Times.{others_join}
 use Rattle.vp_runs.specs.Keeping.{durable_in, kept_with}
-use Rattle.vp_runs.specs.Turns.{end_line}
 use Rattle.vp_runs.specs.Runs.{NodeRun, node_run, recorded}
 use Rattle.vp_runs.proofs.Runs.{runs_keep}
 use Rattle.vp_node.specs.Keeping.{KeepsAt}
-use Rattle.vp_node.specs.Nodes.{NodeValue, IsNode, IsKept, Keeps, MaySave, Saves, turn_of}
-use Rattle.vp_node.specs.Serving.{Outside, Course, IsPrefix, Did, IsKeptAs, IsSafe, LeavesFrom, Serves, either}
-use Rattle.vp_node.specs.Telling.{HasTurned, MayHaveTurned, Tells, Takes, lines_of, end_of_output}
+use Rattle.vp_node.specs.Nodes.{NodeValue, IsNode, IsKept, Keeps, MaySave, turn_of}
+use Rattle.vp_node.specs.Serving.{Outside, IsPrefix, Did, IsKeptAs, IsSafe, LeavesFrom, Serves, either}
+use Rattle.vp_node.specs.Telling.{MayHaveTurned}
 use Rattle.vp_node.specs.declared.end.End.{End}
-use Rattle.vp_node.specs.declared.end.End.TheVariants as ends
 use Rattle.vp_node.proofs.Kept.{has}
-use Rattle.vp_node.proofs.Arrived.{count_more, gave_more, hands_none, hands_then, one_longer}
-use Rattle.vp_node.proofs.Prefixes.{prefix_all, prefix_front, prefix_take, prefix_behind, prefix_of_more}
-use Rattle.vp_node.proofs.RunTurns.{site_after, batches_after, datagrams_after, stopped_after, recorded_after, left_folds}
+use Rattle.vp_node.proofs.Arrived.{one_longer}
+use Rattle.vp_node.proofs.Prefixes.{prefix_all}
+use Rattle.vp_node.proofs.RunTurns.{left_folds}
 
 abbrev pub outside : LinkState → LinkState → SinkState → SinkState → DiskState → DiskState → Outside
 outside link link' sink sink' disk disk' = record { link = link; link' = link'; sink = sink; sink' = sink'; disk = disk; disk' = disk' }

@@ -1,32 +1,30 @@
 -- What a turn leaves, by its answer.
-use Rattle.std.proofs.Common.{◌≡◌, ◌∙◌, ◌⊎◌, inl, inr, ⊎_elim, ℕ, ◌+◌, ◌<◌, ◌≤◌, Bool, true, false, List, [], ◌∷◌, ◌++◌, length, take, refl, sym, ap, subst, arith, append-nil, append_assoc}
-use Rattle.std.specs.Prelude.{Option, Some, None, IfSome, Result, Ok, Err}
+use Rattle.std.proofs.Common.{◌≡◌, ◌∙◌, inl, inr, ℕ, ◌+◌, ◌<◌, Bool, true, false, List, [], ◌∷◌, ◌++◌, length, take, refl, sym, ap, subst, arith, append-nil}
+use Rattle.std.specs.Prelude.{Ok, Err}
 use Rattle.std.specs.Io.KnownBytes.{Appends}
 use Rattle.std.proofs.KnownBytes.{Appends-trans}
-use Rattle.std.proofs.Math.Seq.{take-length, take-append_seam}
-use Rattle.vp_model.specs.Types.{LogRecord}
+use Rattle.std.proofs.Math.Seq.{take-append_seam}
 use Rattle.vp_model.specs.Catalogue.{Catalogue}
 use Rattle.vp_model.specs.Step.{durable_of}
-use Rattle.vp_outside.specs.Causes.{Rose, count_after}
-use Rattle.vp_outside.specs.Disk.{Halves, DiskState, Becomes, Steps, log_of}
+use Rattle.vp_outside.specs.Causes.{count_after}
+use Rattle.vp_outside.specs.Disk.{DiskState, Becomes, Steps, log_of}
 use Rattle.vp_outside.specs.Links.{LinkState, Gave, Hands, StaysBound, GivesNone, Receives, received}
 use Rattle.vp_outside.specs.Output.{SinkState, AppendsPrefix}
 use Rattle.vp_outside.specs.declared.datagram.Datagram.{Datagram}
-use Rattle.vp_stable.specs.Halves.{StandsAt, HaveBatches}
+use Rattle.vp_stable.specs.Halves.{StandsAt}
 use Rattle.vp_stable.specs.Moments.{LeavesOthers}
 use Rattle.vp_stable.proofs.Times.{others_join}
-use Rattle.vp_runs.specs.Keeping.{durable_in, kept_with}
 use Rattle.vp_runs.specs.Turns.{Turn}
 use Rattle.vp_runs.specs.Runs.{NodeRun, node_run, recorded}
 use Rattle.vp_node.specs.Keeping.{KeepsAt}
-use Rattle.vp_node.specs.Nodes.{NodeValue, MaySave, turn_of}
+use Rattle.vp_node.specs.Nodes.{NodeValue, turn_of}
 use Rattle.vp_node.specs.Serving.{Course, IsPrefix, IsSafe, HasTorn, IsBroken, IsUnwritten, Serves}
 use Rattle.vp_node.specs.Telling.{HasTurned, MayHaveTurned, Tells, MayTell, Takes, lines_of}
 use Rattle.vp_node.specs.declared.end.End.{End}
 use Rattle.vp_node.specs.declared.end.End.TheVariants as ends
 use Rattle.vp_node.proofs.Arrived.{count_more, gave_more, hands_none, hands_then, one_longer}
-use Rattle.vp_node.proofs.Prefixes.{prefix_all, prefix_front, prefix_take, prefix_behind, prefix_of_more}
-use Rattle.vp_node.proofs.RunTurns.{site_after, batches_after, datagrams_after, stopped_after, recorded_after, left_folds}
+use Rattle.vp_node.proofs.Prefixes.{prefix_all, prefix_front, prefix_take, prefix_behind}
+use Rattle.vp_node.proofs.RunTurns.{site_after, batches_after, datagrams_after, stopped_after, recorded_after}
 use Rattle.vp_node.proofs.Served.{SoFar, outside, stands_on, safe_all, safe_torn}
 
 module _ (catalogue : Catalogue) (id turns count : ℕ) (link0 link1 link2 link3 : LinkState) (sink0 sink1 sink2 : SinkState) (disk0 disk1 disk2 : DiskState) (node : NodeValue)

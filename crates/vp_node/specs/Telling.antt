@@ -1,12 +1,12 @@
 -- What leaves a node: the line of its start, and what each turn tells.
-use Rattle.std.specs.Prelude.{◌≡◌, ◌⊎◌, ◌≤◌, ℕ, Bool, true, false, List, [], length, take, Option, IfSome, Result, Ok, Err}
+use Rattle.std.specs.Prelude.{◌≡◌, ◌⊎◌, ◌≤◌, ℕ, Bool, true, false, List, length, take, Option, IfSome, Result, Ok, Err}
 use Rattle.std.specs.Io.KnownBytes.{Appends}
 use Rattle.std.specs.List.{concat}
 use Rattle.vp_model.specs.Words.{value_at}
 use Rattle.vp_model.specs.Catalogue.{Catalogue}
 use Rattle.vp_outside.specs.Causes.{Rose}
 use Rattle.vp_outside.specs.Disk.{Halves, DiskState, log_of, Steps}
-use Rattle.vp_outside.specs.Links.{LinkState, Hands, StaysBound, GivesNone, HandsNone}
+use Rattle.vp_outside.specs.Links.{LinkState, Hands, GivesNone, HandsNone}
 use Rattle.vp_outside.specs.Output.{SinkState, AppendsPrefix}
 use Rattle.vp_outside.specs.declared.datagram.Datagram.{Datagram}
 use Rattle.vp_outside.specs.declared.sink.OutFault.{OutFault}

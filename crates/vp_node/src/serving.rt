@@ -47,6 +47,7 @@ pub fn serve<L: Link, D: Disk, K: Sink>(
     }
 }
 
+/// How it ends: the end of a run that is over, or what broke it off.
 fn served<L: Link, D: Disk, K: Sink>(
     catalog: &Catalog,
     id: SiteId,

@@ -1,8 +1,7 @@
-use Rattle.std.proofs.Common.{◌≡◌, ◌≤◌, ◌+◌, true, false, Result, Err, inl, inr, refl, subst, rules, arith}
+use Rattle.std.proofs.Common.{◌≡◌, ◌+◌, false, Err, inl, inr, refl, subst, rules, arith}
 use Rattle.vp_stable.proofs.Times.{others_join}
 use Rattle.vp_node.specs.Causes.{end_of_node}
 use Rattle.vp_node.specs.Telling.{end_of_output}
-use Rattle.vp_node.specs.declared.end.End.{End}
 use Rattle.vp_node.specs.declared.end.End.TheVariants as ends
 use Rattle.vp_node.proofs.Begun.{unstarted, begun, unbegun}
 use Rattle.vp_node.proofs.Served.{SoFar, outside, as_end}
