@@ -25,11 +25,7 @@ fn folded(catalog: &Catalog, id: SiteId, batches: &Batches) -> Result<Durable, N
 }
 
 /// The site in its next life, and the batch that its log is to get before the site does anything.
-pub fn next_life(
-    catalog: &Catalog,
-    id: SiteId,
-    batches: &Batches,
-) -> Result<(Site, Batch), NodeEnd>
+pub fn next_life(catalog: &Catalog, id: SiteId, batches: &Batches) -> Result<(Site, Batch), NodeEnd>
     ensures site { IfOk result (λ it. it.0 ≡ (start_node catalog.now id batches.now).site) }
     ensures batch { IfOk result (λ it. it.1 ≡ start_record (durable_in catalog.now id batches.now) ∷ []) }
     ensures left { IfOk result (λ _. (durable_in catalog.now id batches.now).life < 2 ^ 32 - 1) }
