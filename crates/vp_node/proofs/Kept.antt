@@ -1,11 +1,10 @@
 -- What calls of a log leave of it, one after the other.
-use Rattle.std.proofs.Common.{◌≡◌, ◌∙◌, inl, inr, ⊎_elim, ◌⊎◌, ℕ, ◌<◌, true, List, [], ◌∷◌, ◌++◌, length, refl, sym, subst, arith}
-use Rattle.std.proofs.lemmas.List.Sums.{fold-append}
+use Rattle.std.proofs.Common.{◌≡◌, ◌∙◌, inl, inr, ⊎_elim, ◌⊎◌, ◌<◌, true, List, [], ◌∷◌, ◌++◌, length, refl, sym, subst, arith}
 use Rattle.std.specs.declared.option.Option.{Option}
 use Rattle.std.specs.declared.option.Option.TheVariants.{Some, None}
 use Rattle.std.specs.Prelude.{IfSome, if◌then◌else◌}
-use Rattle.vp_model.specs.Types.{LogRecord, Stored}
-use Rattle.vp_model.specs.Durable.{DurableState, empty_durable, apply_all}
+use Rattle.vp_model.specs.Types.{LogRecord}
+use Rattle.vp_model.specs.Durable.{DurableState}
 use Rattle.vp_outside.specs.Disk.{Halves, DiskState, IsDisk, Becomes, Elapses}
 use Rattle.vp_stable.specs.Halves.{Standing, StandsAt, HaveBatches, AreSettled, GainsAt, MayGainAt, MaySaveAt, DueIsOfTheBatches, saved, due, is_due}
 use Rattle.vp_stable.specs.Moments.{LeavesOnly}

@@ -1,5 +1,5 @@
 -- What a start leaves of a log, and what starts.
-use Rattle.std.proofs.Common.{◌≡◌, ◌∙◌, inl, inr, ⊎_elim, ◌⊎◌, ℕ, ◌+◌, ◌-◌, ◌<◌, ◌^◌, true, List, [], ◌∷◌, ◌++◌, refl, sym, subst, arith}
+use Rattle.std.proofs.Common.{◌≡◌, inl, inr, ⊎_elim, ◌⊎◌, ℕ, ◌-◌, ◌<◌, ◌^◌, true, List, [], ◌∷◌, refl, sym, subst, arith}
 use Rattle.std.specs.List.{AllByRecursion}
 use Rattle.std.specs.declared.option.Option.{Option}
 use Rattle.std.specs.declared.option.Option.TheVariants.{Some, None}
@@ -20,7 +20,7 @@ use Rattle.vp_runs.specs.Keeping.{durable_in}
 use Rattle.vp_runs.specs.Runs.{start_node, node_run}
 use Rattle.vp_runs.proofs.Runs.{runs_keep}
 use Rattle.vp_runs.proofs.Shaped.{runs_are_shaped}
-use Rattle.vp_node.specs.Nodes.{NodeValue, Keeps, MayStart}
+use Rattle.vp_node.specs.Nodes.{Keeps, MayStart}
 use Rattle.vp_node.proofs.Kept.{has as have}
 
 module _ (catalogue : Catalogue) (id : ℕ) where

@@ -1,5 +1,5 @@
 -- Serving goes on datagram by datagram.
-use Rattle.std.proofs.Common.{◌≡◌, ◌⊎◌, ⊎_elim, ℕ, ◌+◌, ◌-◌, ◌^◌, ◌<◌, Bool, true, false, List, [], ◌∷◌, ◌++◌, length, sym, subst, arith}
+use Rattle.std.proofs.Common.{◌≡◌, ⊎_elim, ℕ, ◌-◌, ◌^◌, ◌<◌, Bool, true, false, List, [], ◌∷◌, ◌++◌, length, sym, subst, arith}
 use Rattle.std.specs.Prelude.{Option, Some, None, IfSome, Result, Err}
 use Rattle.std.proofs.Math.Seq.{take-length, take-append_seam}
 use Rattle.vp_model.specs.Types.{LogRecord}

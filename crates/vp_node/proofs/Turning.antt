@@ -1,5 +1,5 @@
 -- What a turn leaves of a node: its site has its form, and its log folds to what the site has to keep.
-use Rattle.std.proofs.Common.{◌≡◌, ◌∙◌, inl, inr, ⊎_elim, ◌⊎◌, ℕ, ◌<◌, ◌^◌, List, [], ◌∷◌, ◌++◌, refl, sym, subst, ap}
+use Rattle.std.proofs.Common.{◌≡◌, ◌∙◌, inl, inr, ⊎_elim, ◌⊎◌, ◌<◌, ◌^◌, List, [], ◌∷◌, ◌++◌, refl, sym, subst, ap}
 use Rattle.std.specs.declared.option.Option.{Option}
 use Rattle.std.specs.declared.option.Option.TheVariants.{Some, None}
 use Rattle.std.specs.Prelude.{IfSome}
@@ -10,13 +10,13 @@ use Rattle.vp_model.specs.Catalogue.{Catalogue}
 use Rattle.vp_model.specs.Durable.{apply_all}
 use Rattle.vp_model.specs.Site.{SiteState}
 use Rattle.vp_model.specs.Step.{durable_of}
-use Rattle.vp_laws.specs.Shapes.{IsInput, IsShaped}
+use Rattle.vp_laws.specs.Shapes.{IsShaped}
 use Rattle.vp_laws.proofs.ShapeLog.{checkpoint_is}
 use Rattle.vp_laws.proofs.ShapeSteps.{step_forms, shaped_durable}
 use Rattle.vp_laws.proofs.TableDurable.{step-folds}
 use Rattle.vp_outside.specs.Disk.{Halves, DiskState, Becomes}
 use Rattle.vp_outside.specs.declared.datagram.Datagram.{Datagram}
-use Rattle.vp_stable.specs.Halves.{Standing, StandsAt, HaveBatches, AreSettled}
+use Rattle.vp_stable.specs.Halves.{AreSettled}
 use Rattle.vp_stable.specs.Moments.{LeavesOnly}
 use Rattle.vp_stable.proofs.Times.{elapses_as}
 use Rattle.vp_runs.specs.declared.arrival.Arrival.{Arrival}

@@ -1,9 +1,9 @@
 -- What a log keeps of a step's records: they are appended, and a checkpoint follows where one is due.
-use Rattle.std.specs.Prelude.{◌≡◌, ◌⊎◌, List, [], ◌∷◌, ◌++◌, ℕ, IfSome}
-use Rattle.vp_model.specs.Types.{LogRecord, Stored}
-use Rattle.vp_model.specs.Durable.{DurableState, empty_durable, apply_all}
-use Rattle.vp_outside.specs.Disk.{Halves, DiskState, log_of}
-use Rattle.vp_stable.specs.Halves.{Standing, StandsAt, HaveBatches, folded}
+use Rattle.std.specs.Prelude.{◌≡◌, ◌⊎◌, List, [], ◌∷◌, ◌++◌}
+use Rattle.vp_model.specs.Types.{LogRecord}
+use Rattle.vp_model.specs.Durable.{DurableState}
+use Rattle.vp_outside.specs.Disk.{Halves}
+use Rattle.vp_stable.specs.Halves.{Standing, StandsAt, HaveBatches}
 use Rattle.vp_runs.specs.Keeping.{saved_if_due, kept_with}
 
 -- ---- a checkpoint where one is due

@@ -1,9 +1,8 @@
-use Rattle.std.proofs.Common.{◌<◌, List, length, sym, subst, rules}
+use Rattle.std.proofs.Common.{◌<◌, length, subst, rules}
 use Rattle.std.specs.Prelude.{IfSome}
-use Rattle.vp_model.specs.Types.{LogRecord}
 use Rattle.vp_model.specs.Step.{durable_of}
 use Rattle.vp_outside.specs.Disk.{log_of}
-use Rattle.vp_stable.specs.Halves.{GainsAt, MayGainAt, StandsAt}
+use Rattle.vp_stable.specs.Halves.{GainsAt, MayGainAt}
 use Rattle.vp_stable.specs.Moments.{LeavesOnly}
 use Rattle.vp_stable.proofs.Times.{others_join}
 use Rattle.vp_node.specs.Keeping.{SavesDueAt, MaySaveDueAt, KeepsAt, MayKeepAt}

@@ -1,9 +1,8 @@
 use Rattle.std.proofs.Common.{sym, subst}
-use Rattle.vp_model.specs.Durable.{DurableState}
 use Rattle.vp_model.specs.Step.{durable_of}
 use Rattle.vp_records.specs.Records.{CanBeSaved}
 use Rattle.vp_outside.specs.Disk.{log_of}
-use Rattle.vp_stable.specs.Halves.{MaySaveAt, FoldsAlike, checkpoint_of}
+use Rattle.vp_stable.specs.Halves.{MaySaveAt, FoldsAlike}
 use Rattle.vp_stable.proofs.Writes.{becomes-same, on_err}
 use Rattle.vp_node.proofs.Kept.{leaves_settled, leaves_as, may_save_none}
 use Rattle.vp_node.proofs.keeping.save.Goals as goal

@@ -1,10 +1,10 @@
-use Rattle.std.proofs.Common.{◌≡◌, ◌∷◌, [], ◌⊎◌, ◌<◌, ◌-◌, ◌^◌, List, inl, inr, ⊎_elim, sym, subst}
+use Rattle.std.proofs.Common.{◌∷◌, [], ◌⊎◌, ◌<◌, ◌^◌, List, inl, inr, ⊎_elim, sym, subst}
 use Rattle.std.specs.Prelude.{IfSome}
 use Rattle.vp_model.specs.Types.{LogRecord}
 use Rattle.vp_model.specs.Site.{SiteState}
 use Rattle.vp_model.specs.Step.{start_record}
 use Rattle.vp_laws.specs.Shapes.{IsShaped}
-use Rattle.vp_outside.specs.Disk.{Halves, log_of, Becomes}
+use Rattle.vp_outside.specs.Disk.{log_of, Becomes}
 use Rattle.vp_stable.specs.Halves.{StandsAt, ReadAlike, GainsAt, MayGainAt}
 use Rattle.vp_stable.specs.Moments.{LeavesOnly}
 use Rattle.vp_stable.proofs.Times.{others_join}

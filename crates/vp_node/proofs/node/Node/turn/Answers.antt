@@ -1,5 +1,4 @@
 use Rattle.std.proofs.Common.{◌≡◌, ◌<◌, ◌^◌, ap, sym, subst, arith}
-use Rattle.std.specs.Prelude.{IfSome}
 use Rattle.vp_model.specs.Step.{durable_of}
 use Rattle.vp_model.specs.Site.{SiteState}
 use Rattle.vp_records.specs.Records.{CanBeSaved}
