@@ -1,6 +1,6 @@
 //! Serving the datagrams of a link.
 
-ghost use Rattle.std.specs.Prelude.{◌≡◌, None, true, IsTrue};
+ghost use Rattle.std.specs.Prelude.{◌≡◌, ◌≤◌, None, true, IsTrue};
 ghost use Rattle.vp_model.specs.Words.{has};
 ghost use Rattle.vp_model.specs.Catalogue.{sites_of};
 ghost use Rattle.vp_outside.specs.Links.{StaysBound, GivesNone};
@@ -41,6 +41,7 @@ pub fn serve<L: Link, D: Disk, K: Sink>(
         })
         result }
     ensures others { LeavesOthers (D.state disk.old) (D.state disk.new) }
+    ensures later { (K.state sink.old).faults ≤ (K.state sink.new).faults }
 {
     match served(catalog, id, link, disk, sink, turns) {
         Ok(end) | Err(end) => end,
@@ -70,6 +71,7 @@ fn served<L: Link, D: Disk, K: Sink>(
         })
         (either result) }
     ensures others { LeavesOthers (D.state disk.old) (D.state disk.new) }
+    ensures later { (K.state sink.old).faults ≤ (K.state sink.new).faults }
 {
     let mut node = Node::start(catalog, id, disk)?;
     begin(catalog, id, node.life(), link, sink)?;
@@ -99,6 +101,7 @@ fn begin<L: Link, K: Sink>(
     requires id { has (sites_of catalog.now) id ≡ true }
     ensures asked { AsksPort catalog.now id (L.state link.old) (L.state link.new) }
     ensures begins { Begins life (L.state link.old) (L.state link.new) (K.state sink.old) (K.state sink.new) result }
+    ensures later { (K.state sink.old).faults ≤ (K.state sink.new).faults }
 {
     let Some(port) = catalog.port(id) else {
         unreachable!()
@@ -129,6 +132,7 @@ fn take_turn<L: Link, D: Disk, K: Sink>(
     ensures gives_none { GivesNone (L.state link.old) (L.state link.new) }
     ensures same_faults { (L.state link.new).faults ≡ (L.state link.old).faults }
     ensures others { LeavesOthers (D.state disk.old) (D.state disk.new) }
+    ensures later { (K.state sink.old).faults ≤ (K.state sink.new).faults }
 {
     let (node, turned) = node.turn(catalog, disk, port, bytes)?;
     print_lines(sink, turned.lines.as_slice())?;

@@ -91,3 +91,6 @@ returns-in_err-write_all-2-clause-served g c =
 pub returns-clause-served : goal.returns-clause-served
 returns-clause-served g c =
     is_done c.args.catalog.now c.args.id c.args.turns c.loop.counter false _ _ _ _ _ _ c.loop.node c.loop.invariant.so_far (omega arith) _ c.in_ok-write_all-2.ensures.ok refl (omega arith)
+
+pub returns-in_err-after-clause-later : goal.returns-in_err-after-clause-later
+returns-in_err-after-clause-later g c = let same = c.loop.invariant.so_far.same_sink in let later = c.take_turn.ensures.later in omega (arith, same, later)
