@@ -9,4 +9,5 @@ mod RunTurns
 mod Served
 mod Taken
 mod TurnEnds
+mod TurnTells
 mod Turning

@@ -94,3 +94,53 @@ returns-clause-served g c =
 
 pub returns-in_err-after-clause-later : goal.returns-in_err-after-clause-later
 returns-in_err-after-clause-later g c = let same = c.loop.invariant.so_far.same_sink in let later = c.take_turn.ensures.later in omega (arith, same, later)
+
+pub returns-in_err-node-clause-others : goal.returns-in_err-node-clause-others
+returns-in_err-node-clause-others g c = c.start.ensures.others
+
+pub returns-in_err-node-clause-later : goal.returns-in_err-node-clause-later
+returns-in_err-node-clause-later g c = omega arith
+
+pub returns-in_err-begin-clause-others : goal.returns-in_err-begin-clause-others
+returns-in_err-begin-clause-others g c = c.start.ensures.others
+
+pub returns-in_err-begin-clause-later : goal.returns-in_err-begin-clause-later
+returns-in_err-begin-clause-later g c = c.begin.ensures.later
+
+pub returns-in_err-port-clause-others : goal.returns-in_err-port-clause-others
+returns-in_err-port-clause-others g c = c.loop.invariant.so_far.others
+
+pub returns-in_err-port-clause-later : goal.returns-in_err-port-clause-later
+returns-in_err-port-clause-later g c = let same = c.loop.invariant.so_far.same_sink in omega (arith, same)
+
+pub returns-in_err-write_all-clause-later : goal.returns-in_err-write_all-clause-later
+returns-in_err-write_all-clause-later g c =
+    let same = c.loop.invariant.so_far.same_sink in
+    let later = c.take_turn.ensures.later in
+    let last = c.write_all.ensures.cause.later in
+    omega (arith, same, later, last)
+
+pub returns-then-stop-clause-later : goal.returns-then-stop-clause-later
+returns-then-stop-clause-later g c =
+    let same = c.loop.invariant.so_far.same_sink in
+    let later = c.take_turn.ensures.later in
+    let last = c.write_all.ensures.cause.later in
+    omega (arith, same, later, last)
+
+pub returns-in_err-write_all-2-clause-others : goal.returns-in_err-write_all-2-clause-others
+returns-in_err-write_all-2-clause-others g c = c.loop.invariant.so_far.others
+
+pub returns-in_err-write_all-2-clause-later : goal.returns-in_err-write_all-2-clause-later
+returns-in_err-write_all-2-clause-later g c =
+    let same = c.loop.invariant.so_far.same_sink in
+    let last = c.write_all-2.ensures.cause.later in
+    omega (arith, same, last)
+
+pub returns-clause-others : goal.returns-clause-others
+returns-clause-others g c = c.loop.invariant.so_far.others
+
+pub returns-clause-later : goal.returns-clause-later
+returns-clause-later g c =
+    let same = c.loop.invariant.so_far.same_sink in
+    let last = c.write_all-2.ensures.cause.later in
+    omega (arith, same, last)

@@ -1,4 +1,4 @@
-use Rattle.std.proofs.Common.{◌≡◌, ◌<◌, ◌^◌, ap, sym, subst, arith}
+use Rattle.std.proofs.Common.{◌≡◌, ◌<◌, ◌^◌, Err, ap, sym, subst, arith, rules}
 use Rattle.vp_model.specs.Step.{durable_of}
 use Rattle.vp_model.specs.Site.{SiteState}
 use Rattle.vp_records.specs.Records.{CanBeSaved}
@@ -9,9 +9,11 @@ use Rattle.vp_outside.specs.declared.datagram.Datagram.{Datagram}
 use Rattle.vp_stable.proofs.Writes.{on_err}
 use Rattle.vp_runs.proofs.Shaped.{turns_are_shaped}
 use Rattle.vp_node.specs.Keeping.{KeepsAt, MayKeepAt}
+use Rattle.vp_node.specs.Causes.{HasNodeCause, EndsInTurn, end_of_append}
 use Rattle.vp_node.specs.Nodes.{NodeValue, turn_of}
 use Rattle.vp_node.proofs.Kept.{leaves_settled, may_keep_none}
 use Rattle.vp_node.proofs.Turning.{same_id, brings, can_be_saved, settled, saves_none, saves_as, leaves_saves, keeps_on}
+use Rattle.vp_node.proofs.TurnTells.{append_ends, append_causes}
 use Rattle.vp_node.proofs.node.Node.turn.Goals as goal
 
 pub keep-requires-clause-form : goal.keep-requires-clause-form
@@ -105,3 +107,13 @@ returns-clause-kept g c honest =
     keeps_on c.args.catalog.now c.args.self turn (brings c.args.catalog.now c.args.self.site d k shaped fits) (record { site = c.in_ok-site.site; at = c.keep.new.log })
     site_is (same_id c.args.catalog.now c.args.self.site d k shaped fits) (disk.may_leave disk.asked) ((g.D.Disk.state c.keep.new.disk).may_leave (g.D.Disk.state c.keep.new.disk).asked)
     (log_of disk) (log_of (g.D.Disk.state c.keep.new.disk)) (c.requires.kept (c.keep.ensures.others.honest.1 honest)) kept_there (c.in_ok-keep.ensures.kept honest)
+
+pub returns-in_err-keep-clause-ends : goal.returns-in_err-keep-clause-ends
+returns-in_err-keep-clause-ends g c =
+    let is : c.from_residual-in_err-keep.result ≡ Err (end_of_append c.in_err-keep.field-0.0) = search rules in
+    subst (λ r. EndsInTurn r) (sym is) (append_ends (Unit {0}) c.in_err-keep.field-0.0)
+
+pub returns-in_err-keep-clause-cause : goal.returns-in_err-keep-clause-cause
+returns-in_err-keep-clause-cause g c =
+    let is : c.from_residual-in_err-keep.result ≡ Err (end_of_append c.in_err-keep.field-0.0) = search rules in
+    subst (λ r. HasNodeCause (g.D.Disk.state c.args.disk.now).faults (g.D.Disk.state c.keep.new.disk).faults r) (sym is) (append_causes _ _ c.in_err-keep.field-0.0 c.in_err-keep.ensures.cause)
