@@ -1,8 +1,10 @@
 -- What a turn leaves outside, by its answer.
-use Rattle.std.proofs.Common.{◌≡◌, ℕ, List, inl, inr, ⊎_elim, ◌⊎◌, refl, sym, subst}
+use Rattle.std.proofs.Common.{◌≡◌, ◌∙◌, ℕ, List, ap, inl, inr, ⊎_elim, ◌⊎◌, refl, sym, subst}
 use Rattle.std.specs.declared.option.Option.{Option}
 use Rattle.std.specs.declared.option.Option.TheVariants.{Some, None}
 use Rattle.std.specs.Prelude.{IfSome, Result, Err}
+use Rattle.std.specs.Result.{IsErrAnd}
+use Rattle.std.proofs.lemmas.Result.{err_from_is_err_and}
 use Rattle.std.specs.Io.KnownBytes.{Appends}
 use Rattle.std.specs.List.{concat}
 use Rattle.vp_model.specs.Catalogue.{Catalogue}
@@ -23,6 +25,10 @@ use Rattle.vp_node.specs.Telling.{HandsPrefix, HasTurned, MayHaveTurned, Takes, 
 use Rattle.vp_node.specs.declared.end.NodeEnd.{NodeEnd}
 use Rattle.vp_node.specs.declared.end.NodeEnd.TheVariants as node_ends
 use Rattle.vp_node.specs.declared.end.End.TheVariants as ends
+
+-- what the exit of a `?` gives
+pub gave_err : {T E : Type 0} (r : Result T E) (e : E) → IsErrAnd r (λ y. y ≡ e) → r ≡ Err e
+gave_err r e given = let p = err_from_is_err_and r given in p.1 ∙ ap (λ y. Err y) p.2
 
 -- ---- a batch that is not appended
 

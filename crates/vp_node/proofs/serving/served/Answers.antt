@@ -1,4 +1,4 @@
-use Rattle.std.proofs.Common.{◌≡◌, ◌+◌, false, Err, inl, inr, refl, subst, rules, arith}
+use Rattle.std.proofs.Common.{◌≡◌, ◌+◌, false, Err, inl, inr, refl, subst, arith}
 use Rattle.vp_stable.proofs.Times.{others_join}
 use Rattle.vp_node.specs.Causes.{end_of_node}
 use Rattle.vp_node.specs.Telling.{end_of_output}
@@ -6,19 +6,20 @@ use Rattle.vp_node.specs.declared.end.End.TheVariants as ends
 use Rattle.vp_node.proofs.Begun.{unstarted, begun, unbegun}
 use Rattle.vp_node.proofs.Served.{SoFar, outside, as_end}
 use Rattle.vp_node.proofs.Ended.{stops, is_done, unended, is_lost}
+use Rattle.vp_node.proofs.TurnTells.{gave_err}
 use Rattle.vp_node.proofs.TurnEnds.{goes_on, turn_ends}
 use Rattle.vp_node.proofs.serving.served.Goals as goal
 
 pub returns-in_err-node-clause-served : goal.returns-in_err-node-clause-served
 returns-in_err-node-clause-served g c =
-    let is : c.from_residual.result ≡ Err (end_of_node c.in_err-node.field-0.0) = search rules in
+    let is : c.from_residual.result ≡ Err (end_of_node c.in_err-node.field-0.0) = gave_err _ _ c.from_residual.ensures.1 in
     let h = c.in_err-node.ensures in
     as_end _ _ _ _ _ _ is (unstarted c.args.catalog.now c.args.id c.args.turns (g.L.Link.state c.args.link.now) (g.K.Sink.state c.args.sink.now) (g.D.Disk.state c.args.disk.now) (g.D.Disk.state c.start.new.disk)
     c.in_err-node.field-0.0 h.bad_log h.lives_spent h.unchanged h.fault h.cause)
 
 pub returns-in_err-begin-clause-served : goal.returns-in_err-begin-clause-served
 returns-in_err-begin-clause-served g c =
-    let is : c.from_residual-in_err-begin.result ≡ Err c.in_err-begin.field-0.0 = search rules in
+    let is : c.from_residual-in_err-begin.result ≡ Err c.in_err-begin.field-0.0 = gave_err _ _ c.from_residual-in_err-begin.ensures.1 in
     let h = c.in_ok-node.ensures in
     as_end _ _ _ _ _ _ is (unbegun c.args.catalog.now c.args.id c.args.turns (g.L.Link.state c.args.link.now) (g.L.Link.state c.begin.new.link) (g.K.Sink.state c.args.sink.now) (g.K.Sink.state c.begin.new.sink)
     (g.D.Disk.state c.args.disk.now) (g.D.Disk.state c.start.new.disk) c.in_ok-node.node h.started h.node h.kept h.lives h.others c.begin.ensures.asked c.life.result c.life.ensures
@@ -35,12 +36,12 @@ loop-init g c =
 
 pub returns-in_err-port-clause-served : goal.returns-in_err-port-clause-served
 returns-in_err-port-clause-served g c =
-    let is : c.from_residual-in_err-port.result ≡ Err ends.LinkFault = search rules in
+    let is : c.from_residual-in_err-port.result ≡ Err ends.LinkFault = gave_err _ _ c.from_residual-in_err-port.ensures.1 in
     as_end _ _ _ _ _ _ is (is_lost c.args.catalog.now c.args.id c.args.turns c.loop.counter _ _ _ _ _ _ _ c.loop.node _ _ _ c.loop.invariant.so_far (omega arith) c.in_err-port.ensures)
 
 pub returns-in_err-after-clause-served : goal.returns-in_err-after-clause-served
 returns-in_err-after-clause-served g c =
-    let is : c.from_residual-in_err-after.result ≡ Err c.in_err-after.field-0.0 = search rules in
+    let is : c.from_residual-in_err-after.result ≡ Err c.in_err-after.field-0.0 = gave_err _ _ c.from_residual-in_err-after.ensures.1 in
     let h = c.take_turn.ensures in
     as_end _ _ _ _ _ _ is (turn_ends c.args.catalog.now c.args.id c.args.turns c.loop.counter _ _ _ _ _ _ _ _ _ _ c.loop.node c.loop.invariant.so_far (omega arith)
     _ _ (c.in_ok-port.port, c.in_ok-port.count) c.in_ok-port.ensures h.stays h.gives_none h.same_faults h.others c.in_err-after.field-0.0 c.in_err-after.ensures.takes)
@@ -60,7 +61,7 @@ loop-preserved g c =
 
 pub returns-in_err-write_all-clause-served : goal.returns-in_err-write_all-clause-served
 returns-in_err-write_all-clause-served g c =
-    let is : c.from_residual-in_err-write_all.result ≡ Err (end_of_output c.in_err-write_all.field-0.0) = search rules in
+    let is : c.from_residual-in_err-write_all.result ≡ Err (end_of_output c.in_err-write_all.field-0.0) = gave_err _ _ c.from_residual-in_err-write_all.ensures.1 in
     let h = c.take_turn.ensures in
     let takes = c.in_ok-after.ensures.takes in
     let taken = goes_on c.args.catalog.now c.args.id c.args.turns c.loop.counter _ _ _ _ _ _ _ _ _ _ c.loop.node c.loop.invariant.so_far (omega arith)
@@ -84,7 +85,7 @@ returns-then-stop-clause-others g c = others_join c.loop.invariant.so_far.others
 
 pub returns-in_err-write_all-2-clause-served : goal.returns-in_err-write_all-2-clause-served
 returns-in_err-write_all-2-clause-served g c =
-    let is : c.from_residual-in_err-write_all-2.result ≡ Err (end_of_output c.in_err-write_all-2.field-0.0) = search rules in
+    let is : c.from_residual-in_err-write_all-2.result ≡ Err (end_of_output c.in_err-write_all-2.field-0.0) = gave_err _ _ c.from_residual-in_err-write_all-2.ensures.1 in
     as_end _ _ _ _ _ _ is (unended c.args.catalog.now c.args.id c.args.turns c.loop.counter false _ _ _ _ _ _ c.loop.node c.loop.invariant.so_far (omega arith)
     _ (inr (omega arith)) c.in_err-write_all-2.ensures.err c.in_err-write_all-2.field-0.0 c.in_err-write_all-2.ensures.cause)
 

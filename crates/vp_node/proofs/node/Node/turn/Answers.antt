@@ -1,4 +1,4 @@
-use Rattle.std.proofs.Common.{◌≡◌, ◌<◌, ◌^◌, Err, ap, sym, subst, arith, rules}
+use Rattle.std.proofs.Common.{◌≡◌, ◌<◌, ◌^◌, Err, ap, sym, subst, arith}
 use Rattle.vp_model.specs.Step.{durable_of}
 use Rattle.vp_model.specs.Site.{SiteState}
 use Rattle.vp_records.specs.Records.{CanBeSaved}
@@ -13,7 +13,7 @@ use Rattle.vp_node.specs.Causes.{HasNodeCause, EndsInTurn, end_of_append}
 use Rattle.vp_node.specs.Nodes.{NodeValue, turn_of}
 use Rattle.vp_node.proofs.Kept.{leaves_settled, may_keep_none}
 use Rattle.vp_node.proofs.Turning.{same_id, brings, can_be_saved, settled, saves_none, saves_as, leaves_saves, keeps_on}
-use Rattle.vp_node.proofs.TurnTells.{append_ends, append_causes}
+use Rattle.vp_node.proofs.TurnTells.{append_ends, append_causes, gave_err}
 use Rattle.vp_node.proofs.node.Node.turn.Goals as goal
 
 pub keep-requires-clause-form : goal.keep-requires-clause-form
@@ -110,10 +110,10 @@ returns-clause-kept g c honest =
 
 pub returns-in_err-keep-clause-ends : goal.returns-in_err-keep-clause-ends
 returns-in_err-keep-clause-ends g c =
-    let is : c.from_residual-in_err-keep.result ≡ Err (end_of_append c.in_err-keep.field-0.0) = search rules in
+    let is : c.from_residual-in_err-keep.result ≡ Err (end_of_append c.in_err-keep.field-0.0) = gave_err _ _ c.from_residual-in_err-keep.ensures.1 in
     subst (λ r. EndsInTurn r) (sym is) (append_ends (Unit {0}) c.in_err-keep.field-0.0)
 
 pub returns-in_err-keep-clause-cause : goal.returns-in_err-keep-clause-cause
 returns-in_err-keep-clause-cause g c =
-    let is : c.from_residual-in_err-keep.result ≡ Err (end_of_append c.in_err-keep.field-0.0) = search rules in
+    let is : c.from_residual-in_err-keep.result ≡ Err (end_of_append c.in_err-keep.field-0.0) = gave_err _ _ c.from_residual-in_err-keep.ensures.1 in
     subst (λ r. HasNodeCause (g.D.Disk.state c.args.disk.now).faults (g.D.Disk.state c.keep.new.disk).faults r) (sym is) (append_causes _ _ c.in_err-keep.field-0.0 c.in_err-keep.ensures.cause)
