@@ -9,6 +9,7 @@ use Rattle.vp_outside.specs.Links.{LinkState, Gave, Hands, StaysBound, Receives,
 use Rattle.vp_outside.specs.declared.sink.OutFault.{OutFault}
 use Rattle.vp_outside.specs.declared.sink.OutFault.TheVariants as output
 use Rattle.vp_outside.specs.declared.datagram.Datagram.{Datagram}
+use Rattle.vp_outside.proofs.Passed.{count_more, count_none, gave_more, gave_none, hands_none, one_longer}
 use Rattle.vp_runs.specs.Asking.{first_answer, answer_of, call_frame}
 use Rattle.vp_wire.specs.Grammar.{frame_bytes}
 use Rattle.vp_client.specs.Asked.{IsSent, Asks, of_output}
@@ -34,63 +35,6 @@ first_after port site words (x ∷ front) d h = go (answer_of port site words x)
     go : (found : Option Answer) → answer_of port site words x ≡ found → (first_answer port site words front ≡ None → first_answer port site words (front ++ d ∷ []) ≡ option_map_or Some (answer_of port site words d) None) → first_answer port site words (x ∷ front ++ d ∷ []) ≡ option_map_or Some (answer_of port site words d) None
     go None e more = rw e (more (rw e at h))
     go (Some a) e more = let no : Some a ≡ None = rw e at h in absurd cc
-
-pub count_more : (before n : ℕ) → count_after (count_after before n) 1 ≡ count_after before (n + 1)
-count_more before n = grind (arith)
-
--- ---- what a link gives
-
--- the next datagrams of a list, and empty ones behind its end
-abbrev pub firsts : ℕ → List Datagram → List Datagram
-firsts zero left = []
-firsts (suc n) [] = nothing ∷ firsts n []
-firsts (suc n) (d ∷ left) = d ∷ firsts n left
-
-pub given_firsts : (n m : ℕ) (left : List Datagram) → n ≤ m → take n (left ++ replicate m nothing) ≡ firsts n left
-given_firsts zero m left h = refl
-given_firsts (suc n) zero left h = absurd (omega (arith, h))
-given_firsts (suc n) (suc m) [] h = ap (λ (l : List Datagram). nothing ∷ l) (given_firsts n m [] (omega (arith, h)))
-given_firsts (suc n) (suc m) (d ∷ left) h = ap (λ (l : List Datagram). d ∷ l) (given_firsts n (suc m) left (omega (arith, h)))
-
-drop_none : (n : ℕ) → drop {A = Datagram} n [] ≡ []
-drop_none zero = refl
-drop_none (suc n) = refl
-
-firsts_more : (n : ℕ) (left : List Datagram) → firsts (suc n) left ≡ firsts n left ++ firsts 1 (drop n left)
-firsts_more zero left = refl
-firsts_more (suc n) [] = ap (λ (l : List Datagram). nothing ∷ l) (firsts_more n [] ∙ ap (λ (l : List Datagram). firsts n [] ++ firsts 1 l) (drop_none n))
-firsts_more (suc n) (d ∷ left) = ap (λ (l : List Datagram). d ∷ l) (firsts_more n left)
-
-drop_more : (n : ℕ) (left : List Datagram) → drop 1 (drop n left) ≡ drop (suc n) left
-drop_more zero left = refl
-drop_more (suc n) [] = refl
-drop_more (suc n) (d ∷ left) = drop_more n left
-
-one_longer : (ds : List Datagram) (d : Datagram) → length (ds ++ d ∷ []) ≡ suc (length ds)
-one_longer ds d = omega (arith, length-append ds (d ∷ []))
-
--- a datagram that was given after these was given behind them
-pub gave_more : (a b c : Option (List Datagram)) (ds : List Datagram) (d : Datagram) → Gave a b ds → Gave b c (d ∷ []) → Gave a c (ds ++ d ∷ [])
-gave_more None b c ds d h k = tt
-gave_more (Some left) None c ds d h k = absurd h
-gave_more (Some left) (Some left') None ds d h k = absurd k
-gave_more (Some left) (Some left') (Some left'') ds d h k =
-    let n = length ds in
-    let before : ds ≡ firsts n left = h.0 ∙ given_firsts n n left (omega arith) in
-    let next : d ∷ [] ≡ firsts 1 (drop n left) = k.0 ∙ given_firsts 1 1 left' (omega arith) ∙ ap (firsts 1) h.1 in
-    let all : ds ++ d ∷ [] ≡ firsts (suc n) left = ap (λ (l : List Datagram). l ++ d ∷ []) before ∙ ap (λ (l : List Datagram). firsts n left ++ l) next ∙ sym (firsts_more n left) in
-    rw (one_longer ds d) (all ∙ sym (given_firsts (suc n) (suc n) left (omega arith)), k.1 ∙ ap (drop 1) h.1 ∙ drop_more n left)
-
-gave_none : (a b : Option (List Datagram)) → b ≡ a → Gave a b []
-gave_none None b e = tt
-gave_none (Some left) b e = rw e (refl, refl)
-
-hands_none : (a b : Option (List Datagram)) → b ≡ a → Hands a b []
-hands_none None b e = tt
-hands_none (Some handed) b e = rw e (sym (append-nil handed))
-
-count_none : (n : ℕ) → n ≡ count_after n 0
-count_none n = grind (arith)
 
 other_port : (port site : ℕ) (words : Call) (d : Datagram) → (d.port == port) ≡ false → answer_of port site words d ≡ None
 unfolding answer_of

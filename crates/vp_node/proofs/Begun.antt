@@ -21,7 +21,7 @@ use Rattle.vp_node.specs.declared.end.NodeEnd.{NodeEnd}
 use Rattle.vp_node.specs.declared.end.NodeEnd.TheVariants as node_ends
 use Rattle.vp_node.specs.declared.end.End.{End}
 use Rattle.vp_node.specs.declared.end.End.TheVariants as ends
-use Rattle.vp_node.proofs.Arrived.{count_none, gave_none, hands_none}
+use Rattle.vp_outside.proofs.Passed.{count_none, gave_none, hands_none}
 use Rattle.vp_node.proofs.Prefixes.{prefix_take}
 use Rattle.vp_node.proofs.Served.{SoFar, outside, kept_as, safe_all}
 

@@ -1,4 +1,3 @@
-mod Arrived
 mod Begun
 mod Ended
 mod Kept

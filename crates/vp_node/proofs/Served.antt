@@ -22,7 +22,7 @@ use Rattle.vp_node.specs.Serving.{Outside, IsPrefix, Did, IsKeptAs, IsSafe, Leav
 use Rattle.vp_node.specs.Telling.{MayHaveTurned}
 use Rattle.vp_node.specs.declared.end.End.{End}
 use Rattle.vp_node.proofs.Kept.{has}
-use Rattle.vp_node.proofs.Arrived.{one_longer}
+use Rattle.vp_outside.proofs.Passed.{one_longer}
 use Rattle.vp_node.proofs.Prefixes.{prefix_all}
 use Rattle.vp_node.proofs.RunTurns.{left_folds}
 

@@ -22,7 +22,7 @@ use Rattle.vp_node.specs.Serving.{Course, IsPrefix, IsSafe, HasTorn, IsBroken, I
 use Rattle.vp_node.specs.Telling.{HasTurned, MayHaveTurned, Tells, MayTell, Takes, lines_of}
 use Rattle.vp_node.specs.declared.end.End.{End}
 use Rattle.vp_node.specs.declared.end.End.TheVariants as ends
-use Rattle.vp_node.proofs.Arrived.{count_more, gave_more, hands_none, hands_then, one_longer}
+use Rattle.vp_outside.proofs.Passed.{count_more, gave_more, hands_none, hands_then, one_longer}
 use Rattle.vp_node.proofs.Prefixes.{prefix_all, prefix_front, prefix_take, prefix_behind}
 use Rattle.vp_node.proofs.RunTurns.{site_after, batches_after, datagrams_after, stopped_after, recorded_after}
 use Rattle.vp_node.proofs.Served.{SoFar, outside, stands_on, safe_all, safe_torn}

@@ -46,7 +46,7 @@ held_by x d n (Ok t) same ok err = ap (λ (a : DurableState). keys a.copies) ok 
 held_by x d n (Err e) same ok err = ap (λ (a : DurableState). keys a.copies) err
 
 -- a value is found at a number exactly where the number is
-is_there : {V : Type 0} (n : ℕ) (pairs : List (ℕ × V)) → is_some (value_at n pairs) ≡ has (keys pairs) n
+pub is_there : {V : Type 0} (n : ℕ) (pairs : List (ℕ × V)) → is_some (value_at n pairs) ≡ has (keys pairs) n
 is_there {V} n [] = refl
 is_there {V} n (p ∷ pairs) = let rest = is_there n pairs in grind (arith, nat_tests, rest)
 

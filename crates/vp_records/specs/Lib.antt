@@ -1,3 +1,4 @@
+pub mod Applying
 pub mod Records
 pub mod Batches
 pub mod Kinds

@@ -4,6 +4,7 @@ ghost use Rattle.std.specs.Prelude.{◌≡◌, OnOk, OnErr, IfOk, is_some, true,
 ghost use Rattle.vp_base.specs.declared.entry.LogRecord.TheVariants as entry;
 ghost use Rattle.vp_model.specs.Words.{has, keys, value_at, for_each, replace_at};
 ghost use Rattle.vp_model.specs.Durable.{empty_durable, apply, apply_all, doubt_of, with_outcome, put_doubt, with_writes, with_decision};
+ghost use Rattle.vp_records.specs.Applying.{AppliesSome};
 ghost use Rattle.vp_records.specs.Records.{CanBeSaved, IsLogRecord};
 
 use crate::copies::{committed, replaced, restored, written};
@@ -293,9 +294,11 @@ impl Durable {
             } => self.restore(*life, promise, copies, doubts, decisions),
         }
     }
-    /// What the records of a batch do, one behind another. Without memory some of the first have been applied.
+
+    /// What the records of a batch do, one behind another.
     pub fn apply_all(&mut self, records: &[LogRecord]) -> Result<(), NoMemory>
         ensures applied { OnOk result (self.new ≡ apply_all records.now self.old) }
+        ensures some { OnErr result (AppliesSome records.now self.old self.new) }
     {
         for entry in records {
             self.apply(entry)?;

@@ -8,6 +8,7 @@ use Rattle.vp_model.specs.Types.{Answer}
 use Rattle.vp_model.specs.Words.{has, keys, value_at}
 use Rattle.vp_catalog.specs.declared.fault.CatalogFault.{CatalogFault}
 use Rattle.vp_catalog.specs.declared.fault.CatalogFault.TheVariants as faults
+use Rattle.vp_records.proofs.Held.{is_there}
 use Rattle.vp_outside.specs.Input.{SourceState, IsEnded, Took}
 use Rattle.vp_outside.specs.Links.{LinkState}
 use Rattle.vp_outside.specs.Output.{SinkState}
@@ -146,9 +147,6 @@ module _ (words : List (List ℕ)) (source source' : SourceState) (link link' : 
 
 -- ---- a site of a catalogue
 
-is_there : (site : ℕ) (sites : List (ℕ × ℕ)) → is_some (value_at site sites) ≡ has (keys sites) site
-is_there site [] = refl
-is_there site (s ∷ sites) = let rest = is_there site sites in grind (arith, nat_tests, rest)
-
+-- a site with a port is a site
 pub listed : (site port : ℕ) (sites : List (ℕ × ℕ)) → value_at site sites ≡ Some port → has (keys sites) site ≡ true
 listed site port sites is = sym (is_there site sites) ∙ ap is_some is
