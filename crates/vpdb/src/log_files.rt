@@ -18,21 +18,50 @@ use vp_outside::{Disk, Failed, OutFault};
 /// No half is written past here.
 const LONGEST: u64 = 1 << 62;
 
-/// The files of a log, open.
+/// The file of a half, open, and whether it may have what no sync has kept.
+#[derive(Drop)]
+struct Half {
+    file: File,
+    unsynced: bool,
+}
+
+impl Half {
+    fn sync(&mut self) -> io::Result<()> {
+        if self.unsynced {
+            self.file.sync_all()?;
+            self.unsynced = false;
+        }
+        Ok(())
+    }
+}
+
+/// The halves of a log.
 #[derive(Drop)]
 struct Halves {
-    first: File,
-    second: File,
+    first: Half,
+    second: Half,
 }
 
 impl Halves {
-    fn half(&self, half: u8) -> &File {
+    fn half(&self, half: u8) -> &Half {
         if half == 0 { &self.first } else { &self.second }
     }
 
-    fn sync(&self) -> io::Result<()> {
-        self.first.sync_all()?;
-        self.second.sync_all()
+    /// The file of a half that is about to change.
+    fn changing(&mut self, half: u8) -> &File {
+        let half = if half == 0 {
+            &mut self.first
+        } else {
+            &mut self.second
+        };
+        half.unsynced = true;
+        &half.file
+    }
+
+    /// Syncs what may have changed, and passes over a half that has not.
+    fn sync(&mut self) -> io::Result<()> {
+        self.first.sync()?;
+        self.second.sync()
     }
 }
 
@@ -60,7 +89,7 @@ impl<R: Files<File = File>> LogFiles<R> {
     }
 
     /// Opens the files of a log, and makes those that are missing. Their folder is synced at each call, since the one that made them may
-    /// have been stopped before it was.
+    /// have been stopped before it was; for the same reason each file counts as unsynced.
     fn open(&self, first: &[u8], second: &[u8]) -> io::Result<Halves> {
         let halves = Halves {
             first: self.open_half(first)?,
@@ -70,19 +99,23 @@ impl<R: Files<File = File>> LogFiles<R> {
         Ok(halves)
     }
 
-    fn open_half(&self, path: &[u8]) -> io::Result<File> {
-        OpenOptions::new()
+    fn open_half(&self, path: &[u8]) -> io::Result<Half> {
+        let file = OpenOptions::new()
             .read(true)
             .write(true)
             .create(true)
-            .open(&self.files, text(path)?)
+            .open(&self.files, text(path)?)?;
+        Ok(Half {
+            file,
+            unsynced: true,
+        })
     }
 
     /// The attached file.
     fn half(&self, half: u8) -> &File
         requires { IsSome self.now.halves }
     {
-        self.halves.as_ref().unwrap().half(half)
+        &self.halves.as_ref().unwrap().half(half).file
     }
 }
 
@@ -175,7 +208,8 @@ impl<R: Files<File = File>> Disk for LogFiles<R> {
         ensures fits { OnOk result (at + length piece.now ≤ 2 ^ 62) }
         ensures no_memory { IsErrOf result OutOfMemory → ⊥ }
     {
-        let written = write_piece(self.half(half), at, piece);
+        let file = self.halves.as_mut().unwrap().changing(half);
+        let written = write_piece(file, at, piece);
         Ok(counted(&mut self.faults, written)?)
     }
 
@@ -184,7 +218,8 @@ impl<R: Files<File = File>> Disk for LogFiles<R> {
         ensures cut { Changes half (CutTo length) (MaybeCut length) (⟦<LogFiles<R> as Disk>⟧.state self.old) (⟦<LogFiles<R> as Disk>⟧.state self.new) result }
         ensures no_memory { IsErrOf result OutOfMemory → ⊥ }
     {
-        let cut = cut_file(self.half(half), length);
+        let file = self.halves.as_mut().unwrap().changing(half);
+        let cut = cut_file(file, length);
         Ok(counted(&mut self.faults, cut)?)
     }
 
@@ -193,7 +228,7 @@ impl<R: Files<File = File>> Disk for LogFiles<R> {
         ensures synced { Syncs (⟦<LogFiles<R> as Disk>⟧.state self.old) (⟦<LogFiles<R> as Disk>⟧.state self.new) result }
         ensures no_memory { IsErrOf result OutOfMemory → ⊥ }
     {
-        let synced = self.halves.as_ref().unwrap().sync();
+        let synced = self.halves.as_mut().unwrap().sync();
         Ok(counted(&mut self.faults, synced)?)
     }
 }
