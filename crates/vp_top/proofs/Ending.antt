@@ -1,15 +1,14 @@
 -- What a run comes to at its ends.
-use Rattle.std.proofs.Common.{◌≡◌, ◌∙◌, ◌<◌, ℕ, List, [], ◌∷◌, true, refl, sym, ap, subst, arith, inl, inr, ⊎_elim, ◌⊎◌, is_some}
+use Rattle.std.proofs.Common.{◌≡◌, ◌∙◌, ℕ, List, [], true, refl, sym, ap, subst, arith, inl, inr, ⊎_elim, ◌⊎◌, is_some}
 use Rattle.std.proofs.KnownBytes.{Consumes-nil}
 use Rattle.std.specs.Prelude.{⊤, Some, Result, Ok, Err}
-use Rattle.std.proofs.lemmas.Bool.Decides.{nat_tests}
 use Rattle.std.specs.Io.KnownBytes.{Appends}
 use Rattle.vp_model.specs.Types.{Answer}
 use Rattle.vp_model.specs.Words.{has, keys, value_at}
 use Rattle.vp_catalog.specs.declared.fault.CatalogFault.{CatalogFault}
 use Rattle.vp_catalog.specs.declared.fault.CatalogFault.TheVariants as faults
 use Rattle.vp_records.proofs.Held.{is_there}
-use Rattle.vp_outside.specs.Input.{SourceState, IsEnded, Took}
+use Rattle.vp_outside.specs.Input.{SourceState, IsEnded}
 use Rattle.vp_outside.specs.Links.{LinkState}
 use Rattle.vp_outside.specs.Output.{SinkState}
 use Rattle.vp_client.specs.declared.asking.AskFault.{AskFault}
@@ -23,7 +22,7 @@ use Rattle.vp_words.specs.declared.words.Command.TheVariants as commands
 use Rattle.vp_commands.specs.Asked.{Tells, ClientGives, SignalGives}
 use Rattle.vp_top.specs.Ends.{Defines, EndsInText}
 use Rattle.vp_top.specs.Plans.{Plans, PlansFor}
-use Rattle.vp_top.specs.Program.{HasRead, IsAnswer, IsAnswered, IsDefined, IsNowhere, IsToldAt, AtSite, Reads, TellsFault}
+use Rattle.vp_top.specs.Program.{HasRead, IsAnswer, IsAnswered, IsDefined, IsNowhere, Reads, TellsFault}
 use Rattle.vp_top.specs.declared.plan.Plan.{Plan}
 use Rattle.vp_top.specs.declared.plan.Plan.TheVariants as plans
 
