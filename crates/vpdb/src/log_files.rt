@@ -18,50 +18,55 @@ use vp_outside::{Disk, Failed, OutFault};
 /// No half is written past here.
 const LONGEST: u64 = 1 << 62;
 
-/// The file of a half, open, and whether it may have what no sync has kept.
+/// Which halves may have what no sync has kept.
 #[derive(Drop)]
-struct Half {
-    file: File,
-    unsynced: bool,
+struct Unsynced {
+    first: bool,
+    second: bool,
 }
 
-impl Half {
-    fn sync(&mut self) -> io::Result<()> {
-        if self.unsynced {
-            self.file.sync_all()?;
-            self.unsynced = false;
+impl Unsynced {
+    /// What a process before may have left.
+    fn both() -> Unsynced {
+        Unsynced {
+            first: true,
+            second: true,
         }
-        Ok(())
+    }
+
+    /// A half is about to change.
+    fn mark(&mut self, half: u8) {
+        if half == 0 {
+            self.first = true;
+        } else {
+            self.second = true;
+        }
     }
 }
 
-/// The halves of a log.
+/// The files of a log, open.
 #[derive(Drop)]
 struct Halves {
-    first: Half,
-    second: Half,
+    first: File,
+    second: File,
 }
 
 impl Halves {
-    fn half(&self, half: u8) -> &Half {
+    fn half(&self, half: u8) -> &File {
         if half == 0 { &self.first } else { &self.second }
     }
 
-    /// The file of a half that is about to change.
-    fn changing(&mut self, half: u8) -> &File {
-        let half = if half == 0 {
-            &mut self.first
-        } else {
-            &mut self.second
-        };
-        half.unsynced = true;
-        &half.file
-    }
-
-    /// Syncs what may have changed, and passes over a half that has not.
-    fn sync(&mut self) -> io::Result<()> {
-        self.first.sync()?;
-        self.second.sync()
+    /// Syncs the halves that may have changed.
+    fn sync(&self, unsynced: &mut Unsynced) -> io::Result<()> {
+        if unsynced.first {
+            self.first.sync_all()?;
+            unsynced.first = false;
+        }
+        if unsynced.second {
+            self.second.sync_all()?;
+            unsynced.second = false;
+        }
+        Ok(())
     }
 }
 
@@ -71,6 +76,7 @@ pub struct LogFiles<R> {
     files: R,
     asked: Option<Word>,
     halves: Option<Halves>,
+    unsynced: Unsynced,
     faults: u64,
 }
 
@@ -84,12 +90,13 @@ impl<R: Files<File = File>> LogFiles<R> {
             files,
             asked: None,
             halves: None,
+            unsynced: Unsynced::both(),
             faults: 0,
         }
     }
 
     /// Opens the files of a log, and makes those that are missing. Their folder is synced at each call, since the one that made them may
-    /// have been stopped before it was; for the same reason each file counts as unsynced.
+    /// have been stopped before it was.
     fn open(&self, first: &[u8], second: &[u8]) -> io::Result<Halves> {
         let halves = Halves {
             first: self.open_half(first)?,
@@ -99,23 +106,19 @@ impl<R: Files<File = File>> LogFiles<R> {
         Ok(halves)
     }
 
-    fn open_half(&self, path: &[u8]) -> io::Result<Half> {
-        let file = OpenOptions::new()
+    fn open_half(&self, path: &[u8]) -> io::Result<File> {
+        OpenOptions::new()
             .read(true)
             .write(true)
             .create(true)
-            .open(&self.files, text(path)?)?;
-        Ok(Half {
-            file,
-            unsynced: true,
-        })
+            .open(&self.files, text(path)?)
     }
 
     /// The attached file.
     fn half(&self, half: u8) -> &File
         requires { IsSome self.now.halves }
     {
-        &self.halves.as_ref().unwrap().half(half).file
+        self.halves.as_ref().unwrap().half(half)
     }
 }
 
@@ -185,6 +188,7 @@ impl<R: Files<File = File>> Disk for LogFiles<R> {
         let second = path_of(name, b".1")?;
         self.asked = Some(Word::from_vec(asked));
         self.halves = self.open(&first, &second).ok();
+        self.unsynced = Unsynced::both();
         if self.halves.is_none() {
             self.faults = self.faults.saturating_add(1);
             return Err(OutFault::Failed);
@@ -208,8 +212,8 @@ impl<R: Files<File = File>> Disk for LogFiles<R> {
         ensures fits { OnOk result (at + length piece.now ≤ 2 ^ 62) }
         ensures no_memory { IsErrOf result OutOfMemory → ⊥ }
     {
-        let file = self.halves.as_mut().unwrap().changing(half);
-        let written = write_piece(file, at, piece);
+        self.unsynced.mark(half);
+        let written = write_piece(self.half(half), at, piece);
         Ok(counted(&mut self.faults, written)?)
     }
 
@@ -218,8 +222,8 @@ impl<R: Files<File = File>> Disk for LogFiles<R> {
         ensures cut { Changes half (CutTo length) (MaybeCut length) (⟦<LogFiles<R> as Disk>⟧.state self.old) (⟦<LogFiles<R> as Disk>⟧.state self.new) result }
         ensures no_memory { IsErrOf result OutOfMemory → ⊥ }
     {
-        let file = self.halves.as_mut().unwrap().changing(half);
-        let cut = cut_file(file, length);
+        self.unsynced.mark(half);
+        let cut = cut_file(self.half(half), length);
         Ok(counted(&mut self.faults, cut)?)
     }
 
@@ -228,7 +232,7 @@ impl<R: Files<File = File>> Disk for LogFiles<R> {
         ensures synced { Syncs (⟦<LogFiles<R> as Disk>⟧.state self.old) (⟦<LogFiles<R> as Disk>⟧.state self.new) result }
         ensures no_memory { IsErrOf result OutOfMemory → ⊥ }
     {
-        let synced = self.halves.as_mut().unwrap().sync();
+        let synced = self.halves.as_ref().unwrap().sync(&mut self.unsynced);
         Ok(counted(&mut self.faults, synced)?)
     }
 }
