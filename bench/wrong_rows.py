@@ -19,6 +19,7 @@ CRATES = ["vp_text", "vp_base", "vp_model", "vp_catalog", "vp_laws"]
 
 # name, file, the line as it stands, the wrong line
 ROWS = [
+    ("no wrong row", "OneCopy.antt", "order journal = ", "order journal = "),
     ("a refresh request is answered in doubt", "Messages.antt",
      "if holds_view o.site view && not (is_doubtful o.site rec)", "if holds_view o.site view"),
     ("a refresh takes the last answer, not the newest", "Refresh.antt",
@@ -37,6 +38,21 @@ ROWS = [
      "order journal = flat_map (in_view journal) (views_of journal)", "order journal = journal"),
     ("an inquiry about a live transaction is answered", "Answers.antt",
      "if (txn.site == id) && not (is_live txn l.live)", "if txn.site == id"),
+    ("a refusal names an owner that has no lock", "Messages.antt",
+     "send (message.Refuse txn number (obstacle.Held holder)) from o",
+     "send (message.Refuse txn number (obstacle.Held (owner.Txn txn))) from o"),
+    ("a read is refused the lock that other reads share", "Locks.antt",
+     "conflict rec exclusive txn locks = least_owner (conflicting rec exclusive (owner.Txn txn) locks)",
+     "conflict rec exclusive txn locks = least_owner (conflicting rec true (owner.Txn txn) locks)"),
+    ("a commit is left out of the journal", "World.antt",
+     "journal = w.journal ++ o.effects.commits;", "journal = w.journal;"),
+    ("a read or a write of a copy here takes no lock", "Calls.antt",
+     "(l |> take_lock t.txn rec exclusive |> next)", "(l |> next)"),
+    ("a crash frees the records in doubt", "Step.antt", "locks = flat_map locks_in_doubt d.doubts;", "locks = [];"),
+    ("a decision is forgotten at the first acknowledgement", "Durable.antt",
+     "record d { waiting = filter (λ q. not (q == site)) d.waiting }", "record d { waiting = [] }"),
+    ("a vote is sent and not forced to the log", "Messages.antt",
+     "    |> force (entry.Yes part.txn part.view writes)\n", ""),
 ]
 IMPORTS = {"Catalogue.antt": ("Prelude.{ℕ, ◌*◌, Bool, nat_lt,", "Prelude.{ℕ, ◌*◌, Bool, not, nat_lt,")}
 
@@ -76,6 +92,26 @@ def without_shapes(copy):
     crates.write_text("\n".join(re.sub(" vp_(wire|records|bytes)", "", line) for line in kept) + "\n")
 
 
+def without_catalogues(copy):
+    """Leaves of the crate of catalogues the law of majorities alone, and takes out the one law that stands on more of it."""
+    crate = copy / "crates/vp_catalog"
+    kept = {"src": ["lib", "entry", "fault", "majority", "placed"], "proofs": ["Lib", "Majorities", "majority"]}
+    for part, names in kept.items():
+        for path in (crate / part).iterdir():
+            if path.stem not in names:
+                shutil.rmtree(path) if path.is_dir() else path.unlink()
+        lib = next((crate / part).glob("[lL]ib.*"))
+        gone = re.compile(r"(pub )?(mod|use) (?!(%s)\b)" % "|".join(names))
+        lib.write_text("".join(line + "\n" for line in lib.read_text().splitlines() if not gone.match(line)))
+    shutil.rmtree(crate / "must-fail", ignore_errors=True)
+    laws = copy / "crates/vp_laws"
+    claims = laws / "src/claims.rt"
+    claims.write_text(re.sub(r"(///.*\n)+pub fn sites_are_apart\(\)\n(    .*\n)+\{\}\n", "", claims.read_text()))
+    shutil.rmtree(laws / "proofs/claims/sites_are_apart")
+    (laws / "proofs/Catalogues.antt").unlink()
+    replaced(laws / "proofs/Lib.antt", "pub mod Catalogues\n", "")
+
+
 def left_out(folder, names):
     """What of the repository no copy needs."""
     if pathlib.Path(folder).name == "crates":
@@ -99,6 +135,7 @@ def main(words):
             shutil.copytree(TOP, copy, ignore=left_out)
             without_worked_schedules(copy)
             without_shapes(copy)
+            without_catalogues(copy)
             replaced(copy / SPECS / file, old, new)
             if file in IMPORTS:
                 replaced(copy / SPECS / file, *IMPORTS[file])
