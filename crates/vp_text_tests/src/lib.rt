@@ -1,9 +1,7 @@
-//! The tests of words, catalogues and histories, outside the crates that read and print them: a crate with tests is proved twice.
+//! The tests of words and catalogues, outside the crates that read and print them: a crate with tests is proved twice.
 #![tactic(auto)]
 
 #[cfg(test)]
 mod catalogues;
-#[cfg(test)]
-mod histories;
 #[cfg(test)]
 mod words;
