@@ -14,9 +14,9 @@ use Rattle.vp_stable.specs.Halves.{HaveBatches, AreBadLog}
 use Rattle.vp_stable.specs.Moments.{LeavesOthers}
 use Rattle.vp_runs.specs.Runs.{NodeRun, node_run}
 use Rattle.vp_node.specs.Nodes.{IsSpent}
-use Rattle.vp_node.specs.Serving.{Outside, Course, run_of, Did, IsKeptAs, LeavesFrom, IsSafe, IsIdle, HasNotStarted, IsUnbound, IsWhole, HasStopped, HasDone, HasLost, HasTorn, IsBroken, IsUnwritten, Serves}
-use Rattle.vp_node.specs.declared.end.End.{End}
-use Rattle.vp_node.specs.declared.end.End.TheVariants as ends
+use Rattle.vp_serving.specs.Serving.{Outside, Course, run_of, Did, IsKeptAs, LeavesFrom, IsSafe, IsIdle, HasNotStarted, IsUnbound, IsWhole, HasStopped, HasDone, HasLost, HasTorn, IsBroken, IsUnwritten, Serves}
+use Rattle.vp_serving.specs.declared.end.End.{End}
+use Rattle.vp_serving.specs.declared.end.End.TheVariants as ends
 use Rattle.vp_commands.specs.NodeEnds.{attached_to, end_of_attach, last_line, status_of, NodeEnds}
 use Rattle.vp_status.specs.declared.status.Status.{Status}
 

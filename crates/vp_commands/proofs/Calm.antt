@@ -14,9 +14,9 @@ use Rattle.vp_client.specs.Claims.{AnswersAreGiven}
 use Rattle.vp_client.specs.declared.asking.AskFault.{AskFault}
 use Rattle.vp_client.specs.declared.asking.AskFault.TheVariants as faults
 use Rattle.vp_node.specs.Nodes.{IsSpent}
-use Rattle.vp_node.specs.Serving.{Outside, Serves}
-use Rattle.vp_node.specs.declared.end.End.{End}
-use Rattle.vp_node.specs.declared.end.End.TheVariants as ends
+use Rattle.vp_serving.specs.Serving.{Outside, Serves}
+use Rattle.vp_serving.specs.declared.end.End.{End}
+use Rattle.vp_serving.specs.declared.end.End.TheVariants as ends
 use Rattle.vp_commands.specs.Asked.{Tells as TellsAnswer}
 use Rattle.vp_commands.specs.Claims.{AnswersAreTold, SignalsAreDone}
 use Rattle.vp_status.specs.Lines.{bad_log_text, lives_spent_text}

@@ -14,9 +14,9 @@ use Rattle.vp_stable.specs.Halves.{HaveBatches, AreBadLog}
 use Rattle.vp_stable.specs.Moments.{LeavesOthers}
 use Rattle.vp_runs.specs.Keeping.{durable_in}
 use Rattle.vp_node.specs.Nodes.{IsSpent}
-use Rattle.vp_node.specs.Serving.{Outside, Serves}
-use Rattle.vp_node.specs.declared.end.End.{End}
-use Rattle.vp_node.specs.declared.end.End.TheVariants as ends
+use Rattle.vp_serving.specs.Serving.{Outside, Serves}
+use Rattle.vp_serving.specs.declared.end.End.{End}
+use Rattle.vp_serving.specs.declared.end.End.TheVariants as ends
 use Rattle.vp_status.specs.Lines.{link_fault_text, disk_fault_text, lives_spent_text, bad_log_text}
 use Rattle.vp_status.specs.Printing.{Prints}
 use Rattle.vp_status.specs.declared.status.Status.{Status}

@@ -10,8 +10,8 @@ ghost use Rattle.vp_commands.specs.NodeEnds.{DecidedIfCalm, HasCause, NodeEnds, 
 use std::alloc::Global;
 use vp_base::{NoMemory, SiteId, Word};
 use vp_catalog::Catalog;
-use vp_node::{End, serve};
 use vp_outside::{Disk, Link, OutFault, Sink};
+use vp_serving::{End, serve};
 use vp_status::{Defined, Status};
 use vp_text::print_number;
 

@@ -1,12 +1,5 @@
-mod Begun
-mod Ended
-mod Kept
-mod Prefixes
-mod Printed
+pub mod Faults
+pub mod Kept
 mod Revived
-mod RunTurns
-mod Served
 mod Taken
-mod TurnEnds
-mod TurnTells
 mod Turning

@@ -9,8 +9,6 @@ use Rattle.vp_stable.specs.declared.fault.AppendFault.{AppendFault}
 use Rattle.vp_stable.specs.declared.fault.AppendFault.TheVariants as append
 use Rattle.vp_node.specs.declared.end.NodeEnd.{NodeEnd}
 use Rattle.vp_node.specs.declared.end.NodeEnd.TheVariants as ends
-use Rattle.vp_node.specs.declared.end.End.{End}
-use Rattle.vp_node.specs.declared.end.End.TheVariants as served
 
 abbrev pub end_of_log : LogFault → NodeEnd
 end_of_log log.DiskFault = ends.DiskFault
@@ -24,12 +22,6 @@ end_of_start start.NoMemory = ends.NoMemory
 abbrev pub end_of_append : AppendFault → NodeEnd
 end_of_append append.DiskFault = ends.DiskFault
 end_of_append append.NoMemory = ends.NoMemory
-
-abbrev pub end_of_node : NodeEnd → End
-end_of_node ends.DiskFault = served.DiskFault
-end_of_node (ends.BadLog half at) = served.BadLog half at
-end_of_node (ends.LivesSpent life) = served.LivesSpent life
-end_of_node ends.NoMemory = served.NoMemory
 
 -- The disk's count of failures rose where the answer is DiskFault, and stayed as it was at any other.
 pub record HasNodeCause {T : Type 0} (before now : ℕ) (result : Result T NodeEnd) : Type 0 where

@@ -6,7 +6,7 @@ use Rattle.vp_outside.specs.Causes.{Rose}
 use Rattle.vp_outside.specs.Input.{SourceState, IsEnded, Took}
 use Rattle.vp_outside.specs.Links.{LinkState}
 use Rattle.vp_outside.specs.Output.{SinkState, AppendsPrefix}
-use Rattle.vp_node.specs.Serving.{Outside}
+use Rattle.vp_serving.specs.Serving.{Outside}
 use Rattle.vp_words.specs.Commands.{command_of}
 use Rattle.vp_words.specs.declared.words.Command.{Command}
 use Rattle.vp_words.specs.declared.words.Command.TheVariants as commands

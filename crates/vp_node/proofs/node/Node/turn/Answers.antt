@@ -13,7 +13,7 @@ use Rattle.vp_node.specs.Causes.{HasNodeCause, EndsInTurn, end_of_append}
 use Rattle.vp_node.specs.Nodes.{NodeValue, turn_of}
 use Rattle.vp_node.proofs.Kept.{leaves_settled, may_keep_none}
 use Rattle.vp_node.proofs.Turning.{same_id, brings, can_be_saved, settled, saves_none, saves_as, leaves_saves, keeps_on}
-use Rattle.vp_node.proofs.TurnTells.{append_ends, append_causes, gave_err}
+use Rattle.vp_node.proofs.Faults.{append_ends, append_causes, gave_err}
 use Rattle.vp_node.proofs.node.Node.turn.Goals as goal
 
 pub keep-requires-clause-form : goal.keep-requires-clause-form

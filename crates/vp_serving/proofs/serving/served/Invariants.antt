@@ -1,0 +1,9 @@
+-- The datagrams that came were taken, and none of them ended the run.
+use Rattle.std.proofs.Common.{false}
+use Rattle.vp_serving.proofs.Served.{SoFar, outside}
+use Rattle.vp_serving.proofs.serving.served.Given as goal
+
+abbrev pub invariant-loop : goal.invariant-loop
+invariant-loop g l = record {
+  so_far : SoFar l.catalog l.fn.id l.counter false (outside (g.L.Link.state l.fn.link) (g.L.Link.state l.link) (g.K.Sink.state l.fn.sink) (g.K.Sink.state l.sink) (g.D.Disk.state l.fn.disk) (g.D.Disk.state l.disk)) l.node;
+}

@@ -1,0 +1,175 @@
+-- How serving ends: which turns were taken, what was recorded, handed over and kept in the log.
+use Rattle.std.specs.Prelude.{◌≡◌, ◌⊎◌, ◌+◌, ◌-◌, ◌^◌, ◌<◌, ◌≤◌, ℕ, Bool, true, false, List, [], ◌∷◌, ◌++◌, length, take, IfSome, Result, Ok, Err}
+use Rattle.std.specs.Io.KnownBytes.{Appends}
+use Rattle.vp_model.specs.Types.{LogRecord}
+use Rattle.vp_model.specs.Words.{value_at}
+use Rattle.vp_model.specs.Catalogue.{Catalogue}
+use Rattle.vp_model.specs.Step.{durable_of}
+use Rattle.vp_outside.specs.Causes.{Rose, count_after}
+use Rattle.vp_outside.specs.Disk.{Halves, DiskState, log_of, Steps, Only}
+use Rattle.vp_outside.specs.Links.{LinkState, Gave, Hands}
+use Rattle.vp_outside.specs.Output.{SinkState}
+use Rattle.vp_outside.specs.declared.datagram.Datagram.{Datagram}
+use Rattle.vp_stable.specs.Halves.{HaveBatches, AreBadLog, ReadAlike}
+use Rattle.vp_runs.specs.Keeping.{durable_in}
+use Rattle.vp_runs.specs.Turns.{end_line}
+use Rattle.vp_runs.specs.Runs.{NodeRun, node_run, recorded}
+use Rattle.vp_node.specs.Nodes.{MayStart, IsSpent}
+use Rattle.vp_serving.specs.declared.end.End.{End}
+use Rattle.vp_serving.specs.declared.end.End.TheVariants as ends
+
+-- What the link, the sink and the disk told as a call began and as it returned.
+pub record Outside : Type 1 where
+  pub link : LinkState
+  pub link' : LinkState
+  pub sink : SinkState
+  pub sink' : SinkState
+  pub disk : DiskState
+  pub disk' : DiskState
+
+-- ---- which run it was
+
+-- the log that was recovered, and the datagrams that came
+pub record Course (catalogue : Catalogue) (id turns : ℕ) (o : Outside) : Type 0 where
+  pub batches : List (List LogRecord)
+  pub had : IfSome (log_of o.disk) (HaveBatches batches)
+  pub lives : (durable_in catalogue id batches).life < 2 ^ 32 - 1
+  pub asked : o.link'.asked ≡ value_at id catalogue.sites
+  pub bound : o.link'.bound ≡ true
+  pub arrived : List Datagram
+  pub gave : Gave o.link.left o.link'.left arrived
+  pub counted : o.link'.given ≡ count_after o.link.given (length arrived)
+  pub few : length arrived ≤ turns
+
+-- the run over all that came
+abbrev pub run_of : {catalogue : Catalogue} {id turns : ℕ} {o : Outside} → Course catalogue id turns o → NodeRun
+run_of {catalogue = catalogue} {id = id} course = node_run catalogue id course.batches course.arrived
+
+-- ---- what was done of it
+
+-- The first is a beginning of the second.
+abbrev pub IsPrefix : {X : Type 0} → List X → List X → Type 0
+IsPrefix front whole = front ≡ take (length front) whole
+
+-- This was recorded and this was handed over, in all.
+pub record Did (o : Outside) (written : List ℕ) (handed : List Datagram) : Type 0 where
+  pub writes : Appends o.sink.held o.sink'.held written
+  pub hands : Hands o.link.handed o.link'.handed handed
+
+-- every crash leaves the log that the run has
+abbrev pub IsKeptAs : NodeRun → DiskState → DiskState → Type 0
+IsKeptAs run disk disk' = disk.honest → IfSome (disk'.logs disk.asked) (λ log. HaveBatches run.node.batches log × Only log (disk'.may_leave disk.asked))
+
+-- Each crash leaves a log whose fold is the durable part after so many of the turns, or after more of them.
+abbrev pub LeavesFrom : Catalogue → ℕ → List (List LogRecord) → List Datagram → ℕ → Halves → Type 0
+LeavesFrom catalogue id batches arrived sure image =
+    (n : ℕ) × (sure ≤ n) × (n ≤ length arrived)
+    × ((left : List (List LogRecord)) × HaveBatches left image × (durable_in catalogue id left ≡ durable_of (node_run catalogue id batches (take n arrived)).node.site))
+
+-- Each datagram that was handed over belongs to a turn that every crash leaves in the log.
+pub record IsSafe (catalogue : Catalogue) (id : ℕ) (batches : List (List LogRecord)) (arrived handed : List Datagram) (disk disk' : DiskState) : Type 0 where
+  pub sure : ℕ
+  pub few : sure ≤ length arrived
+  pub handed_of : IsPrefix handed (node_run catalogue id batches (take sure arrived)).datagrams
+  pub left : disk.honest → IfSome (log_of disk) (λ _. (image : Halves) → disk'.may_leave disk.asked image → LeavesFrom catalogue id batches arrived sure image)
+
+-- ---- the ends
+
+module _ (catalogue : Catalogue) (id turns : ℕ) (o : Outside) where
+  -- Nothing came, was recorded or was handed over.
+  pub record IsIdle : Type 0 where
+    pub none : Gave o.link.left o.link'.left []
+    pub uncounted : o.link'.given ≡ o.link.given
+    pub did : Did o [] []
+
+  -- The node didn't start: no port was asked, and its log took this step.
+  pub record HasNotStarted (step : Halves → Halves → Type 0) : Type 0 where
+    pub idle : IsIdle
+    pub unasked : o.link'.asked ≡ o.link.asked
+    pub log : Steps step o.disk o.disk'
+
+  -- It started, and its port couldn't be bound.
+  pub record IsUnbound : Type 0 where
+    pub idle : IsIdle
+    pub asked : o.link'.asked ≡ value_at id catalogue.sites
+    pub unbound : o.link'.bound ≡ false
+    pub batches : List (List LogRecord)
+    pub had : IfSome (log_of o.disk) (HaveBatches batches)
+    pub kept : IsKeptAs (node_run catalogue id batches []) o.disk o.disk'
+
+  -- The turns that came are whole, with all that was recorded, up to this end of the recording, handed over and kept.
+  pub record IsWhole (stopped : Bool) (end : List ℕ) : Type 0 where
+    pub course : Course catalogue id turns o
+    pub stopped_is : (run_of course).stopped ≡ stopped
+    pub did : Did o (recorded (run_of course) ++ end) (run_of course).datagrams
+    pub kept : IsKeptAs (run_of course) o.disk o.disk'
+
+  -- The last datagram ended it: before it the run went on.
+  pub record HasStopped : Type 0 where
+    pub whole : IsWhole true end_line
+    pub front : List Datagram
+    pub last : Datagram
+    pub arrived : whole.course.arrived ≡ front ++ last ∷ []
+    pub going : (node_run catalogue id whole.course.batches front).stopped ≡ false
+
+  -- So many datagrams came, and none of them ended it.
+  pub record HasDone : Type 0 where
+    pub whole : IsWhole false end_line
+    pub all : length whole.course.arrived ≡ turns
+
+  -- The link failed where the next datagram was to come.
+  pub record HasLost : Type 0 where
+    pub whole : IsWhole false []
+    pub more : length whole.course.arrived < turns
+
+  -- The disk failed in the turn of the last datagram: what was done is whole for the turns before it.
+  pub record HasTorn : Type 0 where
+    pub course : Course catalogue id turns o
+    pub front : List Datagram
+    pub last : Datagram
+    pub arrived : course.arrived ≡ front ++ last ∷ []
+    pub going : (node_run catalogue id course.batches front).stopped ≡ false
+    pub did : Did o (recorded (node_run catalogue id course.batches front)) (node_run catalogue id course.batches front).datagrams
+    pub safe : IsSafe catalogue id course.batches course.arrived (node_run catalogue id course.batches front).datagrams o.disk o.disk'
+
+  -- the last line of a recording, which stands only behind a run that is over
+  abbrev pub MayEnd : Course catalogue id turns o → List ℕ → Type 0
+  MayEnd course end = (end ≡ []) ⊎ ((end ≡ end_line) × (((run_of course).stopped ≡ true) ⊎ (length course.arrived ≡ turns)))
+
+  -- The run was broken off: beginnings of its recording and of its datagrams are done.
+  pub record IsBroken : Type 0 where
+    pub course : Course catalogue id turns o
+    pub end : List ℕ
+    pub end_is : MayEnd course end
+    pub written : List ℕ
+    pub handed : List Datagram
+    pub did : Did o written handed
+    pub written_of : IsPrefix written (recorded (run_of course) ++ end)
+    pub handed_of : IsPrefix handed (run_of course).datagrams
+    pub safe : IsSafe catalogue id course.batches course.arrived handed o.disk o.disk'
+
+  -- A line couldn't be printed. The lines of a turn come before its datagrams: what was handed over is whole for all turns but the last,
+  -- or for all, and what is recorded of these turns was printed.
+  pub record IsUnwritten : Type 0 where
+    pub broken : IsBroken
+    pub turns_done : ℕ
+    pub few : turns_done ≤ length broken.course.arrived
+    pub last : length broken.course.arrived ≤ turns_done + 1
+    pub handed : broken.handed ≡ (node_run catalogue id broken.course.batches (take turns_done broken.course.arrived)).datagrams
+    pub printed : (broken.handed ≡ []) ⊎ IsPrefix (recorded (node_run catalogue id broken.course.batches (take turns_done broken.course.arrived))) broken.written
+
+  -- what each end of serving says
+  abbrev pub Serves : End → Type 0
+  Serves ends.Stopped = HasStopped
+  Serves ends.TurnsDone = HasDone
+  Serves ends.LinkFault = Rose o.link.faults o.link'.faults × (IsUnbound ⊎ HasLost)
+  Serves ends.DiskFault = Rose o.disk.faults o.disk'.faults × (HasNotStarted (MayStart catalogue id) ⊎ HasTorn)
+  Serves ends.WriteFault = Rose o.sink.faults o.sink'.faults × IsUnwritten
+  Serves (ends.BadLog half at) = HasNotStarted ReadAlike × IfSome (log_of o.disk) (AreBadLog half at)
+  Serves (ends.LivesSpent life) = HasNotStarted ReadAlike × IsSpent catalogue id life o.disk
+  Serves ends.NoMemory = HasNotStarted (MayStart catalogue id) ⊎ (IsUnbound ⊎ IsBroken)
+
+-- the end that an answer has, in either case
+abbrev pub either : Result End End → End
+either (Ok end) = end
+either (Err end) = end

@@ -1,0 +1,10 @@
+//! Serving: a node takes each datagram that comes over a link by a turn. The lines of a turn are printed, in one piece, before its datagrams
+//! are handed over.
+#![tactic(auto)]
+
+mod end;
+mod serving;
+mod telling;
+
+pub use end::End;
+pub use serving::serve;
