@@ -24,11 +24,11 @@ from types import SimpleNamespace
 
 from comparison import arguments, modules
 from frame_draws import Draws, damaged_frame
-from node_processes import HOST, Caller, Nodes, bound, catalogue, free_ports
+from node_processes import HOST, Caller, Nodes, Recording, bound, catalogue, free_ports
 from recordings import Fault, insist
 
 SITE, LONGEST_SEEN, LONGEST_SENT = 1, 16384, 20000
-AT_ONCE, BYTES_AT_ONCE, PATIENCE = 64, 65536, 20
+AT_ONCE, BYTES_AT_ONCE = 64, 65536
 RECORDS = ["record here 10 1:1", "record everywhere 10 1:1 2:1 3:1"]
 MODULES = ("base", "client", "fields", "wire")
 
@@ -36,18 +36,17 @@ MODULES = ("base", "client", "fields", "wire")
 class Hostile:
     """Draws datagrams that are no inputs, each with its sender's site and the line that a node has to write of it."""
 
-    def __init__(self, reference, seed):
-        self.reference = reference
-        self.draw = random.Random(seed)
-        self.draws = Draws(reference.wire, self.draw)
+    def __init__(self, reference, draw, site=SITE, others=(2, 3)):
+        self.reference, self.draw, self.site, self.others = reference, draw, site, others
+        self.draws = Draws(reference.wire, draw)
         self.rightful = 0  # how many were left out
 
     def _frame(self):
         frame = self.draws.frame()
         if frame.to and self.draw.randrange(4):
-            frame = frame._replace(to=SITE)
-        if frame.sender and self.draw.randrange(2):
-            frame = frame._replace(sender=self.draw.choice([2, 3]))
+            frame = frame._replace(to=self.site)
+        if frame.sender and self.others and self.draw.randrange(2):
+            frame = frame._replace(sender=self.draw.choice(self.others))
         return frame
 
     def _bytes(self):
@@ -67,34 +66,20 @@ class Hostile:
             frame = self.reference.wire.decode(data)
         except self.reference.fields.NotWhole as fault:
             return f"bad {fault.at}"
-        return None if (frame.to, frame.sender) == (SITE, sender) else f"stray {data.hex()}"
+        return None if (frame.to, frame.sender) == (self.site, sender) else f"stray {data.hex()}"
+
+    def any(self):
+        """The sender's site or 0, the bytes that are sent, and the line, None where it is an input."""
+        sender, data = self.draw.choice([0, *self.others]), self._bytes()
+        return sender, data, self._line(sender, data[:LONGEST_SEEN])
 
     def next(self):
-        """The sender's site or 0, the bytes that are sent, and the line."""
+        """The same of the next that is no input."""
         while True:
-            sender, data = self.draw.choice([0, 2, 3]), self._bytes()
-            line = self._line(sender, data[:LONGEST_SEEN])
+            sender, data, line = self.any()
             if line is not None:
                 return sender, data, line
             self.rightful += 1
-
-
-class Recording:
-    """The lines of a file that grows, one after the other."""
-
-    def __init__(self, path):
-        self._file = open(path, "rb")
-        self._file.seek(0, 2)
-
-    def next(self):
-        """The next line, or None where it doesn't come."""
-        line, end = self._file.readline(), time.monotonic() + PATIENCE
-        while not line.endswith(b"\n"):
-            if time.monotonic() > end:
-                return None
-            time.sleep(0.0005)
-            line += self._file.readline()
-        return line[:-1].decode("ascii")
 
 
 def in_batches(hostile, count):
@@ -148,7 +133,7 @@ def insist_on_state(node, caller, working, said, log):
 def run(program, reference, seed, count, folder):
     """Floods a node and tells what came of it."""
     ports = dict(zip((1, 2, 3), free_ports(3)))
-    hostile = Hostile(reference, seed)
+    hostile = Hostile(reference, random.Random(seed))
     with Nodes([program], {SITE: catalogue(ports, RECORDS)}, folder) as nodes:
         node = nodes[SITE]
         life = node.start_wholly()
@@ -156,7 +141,7 @@ def run(program, reference, seed, count, folder):
         working, said = calls_before(caller)
         log, sockets = node.halves(), {0: bound(), 2: bound(ports[2]), 3: bound(ports[3])}
         begin = time.monotonic()
-        counts = flood(hostile, count, sockets, ports[SITE], Recording(life.path))
+        counts = flood(hostile, count, sockets, ports[SITE], Recording(life.path, behind=True))
         seconds = time.monotonic() - begin
         insist_on_state(node, caller, working, said, log)
     print(f"seed {seed}: {count} datagrams were sent, {counts.total()} arrived: {counts['bad']} bad, {counts['stray']} stray;"

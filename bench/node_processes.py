@@ -11,6 +11,7 @@ HOST = "127.0.0.1"
 LONGEST = 65536
 PORTS = range(20000, 32000)  # below those that the kernel gives to sockets without a port of their own
 FOREVER = 2**64 - 1
+PATIENCE = 20  # seconds
 
 
 def bound(port=0):
@@ -76,6 +77,29 @@ class Life:
             return True
         assert self.process.poll() is None, f"node {self.site} ended with status {self.process.returncode}"
         return False
+
+
+class Recording:
+    """The lines of a file that grows, one after the other: from its start on, or only those that come behind what it has now."""
+
+    def __init__(self, path, behind=False):
+        self._file = open(path, "rb")
+        if behind:
+            self._file.seek(0, 2)
+
+    def next(self):
+        """The next line, or None where it doesn't come."""
+        line, end = self._file.readline(), time.monotonic() + PATIENCE
+        while not line.endswith(b"\n"):
+            if time.monotonic() > end:
+                return None
+            time.sleep(0.0005)
+            line += self._file.readline()
+        return line[:-1].decode("ascii")
+
+    def is_over(self):
+        """Is there nothing behind the lines that were taken?"""
+        return not self._file.read()
 
 
 class Node:

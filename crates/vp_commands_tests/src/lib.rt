@@ -4,8 +4,16 @@
 #[cfg(test)]
 mod calls;
 #[cfg(test)]
+mod clusters;
+#[cfg(test)]
+mod faults;
+#[cfg(test)]
 mod fixtures;
 #[cfg(test)]
+mod long_logs;
+#[cfg(test)]
 mod nodes;
+#[cfg(test)]
+mod running;
 #[cfg(test)]
 mod signals;

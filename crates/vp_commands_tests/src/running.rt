@@ -1,0 +1,102 @@
+//! Running a node over a link, a disk and a sink in memory.
+
+use crate::fixtures::datagram;
+use std::alloc::{AllocError, Global};
+use std::test::Fail;
+use vp_base::{SiteId, Word};
+use vp_catalog::{Catalog, has_site};
+use vp_commands::serve_log;
+use vp_outside::{Datagram, MemDisk, MemLink, TextSink};
+use vp_status::Status;
+
+/// Site 1 alone.
+const ALONE: &[u8] = b"site 1 7001\nrecord x 10 1:1\n";
+
+/// As many datagrams as no test has.
+const TURNS: u64 = 100;
+
+/// Which call of each object fails; no call has number 0.
+#[derive(Clone, Copy, Drop)]
+pub struct Failing {
+    pub link: u64,
+    pub disk: u64,
+    pub sink: u64,
+}
+
+pub const NONE: Failing = Failing {
+    link: 0,
+    disk: 0,
+    sink: 0,
+};
+
+/// A node before it runs.
+#[derive(Clone, Copy, Drop)]
+pub struct Setup<'a> {
+    pub catalogue: &'a [u8],
+    pub site: SiteId,
+    /// The halves of its log.
+    pub halves: [&'a [u8]; 2],
+    pub failing: Failing,
+}
+
+/// What a run leaves.
+#[derive(Drop)]
+pub struct Ended {
+    pub status: Status,
+    pub link: MemLink,
+    pub disk: MemDisk,
+    pub sink: TextSink,
+}
+
+impl Setup<'_> {
+    /// Site 1 alone, whose log has these bytes in its first half.
+    pub fn alone(half: &[u8]) -> Setup<'_> {
+        Setup {
+            catalogue: ALONE,
+            site: SiteId::of(1),
+            halves: [half, b""],
+            failing: NONE,
+        }
+    }
+
+    /// Runs the node, to which these datagrams come and then none.
+    pub fn run(&self, alloc: Global, datagrams: Vec<Datagram>) -> Result<Ended, Fail> {
+        let Ok(catalog) = Catalog::read(alloc, self.catalogue) else {
+            return Err(Fail::from("no catalogue"));
+        };
+        if !has_site(catalog.sites().as_slice(), self.site) {
+            return Err(Fail::from("no such site"));
+        }
+        let [first, second] = self.halves;
+        let name = Word::from_vec(b"log".to_vec(alloc)?);
+        let mut disk = MemDisk::new(alloc, vec![in alloc; self.failing.disk]?);
+        disk.lay(&name, first.to_vec(alloc)?, second.to_vec(alloc)?)?;
+        let mut link = MemLink::new(alloc, datagrams, vec![in alloc; self.failing.link]?);
+        let mut sink = TextSink::new(alloc, vec![in alloc; self.failing.sink]?);
+        let status = serve_log(
+            &catalog, self.site, &name, &mut link, &mut disk, &mut sink, TURNS,
+        );
+        Ok(Ended {
+            status,
+            link,
+            disk,
+            sink,
+        })
+    }
+}
+
+impl Ended {
+    /// Whether it ended with this status, and printed this text.
+    pub fn is(&self, status: Status, text: &[u8]) -> bool {
+        self.status == status && self.sink.bytes() == text
+    }
+}
+
+/// Datagrams of a client.
+pub fn said(alloc: Global, pieces: &[&[u8]]) -> Result<Vec<Datagram>, AllocError> {
+    let mut datagrams = Vec::new(alloc);
+    for piece in pieces {
+        datagrams.push(datagram(alloc, 7100, piece)?)?;
+    }
+    Ok(datagrams)
+}
