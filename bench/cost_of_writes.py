@@ -25,6 +25,9 @@ each, and then two more.
 
 A read-only transaction, `begin`, `read` and `commit` at a site with a copy, appends nothing and sends nothing to other sites: it is 3
 round trips. A plain round trip is that of the same bytes between this process and one that sends back what comes.
+
+The client's own work, which writes and reads frames by the reference, doesn't count: a call's time is from the send to the receipt. Only of
+writes in a row the whole time counts, since the nodes go on while the client works.
 """
 import concurrent.futures
 import itertools
@@ -70,7 +73,7 @@ def lengths(reference):
 
 
 class Writes:
-    """Transactions of one client at site 1."""
+    """Transactions of one client at site 1, each of which answers how many seconds the client waited."""
 
     def __init__(self, reference, ports):
         self._caller = Caller(reference, ports)
@@ -79,16 +82,18 @@ class Writes:
 
     def _end(self, *calls):
         """A transaction of these calls, which has to commit."""
+        before = self._caller.waited
         begun = self._caller.ask(1, "begin")
         for number, (kind, *rest) in enumerate([*calls, ("commit",)], 1):
             answer = self._caller.ask(1, kind, begun.txn, number, *rest)
         assert type(answer).__name__ == "Committed", answer
+        return self._caller.waited - before
 
     def write(self):
-        self._end(("write", NAME, str(next(self._values))))
+        return self._end(("write", NAME, str(next(self._values))))
 
     def read(self):
-        self._end(("read", NAME))
+        return self._end(("read", NAME))
 
     def empty_queues(self):
         """Waits until all nodes have done what they were sent: the others first, whose last datagrams go to site 1."""
@@ -97,15 +102,19 @@ class Writes:
 
 
 def timed(deed):
-    """The seconds that the deed takes."""
-    begin = time.monotonic()
-    deed()
-    return time.monotonic() - begin
+    """The same deed, answering the seconds that it takes."""
+
+    def and_told():
+        begin = time.monotonic()
+        deed()
+        return time.monotonic() - begin
+
+    return and_told
 
 
 def chunk_of(deed):
-    """The deed, so many times as a chunk has."""
-    return lambda: [deed() for _ in range(CHUNK)]
+    """The deed, so many times as a chunk has: the seconds of all."""
+    return lambda: sum(deed() for _ in range(CHUNK))
 
 
 class Costs:
@@ -130,18 +139,19 @@ class Costs:
         seconds = dict.fromkeys(range(len(deeds)))
         for place in (*range(first % len(deeds), len(deeds)), *range(first % len(deeds))):
             self.writes.empty_queues()
-            seconds[place] = timed(deeds[place])
+            seconds[place] = deeds[place]()
         return list(seconds.values())
 
     def alone(self):
         """The seconds of a chunk of writes, of its plain fsyncs, and of fsyncs in the same pattern."""
-        deeds = self.writes.write, lambda: self.plainly("yes", "commit"), self.in_pattern
+        deeds = self.writes.write, timed(lambda: self.plainly("yes", "commit")), timed(self.in_pattern)
         return list(map(sum, zip(*(self.in_turns(deeds, first) for first in range(CHUNK)))))
 
     def in_a_row(self, first):
         """The seconds of a chunk of writes and of its plain fsyncs."""
         appends = "yes", "commit", "outcome", "acked", "acked"
-        return self.in_turns([chunk_of(self.writes.write), chunk_of(lambda: self.plainly(*appends))], first)
+        deeds = self.writes.write, lambda: self.plainly(*appends)
+        return self.in_turns([chunk_of(timed(deed)) for deed in deeds], first)
 
 
 def send_back(sock):
@@ -194,7 +204,7 @@ def main():
         costs = Costs(writes, nodes.folder, lengths(reference))
         alone = [costs.alone() for _ in chunks]
         row = [costs.in_a_row(first) for first in chunks]
-        reads = [costs.in_turns([chunk_of(writes.read), chunk_of(trips.three)], first) for first in chunks]
+        reads = [costs.in_turns([chunk_of(writes.read), chunk_of(timed(trips.three))], first) for first in chunks]
         trips.close()
     tell("a committed write, alone", "4 plain fsyncs", alone)
     tell("a committed write, alone", "4 fsyncs of which two and two are at once", alone, 2)

@@ -152,26 +152,33 @@ class Nodes(dict):
 
 
 class Caller:
-    """A client on a port of its own, that waits for the answer of one call before the next."""
+    """A client on a port of its own, that waits for the answer of one call before the next. `waited` is how many seconds it has waited so
+    far, without those in which frames were written and read here."""
 
     def __init__(self, reference, ports, seconds=10):
         self.wire, self.client = reference.wire, reference.client
         self.call_of = reference.base.Call
         self.ports = ports
+        self.waited = 0.0
         self.socket = bound()
         self.socket.settimeout(seconds)
 
     def say(self, site, *words):
         """Sends the call of these words: a kind, and where it has them a transaction, a number, a name and a value."""
         call = self.call_of(*words)
-        self.socket.sendto(self.client.call_frame(site, call), (HOST, self.ports[site]))
+        frame = self.client.call_frame(site, call)
+        self.waited -= time.monotonic()
+        self.socket.sendto(frame, (HOST, self.ports[site]))
+        self.waited += time.monotonic()
         return call
 
     def ask(self, site, *words):
         """Sends a call, and answers what it is answered."""
         call = self.say(site, *words)
         while True:
+            self.waited -= time.monotonic()
             data, (_, port) = self.socket.recvfrom(LONGEST)
+            self.waited += time.monotonic()
             answer = self.client.is_the_answer(site, self.ports[site], call, port, data)
             if answer is not None:
                 return answer

@@ -1,11 +1,10 @@
 -- Asking goes on datagram by datagram.
-use Rattle.std.proofs.Common.{◌≡◌, ◌∙◌, ℕ, suc, zero, ◌+◌, ◌≤◌, List, [], ◌∷◌, ◌++◌, length, take, drop, replicate, refl, sym, ap, arith, inl, inr, false, ◌==◌}
+use Rattle.std.proofs.Common.{◌≡◌, ◌∙◌, ℕ, ◌+◌, ◌≤◌, List, [], ◌∷◌, ◌++◌, length, take, refl, ap, arith, inl, inr, false, ◌==◌}
 use Rattle.std.specs.Prelude.{Option, Some, None, Ok, Err}
 use Rattle.std.specs.Option.{option_map_or}
-use Rattle.std.proofs.lemmas.List.{length-append, append-nil}
 use Rattle.vp_model.specs.Types.{Answer, Call}
 use Rattle.vp_outside.specs.Causes.{count_after}
-use Rattle.vp_outside.specs.Links.{LinkState, Gave, Hands, StaysBound, Receives, Sends, nothing, received}
+use Rattle.vp_outside.specs.Links.{LinkState, Gave, StaysBound, Receives, Sends, received}
 use Rattle.vp_outside.specs.declared.sink.OutFault.{OutFault}
 use Rattle.vp_outside.specs.declared.sink.OutFault.TheVariants as output
 use Rattle.vp_outside.specs.declared.datagram.Datagram.{Datagram}

@@ -7,7 +7,7 @@ use Rattle.vp_outside.specs.declared.datagram.Datagram.{Datagram}
 use Rattle.vp_runs.specs.Asking.{first_answer, answer_of}
 use Rattle.vp_client.specs.Claims.{AnswersAreGiven}
 use Rattle.vp_client.specs.declared.asking.AskFault.TheVariants as faults
-use Rattle.vp_client.proofs.Asked.{firsts, given_firsts}
+use Rattle.vp_outside.proofs.Passed.{firsts, given_firsts}
 
 -- ---- the first datagrams
 

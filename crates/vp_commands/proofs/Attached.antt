@@ -17,7 +17,7 @@ use Rattle.vp_node.specs.Nodes.{IsSpent}
 use Rattle.vp_node.specs.Serving.{Outside, Course, run_of, Did, IsKeptAs, LeavesFrom, IsSafe, IsIdle, HasNotStarted, IsUnbound, IsWhole, HasStopped, HasDone, HasLost, HasTorn, IsBroken, IsUnwritten, Serves}
 use Rattle.vp_node.specs.declared.end.End.{End}
 use Rattle.vp_node.specs.declared.end.End.TheVariants as ends
-use Rattle.vp_commands.specs.NodeEnds.{attached_to, end_of_attach, Tells, NodeEnds}
+use Rattle.vp_commands.specs.NodeEnds.{attached_to, end_of_attach, last_line, status_of, NodeEnds}
 use Rattle.vp_status.specs.declared.status.Status.{Status}
 
 -- ---- two states of a disk with the same log attached, where the second is honest only if the first is
@@ -166,7 +166,7 @@ module _ (name : List ℕ) (old : DiskState) (t : Unit {0}) where
 
 pub served : (catalogue : Catalogue) (id turns : ℕ) (name : List ℕ) (link link' : LinkState) (sink mid sink' : SinkState) (disk attached disk' : DiskState) (t : Unit {0}) (end : End) (told : Status)
     → Attaches name disk attached (Ok t) → Serves catalogue id turns (record { link = link; link' = link'; sink = sink; sink' = mid; disk = attached; disk' = disk' }) end
-    → LeavesOthers attached disk' → sink.faults ≤ mid.faults → Tells end mid sink' told
+    → LeavesOthers attached disk' → sink.faults ≤ mid.faults → Prints (status_of end) (last_line end) mid sink' told
     → NodeEnds catalogue id turns name (record { link = link; link' = link'; sink = sink; sink' = sink'; disk = disk; disk' = disk' }) told
 served catalogue id turns name link link' sink mid sink' disk attached disk' t end told a s others later tells = inl (record {
   end = end;
@@ -178,6 +178,6 @@ served catalogue id turns name link link' sink mid sink' disk attached disk' t e
 })
 
 pub unattached : (catalogue : Catalogue) (id turns : ℕ) (name : List ℕ) (link : LinkState) (sink sink' : SinkState) (disk disk' : DiskState) (fault : OutFault) (told : Status)
-    → Attaches {T = Unit {0}} name disk disk' (Err fault) → Tells (end_of_attach fault) sink sink' told
+    → Attaches {T = Unit {0}} name disk disk' (Err fault) → Prints (status_of (end_of_attach fault)) (last_line (end_of_attach fault)) sink sink' told
     → NodeEnds catalogue id turns name (record { link = link; link' = link; sink = sink; sink' = sink'; disk = disk; disk' = disk' }) told
 unattached catalogue id turns name link sink sink' disk disk' fault told a tells = inr (record { fault = fault; attaches = a; uncalled = refl; tells = tells })

@@ -20,7 +20,7 @@ use Rattle.vp_node.specs.declared.end.End.TheVariants as ends
 use Rattle.vp_commands.specs.Asked.{Tells as TellsAnswer}
 use Rattle.vp_commands.specs.Claims.{AnswersAreTold, SignalsAreDone}
 use Rattle.vp_status.specs.Lines.{bad_log_text, lives_spent_text}
-use Rattle.vp_commands.specs.NodeEnds.{Tells, NodeEnds, IsCalm, DecidedByLog, attached_to, end_of_attach, last_line, status_of}
+use Rattle.vp_commands.specs.NodeEnds.{NodeEnds, IsCalm, DecidedByLog, attached_to, end_of_attach, last_line, status_of}
 use Rattle.vp_status.specs.declared.status.Status.{Status}
 use Rattle.vp_status.specs.declared.status.Status.TheVariants as status
 
@@ -60,12 +60,12 @@ module _ (catalogue : Catalogue) (id turns : ℕ) (name : List ℕ) (o : Outside
     }
     served_decided ends.NoMemory s printed same = tt
 
-    served_told : (end : End) (told : Status) → ServesThere end → o.sink.faults ≤ sink.faults → Tells end sink o.sink' told → Decided told
+    served_told : (end : End) (told : Status) → ServesThere end → o.sink.faults ≤ sink.faults → Prints (status_of end) (last_line end) sink o.sink' told → Decided told
     served_told end told s later (inl t) = subst Decided (sym t.0) (served_decided end s t.1 t.2)
     served_told end told s later (inr (inl t)) = absurd (calm.sink (rose_later o.sink.faults sink.faults o.sink'.faults later t.2))
     served_told end told s later (inr (inr t)) = subst Decided (sym t.0) tt
 
-  unattached_told : (fault : OutFault) (told : Status) → (fault ≡ output.Failed → ⊥) → Tells (end_of_attach fault) o.sink o.sink' told → Decided told
+  unattached_told : (fault : OutFault) (told : Status) → (fault ≡ output.Failed → ⊥) → Prints (status_of (end_of_attach fault)) (last_line (end_of_attach fault)) o.sink o.sink' told → Decided told
   unattached_told output.Failed told calm_disk t = absurd (calm_disk refl)
   unattached_told output.NoMemory told calm_disk (inl t) = subst Decided (sym t.0) tt
   unattached_told output.NoMemory told calm_disk (inr (inl t)) = absurd (calm.sink t.2)

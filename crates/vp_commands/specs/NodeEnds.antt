@@ -7,7 +7,7 @@ use Rattle.vp_model.specs.Words.{value_at}
 use Rattle.vp_outside.specs.Causes.{Rose}
 use Rattle.vp_outside.specs.Disk.{DiskState}
 use Rattle.vp_outside.specs.DiskCalls.{Attaches}
-use Rattle.vp_outside.specs.Output.{SinkState, AppendsPrefix}
+use Rattle.vp_outside.specs.Output.{SinkState}
 use Rattle.vp_outside.specs.declared.sink.OutFault.{OutFault}
 use Rattle.vp_outside.specs.declared.sink.OutFault.TheVariants as output
 use Rattle.vp_stable.specs.Halves.{HaveBatches, AreBadLog}
@@ -18,6 +18,7 @@ use Rattle.vp_node.specs.Serving.{Outside, Serves}
 use Rattle.vp_node.specs.declared.end.End.{End}
 use Rattle.vp_node.specs.declared.end.End.TheVariants as ends
 use Rattle.vp_status.specs.Lines.{link_fault_text, disk_fault_text, lives_spent_text, bad_log_text}
+use Rattle.vp_status.specs.Printing.{Prints}
 use Rattle.vp_status.specs.declared.status.Status.{Status}
 use Rattle.vp_status.specs.declared.status.Status.TheVariants as status
 
@@ -44,13 +45,6 @@ status_of (ends.BadLog half at) = status.BadLog
 status_of (ends.LivesSpent life) = status.LivesSpent
 status_of ends.NoMemory = status.NoMemory
 
--- The line was printed, or the sink failed in it, or there was no memory for it.
-abbrev pub Tells : End → SinkState → SinkState → Status → Type 0
-Tells end sink sink' told =
-    ((told ≡ status_of end) × Appends sink.held sink'.held (last_line end) × (sink'.faults ≡ sink.faults))
-    ⊎ (((told ≡ status.SinkFault) × AppendsPrefix sink.held sink'.held (last_line end) × Rose sink.faults sink'.faults)
-    ⊎ ((told ≡ status.NoMemory) × AppendsPrefix sink.held sink'.held (last_line end) × (sink'.faults ≡ sink.faults)))
-
 -- ---- the command
 
 -- the disk with the log of that name attached, which changes no log
@@ -69,14 +63,14 @@ module _ (catalogue : Catalogue) (id turns : ℕ) (name : List ℕ) (o : Outside
     pub serves : Serves catalogue id turns (record o { disk = attached_to name o.disk; sink' = sink }) end
     pub others : LeavesOthers (attached_to name o.disk) o.disk'
     pub later : o.sink.faults ≤ sink.faults
-    pub tells : Tells end sink o.sink' told
+    pub tells : Prints (status_of end) (last_line end) sink o.sink' told
 
   -- The log couldn't be attached, and the link wasn't called.
   pub record IsUnattached : Type 0 where
     pub fault : OutFault
     pub attaches : Attaches {T = Unit {0}} name o.disk o.disk' (Err fault)
     pub uncalled : o.link' ≡ o.link
-    pub tells : Tells (end_of_attach fault) o.sink o.sink' told
+    pub tells : Prints (status_of (end_of_attach fault)) (last_line (end_of_attach fault)) o.sink o.sink' told
 
   abbrev pub NodeEnds : Type 0
   NodeEnds = IsServed ⊎ IsUnattached

@@ -4,14 +4,15 @@ ghost use Rattle.std.specs.Prelude.{◌≡◌, ◌++◌, None, true, IfOk, OnOk}
 ghost use Rattle.vp_model.specs.Words.{has};
 ghost use Rattle.vp_model.specs.Catalogue.{sites_of};
 ghost use Rattle.vp_status.specs.Lines.{bad_log_text};
-ghost use Rattle.vp_commands.specs.NodeEnds.{DecidedIfCalm, HasCause, NodeEnds, Tells, last_line, status_of};
+ghost use Rattle.vp_status.specs.Printing.{Prints};
+ghost use Rattle.vp_commands.specs.NodeEnds.{DecidedIfCalm, HasCause, NodeEnds, last_line, status_of};
 
 use std::alloc::Global;
 use vp_base::{NoMemory, SiteId, Word};
 use vp_catalog::Catalog;
 use vp_node::{End, serve};
-use vp_outside::{Disk, Link, OutFault, Sink, write_all};
-use vp_status::Status;
+use vp_outside::{Disk, Link, OutFault, Sink};
+use vp_status::{Defined, Status};
 use vp_text::print_number;
 
 /// Attaches the log of this name, serves the node on it for at most `turns` datagrams, and prints why it ended behind its recording.
@@ -67,15 +68,15 @@ pub fn serve_log<L: Link, D: Disk, K: Sink>(
 
 /// Prints the line behind the recording, and answers the status.
 fn tell<K: Sink>(alloc: Global, sink: &mut K, end: End) -> Status
-    ensures { Tells end (K.state sink.old) (K.state sink.new) result }
+    ensures { Prints (status_of end) (last_line end) (K.state sink.old) (K.state sink.new) result }
 {
-    let Ok(line) = last_line(alloc, end) else {
-        return Status::NoMemory;
-    };
-    match write_all(sink, &line) {
-        Ok(()) => status_of(end),
-        Err(OutFault::Failed) => Status::SinkFault,
-        Err(OutFault::NoMemory) => Status::NoMemory,
+    match last_line(alloc, end) {
+        Ok(text) => Defined {
+            status: status_of(end),
+            text,
+        }
+        .print(sink),
+        Err(NoMemory) => Status::NoMemory,
     }
 }
 

@@ -13,12 +13,12 @@ pub count_more : (before n : ℕ) → count_after (count_after before n) 1 ≡ c
 count_more before n = grind (arith)
 
 -- the next datagrams of a list, and empty ones behind its end
-abbrev firsts : ℕ → List Datagram → List Datagram
+abbrev pub firsts : ℕ → List Datagram → List Datagram
 firsts zero left = []
 firsts (suc n) [] = nothing ∷ firsts n []
 firsts (suc n) (d ∷ left) = d ∷ firsts n left
 
-given_firsts : (n m : ℕ) (left : List Datagram) → n ≤ m → take n (left ++ replicate m nothing) ≡ firsts n left
+pub given_firsts : (n m : ℕ) (left : List Datagram) → n ≤ m → take n (left ++ replicate m nothing) ≡ firsts n left
 given_firsts zero m left h = refl
 given_firsts (suc n) zero left h = absurd (omega (arith, h))
 given_firsts (suc n) (suc m) [] h = ap (λ (l : List Datagram). nothing ∷ l) (given_firsts n m [] (omega (arith, h)))

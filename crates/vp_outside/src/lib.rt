@@ -28,8 +28,3 @@ pub use sinks::{SureSink, TextSink};
 pub use source::{Failed, InputFault, Source, read_to_end};
 pub use sources::{SureSource, TextSource};
 pub use sure_disk::SureDisk;
-
-#[cfg(test)]
-mod link_tests;
-#[cfg(test)]
-mod tests;

@@ -1,6 +1,6 @@
 -- A vote that a part has given.
-use Rattle.std.specs.Prelude.{ℕ, Option, Some, None}
-use Rattle.vp_model.specs.Types.{TxnId, LogRecord}
+use Rattle.std.specs.Prelude.{ℕ}
+use Rattle.vp_model.specs.Types.{TxnId}
 use Rattle.vp_model.specs.Types.message
 use Rattle.vp_model.specs.Words.{◌|>◌, for_some}
 use Rattle.vp_model.specs.Site.{ParticipantState, Stepped, change_participant, force, send}

@@ -1,5 +1,4 @@
 -- A row on what a part of a site keeps, at a whole site: all else stays.
-use Rattle.std.specs.Prelude.{ℕ}
 use Rattle.vp_model.specs.Types.{Effects}
 use Rattle.vp_model.specs.Site.{SiteState, Stepped}
 use Rattle.vp_views.specs.Viewing.{Viewing, Viewed, viewed}

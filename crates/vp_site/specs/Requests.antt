@@ -1,7 +1,7 @@
 -- A request for a lock on a record with a copy here.
-use Rattle.std.specs.Prelude.{ℕ, Bool, not, if◌then◌else◌, Option, Some, None}
+use Rattle.std.specs.Prelude.{ℕ, Bool, not, if◌then◌else◌}
 use Rattle.std.specs.Option.{option_map_or}
-use Rattle.vp_model.specs.Types.{TxnId, ViewId, Message}
+use Rattle.vp_model.specs.Types.{Message}
 use Rattle.vp_model.specs.Types.message
 use Rattle.vp_model.specs.Types.obstacle
 use Rattle.vp_model.specs.Words.{has_txn}

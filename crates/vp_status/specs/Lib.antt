@@ -1,3 +1,4 @@
 pub mod Codes
 pub mod Lines
+pub mod Printing
 pub mod Refused

@@ -3,10 +3,12 @@
 ghost use Rattle.std.specs.Prelude.{◌≡◌, IfOk};
 ghost use Rattle.vp_status.specs.Codes.{code_of};
 ghost use Rattle.vp_status.specs.Lines.{link_fault_text};
+ghost use Rattle.vp_status.specs.Printing.{Prints};
 ghost use Rattle.vp_status.specs.declared.status.Status.TheVariants.{LinkFault as LinkFailed};
 
 use std::alloc::Global;
 use vp_base::NoMemory;
+use vp_outside::{OutFault, Sink, write_all};
 
 /// The end of a run; its number is the exit status of the process.
 #[derive(Clone, Copy, Debug, PartialEq, Eq)]
@@ -74,5 +76,16 @@ impl Defined {
         ensures text { IfOk result (λ it. it.text.items ≡ link_fault_text) }
     {
         Defined::new(alloc, Status::LinkFault, b"link fault\n")
+    }
+
+    /// Prints the text, and answers its status, or the one of what cut it short.
+    pub fn print<K: Sink>(&self, sink: &mut K) -> Status
+        ensures { Prints self.now.status self.now.text.items (K.state sink.old) (K.state sink.new) result }
+    {
+        match write_all(sink, &self.text) {
+            Ok(()) => self.status,
+            Err(OutFault::Failed) => Status::SinkFault,
+            Err(OutFault::NoMemory) => Status::NoMemory,
+        }
     }
 }

@@ -1,19 +1,19 @@
 -- What a run comes to at its ends.
-use Rattle.std.proofs.Common.{◌≡◌, ◌∙◌, ◌<◌, ℕ, List, [], ◌∷◌, true, refl, sym, ap, subst, arith, inl, inr, ⊎_elim, ◌⊎◌, is_some}
+use Rattle.std.proofs.Common.{◌≡◌, ◌∙◌, ℕ, List, [], true, refl, sym, ap, subst, arith, inl, inr, ⊎_elim, ◌⊎◌, is_some}
 use Rattle.std.proofs.KnownBytes.{Consumes-nil}
 use Rattle.std.specs.Prelude.{⊤, Some, Result, Ok, Err}
-use Rattle.std.proofs.lemmas.Bool.Decides.{nat_tests}
 use Rattle.std.specs.Io.KnownBytes.{Appends}
 use Rattle.vp_model.specs.Types.{Answer}
 use Rattle.vp_model.specs.Words.{has, keys, value_at}
 use Rattle.vp_catalog.specs.declared.fault.CatalogFault.{CatalogFault}
 use Rattle.vp_catalog.specs.declared.fault.CatalogFault.TheVariants as faults
 use Rattle.vp_records.proofs.Held.{is_there}
-use Rattle.vp_outside.specs.Input.{SourceState, IsEnded, Took}
+use Rattle.vp_outside.specs.Input.{SourceState, IsEnded}
 use Rattle.vp_outside.specs.Links.{LinkState}
 use Rattle.vp_outside.specs.Output.{SinkState}
 use Rattle.vp_client.specs.declared.asking.AskFault.{AskFault}
 use Rattle.vp_client.specs.declared.asking.AskFault.TheVariants as ask
+use Rattle.vp_status.specs.Printing.{Prints}
 use Rattle.vp_status.specs.declared.status.Status.{Status}
 use Rattle.vp_status.specs.declared.status.Status.TheVariants as status
 use Rattle.vp_words.specs.Commands.{command_of}
@@ -21,8 +21,8 @@ use Rattle.vp_words.specs.declared.words.Command.{Command}
 use Rattle.vp_words.specs.declared.words.Command.TheVariants as commands
 use Rattle.vp_commands.specs.Asked.{Tells, ClientGives, SignalGives}
 use Rattle.vp_top.specs.Ends.{Defines, EndsInText}
-use Rattle.vp_top.specs.Plans.{Plans, PlansFor, Prints}
-use Rattle.vp_top.specs.Program.{HasRead, IsAnswer, IsAnswered, IsDefined, IsNowhere, IsToldAt, AtSite, Reads, TellsFault}
+use Rattle.vp_top.specs.Plans.{Plans, PlansFor}
+use Rattle.vp_top.specs.Program.{HasRead, IsAnswer, IsAnswered, IsDefined, IsNowhere, Reads, TellsFault}
 use Rattle.vp_top.specs.declared.plan.Plan.{Plan}
 use Rattle.vp_top.specs.declared.plan.Plan.TheVariants as plans
 
@@ -142,7 +142,7 @@ module _ (words : List (List ℕ)) (source source' : SourceState) (link link' : 
       let Text = EndsInText words source source' link link' sink sink' in
       let has = defined_has words source source' link link' d.bytes (IsEnded source') end text d.defined in
       ⊎_elim (λ all. subst Text (sym all.0) (whole end text has d all.1))
-      (λ part. ⊎_elim (λ failed. subst Text (sym failed.0) (failed.1, record { end = end; text = text; defines = d; appended = failed.2 }))
+      (λ part. ⊎_elim (λ failed. subst Text (sym failed.0) (failed.2, record { end = end; text = text; defines = d; appended = failed.1 }))
       (λ none. subst Text (sym none.0) (inl (record { end = end; text = text; defines = d; appended = none.1 }))) part) p
 
 -- ---- a site of a catalogue

@@ -1,14 +1,9 @@
 -- What the program is to do once its words are tested and its input is read.
-use Rattle.std.specs.Prelude.{◌≡◌, ◌⊎◌, ℕ, List, Some}
+use Rattle.std.specs.Prelude.{◌≡◌, ℕ, List}
 use Rattle.vp_outside.specs.Input.{SourceState}
 use Rattle.vp_outside.specs.Links.{LinkState}
-use Rattle.vp_outside.specs.Output.{SinkState, AppendsPrefix}
-use Rattle.vp_outside.specs.Causes.{Rose}
-use Rattle.std.specs.Io.KnownBytes.{Appends}
 use Rattle.vp_words.specs.declared.words.Command.{Command}
 use Rattle.vp_words.specs.declared.words.Command.TheVariants as commands
-use Rattle.vp_status.specs.declared.status.Status.{Status}
-use Rattle.vp_status.specs.declared.status.Status.TheVariants as status
 use Rattle.vp_top.specs.Ends.{Defines, IsNode}
 use Rattle.vp_top.specs.Program.{IsAnswer, IsNowhere, IsPlaced}
 use Rattle.vp_top.specs.declared.plan.Plan.{Plan}
@@ -31,10 +26,3 @@ PlansFor command bytes link link' (plans.Serve catalogue site log turns) =
 abbrev pub Plans : List (List ℕ) → SourceState → SourceState → LinkState → LinkState → Plan → Type 0
 Plans words source source' link link' (plans.Print told) = Defines words source source' link link' told.status told.text.items
 Plans words source source' link link' (plans.Serve catalogue site log turns) = IsNode words source source' catalogue site log turns × (link' ≡ link)
-
--- The text was printed, or a prefix of it.
-abbrev pub Prints : Status → List ℕ → SinkState → SinkState → Status → Type 0
-Prints end text sink sink' told =
-    ((told ≡ end) × Appends sink.held sink'.held text)
-    ⊎ (((told ≡ status.SinkFault) × Rose sink.faults sink'.faults × AppendsPrefix sink.held sink'.held text)
-    ⊎ ((told ≡ status.NoMemory) × AppendsPrefix sink.held sink'.held text))

@@ -2,7 +2,7 @@
 use Rattle.std.specs.Prelude.{◌≡◌, ◌<◌, ◌≤◌, ◌⊎◌, ⊤, ℕ, List, [], length, codes, Some, None, Ok, Err}
 use Rattle.vp_model.specs.Words.{value_at}
 use Rattle.vp_model.specs.Catalogue.{Catalogue}
-use Rattle.vp_catalog.specs.Document.{Answered}
+use Rattle.vp_catalog.specs.Document.{Answered, IsOnly}
 use Rattle.vp_catalog.specs.declared.fault.CatalogFault.{CatalogFault}
 use Rattle.vp_catalog.specs.declared.fault.CatalogFault.TheVariants as faults
 use Rattle.vp_outside.specs.Links.{LinkState}
@@ -36,12 +36,14 @@ TellsFault _ _ text = ⊥
 pub record IsNoCatalogue (bytes : List ℕ) (end : Status) (text : List ℕ) : Type 0 where
   pub fault : CatalogFault
   pub answered : Answered bytes (Err fault)
+  pub only : IsOnly bytes (Err fault)
   pub tells : TellsFault fault end text
 
 -- The catalogue lacks the site, and the usage is told.
 pub record HasNoSite (bytes : List ℕ) (site : ℕ) (end : Status) (text : List ℕ) : Type 0 where
   pub catalogue : Catalogue
   pub answered : Answered bytes (Ok catalogue)
+  pub only : IsOnly bytes (Ok catalogue)
   pub missing : value_at site catalogue.sites ≡ None
   pub end_is : end ≡ status.Usage
   pub text_is : text ≡ usage_text
@@ -50,9 +52,10 @@ pub record HasNoSite (bytes : List ℕ) (site : ℕ) (end : Status) (text : List
 abbrev pub IsNowhere : List ℕ → ℕ → Status → List ℕ → Type 0
 IsNowhere bytes site end text = IsNoCatalogue bytes end text ⊎ HasNoSite bytes site end text
 
--- The input is this catalogue, in which the site has this port.
+-- The input is this catalogue and no other, in which the site has this port.
 pub record IsPlaced (bytes : List ℕ) (catalogue : Catalogue) (site port : ℕ) : Type 0 where
   pub answered : Answered bytes (Ok catalogue)
+  pub only : IsOnly bytes (Ok catalogue)
   pub there : value_at site catalogue.sites ≡ Some port
 
 -- what is told at a site, by its port; where the input has no such site, the link is not called

@@ -4,7 +4,7 @@ ghost use Rattle.std.specs.Prelude.{◌≡◌, ◌≤◌, ◌<◌, ◌↔◌, If
 ghost use Rattle.vp_outside.specs.Causes.{Rose};
 ghost use Rattle.vp_outside.specs.Input.{IsEnded, Took};
 ghost use Rattle.vp_top.specs.Ends.{Ends, EndsAsNode, EndsInText, LeavesLink};
-ghost use Rattle.vp_top.specs.Plans.{Plans, Prints};
+ghost use Rattle.vp_top.specs.Plans.{Plans};
 ghost use Rattle.vp_top.specs.Program.{AreOf, Calls, IsForNode, Reads};
 ghost use Rattle.vp_top.specs.declared.program.Stop.TheVariants as stops;
 
@@ -12,8 +12,8 @@ use crate::plan::{Plan, plan_of, too_long, usage};
 use std::alloc::{AllocError, Global};
 use vp_base::{NoMemory, Word};
 use vp_commands::serve_log;
-use vp_outside::{Disk, InputFault, Link, OutFault, Sink, Source, read_to_end, write_all};
-use vp_status::{Defined, Status};
+use vp_outside::{Disk, InputFault, Link, Sink, Source, read_to_end};
+use vp_status::Status;
 use vp_words::Command;
 
 /// The most bytes that an input has.
@@ -82,7 +82,7 @@ pub fn run<S: Source, K: Sink, L: Link, D: Disk>(
         result → ⊥) → disk.new ≡ disk.old }
 {
     match plan(alloc, words, source, link) {
-        Ok(Plan::Print(defined)) => print(sink, &defined),
+        Ok(Plan::Print(defined)) => defined.print(sink),
         Ok(
             Plan::Serve {
                 catalog,
@@ -93,17 +93,6 @@ pub fn run<S: Source, K: Sink, L: Link, D: Disk>(
         ) => serve_log(&catalog, site, &log, link, disk, sink, turns),
         Err(Stop::SourceFault) => Status::SourceFault,
         Err(Stop::NoMemory) => Status::NoMemory,
-    }
-}
-
-/// Prints the text, and answers its status.
-fn print<K: Sink>(sink: &mut K, defined: &Defined) -> Status
-    ensures { Prints defined.now.status defined.now.text.items (K.state sink.old) (K.state sink.new) result }
-{
-    match write_all(sink, &defined.text) {
-        Ok(()) => defined.status,
-        Err(OutFault::Failed) => Status::SinkFault,
-        Err(OutFault::NoMemory) => Status::NoMemory,
     }
 }
 

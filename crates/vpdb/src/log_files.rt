@@ -18,6 +18,32 @@ use vp_outside::{Disk, Failed, OutFault};
 /// No half is written past here.
 const LONGEST: u64 = 1 << 62;
 
+/// Which halves may have what no sync has kept.
+#[derive(Drop)]
+struct Unsynced {
+    first: bool,
+    second: bool,
+}
+
+impl Unsynced {
+    /// What a process before may have left.
+    fn both() -> Unsynced {
+        Unsynced {
+            first: true,
+            second: true,
+        }
+    }
+
+    /// A half is about to change.
+    fn mark(&mut self, half: u8) {
+        if half == 0 {
+            self.first = true;
+        } else {
+            self.second = true;
+        }
+    }
+}
+
 /// The files of a log, open.
 #[derive(Drop)]
 struct Halves {
@@ -30,9 +56,17 @@ impl Halves {
         if half == 0 { &self.first } else { &self.second }
     }
 
-    fn sync(&self) -> io::Result<()> {
-        self.first.sync_all()?;
-        self.second.sync_all()
+    /// Syncs the halves that may have changed.
+    fn sync(&self, unsynced: &mut Unsynced) -> io::Result<()> {
+        if unsynced.first {
+            self.first.sync_all()?;
+            unsynced.first = false;
+        }
+        if unsynced.second {
+            self.second.sync_all()?;
+            unsynced.second = false;
+        }
+        Ok(())
     }
 }
 
@@ -42,6 +76,7 @@ pub struct LogFiles<R> {
     files: R,
     asked: Option<Word>,
     halves: Option<Halves>,
+    unsynced: Unsynced,
     faults: u64,
 }
 
@@ -55,6 +90,7 @@ impl<R: Files<File = File>> LogFiles<R> {
             files,
             asked: None,
             halves: None,
+            unsynced: Unsynced::both(),
             faults: 0,
         }
     }
@@ -152,6 +188,7 @@ impl<R: Files<File = File>> Disk for LogFiles<R> {
         let second = path_of(name, b".1")?;
         self.asked = Some(Word::from_vec(asked));
         self.halves = self.open(&first, &second).ok();
+        self.unsynced = Unsynced::both();
         if self.halves.is_none() {
             self.faults = self.faults.saturating_add(1);
             return Err(OutFault::Failed);
@@ -175,6 +212,7 @@ impl<R: Files<File = File>> Disk for LogFiles<R> {
         ensures fits { OnOk result (at + length piece.now ≤ 2 ^ 62) }
         ensures no_memory { IsErrOf result OutOfMemory → ⊥ }
     {
+        self.unsynced.mark(half);
         let written = write_piece(self.half(half), at, piece);
         Ok(counted(&mut self.faults, written)?)
     }
@@ -184,6 +222,7 @@ impl<R: Files<File = File>> Disk for LogFiles<R> {
         ensures cut { Changes half (CutTo length) (MaybeCut length) (⟦<LogFiles<R> as Disk>⟧.state self.old) (⟦<LogFiles<R> as Disk>⟧.state self.new) result }
         ensures no_memory { IsErrOf result OutOfMemory → ⊥ }
     {
+        self.unsynced.mark(half);
         let cut = cut_file(self.half(half), length);
         Ok(counted(&mut self.faults, cut)?)
     }
@@ -193,7 +232,7 @@ impl<R: Files<File = File>> Disk for LogFiles<R> {
         ensures synced { Syncs (⟦<LogFiles<R> as Disk>⟧.state self.old) (⟦<LogFiles<R> as Disk>⟧.state self.new) result }
         ensures no_memory { IsErrOf result OutOfMemory → ⊥ }
     {
-        let synced = self.halves.as_ref().unwrap().sync();
+        let synced = self.halves.as_ref().unwrap().sync(&mut self.unsynced);
         Ok(counted(&mut self.faults, synced)?)
     }
 }

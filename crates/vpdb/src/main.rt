@@ -2,6 +2,8 @@
 #![tactic(auto)]
 
 mod log_files;
+#[cfg(test)]
+mod processes;
 mod socket;
 #[cfg(test)]
 mod tests;
@@ -33,22 +35,23 @@ fn read_words(rt: &HostRuntime, words: &mut Vec<Word>) -> Result<(), AllocError>
     }
 }
 
+/// Does what the words say with the real objects.
+fn run_words(rt: &HostRuntime, words: &[Word]) -> Status {
+    run(
+        rt.alloc(),
+        words,
+        &mut Reading::new(rt.stdin()),
+        &mut Writing::new(rt.stdout()),
+        &mut Socket::new(rt),
+        &mut LogFiles::new(rt),
+    )
+}
+
 fn main(rt: HostRuntime) -> ExitCode {
     let mut words = Vec::new(rt.alloc());
-    if read_words(&rt, &mut words).is_err() {
-        return ExitCode::from(Status::NoMemory.code());
-    }
-    let mut source = Reading::new(rt.stdin());
-    let mut sink = Writing::new(rt.stdout());
-    let mut link = Socket::new(&rt);
-    let mut disk = LogFiles::new(&rt);
-    let status = run(
-        rt.alloc(),
-        &words,
-        &mut source,
-        &mut sink,
-        &mut link,
-        &mut disk,
-    );
+    let status = match read_words(&rt, &mut words) {
+        Ok(()) => run_words(&rt, &words),
+        Err(AllocError) => Status::NoMemory,
+    };
     ExitCode::from(status.code())
 }

@@ -1,4 +1,4 @@
-use Rattle.std.proofs.Common.{rules, inl, inr}
+use Rattle.std.proofs.Common.{inl, inr}
 use Rattle.vp_top.proofs.Ending.{listed, printed}
 use Rattle.vp_top.proofs.program.run.Goals as goal
 

@@ -1,9 +1,9 @@
 ghost use Rattle.std.specs.Prelude.{◌≡◌, ◌≤◌, None, length};
 
-use crate::{Datagram, Failed, Link, MOST_GIVEN, MemLink, OutFault, SureLink};
 use bytes::Bytes;
 use std::alloc::{AllocError, Global};
 use std::test::Fail;
+use vp_outside::{Datagram, Failed, Link, MOST_GIVEN, MemLink, OutFault, SureLink};
 
 fn datagram(alloc: Global, port: u16, bytes: &[u8]) -> Result<Datagram, AllocError> {
     Ok(Datagram {
