@@ -1,13 +1,11 @@
 -- Each input that an event gives to a site comes to the site's node as a datagram.
 use Rattle.std.proofs.Common.{◌≡◌, ◌≢◌, ◌∙◌, ap, sym, subst, ℕ, ◌≤◌, ◌<◌, Bool, true, false, cond, List, ◌∷◌, [], refl, arith, ⊎_elim}
-use Rattle.std.specs.Prelude.{Option, Some, None, ◌==◌, find, option_map}
-use Rattle.std.specs.List.{AllByRecursion}
+use Rattle.std.specs.Prelude.{Some, ◌==◌, find, option_map}
 use Rattle.std.specs.Option.{option_map_or}
 use Rattle.std.proofs.lemmas.Bool.Decides.{nat_tests}
 use Rattle.vp_catalog.specs.Document.{IsCatalogue, AreSites}
 use Rattle.vp_bytes.specs.Fields.{IsSite}
-use Rattle.vp_model.specs.Types.{Event, Input, Sent, Call}
-use Rattle.vp_model.specs.Types.event
+use Rattle.vp_model.specs.Types.{Event, Input, Sent}
 use Rattle.vp_model.specs.Types.input
 use Rattle.vp_model.specs.Words.{keys, value_at}
 use Rattle.vp_model.specs.Catalogue.{Catalogue, sites_of}

@@ -1,6 +1,6 @@
 -- What one step of a schedule does to the place of a site and to its log.
 use Rattle.std.proofs.Common.{◌≡◌, ◌≢◌, ◌∙◌, ap, sym, subst, ℕ, ◌+◌, ◌-◌, ◌^◌, Bool, true, false, cond, List, ◌∷◌, [], ◌++◌, refl, arith, ⊎_elim}
-use Rattle.std.specs.Prelude.{Option, Some, None, ◌==◌, ◌&&◌, option_map, option_and_then}
+use Rattle.std.specs.Prelude.{Option, Some, None, ◌==◌, option_map, option_and_then}
 use Rattle.std.proofs.lemmas.Bool.Decides.{nat_tests}
 use Rattle.vp_model.specs.Types.{LogRecord, Event, Input, Sent, Shown}
 use Rattle.vp_model.specs.Types.event

@@ -1,28 +1,26 @@
 -- Each site of a schedule is a node on its log.
-use Rattle.std.proofs.Common.{◌≡◌, ◌∙◌, ap, sym, subst, ℕ, ◌+◌, Bool, true, false, List, ◌∷◌, [], ◌++◌, refl}
-use Rattle.std.specs.Prelude.{Some, None, IfSome, ◌==◌}
+use Rattle.std.proofs.Common.{◌≡◌, ◌∙◌, ap, sym, ℕ, ◌+◌, false, List, ◌∷◌, [], ◌++◌, refl}
+use Rattle.std.specs.Prelude.{Some, ◌==◌}
 use Rattle.std.specs.List.{AllByRecursion}
 use Rattle.std.proofs.lemmas.List.Sums.{fold-append}
 use Rattle.vp_catalog.specs.Document.{IsCatalogue}
 use Rattle.vp_wire.specs.Grammar.{IsFrame}
-use Rattle.vp_model.specs.Types.{LogRecord, Event, Input, Sent}
+use Rattle.vp_model.specs.Types.{LogRecord, Input, Sent}
 use Rattle.vp_model.specs.Catalogue.{Catalogue, sites_of}
-use Rattle.vp_model.specs.Durable.{DurableState, apply_all, empty_durable}
+use Rattle.vp_model.specs.Durable.{DurableState, apply_all}
 use Rattle.vp_model.specs.Site.{SiteState}
 use Rattle.vp_model.specs.Step.{step, start, durable_of}
-use Rattle.vp_model.specs.World.{Place, WorldState, Moment, Schedule, place_of, start_place, after_step, restart_place, run_of, moments_of}
+use Rattle.vp_model.specs.World.{Place, WorldState, Moment, Schedule, place_of, start_place, after_step, restart_place, moments_of}
 use Rattle.vp_laws.specs.ShapeLaws.{IsEvent, IsPlace, IsWorld, message_frame}
 use Rattle.vp_laws.proofs.Members.{Has, contains, find_has}
-use Rattle.vp_laws.proofs.Scenes.{scene_of, place-id, up_in}
+use Rattle.vp_laws.proofs.Scenes.{place-id}
 use Rattle.vp_laws.proofs.Events.{in_each, in_last}
 use Rattle.vp_laws.proofs.TableDurable.{step-folds}
-use Rattle.vp_laws.proofs.TableViews.{local-step}
 use Rattle.vp_laws.proofs.ShapeWorlds.{each_world}
 use Rattle.vp_laws.specs.Shapes.{IsShaped}
 use Rattle.vp_laws.proofs.ShapeLists.{all_at}
 use Rattle.vp_laws.proofs.ShapeMoves.{some_at}
 use Rattle.vp_outside.specs.declared.datagram.Datagram.{Datagram}
-use Rattle.vp_runs.specs.declared.arrival.Arrival.{Arrival}
 use Rattle.vp_runs.specs.declared.arrival.Arrival.TheVariants as arrives
 use Rattle.vp_runs.specs.Arrivals.{arrival}
 use Rattle.vp_runs.specs.Keeping.{durable_in, kept_with}

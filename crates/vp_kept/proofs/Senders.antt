@@ -1,5 +1,5 @@
 -- Who sends the messages of a schedule, and which events its moments have.
-use Rattle.std.proofs.Common.{◌≡◌, ◌∙◌, ap, sym, subst, ℕ, ◌+◌, zero, suc, List, ◌∷◌, [], ◌++◌, refl, ⊎_elim}
+use Rattle.std.proofs.Common.{◌≡◌, ◌∙◌, sym, subst, ℕ, ◌+◌, zero, suc, List, ◌∷◌, [], ⊎_elim}
 use Rattle.std.specs.Prelude.{Some}
 use Rattle.std.specs.List.{AllByRecursion}
 use Rattle.vp_model.specs.Types.{Event, Input, Sent}
@@ -7,7 +7,7 @@ use Rattle.vp_model.specs.Types.event
 use Rattle.vp_model.specs.Catalogue.{Catalogue, sites_of}
 use Rattle.vp_model.specs.Site.{SiteState}
 use Rattle.vp_model.specs.Step.{step}
-use Rattle.vp_model.specs.World.{Place, Run, Moment, Schedule, place_of, start_world, flowing, one_step, flow, one_event, run_from, run_of, moments_of}
+use Rattle.vp_model.specs.World.{Run, Moment, place_of, start_world, flowing, one_step, flow, one_event, run_from, run_of, moments_of}
 use Rattle.vp_laws.specs.ShapeLaws.{IsEvent}
 use Rattle.vp_laws.proofs.Members.{Has, has_none, has_cases, has_one_is}
 use Rattle.vp_laws.proofs.Keeps.{for_some-keeps}

@@ -1,6 +1,6 @@
 -- What each step keeps of a site's place and log holds of them at the end of each schedule.
 use Rattle.std.proofs.Common.{◌≡◌, ◌∙◌, ap, sym, subst, ℕ, Bool, true, false, cond, List, ◌∷◌, [], ◌++◌, refl, map, arith, ⊎_elim}
-use Rattle.std.specs.Prelude.{Option, Some, None, ◌==◌, find}
+use Rattle.std.specs.Prelude.{Some, ◌==◌, find}
 use Rattle.std.proofs.lemmas.Bool.Decides.{nat_tests}
 use Rattle.vp_model.specs.Types.{LogRecord, Event}
 use Rattle.vp_model.specs.Words.{for_each}
@@ -8,11 +8,11 @@ use Rattle.vp_model.specs.Catalogue.{Catalogue, sites_of}
 use Rattle.vp_model.specs.World.{Place, WorldState, Run, Moment, Schedule, place_of, next, moment, one_step, start_place, start_world, run_of, moments_of}
 use Rattle.vp_laws.proofs.Members.{Has, has_cons, has_first, has_more, has_none}
 use Rattle.vp_laws.proofs.Events.{in_last}
-use Rattle.vp_laws.proofs.Occurs.{RunLasts, run-keeps}
+use Rattle.vp_laws.proofs.Occurs.{run-keeps}
 use Rattle.vp_laws.proofs.InvViews.{InvViews}
 use Rattle.vp_laws.proofs.Agreement.{views_last}
 use Rattle.vp_kept.specs.Kept.{with_life, kept_after, kept_in}
-use Rattle.vp_kept.proofs.Happened.{Happened, happened, same_number, other_number}
+use Rattle.vp_kept.proofs.Happened.{Happened, happened, same_number}
 
 -- these moments follow each other from one world to another
 abbrev Follow : Catalogue → WorldState → List Moment → WorldState → Type 0
@@ -50,7 +50,7 @@ module _ (catalogue : Catalogue) where
         let kept : kept_after catalogue id (moment m.number w m.line.event (next catalogue m.line.event w)) batches ≡ kept_after catalogue id m batches = ap (λ (m : Moment). kept_after catalogue id m batches) (sym is) in
         let now_here : place_of id m.after.places ≡ Some new = subst (λ (v : WorldState). place_of id v.places ≡ Some new) is_after now in
         let done_here : Happened catalogue id m.line.event m.before old new batches (kept_after catalogue id m batches) =
-            subst (λ (v : WorldState). Happened catalogue id m.line.event v old new batches (kept_after catalogue id m batches)) is_before (subst (Happened catalogue id m.line.event w old new batches) kept done) in
+        subst (λ (v : WorldState). Happened catalogue id m.line.event v old new batches (kept_after catalogue id m batches)) is_before (subst (Happened catalogue id m.line.event w old new batches) kept done) in
         (new, now_here, keeps m (has_first m moments) old new batches (kept_after catalogue id m batches) old_here done_here h)
 
     through : (moments : List Moment) (w v : WorldState) → Kept moments → Follow catalogue w moments v → (batches : List (List LogRecord)) → At w batches → At v (for_each moments (kept_after catalogue id) batches)

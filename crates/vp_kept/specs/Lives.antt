@@ -5,7 +5,7 @@ use Rattle.vp_model.specs.Words.{for_each}
 use Rattle.vp_model.specs.Catalogue.{Catalogue}
 use Rattle.vp_model.specs.Site.{SiteState}
 use Rattle.vp_outside.specs.declared.datagram.Datagram.{Datagram}
-use Rattle.vp_runs.specs.Runs.{NodeRun, node_run}
+use Rattle.vp_runs.specs.Runs.{node_run}
 
 -- the batches that a site's node leaves, one life after the other, each a run over these datagrams
 abbrev pub left_by : Catalogue → ℕ → List (List Datagram) → List (List LogRecord)

@@ -1,11 +1,11 @@
 -- Worked schedules: what they leave in the logs.
 use Rattle.std.specs.Prelude.{ℕ, List, [], ◌∷◌, ◌++◌, codes, true}
 use Rattle.hex.specs.Hex.{encode_lower}
-use Rattle.vp_model.specs.Types.{Event, LogRecord, TxnId}
+use Rattle.vp_model.specs.Types.{Event, LogRecord}
 use Rattle.vp_model.specs.Types.call
 use Rattle.vp_model.specs.Types.event
 use Rattle.vp_model.specs.Types.entry
-use Rattle.vp_model.specs.Catalogue.{Catalogue, RecordEntry}
+use Rattle.vp_model.specs.Catalogue.{Catalogue}
 use Rattle.vp_model.specs.Words.{opening}
 use Rattle.vp_model.specs.World.{Schedule}
 use Rattle.vp_stable.specs.Log.{opened}
