@@ -1,6 +1,8 @@
 //! Worked schedules: what each leaves in the logs is exactly this.
 
-ghost use Rattle.std.specs.Prelude.{◌≡◌, ◌∷◌, [], codes};
+ghost use Rattle.std.specs.Prelude.{◌≡◌, ◌∷◌, ◌++◌, [], length, codes};
+ghost use Rattle.vp_model.specs.Types.call;
+ghost use Rattle.vp_model.specs.Types.event;
 ghost use Rattle.vp_kept.specs.Kept.{kept};
 ghost use Rattle.vp_kept.specs.Worked as worked;
 
@@ -20,4 +22,10 @@ pub fn nothing_is_forced()
 pub fn a_decision_of_two_sites()
     ensures one { kept worked.decision 1 ≡ worked.left_at_one }
     ensures two { kept worked.decision 2 ≡ worked.left_at_two }
+{}
+
+/// A restart makes no checkpoint, though one is due then; the next step that forces a record does.
+pub fn a_checkpoint_behind_a_restart()
+    ensures none { length (kept (worked.over worked.many worked.filled) 1) ≡ 6 }
+    ensures one { kept (worked.over worked.many (worked.filled ++ event.Call 1 call.Regroup ∷ [])) 1 ≡ worked.saved }
 {}
