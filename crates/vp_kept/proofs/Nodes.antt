@@ -15,7 +15,12 @@ use Rattle.vp_laws.specs.ShapeLaws.{IsEvent, IsPlace, IsWorld, message_frame}
 use Rattle.vp_laws.proofs.Members.{Has, contains, find_has}
 use Rattle.vp_laws.proofs.Scenes.{place-id}
 use Rattle.vp_laws.proofs.Events.{in_each, in_last}
+use Rattle.vp_laws.proofs.Worlds.{With}
+use Rattle.vp_laws.proofs.InvViews.{InvViews}
+use Rattle.vp_laws.proofs.InvVotes.{Fourth}
+use Rattle.vp_laws.proofs.Agreement.{views_last}
 use Rattle.vp_laws.proofs.TableDurable.{step-folds}
+use Rattle.vp_routes.proofs.InvRoutes.{InvRoutes, routes_last}
 use Rattle.vp_laws.proofs.ShapeWorlds.{each_world}
 use Rattle.vp_laws.specs.Shapes.{IsShaped}
 use Rattle.vp_laws.proofs.ShapeLists.{all_at}
@@ -33,7 +38,7 @@ use Rattle.vp_kept.specs.Laws.{LogsAreOfNodes}
 use Rattle.vp_kept.proofs.Happened.{Happened}
 use Rattle.vp_kept.proofs.Through.{through_schedule}
 use Rattle.vp_kept.proofs.Folds.{folds_on}
-use Rattle.vp_kept.proofs.Senders.{FromSites, senders_last, events_are}
+use Rattle.vp_kept.proofs.Steps.{events_are}
 use Rattle.vp_kept.proofs.Coming.{comes}
 
 -- one more datagram that gives an input, where no stop came
@@ -120,8 +125,8 @@ module _ (s : Schedule) (id : ℕ) (k : IsCatalogue s.catalogue) (i : AllByRecur
   sent_are : (m : Moment) → Has (moments_of s) m → (sent : Sent) → Has m.before.sent sent → IsFrame (message_frame sent) × Has (sites_of s.catalogue) sent.from
   sent_are m has sent q =
       let world = (each_world s m k i (contains (moments_of s) m has)).0 in
-      let from = (in_each s.catalogue (FromSites s.catalogue) (senders_last s.catalogue) s.events m has).0 in
-      (all_at (λ (sent : Sent). IsFrame (message_frame sent)) m.before.sent world.sent_are sent q, from.1 sent q)
+      let from = (in_each s.catalogue (With (Fourth s.catalogue) (InvRoutes s.catalogue k)) (routes_last s.catalogue k) s.events m has).0 in
+      (all_at (λ (sent : Sent). IsFrame (message_frame sent)) m.before.sent world.sent_are sent q, (from.upper.sent sent q).0)
 
   of_node : (m : Moment) → Has (moments_of s) m → (old new : Place) (before after : List (List LogRecord)) → place_of id m.before.places ≡ Some old → Happened s.catalogue id m.line.event m.before old new before after
       → IsOfNode s.catalogue id before old.up → durable_in s.catalogue id before ≡ old.durable → IsOfNode s.catalogue id after new.up
@@ -136,7 +141,7 @@ module _ (s : Schedule) (id : ℕ) (k : IsCatalogue s.catalogue) (i : AllByRecur
 pub logs_are_of_nodes : LogsAreOfNodes
 unfolding kept
 logs_are_of_nodes s id place k i at =
-    let listed : Has (sites_of s.catalogue) id = (in_last s.catalogue (FromSites s.catalogue) (senders_last s.catalogue) s.events).0.known id place at in
+    let listed : Has (sites_of s.catalogue) id = (in_last s.catalogue (InvViews s.catalogue) (views_last s.catalogue) s.events).known id place at in
     (through_schedule s id (Of s.catalogue id) (first_of s.catalogue id)
     (λ m has old new before after there h of. (of_node s id k i listed m has old new before after there h of.0 of.1, folds_on s.catalogue id m.line.event m.before old new before after h of.1))
     place at).0
