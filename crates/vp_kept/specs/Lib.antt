@@ -1,0 +1,4 @@
+pub mod Kept
+pub mod Lives
+pub mod Worked
+pub mod Laws
