@@ -1,6 +1,6 @@
 //! Schedules of the generator, and soaks: each takes nothing of the source.
 
-use crate::runs::run_alone;
+use crate::run_alone;
 use std::alloc::{AllocError, Global};
 use std::test::Fail;
 use vp_base::Word;

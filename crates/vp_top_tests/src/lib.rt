@@ -3,9 +3,8 @@
 
 #[cfg(test)]
 mod generated;
+mod running;
 #[cfg(test)]
 mod runs;
-#[cfg(test)]
-mod transactions;
-#[cfg(test)]
-mod views;
+
+pub use running::{answers, is_printed, run_alone, words};

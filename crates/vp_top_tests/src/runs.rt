@@ -1,43 +1,12 @@
 //! Runs of the program over sources and sinks in memory.
 
+use crate::{answers, is_printed, run_alone, words};
 use std::alloc::{AllocError, Global};
 use std::test::Fail;
-use vp_base::Word;
-use vp_outside::{Sink, Source, SureDisk, SureLink, SureSink, SureSource, TextSink, TextSource};
+use vp_outside::{Sink, SureSink, SureSource, TextSink, TextSource};
 use vp_status::Status;
 use vp_text::print_number;
-use vp_top::{MOST_BYTES, run};
-
-/// A run beside a link that has nothing to give and an empty log.
-pub fn run_alone<S: Source, K: Sink>(
-    alloc: Global,
-    words: &[Word],
-    source: &mut S,
-    sink: &mut K,
-) -> Status {
-    let mut link = SureLink::new(alloc, Vec::new(alloc));
-    let mut disk = SureDisk::new(alloc);
-    run(alloc, words, source, sink, &mut link, &mut disk)
-}
-
-fn words(alloc: Global, texts: &[&str]) -> Result<Vec<Word>, AllocError> {
-    let mut words = Vec::new(alloc);
-    for text in texts {
-        words.push(Word::from_vec(Vec::from_slice(alloc, text.as_bytes())?))?;
-    }
-    Ok(words)
-}
-
-fn run_on(
-    alloc: Global,
-    command: &str,
-    input: &str,
-    sink: &mut SureSink,
-) -> Result<Status, AllocError> {
-    let mut source = SureSource::new(Vec::from_slice(alloc, input.as_bytes())?);
-    let words = words(alloc, &[command])?;
-    Ok(run_alone(alloc, &words, &mut source, sink))
-}
+use vp_top::MOST_BYTES;
 
 const HEAD: &str = "site 1 7001\nrecord x 10 1:1\nevents\n";
 
@@ -112,24 +81,6 @@ start x 10
 start y 5
 end 0
 ";
-
-/// Whether the command answers the input with this status, and prints this text.
-pub(crate) fn answers(
-    alloc: Global,
-    command: &str,
-    input: &str,
-    status: Status,
-    text: &str,
-) -> Result<bool, AllocError> {
-    let mut sink = SureSink::new(alloc);
-    let end = run_on(alloc, command, input, &mut sink)?;
-    Ok(end == status && sink.bytes() == text.as_bytes())
-}
-
-/// Whether the schedule is replayed, and this is printed.
-pub(crate) fn is_printed(alloc: Global, input: &str, text: &str) -> Result<bool, AllocError> {
-    answers(alloc, "replay", input, Status::Done, text)
-}
 
 /// Whether the input is no schedule, and this is told.
 fn is_bad(alloc: Global, input: &str, text: &str) -> Result<bool, AllocError> {

@@ -1,7 +1,7 @@
 //! Worked schedules of transactions over several sites, byte for byte.
 
-use crate::runs::is_printed;
 use std::test::Fail;
+use vp_top_tests::is_printed;
 
 const A_HELD_LOCK_IS_NAMED: &str = "\
 site 1 7001

@@ -1,7 +1,7 @@
 //! Worked schedules of several sites that change their views, byte for byte.
 
-use crate::runs::is_printed;
 use std::test::Fail;
+use vp_top_tests::is_printed;
 
 const TWO_OF_THREE_SITES_GO_ON: &str = "\
 site 1 7001

@@ -1,0 +1,58 @@
+//! Running the program over a source and a sink in memory.
+
+use std::alloc::{AllocError, Global};
+use vp_base::Word;
+use vp_outside::{Sink, Source, SureDisk, SureLink, SureSink, SureSource};
+use vp_status::Status;
+use vp_top::run;
+
+/// A run beside a link that has nothing to give and an empty log.
+pub fn run_alone<S: Source, K: Sink>(
+    alloc: Global,
+    words: &[Word],
+    source: &mut S,
+    sink: &mut K,
+) -> Status {
+    let mut link = SureLink::new(alloc, Vec::new(alloc));
+    let mut disk = SureDisk::new(alloc);
+    run(alloc, words, source, sink, &mut link, &mut disk)
+}
+
+/// The words of a command line.
+pub fn words(alloc: Global, texts: &[&str]) -> Result<Vec<Word>, AllocError> {
+    let mut words = Vec::new(alloc);
+    for text in texts {
+        words.push(Word::from_vec(Vec::from_slice(alloc, text.as_bytes())?))?;
+    }
+    Ok(words)
+}
+
+/// Runs the command on the input.
+fn run_on(
+    alloc: Global,
+    command: &str,
+    input: &str,
+    sink: &mut SureSink,
+) -> Result<Status, AllocError> {
+    let mut source = SureSource::new(Vec::from_slice(alloc, input.as_bytes())?);
+    let words = words(alloc, &[command])?;
+    Ok(run_alone(alloc, &words, &mut source, sink))
+}
+
+/// Whether the command answers the input with this status, and prints this text.
+pub fn answers(
+    alloc: Global,
+    command: &str,
+    input: &str,
+    status: Status,
+    text: &str,
+) -> Result<bool, AllocError> {
+    let mut sink = SureSink::new(alloc);
+    let end = run_on(alloc, command, input, &mut sink)?;
+    Ok(end == status && sink.bytes() == text.as_bytes())
+}
+
+/// Whether the schedule is replayed, and this is printed.
+pub fn is_printed(alloc: Global, input: &str, text: &str) -> Result<bool, AllocError> {
+    answers(alloc, "replay", input, Status::Done, text)
+}
