@@ -65,25 +65,28 @@ pub(crate) fn told_in(alloc: Global, line: &str, separator: char) -> Result<Vec<
     told(alloc, &texts)
 }
 
+/// Lines of words, and the command that they are.
+const COMMANDS: &str = "\
+replay=replay
+replay --=replay
+check=check
+check --=check
+generate 1 2=generate 1 2
+generate -- 1 2=generate 1 2
+generate 1 -- 2=generate 1 2
+generate 1 2 --=generate 1 2
+generate 2147483647 2400=generate 2147483647 2400
+soak 1 2=soak 1 2
+soak -- 1 2=soak 1 2
+soak 1 -- 2=soak 1 2
+soak 1 2 --=soak 1 2
+soak 0 0=soak 0 0
+";
+
 #[test]
 fn commands_are_read(rt: HostRuntime) -> Result<(), NoMemory> {
-    let cases = [
-        ("replay", "replay"),
-        ("replay --", "replay"),
-        ("check", "check"),
-        ("check --", "check"),
-        ("generate 1 2", "generate 1 2"),
-        ("generate -- 1 2", "generate 1 2"),
-        ("generate 1 -- 2", "generate 1 2"),
-        ("generate 1 2 --", "generate 1 2"),
-        ("generate 2147483647 2400", "generate 2147483647 2400"),
-        ("soak 1 2", "soak 1 2"),
-        ("soak -- 1 2", "soak 1 2"),
-        ("soak 1 -- 2", "soak 1 2"),
-        ("soak 1 2 --", "soak 1 2"),
-        ("soak 0 0", "soak 0 0"),
-    ];
-    for (line, command) in cases {
+    for row in COMMANDS.lines() {
+        let (line, command) = row.split_once('=').unwrap_or((row, ""));
         assert_eq!(rt;
             told_in(rt.alloc(), line, ' ')?.as_slice(),
             command.as_bytes(),
@@ -93,70 +96,71 @@ fn commands_are_read(rt: HostRuntime) -> Result<(), NoMemory> {
     Ok(())
 }
 
-const NO_COMMANDS: [&str; 57] = [
-    "",
-    " ",
-    "--",
-    "-- replay",
-    "help",
-    "help replay",
-    "--help",
-    "-h",
-    "--version",
-    "-V",
-    "Replay",
-    "replays",
-    " replay",
-    "replay ",
-    "replay x",
-    "replay check",
-    "replay -- x",
-    "replay -- --",
-    "replay --help",
-    "replay -h",
-    "replay --version",
-    "replay -- --help",
-    "replay -",
-    "check x",
-    "check -- --",
-    "check --help",
-    "generate",
-    "generate --",
-    "generate 1",
-    "generate 1 --",
-    "generate 1 2 3",
-    "generate 1 2 -- 3",
-    "generate -- -- 1 2",
-    "generate -- 1 -- 2",
-    "generate 1 2 -- --",
-    "generate 01 2",
-    "generate 1 02",
-    "generate 00 2",
-    "generate 1 2401",
-    "generate 2147483648 2",
-    "generate 4294967297 2",
-    "generate 18446744073709551617 2",
-    "generate +1 2",
-    "generate -1 2",
-    "generate 1 -2",
-    "generate -- -1 2",
-    "generate - 2",
-    "generate 1 -",
-    "generate  2",
-    "generate 1 ",
-    "generate one 2",
-    "generate 1 2 --help",
-    "soak",
-    "soak 1",
-    "soak 1 2 3",
-    "soak 1 2401",
-    "soak 1 2 --version",
-];
+/// Lines of words that are no command.
+const NO_COMMANDS: &str = "\
+--
+-- replay
+help
+help replay
+--help
+-h
+--version
+-V
+Replay
+replays
+\x20replay
+replay\x20
+replay x
+replay check
+replay -- x
+replay -- --
+replay --help
+replay -h
+replay --version
+replay -- --help
+replay -
+check x
+check -- --
+check --help
+generate
+generate --
+generate 1
+generate 1 --
+generate 1 2 3
+generate 1 2 -- 3
+generate -- -- 1 2
+generate -- 1 -- 2
+generate 1 2 -- --
+generate 01 2
+generate 1 02
+generate 00 2
+generate 1 2401
+generate 2147483648 2
+generate 4294967297 2
+generate 18446744073709551617 2
+generate +1 2
+generate -1 2
+generate 1 -2
+generate -- -1 2
+generate - 2
+generate 1 -
+generate  2
+generate 1\x20
+generate one 2
+generate 1 2 --help
+soak
+soak 1
+soak 1 2 3
+soak 1 2401
+soak 1 2 --version
+";
 
 #[test]
 fn other_words_are_no_command(rt: HostRuntime) -> Result<(), NoMemory> {
     assert!(rt; told(rt.alloc(), &[])?.is_empty());
-    for line in NO_COMMANDS {
+    assert!(rt; told(rt.alloc(), &[b""])?.is_empty());
+    assert!(rt; told(rt.alloc(), &[b"", b""])?.is_empty());
+    for line in NO_COMMANDS.lines() {
         assert!(rt; told_in(rt.alloc(), line, ' ')?.is_empty(), "{line}");
     }
     Ok(())
