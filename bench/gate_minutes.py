@@ -5,11 +5,12 @@ gate_minutes.py [FOLDER [WORD ..]]
 
 Runs `rt ci WORD ..` in FOLDER (here, if none is named) and looks at its processes twice a second. What an earlier run kept is not done
 again and so costs nothing: the table is whole where nothing was kept, or where a WORD is --anew. The run's own output goes to standard
-error, the table, in Markdown, to standard output. The status is the run's.
+error, the table, in Markdown, to standard output; so it is where this script is ended before the run. The status is the run's.
 """
 
 import os
 import re
+import signal
 import subprocess
 import sys
 import time
@@ -92,11 +93,15 @@ def table(jobs):
 def main():
     folder, words = (sys.argv[1:2] or ["."])[0], sys.argv[2:]
     jobs, known = {}, {}
+    signal.signal(signal.SIGTERM, signal.default_int_handler)
     with subprocess.Popen(["rt", "ci", *words], cwd=folder, stdin=subprocess.DEVNULL, stdout=sys.stderr) as run:
-        while run.poll() is None:
-            look(run.pid, jobs, known)
-            time.sleep(0.5)
-    print(table(jobs))
+        try:
+            while run.poll() is None:
+                look(run.pid, jobs, known)
+                time.sleep(0.5)
+        except KeyboardInterrupt:
+            run.terminate()
+        print(table(jobs))
     return run.returncode
 
 
