@@ -18,6 +18,7 @@ use Rattle.vp_serving.specs.Serving.{Outside, Course, run_of, Did, IsKeptAs, Lea
 use Rattle.vp_serving.specs.declared.end.End.{End}
 use Rattle.vp_serving.specs.declared.end.End.TheVariants as ends
 use Rattle.vp_commands.specs.NodeEnds.{attached_to, end_of_attach, last_line, status_of, NodeEnds}
+use Rattle.vp_status.specs.Printing.{Prints}
 use Rattle.vp_status.specs.declared.status.Status.{Status}
 
 -- ---- two states of a disk with the same log attached, where the second is honest only if the first is

@@ -21,6 +21,7 @@ use Rattle.vp_commands.specs.Asked.{Tells as TellsAnswer}
 use Rattle.vp_commands.specs.Claims.{AnswersAreTold, SignalsAreDone}
 use Rattle.vp_status.specs.Lines.{bad_log_text, lives_spent_text}
 use Rattle.vp_commands.specs.NodeEnds.{NodeEnds, IsCalm, DecidedByLog, attached_to, end_of_attach, last_line, status_of}
+use Rattle.vp_status.specs.Printing.{Prints}
 use Rattle.vp_status.specs.declared.status.Status.{Status}
 use Rattle.vp_status.specs.declared.status.Status.TheVariants as status
 
