@@ -72,10 +72,11 @@ class Life:
             return recording.read().decode("ascii").split("\n")[:-1]
 
     def has_begun(self):
-        """Does the recording begin? Then the port is bound. A process that has ended instead is a fault."""
+        """Does the recording begin? Then the port is bound. A process that has ended before is a fault."""
+        status = self.process.poll()
         if os.path.getsize(self.path):
             return True
-        assert self.process.poll() is None, f"node {self.site} ended with status {self.process.returncode}"
+        assert status is None, f"node {self.site} ended with status {status}"
         return False
 
 
