@@ -1,0 +1,43 @@
+-- Datagrams between the ports of a cluster, and which one an event brings to a site.
+use Rattle.std.specs.Prelude.{◌≡◌, ℕ, ◌-◌, ◌==◌, if◌then◌else◌, List, map, slice_get, Option, Some, None, option_map}
+use Rattle.std.specs.Option.{option_map_or}
+use Rattle.vp_model.specs.Types.{Event, Sent}
+use Rattle.vp_model.specs.Types.event
+use Rattle.vp_model.specs.Words.{value_at}
+use Rattle.vp_model.specs.Catalogue.{Catalogue}
+use Rattle.vp_laws.specs.ShapeLaws.{message_frame}
+use Rattle.vp_outside.specs.declared.datagram.Datagram.{Datagram}
+use Rattle.vp_wire.specs.declared.frame.Frame.{Frame}
+use Rattle.vp_wire.specs.declared.frame.Body.TheVariants as body
+use Rattle.vp_wire.specs.Frames.{frame_of}
+use Rattle.vp_wire.specs.Grammar.{frame_bytes}
+use Rattle.vp_runs.specs.Asking.{call_frame}
+use Rattle.vp_cluster.specs.declared.letter.Letter.{Letter}
+
+-- the frame in a letter from port 0, which is no site's, to the port of the site
+abbrev pub letter_to : Catalogue → ℕ → Frame → Option Letter
+letter_to catalogue site frame = option_map (λ port. record { from = 0; to = port; bytes = frame_bytes frame }) (value_at site catalogue.sites)
+
+-- what the event brings to a site, where these letters were sent so far
+abbrev pub letter_of : Catalogue → List Letter → Event → Option Letter
+letter_of catalogue letters (event.Call site words) = letter_to catalogue site (call_frame site words)
+letter_of catalogue letters (event.Deliver k) = if k == 0 then None else slice_get letters (k - 1)
+letter_of catalogue letters (event.Tick site) = letter_to catalogue site (frame_of 0 site body.Tick)
+letter_of catalogue letters (event.Probe site) = letter_to catalogue site (frame_of 0 site body.ProbeNow)
+letter_of catalogue letters _ = None
+
+-- it as its receiver gets it
+abbrev pub as_received : Letter → Datagram
+as_received letter = record { port = letter.from; bytes = letter.bytes }
+
+-- a datagram that was sent from this port
+abbrev pub sent_from : ℕ → Datagram → Letter
+sent_from port d = record { from = port; to = d.port; bytes = d.bytes }
+
+-- the port of a site; 0 where the catalogue lacks it
+abbrev pub port_of : Catalogue → ℕ → ℕ
+port_of catalogue site = option_map_or (λ port. port) (value_at site catalogue.sites) 0
+
+-- the letter of a message
+abbrev pub letter_for : Catalogue → Sent → Letter
+letter_for catalogue sent = record { from = port_of catalogue sent.from; to = port_of catalogue sent.to; bytes = frame_bytes (message_frame sent) }

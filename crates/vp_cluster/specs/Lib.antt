@@ -1,0 +1,4 @@
+pub mod Hosts
+pub mod Letters
+pub mod Nodes
+pub mod Clusters

@@ -1,0 +1,58 @@
+-- The nodes of a cluster: what they do of each line of a trace.
+use Rattle.std.specs.Prelude.{◌≡◌, ◌≢◌, ℕ, ◌==◌, List, [], ◌++◌, map, find, length, take, Option, Some, None}
+use Rattle.std.specs.List.{AllByRecursion}
+use Rattle.vp_model.specs.Types.{Event, Shown, Line, Sent}
+use Rattle.vp_model.specs.Types.event
+use Rattle.vp_model.specs.Types.shown
+use Rattle.vp_model.specs.Words.{value_at}
+use Rattle.vp_model.specs.Catalogue.{Catalogue, sites_of}
+use Rattle.vp_outside.specs.declared.datagram.Datagram.{Datagram}
+use Rattle.vp_cluster.specs.declared.letter.Letter.{Letter}
+use Rattle.vp_cluster.specs.Hosts.{HostValue, IsHost, Takes, Crashes, Restarts, Begins}
+use Rattle.vp_cluster.specs.Letters.{letter_of, as_received, sent_from}
+
+-- what contracts see of the nodes: their catalogue, their hosts, and the letters of the messages that were sent so far, in order
+pub record NodesValue : Type 0 where
+  pub catalogue : Catalogue
+  pub hosts : List HostValue
+  pub letters : List Letter
+
+-- the host at this port
+abbrev pub host_at : ℕ → List HostValue → Option HostValue
+host_at port hosts = find (λ (host : HostValue). host.port == port) hosts
+
+-- The host at this port changes so, and the others stay.
+pub record ChangesAt (port : ℕ) (does : HostValue → HostValue → Type 0) (old new : List HostValue) : Type 0 where
+  pub there : (host : HostValue) → host_at port old ≡ Some host → (after : HostValue) × (host_at port new ≡ Some after) × does host after
+  pub others : (other : ℕ) → other ≢ port → host_at other new ≡ host_at other old
+
+-- that of a site of the catalogue
+abbrev pub ChangesOf : Catalogue → ℕ → (HostValue → HostValue → Type 0) → List HostValue → List HostValue → Type 0
+ChangesOf catalogue site does old new = (port : ℕ) → value_at site catalogue.sites ≡ Some port → ChangesAt port does old new
+
+-- The letter comes to its receiver. Of the datagrams that this gives the first are those of its messages, and are letters from then on.
+abbrev pub Comes : Letter → ℕ → NodesValue → NodesValue → Type 0
+Comes letter count old new = (given : List Datagram)
+    × ChangesAt letter.to (λ host after. Takes old.catalogue (as_received letter) host after given) old.hosts new.hosts
+    × (new.letters ≡ old.letters ++ map (sent_from letter.to) (take count given))
+
+-- a step with these messages
+abbrev pub Steps : Event → Shown → NodesValue → NodesValue → Type 0
+Steps e (shown.Step commits first messages replies) old new = (letter : Letter) → letter_of old.catalogue old.letters e ≡ Some letter → Comes letter (length messages) old new
+Steps e _ old new = new ≡ old
+
+-- what they do of an event with what is shown of it
+abbrev pub Does : Event → Shown → NodesValue → NodesValue → Type 0
+Does (event.Crash site) s old new = ChangesOf old.catalogue site (Crashes old.catalogue) old.hosts new.hosts × (new.letters ≡ old.letters)
+Does (event.Restart site) s old new = ChangesOf old.catalogue site (Restarts old.catalogue) old.hosts new.hosts × (new.letters ≡ old.letters)
+Does e s old new = Steps e s old new
+
+pub record Follows (line : Line) (old new : NodesValue) : Type 0 where
+  pub does : Does line.event line.shown old new
+  pub same_catalogue : new.catalogue ≡ old.catalogue
+
+-- Each site of the catalogue is in its first life, and no letter was sent.
+pub record Begin (catalogue : Catalogue) (nodes : NodesValue) : Type 0 where
+  pub catalogue_is : nodes.catalogue ≡ catalogue
+  pub hosts_are : (id port : ℕ) → value_at id catalogue.sites ≡ Some port → (host : HostValue) × (host_at port nodes.hosts ≡ Some host) × Begins catalogue id port host
+  pub letters_are : nodes.letters ≡ []

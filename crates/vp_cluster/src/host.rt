@@ -1,0 +1,115 @@
+//! A host: a node in memory, with the disk that keeps its log.
+
+ghost use Rattle.std.specs.Prelude.{◌≡◌, OnErr, OnOk, IfOk, Some};
+ghost use Rattle.vp_cluster.specs.Hosts.{IsHost, Begins, Takes, Crashes, Restarts, log_in};
+ghost use Rattle.vp_cluster.specs.Letters.{as_received};
+ghost use Rattle.vp_model.specs.Words.{value_at};
+ghost use Rattle.vp_outside.specs.Disk.{half_of};
+
+use crate::letter::Letter;
+use std::marker::Model;
+use vp_base::{NoMemory, SiteId};
+use vp_catalog::Catalog;
+use vp_node::{Node, NodeEnd};
+use vp_outside::{Datagrams, SureDisk};
+
+/// A site with its port: its node while it is up, and the disk that keeps its log.
+#[derive(Drop)]
+pub struct Host {
+    id: SiteId,
+    port: u16,
+    disk: SureDisk,
+    node: Option<Node>,
+}
+
+impl Model for Host {
+    ghost use Rattle.vp_cluster.specs.Hosts.{HostValue};
+
+    ghost Value = { HostValue };
+
+    ghost view = { λ h. record { id = h.id; port = h.port; disk = h.disk; node = h.node } };
+}
+
+impl Host {
+    /// The site in its first life, on an empty disk.
+    pub fn begin(catalog: &Catalog, id: SiteId, port: u16) -> Result<Host, NoMemory>
+        requires listed { value_at id catalog.now.sites ≡ Some port }
+        ensures { IfOk result (Begins catalog.now id port) }
+    {
+        let mut disk = SureDisk::new(catalog.sites().allocator());
+        // the first life is not the last one, and this disk fails for want of memory alone
+        let node = Node::start(catalog, id, &mut disk).map_err(|_| NoMemory)?;
+        Ok(Host {
+            id,
+            port,
+            disk,
+            node: Some(node),
+        })
+    }
+
+    pub fn id(&self) -> SiteId
+        ensures { result ≡ self.now.id }
+    {
+        self.id
+    }
+
+    pub fn port(&self) -> u16
+        ensures { result ≡ self.now.port }
+    {
+        self.port
+    }
+
+    /// The bytes of a half of its log.
+    pub fn half(&self, half: u8) -> &[u8]
+        ensures { result.now ≡ half_of half (log_in self.now) }
+    {
+        self.disk.half(half)
+    }
+
+    /// The letter comes: where the site is up its node takes it, and the datagrams that this gives are answered. Without memory the site
+    /// is down.
+    pub fn take(&mut self, catalog: &Catalog, letter: &Letter) -> Result<Datagrams, NoMemory>
+        requires host { IsHost catalog.now self.old }
+        ensures takes { IfOk result (Takes catalog.now (as_received letter.now) self.old self.new) }
+        ensures host { IsHost catalog.now self.new }
+        ensures port { self.new.port ≡ self.old.port }
+    {
+        let Some(node) = self.node.take() else {
+            return Ok(Datagrams::new(catalog.sites().allocator()));
+        };
+        let (node, turned) = node
+            .turn(catalog, &mut self.disk, letter.from, &letter.bytes)
+            .map_err(|_| NoMemory)?;
+        self.node = Some(node);
+        Ok(turned.datagrams)
+    }
+
+    /// The site goes down.
+    pub fn crash(&mut self, catalog: &Catalog)
+        requires host { IsHost catalog.now self.old }
+        ensures { Crashes catalog.now self.old self.new }
+    {
+        self.node = None;
+    }
+
+    /// The site starts from its log, where it is down and a life is left. Without memory it stays down.
+    pub fn restart(&mut self, catalog: &Catalog) -> Result<(), NoMemory>
+        requires host { IsHost catalog.now self.old }
+        ensures restarts { OnOk result (Restarts catalog.now self.old self.new) }
+        ensures host { IsHost catalog.now self.new }
+        ensures port { self.new.port ≡ self.old.port }
+    {
+        if self.node.is_some() {
+            return Ok(());
+        }
+        match Node::start(catalog, self.id, &mut self.disk) {
+            Ok(node) => {
+                self.node = Some(node);
+                Ok(())
+            }
+            Err(NodeEnd::LivesSpent { .. }) => Ok(()),
+            // the log is one that this host has left, and this disk fails for want of memory alone
+            Err(_) => Err(NoMemory),
+        }
+    }
+}

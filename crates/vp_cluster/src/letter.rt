@@ -1,0 +1,63 @@
+//! Datagrams on their way.
+
+ghost use Rattle.std.specs.Prelude.{◌≡◌, ◌++◌, IfOk, OnOk, map, take};
+ghost use Rattle.vp_base.specs.Calls.{IsCall};
+ghost use Rattle.vp_cluster.specs.Letters.{letter_to, sent_from};
+ghost use Rattle.vp_runs.specs.Asking.{call_frame};
+ghost use Rattle.vp_wire.specs.Frames.{frame_of};
+ghost use Rattle.vp_wire.specs.Grammar.{IsFrame};
+
+use bytes::{Bytes, BytesMut};
+use vp_base::{Call, CopyOf, NoMemory, SiteId};
+use vp_catalog::Catalog;
+use vp_outside::Datagrams;
+use vp_wire::{Body, Frame, encode};
+
+/// A datagram on its way from one port to another.
+#[derive(Drop)]
+pub struct Letter {
+    pub from: u16,
+    pub to: u16,
+    pub bytes: Bytes,
+}
+
+/// The letter of a client to the site, which comes from port 0; none where the catalogue lacks the site.
+pub fn to_site(catalog: &Catalog, site: SiteId, body: Body) -> Result<Option<Letter>, NoMemory>
+    requires { IsFrame (frame_of 0 site body) }
+    ensures { IfOk result (λ letter. letter ≡ letter_to catalog.now site (frame_of 0 site body)) }
+{
+    let Some(port) = catalog.port(site) else {
+        return Ok(None);
+    };
+    let frame = Frame {
+        from: 0,
+        to: site.get(),
+        body,
+    };
+    let mut bytes = BytesMut::new(catalog.sites().allocator());
+    encode(&frame, &mut bytes)?;
+    Ok(Some(Letter {
+        from: 0,
+        to: port,
+        bytes: bytes.freeze()?,
+    }))
+}
+
+/// Puts the first of the datagrams, which were sent from this port, behind the other letters.
+pub fn put_letters(
+    from: u16,
+    count: usize,
+    given: Datagrams,
+    letters: &mut Vec<Letter>,
+) -> Result<(), NoMemory>
+    ensures { OnOk result (letters.new.items ≡ letters.old.items ++ map (sent_from from) (take count given)) }
+{
+    for datagram in given.into_vec().into_iter().take(count) {
+        letters.push(Letter {
+            from,
+            to: datagram.port,
+            bytes: datagram.bytes,
+        })?;
+    }
+    Ok(())
+}
