@@ -30,6 +30,14 @@ told host = state_after host.disk true 0
 abbrev pub log_in : HostValue → Halves
 log_in host = content_of (changes_of (asked_of host.disk) host.disk)
 
+-- its site with them
+abbrev pub site_log : HostValue → ℕ × Halves
+site_log host = (host.id, log_in host)
+
+-- its site with its port
+abbrev pub place_of : HostValue → ℕ × ℕ
+place_of host = (host.id, host.port)
+
 -- It is a host over this catalogue: its port is its site's, and where the site is up it is at its node, whose log the disk keeps.
 pub record IsHost (catalogue : Catalogue) (host : HostValue) : Type 0 where
   pub port_is : value_at host.id catalogue.sites ≡ Some host.port

@@ -2,3 +2,4 @@ pub mod Hosts
 pub mod Letters
 pub mod Nodes
 pub mod Clusters
+pub mod Ran

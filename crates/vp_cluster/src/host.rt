@@ -13,6 +13,12 @@ use vp_catalog::Catalog;
 use vp_node::{Node, NodeEnd};
 use vp_outside::{Datagrams, SureDisk};
 
+/// A site with both halves of its log.
+pub type SiteLog = (SiteId, Word, Word);
+
+/// The logs of sites.
+pub type Logs = Seq<SiteLog>;
+
 /// A site with its port: its node while it is up, and the disk that keeps its log.
 #[derive(Drop)]
 pub struct Host {
@@ -47,23 +53,24 @@ impl Host {
         })
     }
 
-    pub fn id(&self) -> SiteId
-        ensures { result ≡ self.now.id }
-    {
-        self.id
-    }
-
     pub fn port(&self) -> u16
         ensures { result ≡ self.now.port }
     {
         self.port
     }
 
-    /// The bytes of a half of its log.
-    pub fn half(&self, half: u8) -> &[u8]
-        ensures { result.now ≡ half_of half (log_in self.now) }
+    /// The bytes of its log.
+    pub fn log(&self) -> Result<SiteLog, NoMemory>
+        ensures { IfOk result (λ log. log ≡ site_log self.now) }
     {
-        self.disk.half(half)
+        Ok((self.id, self.half(0)?, self.half(1)?))
+    }
+
+    fn half(&self, half: u8) -> Result<Word, NoMemory>
+        ensures { IfOk result (λ bytes. bytes ≡ half_of half (log_in self.now)) }
+    {
+        let alloc = *self.alloc();
+        Ok(Word::from_vec(self.disk.half(half).to_vec(alloc)?))
     }
 
     /// The letter comes: where the site is up its node takes it, and the datagrams that this gives are answered. Without memory the site
@@ -72,7 +79,7 @@ impl Host {
         requires host { IsHost catalog.now self.old }
         ensures takes { IfOk result (Takes catalog.now (as_received letter.now) self.old self.new) }
         ensures host { IsHost catalog.now self.new }
-        ensures port { self.new.port ≡ self.old.port }
+        ensures place { place_of self.new ≡ place_of self.old }
     {
         let Some(node) = self.node.take() else {
             return Ok(Datagrams::new(catalog.sites().allocator()));
@@ -97,7 +104,7 @@ impl Host {
         requires host { IsHost catalog.now self.old }
         ensures restarts { OnOk result (Restarts catalog.now self.old self.new) }
         ensures host { IsHost catalog.now self.new }
-        ensures port { self.new.port ≡ self.old.port }
+        ensures place { place_of self.new ≡ place_of self.old }
     {
         if self.node.is_some() {
             return Ok(());

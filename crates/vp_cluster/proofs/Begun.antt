@@ -1,0 +1,115 @@
+-- The hosts of a catalogue: each is found by its port.
+use Rattle.std.proofs.Common.{◌≡◌, ◌≢◌, ◌∙◌, ap, sym, subst, ℕ, ◌≤◌, ◌<◌, suc, zero, Bool, true, false, cond, List, [], ◌∷◌, length, get_or, Some, None, refl, arith, map, nat_eq, find, ◌==◌}
+use Rattle.std.specs.Prelude.{Option, option_map}
+use Rattle.std.specs.List.{AllByRecursion, IsDistinct}
+use Rattle.std.proofs.lemmas.Bool.Decides.{nat_tests}
+use Rattle.vp_model.specs.Types.{LogRecord}
+use Rattle.vp_model.specs.Words.{value_at}
+use Rattle.vp_model.specs.Catalogue.{Catalogue, sites_of}
+use Rattle.vp_catalog.specs.Document.{AreSites, IsCatalogueSoFar}
+use Rattle.vp_outside.specs.Disk.{Halves}
+use Rattle.vp_cluster.specs.Hosts.{HostValue, place_of, IsHost, Begins}
+use Rattle.vp_cluster.specs.Nodes.{NodesValue, AreHosts, AreBegun, Begin, host_at}
+
+-- ---- the sites of a catalogue
+
+-- a site further on is a higher one
+higher : (above : ℕ) (sites : List (ℕ × ℕ)) (d : ℕ × ℕ) → AreSites above sites → (i : ℕ) → i < length sites → above < (get_or sites i d).0
+higher above [] d h i l = absurd (omega arith)
+higher above (s ∷ sites) d h zero l = h.0.higher
+higher above (s ∷ sites) d h (suc i) l =
+    let first : above < s.0 = h.0.higher in
+    let rest : s.0 < (get_or sites i d).0 = higher s.0 sites d h.1 i (omega (arith, l)) in
+    omega (arith, first, rest)
+
+listed_from : (above : ℕ) (sites : List (ℕ × ℕ)) (d : ℕ × ℕ) → AreSites above sites → (i : ℕ) → i < length sites → value_at (get_or sites i d).0 sites ≡ Some (get_or sites i d).1
+listed_from above [] d h i l = absurd (omega arith)
+listed_from above (s ∷ sites) d h zero l = let same : (s.0 == s.0) ≡ true = grind (arith, nat_tests) in rw same refl
+listed_from above (s ∷ sites) d h (suc i) l =
+    let rest = listed_from s.0 sites d h.1 i (omega (arith, l)) in
+    let later : s.0 < (get_or sites i d).0 = higher s.0 sites d h.1 i (omega (arith, l)) in
+    let other : (s.0 == (get_or sites i d).0) ≡ false = grind (arith, nat_tests, later) in
+    rw other rest
+
+-- each site is listed with its port
+pub each_listed : (catalogue : Catalogue) (d : ℕ × ℕ) → IsCatalogueSoFar catalogue → (i : ℕ) → i < length catalogue.sites → value_at (get_or catalogue.sites i d).0 catalogue.sites ≡ Some (get_or catalogue.sites i d).1
+each_listed catalogue d k i l = listed_from 0 catalogue.sites d k.sites_are i l
+
+-- ---- hosts
+
+abbrev at_port : ℕ → HostValue → Bool
+at_port port host = host.port == port
+
+-- the ports of hosts with these sites differ
+ports_of : (hosts : List HostValue) → map (λ (s : ℕ × ℕ). s.1) (map place_of hosts) ≡ map (λ (host : HostValue). host.port) hosts
+ports_of [] = refl
+ports_of (host ∷ hosts) = ap (λ rest. host.port ∷ rest) (ports_of hosts)
+
+abbrev Differ : List HostValue → Type 0
+Differ hosts = IsDistinct nat_eq (map (λ (host : HostValue). host.port) hosts)
+
+pub ports_differ : (catalogue : Catalogue) (hosts : List HostValue) → IsCatalogueSoFar catalogue → map place_of hosts ≡ catalogue.sites → Differ hosts
+ports_differ catalogue hosts k e =
+    subst (IsDistinct nat_eq) (ports_of hosts) (subst (λ sites. IsDistinct nat_eq (map (λ (s : ℕ × ℕ). s.1) sites)) (sym e) k.ports_differ)
+
+-- a host behind another one is found as if that were not there
+behind : (host : HostValue) (hosts : List HostValue) → AllByRecursion (λ port. nat_eq host.port port ≡ false) (map (λ (host : HostValue). host.port) hosts) → (all : List HostValue)
+    → AllByRecursion (λ (it : HostValue). host_at it.port all ≡ Some it) hosts → AllByRecursion (λ (it : HostValue). host_at it.port (host ∷ all) ≡ Some it) hosts
+behind host [] h all found = tt
+behind host (it ∷ hosts) h all found = (go (host.port == it.port) h.0 found.0, behind host hosts h.1 all found.1)
+  where
+    go : (b : Bool) → b ≡ false → host_at it.port all ≡ Some it → cond b (Some host) (host_at it.port all) ≡ Some it
+    go false e f = f
+    go true e f = absurd cc
+
+pub each_found : (hosts : List HostValue) → Differ hosts → AllByRecursion (λ (it : HostValue). host_at it.port hosts ≡ Some it) hosts
+unfolding IsDistinct
+each_found [] h = tt
+each_found (host ∷ hosts) h = (let same : (host.port == host.port) ≡ true = grind (arith, nat_tests) in rw same refl, behind host hosts h.0 hosts (each_found hosts h.1))
+
+-- ---- the first lives
+
+-- the host of a site is found by the site's port
+begun_in : (catalogue : Catalogue) (hosts : List HostValue) → Differ hosts → AllByRecursion (λ (host : HostValue). Begins catalogue host.id host.port host) hosts → (id port : ℕ) → value_at id (map place_of hosts) ≡ Some port
+    → (host : HostValue) × (host_at port hosts ≡ Some host) × Begins catalogue id port host
+unfolding IsDistinct
+begun_in catalogue [] d h id port e = absurd cc
+begun_in catalogue (host ∷ hosts) d h id port e = go (host.id == id) refl e
+  where
+    here : host.id ≡ id → host.port ≡ port → (it : HostValue) × (host_at port (host ∷ hosts) ≡ Some it) × Begins catalogue id port it
+    here same is = (host, (let found : (host.port == port) ≡ true = grind (arith, nat_tests, is) in rw found refl), subst (λ p. Begins catalogue id p host) is (subst (λ n. Begins catalogue n host.port host) same h.0))
+
+    there : (more : (it : HostValue) × (host_at port hosts ≡ Some it) × Begins catalogue id port it) → (it : HostValue) × (host_at port (host ∷ hosts) ≡ Some it) × Begins catalogue id port it
+    there (it, found, begins) = (it, step (each_other hosts it d.0 found) found, begins)
+      where
+        each_other : (hosts : List HostValue) (it : HostValue) → AllByRecursion (λ p. nat_eq host.port p ≡ false) (map (λ (host : HostValue). host.port) hosts) → host_at port hosts ≡ Some it → (host.port == port) ≡ false
+        each_other [] it o f = absurd cc
+        each_other (x ∷ xs) it o f = at_first (x.port == port) refl f
+          where
+            at_first : (b : Bool) → (x.port == port) ≡ b → cond b (Some x) (host_at port xs) ≡ Some it → (host.port == port) ≡ false
+            at_first true e f = let is : x.port ≡ port = grind (arith, nat_tests, e) in subst (λ p. (host.port == p) ≡ false) is o.0
+            at_first false e f = each_other xs it o.1 f
+
+        step : (host.port == port) ≡ false → host_at port hosts ≡ Some it → host_at port (host ∷ hosts) ≡ Some it
+        step other f = rw other f
+
+    go : (b : Bool) → (host.id == id) ≡ b → option_map (λ (s : ℕ × ℕ). s.1) (cond b (Some (place_of host)) (find (λ (s : ℕ × ℕ). s.0 == id) (map place_of hosts))) ≡ Some port
+        → (it : HostValue) × (host_at port (host ∷ hosts) ≡ Some it) × Begins catalogue id port it
+    go true same e = here (grind (arith, nat_tests, same)) cc
+    go false other e = there (begun_in catalogue hosts d.1 h.1 id port e)
+
+pub nodes_begin : (catalogue : Catalogue) (nodes : NodesValue) → IsCatalogueSoFar catalogue → nodes.catalogue ≡ catalogue → AreBegun catalogue nodes.hosts → nodes.letters ≡ [] → Begin catalogue nodes
+nodes_begin catalogue nodes k same begun none =
+    record {
+      catalogue_is = same;
+      hosts_are = λ id port e. begun_in catalogue nodes.hosts (ports_differ catalogue nodes.hosts k begun.sites_are) begun.each id port (subst (λ sites. value_at id sites ≡ Some port) (sym begun.sites_are) e);
+      letters_are = none;
+    }
+
+-- each has its form
+pub begun_hosts : (catalogue : Catalogue) (hosts : List HostValue) → AreBegun catalogue hosts → AreHosts catalogue hosts
+begun_hosts catalogue hosts begun = record { sites_are = begun.sites_are; each = go hosts begun.each }
+  where
+    go : (hosts : List HostValue) → AllByRecursion (λ (host : HostValue). Begins catalogue host.id host.port host) hosts → AllByRecursion (IsHost catalogue) hosts
+    go [] h = tt
+    go (host ∷ hosts) h = (h.0.is_host, go hosts h.1)

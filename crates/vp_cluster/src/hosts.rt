@@ -1,0 +1,78 @@
+//! The hosts of a cluster, each found by its port.
+
+ghost use Rattle.std.specs.Prelude.{◌≡◌, ◌==◌, ◌<◌, OnOk, IfOk, IfSome, length};
+ghost use Rattle.std.specs.List.{position};
+ghost use Rattle.vp_cluster.specs.Hosts.{Takes, Crashes, Restarts};
+ghost use Rattle.vp_cluster.specs.Letters.{as_received};
+ghost use Rattle.vp_cluster.specs.Nodes.{AreBegun, AreHosts, ChangesAt, ChangesOf};
+
+use crate::host::Host;
+use crate::letter::Letter;
+use std::alloc::Global;
+use vp_base::{NoMemory, SiteId};
+use vp_catalog::Catalog;
+use vp_outside::Datagrams;
+
+/// A host for each site of the catalogue, in its first life.
+#[tactic(auto, using(crate::proofs::Begun::each_listed))]
+pub fn begin_all(alloc: Global, catalog: &Catalog) -> Result<Vec<Host>, NoMemory>
+    ensures { IfOk result (λ hosts. AreBegun catalog.now hosts.items) }
+{
+    let mut hosts = Vec::new(alloc);
+    for (id, port) in catalog.ports() {
+        hosts.push(Host::begin(catalog, *id, *port)?)?;
+    }
+    Ok(hosts)
+}
+
+fn place_of(hosts: &[Host], port: u16) -> Option<usize>
+    ensures place { result ≡ position (λ host. host.port == port) hosts.now }
+    ensures within { IfSome result (λ i. i < length hosts.now) }
+{
+    hosts.iter().position(|host| host.port() == port)
+}
+
+/// The letter comes to the host at its port, which takes it.
+pub fn take_at(
+    hosts: &mut [Host],
+    catalog: &Catalog,
+    letter: &Letter,
+) -> Result<Datagrams, NoMemory>
+    requires { AreHosts catalog.now hosts.old }
+    ensures takes { IfOk result (λ given. ChangesAt letter.now.to (λ host after. Takes catalog.now (as_received letter.now) host after given) hosts.old hosts.new) }
+    ensures hosts { AreHosts catalog.now hosts.new }
+{
+    match place_of(hosts, letter.to) {
+        None => Ok(Datagrams::new(catalog.sites().allocator())),
+        Some(i) => hosts[i].take(catalog, letter),
+    }
+}
+
+/// The host of the site crashes.
+pub fn crash_at(hosts: &mut [Host], catalog: &Catalog, site: SiteId)
+    requires { AreHosts catalog.now hosts.old }
+    ensures crashes { ChangesOf catalog.now site (Crashes catalog.now) hosts.old hosts.new }
+    ensures hosts { AreHosts catalog.now hosts.new }
+{
+    let Some(port) = catalog.port(site) else {
+        return;
+    };
+    if let Some(i) = place_of(hosts, port) {
+        hosts[i].crash(catalog);
+    }
+}
+
+/// The host of the site restarts.
+pub fn restart_at(hosts: &mut [Host], catalog: &Catalog, site: SiteId) -> Result<(), NoMemory>
+    requires { AreHosts catalog.now hosts.old }
+    ensures restarts { OnOk result (ChangesOf catalog.now site (Restarts catalog.now) hosts.old hosts.new) }
+    ensures hosts { AreHosts catalog.now hosts.new }
+{
+    let Some(port) = catalog.port(site) else {
+        return Ok(());
+    };
+    match place_of(hosts, port) {
+        None => Ok(()),
+        Some(i) => hosts[i].restart(catalog),
+    }
+}
