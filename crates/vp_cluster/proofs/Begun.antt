@@ -70,33 +70,37 @@ each_found (host ∷ hosts) h = (let same : (host.port == host.port) ≡ true = 
 -- ---- the first lives
 
 -- the host of a site is found by the site's port
-begun_in : (catalogue : Catalogue) (hosts : List HostValue) → Differ hosts → AllByRecursion (λ (host : HostValue). Begins catalogue host.id host.port host) hosts → (id port : ℕ) → value_at id (map place_of hosts) ≡ Some port
-    → (host : HostValue) × (host_at port hosts ≡ Some host) × Begins catalogue id port host
+-- a host whose port is another one than those of these is not at the port of one that is found among them
+other_than : (own : ℕ) (hosts : List HostValue) (port : ℕ) (it : HostValue) → AllByRecursion (λ p. nat_eq own p ≡ false) (map (λ (host : HostValue). host.port) hosts) → host_at port hosts ≡ Some it → (own == port) ≡ false
+other_than own [] port it h f = absurd cc
+other_than own (x ∷ xs) port it h f = go (x.port == port) refl f
+  where
+    go : (b : Bool) → (x.port == port) ≡ b → cond b (Some x) (host_at port xs) ≡ Some it → (own == port) ≡ false
+    go true e f = let is : x.port ≡ port = grind (arith, nat_tests, e) in subst (λ p. (own == p) ≡ false) is h.0
+    go false e f = other_than own xs port it h.1 f
+
+found_behind : (host it : HostValue) (hosts : List HostValue) (port : ℕ) → (host.port == port) ≡ false → host_at port hosts ≡ Some it → host_at port (host ∷ hosts) ≡ Some it
+found_behind host it hosts port other f = rw other f
+
+abbrev HasBegun : Catalogue → List HostValue → ℕ → ℕ → Type 0
+HasBegun catalogue hosts id port = (it : HostValue) × (host_at port hosts ≡ Some it) × Begins catalogue id port it
+
+-- the host of a site is found by the site's port
+begun_in : (catalogue : Catalogue) (hosts : List HostValue) → Differ hosts → AllByRecursion (λ (host : HostValue). Begins catalogue host.id host.port host) hosts → (id port : ℕ) → value_at id (map place_of hosts) ≡ Some port → HasBegun catalogue hosts id port
 unfolding IsDistinct
 begun_in catalogue [] d h id port e = absurd cc
-begun_in catalogue (host ∷ hosts) d h id port e = go (host.id == id) refl e
+begun_in catalogue (host ∷ hosts) d h id port e = go (host.id == id) refl e (begun_in catalogue hosts d.1 h.1 id port)
   where
-    here : host.id ≡ id → host.port ≡ port → (it : HostValue) × (host_at port (host ∷ hosts) ≡ Some it) × Begins catalogue id port it
+    here : host.id ≡ id → host.port ≡ port → HasBegun catalogue (host ∷ hosts) id port
     here same is = (host, (let found : (host.port == port) ≡ true = grind (arith, nat_tests, is) in rw found refl), subst (λ p. Begins catalogue id p host) is (subst (λ n. Begins catalogue n host.port host) same h.0))
 
-    there : (more : (it : HostValue) × (host_at port hosts ≡ Some it) × Begins catalogue id port it) → (it : HostValue) × (host_at port (host ∷ hosts) ≡ Some it) × Begins catalogue id port it
-    there (it, found, begins) = (it, step (each_other hosts it d.0 found) found, begins)
-      where
-        each_other : (hosts : List HostValue) (it : HostValue) → AllByRecursion (λ p. nat_eq host.port p ≡ false) (map (λ (host : HostValue). host.port) hosts) → host_at port hosts ≡ Some it → (host.port == port) ≡ false
-        each_other [] it o f = absurd cc
-        each_other (x ∷ xs) it o f = at_first (x.port == port) refl f
-          where
-            at_first : (b : Bool) → (x.port == port) ≡ b → cond b (Some x) (host_at port xs) ≡ Some it → (host.port == port) ≡ false
-            at_first true e f = let is : x.port ≡ port = grind (arith, nat_tests, e) in subst (λ p. (host.port == p) ≡ false) is o.0
-            at_first false e f = each_other xs it o.1 f
-
-        step : (host.port == port) ≡ false → host_at port hosts ≡ Some it → host_at port (host ∷ hosts) ≡ Some it
-        step other f = rw other f
+    there : HasBegun catalogue hosts id port → HasBegun catalogue (host ∷ hosts) id port
+    there (it, found, begins) = (it, found_behind host it hosts port (other_than host.port hosts port it d.0 found) found, begins)
 
     go : (b : Bool) → (host.id == id) ≡ b → option_map (λ (s : ℕ × ℕ). s.1) (cond b (Some (place_of host)) (find (λ (s : ℕ × ℕ). s.0 == id) (map place_of hosts))) ≡ Some port
-        → (it : HostValue) × (host_at port (host ∷ hosts) ≡ Some it) × Begins catalogue id port it
-    go true same e = here (grind (arith, nat_tests, same)) cc
-    go false other e = there (begun_in catalogue hosts d.1 h.1 id port e)
+        → (value_at id (map place_of hosts) ≡ Some port → HasBegun catalogue hosts id port) → HasBegun catalogue (host ∷ hosts) id port
+    go true same e rest = here (grind (arith, nat_tests, same)) cc
+    go false other e rest = there (rest e)
 
 pub nodes_begin : (catalogue : Catalogue) (nodes : NodesValue) → IsCatalogueSoFar catalogue → nodes.catalogue ≡ catalogue → AreBegun catalogue nodes.hosts → nodes.letters ≡ [] → Begin catalogue nodes
 nodes_begin catalogue nodes k same begun none =

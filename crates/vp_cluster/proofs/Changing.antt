@@ -1,12 +1,14 @@
 -- What the change of one host is to all of them.
 use Rattle.std.proofs.Common.{◌≡◌, ◌≢◌, ◌∙◌, ap, sym, subst, ℕ, ◌<◌, Bool, true, false, List, length, get_or, set, Some, None, refl, arith, map, ◌==◌}
+use Rattle.std.specs.Prelude.{Result, Ok, Err, OnOk, IfOk}
 use Rattle.std.specs.List.{AllByRecursion, position}
+use Rattle.vp_model.specs.Words.{value_at}
 use Rattle.std.proofs.lemmas.Bool.Decides.{nat_tests}
 use Rattle.std.proofs.lemmas.List.Quantifiers.{position-Some}
 use Rattle.vp_lists.proofs.Found.{find_none, find_some}
 use Rattle.vp_model.specs.Catalogue.{Catalogue}
-use Rattle.vp_cluster.specs.Hosts.{HostValue, place_of, IsHost}
-use Rattle.vp_cluster.specs.Nodes.{AreHosts, ChangesAt, host_at}
+use Rattle.vp_cluster.specs.Hosts.{HostValue, place_of, IsHost, Stays}
+use Rattle.vp_cluster.specs.Nodes.{AreHosts, ChangesAt, ChangesOf, host_at}
 use Rattle.vp_cluster.proofs.Replaced.{finds_new, finds_others, maps_same, all_set}
 
 module _ (port : ℕ) (does : HostValue → HostValue → Type 0) (hosts : List HostValue) where
@@ -38,4 +40,33 @@ module _ (port : ℕ) (does : HostValue → HostValue → Type 0) (hosts : List 
     }
 
     pub hosts_still : (catalogue : Catalogue) → AreHosts catalogue hosts → IsHost catalogue after → AreHosts catalogue (set hosts i after)
-    hosts_still catalogue h is = record { sites_are = maps_same d place_of after hosts i within same ∙ h.sites_are; each = all_set (IsHost catalogue) after hosts i is h.each }
+    hosts_still catalogue h is = record { sites_are = maps_same d place_of after hosts i within same ∙ h.sites_are; each = all_set d (IsHost catalogue) after hosts i is h.each }
+
+-- a host that stays is at its place
+pub stays_placed : (catalogue : Catalogue) (old new : HostValue) → Stays catalogue old new → place_of new ≡ place_of old
+stays_placed catalogue old new h = ap (λ id. (id, new.port)) h.same_id ∙ ap (λ port. (old.id, port)) h.same_port
+
+-- the same of what is answered
+pub answered_so : {T E : Type 0} (r : Result T E) (P Q : T → Type 0) → ((x : T) → P x → Q x) → IfOk r P → IfOk r Q
+answered_so (Ok x) P Q f h = f x h
+answered_so (Err e) P Q f h = tt
+
+pub done_so : {T E A B : Type 0} (r : Result T E) → (A → B) → OnOk r A → OnOk r B
+done_so (Ok x) f h = f h
+done_so (Err e) f h = tt
+
+-- ---- the host of a site
+
+-- the port of the site is this one
+pub at_own_port : (catalogue : Catalogue) (site port : ℕ) (does : HostValue → HostValue → Type 0) (old new : List HostValue) → value_at site catalogue.sites ≡ Some port → ChangesAt port does old new → ChangesOf catalogue site does old new
+at_own_port catalogue site port does old new is h = record {
+  there = λ p e. subst (λ p. ChangesAt p does old new) (let z = sym is ∙ e in cc) h;
+  nowhere = λ none. absurd (let z = sym is ∙ none in cc);
+}
+
+-- the catalogue lacks the site
+pub at_no_port : (catalogue : Catalogue) (site : ℕ) (does : HostValue → HostValue → Type 0) (hosts : List HostValue) → value_at site catalogue.sites ≡ None → ChangesOf catalogue site does hosts hosts
+at_no_port catalogue site does hosts none = record {
+  there = λ p e. absurd (let z = sym none ∙ e in cc);
+  nowhere = λ none. refl;
+}

@@ -1,5 +1,5 @@
 -- A host: a node in memory, with the disk that keeps its log.
-use Rattle.std.specs.Prelude.{◌≡◌, ℕ, ◌-◌, ◌^◌, ◌≢◌, List, [], ◌++◌, Option, Some, None, IfSome, option_map}
+use Rattle.std.specs.Prelude.{◌≡◌, ℕ, ◌-◌, ◌^◌, ◌≢◌, List, [], ◌++◌, Option, Some, None, IfSome, option_map, true}
 use Rattle.vp_model.specs.Types.{LogRecord}
 use Rattle.vp_model.specs.Words.{value_at}
 use Rattle.vp_model.specs.Catalogue.{Catalogue}
@@ -31,8 +31,8 @@ abbrev pub log_in : HostValue → Halves
 log_in host = content_of (changes_of (asked_of host.disk) host.disk)
 
 -- its site with them
-abbrev pub site_log : HostValue → ℕ × Halves
-site_log host = (host.id, log_in host)
+abbrev pub site_log : HostValue → ℕ × List ℕ × List ℕ
+site_log host = (host.id, (log_in host).0, (log_in host).1)
 
 -- its site with its port
 abbrev pub place_of : HostValue → ℕ × ℕ

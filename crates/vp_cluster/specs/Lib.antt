@@ -2,4 +2,3 @@ pub mod Hosts
 pub mod Letters
 pub mod Nodes
 pub mod Clusters
-pub mod Ran

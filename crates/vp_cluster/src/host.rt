@@ -1,14 +1,15 @@
 //! A host: a node in memory, with the disk that keeps its log.
 
 ghost use Rattle.std.specs.Prelude.{◌≡◌, OnErr, OnOk, IfOk, Some};
-ghost use Rattle.vp_cluster.specs.Hosts.{IsHost, Begins, Takes, Crashes, Restarts, log_in};
+ghost use Rattle.vp_cluster.specs.Hosts.{IsHost, Begins, Takes, Crashes, Restarts, log_in, site_log, place_of};
 ghost use Rattle.vp_cluster.specs.Letters.{as_received};
 ghost use Rattle.vp_model.specs.Words.{value_at};
 ghost use Rattle.vp_outside.specs.Disk.{half_of};
 
 use crate::letter::Letter;
+use std::alloc::Global;
 use std::marker::Model;
-use vp_base::{NoMemory, SiteId};
+use vp_base::{NoMemory, Seq, SiteId, Word};
 use vp_catalog::Catalog;
 use vp_node::{Node, NodeEnd};
 use vp_outside::{Datagrams, SureDisk};
@@ -60,16 +61,15 @@ impl Host {
     }
 
     /// The bytes of its log.
-    pub fn log(&self) -> Result<SiteLog, NoMemory>
+    pub fn log(&self, alloc: Global) -> Result<SiteLog, NoMemory>
         ensures { IfOk result (λ log. log ≡ site_log self.now) }
     {
-        Ok((self.id, self.half(0)?, self.half(1)?))
+        Ok((self.id, self.half(alloc, 0)?, self.half(alloc, 1)?))
     }
 
-    fn half(&self, half: u8) -> Result<Word, NoMemory>
+    fn half(&self, alloc: Global, half: u8) -> Result<Word, NoMemory>
         ensures { IfOk result (λ bytes. bytes ≡ half_of half (log_in self.now)) }
     {
-        let alloc = *self.alloc();
         Ok(Word::from_vec(self.disk.half(half).to_vec(alloc)?))
     }
 

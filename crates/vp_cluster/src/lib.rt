@@ -2,4 +2,6 @@
 #![tactic(auto)]
 
 mod host;
+mod hosts;
 mod letter;
+mod nodes;

@@ -1,6 +1,6 @@
 //! The nodes of all sites in one process. They follow the lines of a run, and what they do of each goes from node to node in datagrams.
 
-ghost use Rattle.std.specs.Prelude.{◌≡◌, ◌-◌, ◌==◌, OnOk, IfOk, Some, None, length, option_copied, slice_get, if◌then◌else◌};
+ghost use Rattle.std.specs.Prelude.{◌≡◌, OnOk, IfOk, Some, None, length, map, option_copied};
 ghost use Rattle.vp_laws.specs.ShapeLaws.{IsEvent};
 ghost use Rattle.vp_cluster.specs.Hosts.{Crashes, Restarts, site_log};
 ghost use Rattle.vp_cluster.specs.Letters.{letter_of, in_order};
@@ -58,12 +58,12 @@ impl Nodes {
     }
 
     /// The logs on the disks, ascending by site.
-    pub fn logs(&self) -> Result<Logs, NoMemory>
+    pub fn logs(&self, alloc: Global) -> Result<Logs, NoMemory>
         ensures { IfOk result (λ logs. logs ≡ map site_log self.now.hosts) }
     {
-        let mut logs = Logs::new(self.letters.allocator());
+        let mut logs = Logs::new(alloc);
         for host in &self.hosts {
-            logs.push(host.log()?)?;
+            logs.push(host.log(alloc)?)?;
         }
         Ok(logs)
     }

@@ -1,0 +1,108 @@
+//! Playing the events of a schedule in a world, before an observer.
+
+ghost use Rattle.std.specs.Prelude.{◌≤◌, [], OnOk, length};
+ghost use Rattle.std.specs.List.{AllByRecursion};
+ghost use Rattle.vp_model.specs.World.{one_step, flow, one_event};
+ghost use Rattle.vp_model.specs.Texts.Trace.{own_line};
+ghost use Rattle.vp_playing.specs.Played.{SeesAll, Sees, Plays, run_in, schedule_of};
+
+use crate::observer::Observer;
+use vp_base::{Event, Line, NoMemory, Shown};
+use vp_catalog::Catalog;
+use vp_world::{World, WorldEnd};
+
+/// Does one step, and shows its line.
+fn play_step<O: Observer>(
+    number: u32,
+    event: &Event,
+    world: World,
+    observer: &mut O,
+) -> Result<World, WorldEnd>
+    requires { O.allows event.now }
+    ensures { Sees O.sees world.catalogue [] (one_step world.catalogue number event.now (run_in world.world)) result observer.old observer.new }
+{
+    match world.next(event) {
+        Err(end) => Err(end),
+        Ok((world, line)) => {
+            observer.see(number, &line, world.catalog())?;
+            Ok(world)
+        }
+    }
+}
+
+/// Delivers up to `count` messages, each time the lowest one that may be delivered and never was, and shows the lines.
+fn play_flow<O: Observer>(
+    number: u32,
+    count: u32,
+    world: World,
+    observer: &mut O,
+) -> Result<World, WorldEnd>
+    ensures { Sees O.sees world.catalogue [] (flow world.catalogue number count (run_in world.world)) result observer.old observer.new }
+{
+    let mut world = world;
+    for _ in 0..count {
+        match world.flowing() {
+            None => return Ok(world),
+            Some(k) => world = play_step(number, &Event::Deliver { k }, world, observer)?,
+        }
+    }
+    Ok(world)
+}
+
+/// The line of a flow itself stands before those of its deliveries.
+fn show_own_line<O: Observer>(
+    number: u32,
+    event: &Event,
+    catalog: &Catalog,
+    observer: &mut O,
+) -> Result<(), NoMemory>
+    ensures { OnOk result (SeesAll (O.sees catalog.now) (own_line number event.now) observer.old observer.new) }
+{
+    let Event::Flow { count } = event else {
+        return Ok(());
+    };
+    let line = Line {
+        event: Event::Flow { count: *count },
+        shown: Shown::Nothing,
+    };
+    observer.see(number, &line, catalog)
+}
+
+/// Does the steps of the event, and shows their lines.
+#[tactic(auto, unfolding(vp_model::specs::World::one_event))]
+pub fn play_event<O: Observer>(
+    number: u32,
+    event: &Event,
+    world: World,
+    observer: &mut O,
+) -> Result<World, WorldEnd>
+    requires { O.allows event.now }
+    ensures { Sees O.sees world.catalogue (own_line number event.now) (one_event world.catalogue number event.now (run_in world.world)) result
+        observer.old observer.new }
+{
+    show_own_line(number, event, world.catalog(), observer)?;
+    match event {
+        Event::Flow { count } => play_flow(number, *count, world, observer),
+        _ => play_step(number, event, world, observer),
+    }
+}
+
+/// Plays the events one after the other, from the start of the world on. Where a limit ends them, the observer has seen the lines of
+/// the steps before.
+pub fn play<O: Observer>(
+    catalog: Catalog,
+    events: &[Event],
+    observer: &mut O,
+) -> Result<World, WorldEnd>
+    requires few { length events.now ≤ 100000 }
+    requires allowed { AllByRecursion O.allows events.now }
+    ensures { Plays O.sees (schedule_of catalog events.now) result observer.old observer.new }
+{
+    let mut world = World::new(catalog)?;
+    let mut number = 0;
+    for event in events {
+        number += 1;
+        world = play_event(number, event, world, observer)?;
+    }
+    Ok(world)
+}
