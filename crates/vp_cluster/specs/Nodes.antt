@@ -26,9 +26,10 @@ pub record ChangesAt (port : ℕ) (does : HostValue → HostValue → Type 0) (o
   pub there : (host : HostValue) → host_at port old ≡ Some host → (after : HostValue) × (host_at port new ≡ Some after) × does host after
   pub others : (other : ℕ) → other ≢ port → host_at other new ≡ host_at other old
 
--- that of a site of the catalogue
-abbrev pub ChangesOf : Catalogue → ℕ → (HostValue → HostValue → Type 0) → List HostValue → List HostValue → Type 0
-ChangesOf catalogue site does old new = (port : ℕ) → value_at site catalogue.sites ≡ Some port → ChangesAt port does old new
+-- that of a site of the catalogue; for another site all stay
+pub record ChangesOf (catalogue : Catalogue) (site : ℕ) (does : HostValue → HostValue → Type 0) (old new : List HostValue) : Type 0 where
+  pub there : (port : ℕ) → value_at site catalogue.sites ≡ Some port → ChangesAt port does old new
+  pub nowhere : value_at site catalogue.sites ≡ None → new ≡ old
 
 -- The letter comes to its receiver. Of the datagrams that this gives the first are those of its messages, and are letters from then on.
 abbrev pub Comes : Letter → ℕ → NodesValue → NodesValue → Type 0
