@@ -80,7 +80,7 @@ no_restart id (event.Restart s) plain = absurd plain
 no_restart id e plain = refl
 
 -- an event that gives an input names the site and the input
-named : (e : Event) (w : WorldState) (s : ℕ) (given : Input) → Gives e w s given → IsPlain e × (site_named w e ≡ Some s) × (input_of w e ≡ Some given)
+pub named : (e : Event) (w : WorldState) (s : ℕ) (given : Input) → Gives e w s given → IsPlain e × (site_named w e ≡ Some s) × (input_of w e ≡ Some given)
 named e w s given (Gives.called words is) = rw is (tt, refl, refl)
 named e w s given (Gives.came k m is at to) = rw is (tt, ap (option_map (λ (m : Sent). m.to)) at ∙ ap Some to, ap (option_map (λ (m : Sent). input.Message m.from m.message)) at)
 named e w s given (Gives.ticked is) = rw is (tt, refl, refl)

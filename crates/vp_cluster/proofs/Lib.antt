@@ -1,0 +1,2 @@
+pub mod TiedLetters
+pub mod TiedMoments
