@@ -1,2 +1,4 @@
 pub mod TiedLetters
 pub mod TiedMoments
+pub mod TiedLines
+pub mod Tied

@@ -9,7 +9,7 @@ use Rattle.vp_catalog.specs.Document.{IsCatalogue}
 use Rattle.vp_model.specs.Types.{Event, Input, Sent, Reply}
 use Rattle.vp_model.specs.Types.event
 use Rattle.vp_model.specs.Types.input
-use Rattle.vp_model.specs.Words.{value_at}
+use Rattle.vp_model.specs.Words.{keys, value_at}
 use Rattle.vp_model.specs.Catalogue.{Catalogue, sites_of}
 use Rattle.vp_model.specs.World.{WorldState, message_at}
 use Rattle.vp_laws.specs.ShapeLaws.{IsEvent, message_frame}
@@ -50,6 +50,17 @@ has_its_port a port (s ∷ sites) at = go (s.0 == a) at (has_its_port a port sit
     go : (here : Bool) → At s sites here a port → (value_at a sites ≡ Some port → Has (ports sites) port) → Has (s.1 ∷ ports sites) port
     go true at more = let same : s.1 ≡ port = cc in rw (← same) (has_first s.1 (ports sites))
     go false at more = has_more s.1 (ports sites) port (more at)
+
+pub has_site : (sites : List (ℕ × ℕ)) (a port : ℕ) → value_at a sites ≡ Some port → Has (keys sites) a
+has_site [] a port at = absurd cc
+has_site (s ∷ sites) a port at = go (s.0 == a) refl at (has_site sites a port)
+  where
+    it : (s.0 == a) ≡ true → s.0 ≡ a
+    it e = grind (arith, nat_tests, e)
+
+    go : (here : Bool) → (s.0 == a) ≡ here → At s sites here a port → (value_at a sites ≡ Some port → Has (keys sites) a) → Has (s.0 ∷ keys sites) a
+    go true e at more = rw (← it e) (has_first s.0 (keys sites))
+    go false e at more = has_more s.0 (keys sites) a (more at)
 
 -- two sites have two ports
 ports_apart : (a b p q : ℕ) (sites : List (ℕ × ℕ)) → IsDistinct nat_eq (ports sites) → value_at a sites ≡ Some p → value_at b sites ≡ Some q → a ≢ b → p ≢ q
