@@ -1,12 +1,12 @@
 -- Nodes that follow the lines of a schedule's trace are tied to it.
-use Rattle.std.proofs.Common.{◌≡◌, ◌∙◌, ap, sym, subst, ℕ, List, ◌∷◌, [], ◌++◌, map, refl, append_assoc, append-nil}
+use Rattle.std.proofs.Common.{◌≡◌, ◌∙◌, ap, sym, subst, ℕ, List, ◌∷◌, [], ◌++◌, map, append_assoc, append-nil}
 use Rattle.std.specs.Prelude.{Some, None}
 use Rattle.std.specs.List.{AllByRecursion}
 use Rattle.vp_catalog.specs.Document.{IsCatalogue}
-use Rattle.vp_model.specs.Types.{Line, Sent}
+use Rattle.vp_model.specs.Types.{Line}
 use Rattle.vp_model.specs.Words.{value_at}
-use Rattle.vp_model.specs.Catalogue.{Catalogue, sites_of}
-use Rattle.vp_model.specs.World.{Place, WorldState, Moment, Schedule, place_of, next, moment, start_place, start_world, run_of, moments_of, numbered_lines}
+use Rattle.vp_model.specs.Catalogue.{Catalogue}
+use Rattle.vp_model.specs.World.{Place, WorldState, Moment, Schedule, start_place, start_world, run_of, moments_of, numbered_lines}
 use Rattle.vp_model.specs.Limits.{Limits, limit_reached, lines_within}
 use Rattle.vp_laws.specs.ShapeLaws.{IsEvent}
 use Rattle.vp_laws.proofs.Members.{Has, has_first, has_more}
@@ -18,7 +18,7 @@ use Rattle.vp_laws.proofs.Agreement.{views_last}
 use Rattle.vp_laws.proofs.CutTraces.{limits_cut_traces}
 use Rattle.vp_routes.proofs.InvRoutes.{InvRoutes, routes_last}
 use Rattle.vp_stable.specs.Halves.{HaveBatches}
-use Rattle.vp_kept.specs.Kept.{kept_in, kept}
+use Rattle.vp_kept.specs.Kept.{kept}
 use Rattle.vp_kept.proofs.Happened.{Effect, effect}
 use Rattle.vp_kept.proofs.Through.{Follow, moments_follow, starts_at}
 use Rattle.vp_kept.proofs.Steps.{events_are}
@@ -26,12 +26,11 @@ use Rattle.vp_kept.proofs.Nodes.{sent_are}
 use Rattle.vp_kept.proofs.Folds.{folds_first}
 use Rattle.vp_kept.proofs.Coming.{has_port}
 use Rattle.vp_cluster.specs.Hosts.{HostValue, log_in}
-use Rattle.vp_cluster.specs.Letters.{letter_for}
-use Rattle.vp_cluster.specs.Nodes.{NodesValue, host_at, Follows, Begin}
+use Rattle.vp_cluster.specs.Nodes.{NodesValue, host_at, Begin}
 use Rattle.vp_cluster.specs.Clusters.{HasSite, AreTied}
 use Rattle.vp_cluster.proofs.TiedLetters.{has_site}
 use Rattle.vp_cluster.proofs.TiedMoments.{Facts, Folds, folds_now, tied_on}
-use Rattle.vp_cluster.proofs.TiedLines.{SeesAll, FollowAll, follow_moments}
+use Rattle.vp_cluster.proofs.TiedLines.{FollowAll, follow_moments}
 
 module _ (catalogue : Catalogue) (k : IsCatalogue catalogue) where
   -- ---- the first world
@@ -65,8 +64,8 @@ module _ (catalogue : Catalogue) (k : IsCatalogue catalogue) where
       let fact = facts m (has_first m rest) in
       let tied_after = tied_on catalogue k m moments old h.0 fact tied_before folds_before h.1 e in
       let folds_after : Folds catalogue (moments ++ m ∷ []) m.after = λ id place at listed. (
-        let port = has_port catalogue.sites id listed in
-        folds_now catalogue m moments old h.0 e id port.0 (tied_before.sites id port.0 port.1) listed folds_before place at) in
+      let port = has_port catalogue.sites id listed in
+      folds_now catalogue m moments old h.0 e id port.0 (tied_before.sites id port.0 port.1) listed folds_before place at) in
       subst (λ (ms : List Moment). AreTied catalogue ms v new) (append_assoc moments (m ∷ []) rest)
       (goes_on (moments ++ m ∷ []) rest m.after v h.0 new (λ n has. facts n (has_more m rest n has)) tied_after folds_after f.1 h.2)
 

@@ -1,14 +1,13 @@
 -- The letter that an event brings to a site, and the letters of the messages of a step.
-use Rattle.std.proofs.Common.{◌≡◌, ◌≢◌, ◌∙◌, ap, sym, subst, ℕ, ◌-◌, Bool, true, false, cond, List, ◌∷◌, [], ◌++◌, length, map, refl, arith, ⊎_elim}
+use Rattle.std.proofs.Common.{◌≡◌, ◌≢◌, ◌∙◌, ap, sym, ℕ, ◌-◌, Bool, true, false, cond, List, ◌∷◌, [], ◌++◌, length, map, refl, arith}
 use Rattle.std.specs.Prelude.{Option, Some, None, ◌==◌, nat_eq, slice_get, find, take, flat_map, option_map}
 use Rattle.std.specs.Option.{option_map_or}
-use Rattle.std.specs.List.{AllByRecursion, IsDistinct}
+use Rattle.std.specs.List.{IsDistinct}
 use Rattle.std.proofs.lemmas.Bool.Decides.{nat_tests}
 use Rattle.std.proofs.lemmas.Option.{slice_get-map}
 use Rattle.vp_catalog.specs.Document.{IsCatalogue}
-use Rattle.vp_model.specs.Types.{Event, Input, Sent, Reply}
+use Rattle.vp_model.specs.Types.{Event, Input, Sent}
 use Rattle.vp_model.specs.Types.event
-use Rattle.vp_model.specs.Types.input
 use Rattle.vp_model.specs.Words.{keys, value_at}
 use Rattle.vp_model.specs.Catalogue.{Catalogue, sites_of}
 use Rattle.vp_model.specs.World.{WorldState, message_at}

@@ -7,7 +7,7 @@ use Rattle.vp_model.specs.Types.{Event, Line}
 use Rattle.vp_model.specs.Types.event
 use Rattle.vp_model.specs.Words.{for_some}
 use Rattle.vp_model.specs.Catalogue.{Catalogue}
-use Rattle.vp_model.specs.World.{Moment, Run, Schedule, flowing, one_step, flow, one_event, run_from, run_of, start_run, moments_of, numbered_lines}
+use Rattle.vp_model.specs.World.{Moment, Run, Schedule, flowing, one_step, flow, one_event, run_from, run_of, start_run, numbered_lines}
 use Rattle.vp_model.specs.Texts.Trace.{own_line, printed_from, printed_lines}
 use Rattle.vp_cluster.specs.Nodes.{NodesValue, Follows}
 
@@ -91,8 +91,7 @@ module _ (catalogue : Catalogue) where
       let after = one_event catalogue number e run in
       let (mid, under, rest) = sees_split follows_line (own_line number e ++ lines_in (drop (length run.moments) after.moments)) (printed_from catalogue (number + 1) events after) old new h in
       let one = under_event number e run old mid under in
-      let more = follow_from (number + 1) events after mid new rest in
-      (
+      let more = follow_from (number + 1) events after mid new rest in (
         one.0 ++ more.0,
         more.1 ∙ ap (λ (ms : List Moment). ms ++ more.0) one.1 ∙ append_assoc run.moments one.0 more.0,
         sees_steps follows_line one.0 more.0 old mid new one.2 more.2,

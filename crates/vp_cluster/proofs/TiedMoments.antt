@@ -1,11 +1,11 @@
 -- Nodes that follow the line of one moment stay tied to it.
-use Rattle.std.proofs.Common.{◌≡◌, ◌≢◌, ◌∙◌, ap, sym, subst, ℕ, ◌+◌, ◌-◌, ◌^◌, Bool, true, false, List, ◌∷◌, [], ◌++◌, length, map, refl, ⊎_elim}
-use Rattle.std.specs.Prelude.{Option, Some, None, ◌==◌, take, flat_map, option_and_then}
+use Rattle.std.proofs.Common.{◌≡◌, ◌≢◌, ◌∙◌, ap, sym, subst, ℕ, ◌+◌, false, List, ◌∷◌, [], ◌++◌, length, map, refl, ⊎_elim}
+use Rattle.std.specs.Prelude.{Option, Some, None, take, option_and_then}
 use Rattle.std.proofs.lemmas.List.{map-append}
 use Rattle.std.proofs.lemmas.List.Sums.{fold-append}
 use Rattle.vp_catalog.specs.Document.{IsCatalogue}
 use Rattle.vp_wire.specs.Grammar.{IsFrame}
-use Rattle.vp_model.specs.Types.{LogRecord, Event, Input, Sent, Shown, Effects}
+use Rattle.vp_model.specs.Types.{LogRecord, Event, Sent, Shown, Effects}
 use Rattle.vp_model.specs.Types.event
 use Rattle.vp_model.specs.Types.shown
 use Rattle.vp_model.specs.Words.{value_at}
@@ -14,7 +14,7 @@ use Rattle.vp_model.specs.Durable.{DurableState, apply_all}
 use Rattle.vp_model.specs.Site.{SiteState}
 use Rattle.vp_model.specs.Step.{step, start, durable_of}
 use Rattle.vp_model.specs.Told.{is_step}
-use Rattle.vp_model.specs.World.{Place, WorldState, Moment, place_of, site_of, after_step, restart_place}
+use Rattle.vp_model.specs.World.{Place, WorldState, Moment, place_of, after_step, restart_place}
 use Rattle.vp_laws.specs.ShapeLaws.{IsEvent, message_frame}
 use Rattle.vp_laws.proofs.Members.{Has, has_right}
 use Rattle.vp_laws.proofs.Order.{same_site}
@@ -23,18 +23,17 @@ use Rattle.vp_laws.proofs.InvViews.{InvViews}
 use Rattle.vp_laws.proofs.TableViews.{local-step}
 use Rattle.vp_laws.proofs.TableDurable.{step-folds}
 use Rattle.vp_outside.specs.declared.datagram.Datagram.{Datagram}
-use Rattle.vp_runs.specs.declared.arrival.Arrival.TheVariants as arrives
 use Rattle.vp_runs.specs.Arrivals.{arrival}
 use Rattle.vp_runs.specs.Keeping.{durable_in, kept_with}
 use Rattle.vp_runs.specs.Runs.{start_node, after_turn}
-use Rattle.vp_runs.specs.Turns.{Turn, turn_on, step_turn, datagrams_of, message_datagram, reply_datagram}
+use Rattle.vp_runs.specs.Turns.{Turn, turn_on, step_turn, datagrams_of, reply_datagram}
 use Rattle.vp_kept.specs.Kept.{with_life, kept_after, kept_in as batches_in}
 use Rattle.vp_kept.proofs.Happened.{Leaves, LeavesIt, LeavesOthers, Acts, put_down, RestartEffect, IsPlain, Effect, named, happened}
 use Rattle.vp_kept.proofs.Folds.{folds_on}
 use Rattle.vp_cluster.specs.declared.letter.Letter.{Letter}
 use Rattle.vp_cluster.specs.Letters.{letter_of, as_received, sent_from, letter_for}
 use Rattle.vp_cluster.specs.Hosts.{HostValue, IsAt, node_at, turn_at, Takes, Crashes, Restarts}
-use Rattle.vp_cluster.specs.Nodes.{NodesValue, host_at, ChangesAt, ChangesOf, Comes, Steps, Does, Follows}
+use Rattle.vp_cluster.specs.Nodes.{NodesValue, host_at, ChangesOf, Comes, Steps, Does, Follows}
 use Rattle.vp_cluster.specs.Clusters.{HasSite, AreTied}
 use Rattle.vp_cluster.proofs.TiedLetters.{ports_differ, Brings, brought, posted}
 
@@ -103,10 +102,10 @@ module _ (catalogue : Catalogue) (m : Moment) (moments : List Moment) (old new :
     changed others tied own id port at =
         ⊎_elim
         (λ (same : id ≡ s).
-            let there : value_at s catalogue.sites ≡ Some port = ap (λ (id : ℕ). value_at id catalogue.sites) (sym same) ∙ at in
-            let h = tied s port there in
-            let c = (changes.there port there).there h.host h.host_is in
-            subst (λ (id : ℕ). After id port) (sym same) (own port h c.0 c.1 c.2))
+        let there : value_at s catalogue.sites ≡ Some port = ap (λ (id : ℕ). value_at id catalogue.sites) (sym same) ∙ at in
+        let h = tied s port there in
+        let c = (changes.there port there).there h.host h.host_is in
+        subst (λ (id : ℕ). After id port) (sym same) (own port h c.0 c.1 c.2))
         (λ (n : id ≢ s). stays id port (tied id port at) (others id n) (others_stay id port at n))
         (same_site id s)
 
@@ -203,9 +202,9 @@ module _ (catalogue : Catalogue) (k : IsCatalogue catalogue) (m : Moment) (momen
     site_now id port at =
         ⊎_elim
         (λ (same : id ≡ s).
-            let there : value_at s catalogue.sites ≡ Some port = ap (λ (id : ℕ). value_at id catalogue.sites) (sym same) ∙ at in
-            let to : letter.0.to ≡ port = (let z = sym letter.2.to_is ∙ there in cc) in
-            subst (λ (id : ℕ). HasSite catalogue (moments ++ m ∷ []) m.after new id port) (sym same) (subst (HasSite catalogue (moments ++ m ∷ []) m.after new s) to own_now))
+        let there : value_at s catalogue.sites ≡ Some port = ap (λ (id : ℕ). value_at id catalogue.sites) (sym same) ∙ at in
+        let to : letter.0.to ≡ port = (let z = sym letter.2.to_is ∙ there in cc) in
+        subst (λ (id : ℕ). HasSite catalogue (moments ++ m ∷ []) m.after new id port) (sym same) (subst (HasSite catalogue (moments ++ m ∷ []) m.after new s) to own_now))
         (λ (n : id ≢ s). stays catalogue m moments old new id port (tied.sites id port at) (others id n) (comes.1.others port (ports_differ catalogue k id s port letter.0.to at letter.2.to_is n)))
         (same_site id s)
 

@@ -187,9 +187,9 @@ module _ (catalogue : Catalogue) (number : ℕ) (e : Event) (w : WorldState) whe
   restarted s place is there down left =
       Effect.restarts s is refl
       (λ old at.
-          let same : place ≡ old = (let z = sym there ∙ at in cc) in
-          RestartEffect.starts (ap (λ (p : Place). p.up) (sym same) ∙ down) (λ spent. left (ap (λ (p : Place). p.durable.life) same ∙ spent))
-          (record { place_is = place-same s (restart_place catalogue) w.places (λ p. refl) ∙ ap (option_map (restart_place catalogue)) at; log_is = λ batches. rw (is, same_number s, same) refl }))
+      let same : place ≡ old = (let z = sym there ∙ at in cc) in
+      RestartEffect.starts (ap (λ (p : Place). p.up) (sym same) ∙ down) (λ spent. left (ap (λ (p : Place). p.durable.life) same ∙ spent))
+      (record { place_is = place-same s (restart_place catalogue) w.places (λ p. refl) ∙ ap (option_map (restart_place catalogue)) at; log_is = λ batches. rw (is, same_number s, same) refl }))
       (λ id other. record { place_is = place-other s id (restart_place catalogue) w.places (λ p. refl) other; log_is = λ batches. rw (is, other_number s id (λ same. other (sym same))) refl })
 
   restarts_from : (s : ℕ) (place : Place) → e ≡ event.Restart s → place_of s w.places ≡ Some place → place.id ≡ s → D (restart_from catalogue place counted)
