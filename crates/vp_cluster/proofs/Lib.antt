@@ -1,3 +1,7 @@
 mod Begun
 mod Changing
 mod Replaced
+mod Tied
+mod TiedLetters
+mod TiedLines
+mod TiedMoments

@@ -42,7 +42,7 @@ is_site above (s ∷ sites) h id k = ⊎_elim (λ (same : s.0 ≡ id). subst IsS
     some : (a b : ℕ) → a < b → 1 ≤ b
     some a b lt = omega arith
 
-has_port : (sites : List (ℕ × ℕ)) (id : ℕ) → Has (keys sites) id → (port : ℕ) × (value_at id sites ≡ Some port)
+pub has_port : (sites : List (ℕ × ℕ)) (id : ℕ) → Has (keys sites) id → (port : ℕ) × (value_at id sites ≡ Some port)
 has_port [] id k = absurd (has_none id k)
 has_port (s ∷ sites) id k = go (s.0 == id) refl (has_port sites id)
   where
@@ -56,17 +56,17 @@ has_port (s ∷ sites) id k = go (s.0 == id) refl (has_port sites id)
 -- ---- datagrams
 
 module _ (catalogue : Catalogue) (k : IsCatalogue catalogue) (id : ℕ) (listed : Has (sites_of catalogue) id) where
-  own : IsSite id
+  pub own : IsSite id
   own = is_site 0 catalogue.sites k.so_far.sites_are id listed
 
-  no_port : site_at catalogue 0 ≡ 0
+  pub no_port : site_at catalogue 0 ≡ 0
   no_port = none_at 0 catalogue.sites k.so_far.sites_are
 
-  tick_comes : arrival catalogue id (datagram_to 0 (frame_of 0 id body.Tick)) ≡ arrives.Gives input.Tick
+  pub tick_comes : arrival catalogue id (datagram_to 0 (frame_of 0 id body.Tick)) ≡ arrives.Gives input.Tick
   unfolding arrival
   tick_comes = rw (reads_again (frame_of 0 id body.Tick) (refl, own), same_number id, no_port) refl
 
-  probe_comes : arrival catalogue id (datagram_to 0 (frame_of 0 id body.ProbeNow)) ≡ arrives.Gives input.Probe
+  pub probe_comes : arrival catalogue id (datagram_to 0 (frame_of 0 id body.ProbeNow)) ≡ arrives.Gives input.Probe
   unfolding arrival
   probe_comes = rw (reads_again (frame_of 0 id body.ProbeNow) (refl, own), same_number id, no_port) refl
 

@@ -13,7 +13,7 @@ use Rattle.vp_kept.proofs.Happened.{Happened}
 use Rattle.vp_kept.proofs.Through.{through_schedule}
 
 module _ (catalogue : Catalogue) where
-  folds_first : (id : ℕ) → durable_in catalogue id (with_life 1 []) ≡ (start_place catalogue id).durable
+  pub folds_first : (id : ℕ) → durable_in catalogue id (with_life 1 []) ≡ (start_place catalogue id).durable
   folds_first id = refl
 
   life_folds : (id : ℕ) (d : DurableState) (batches : List (List LogRecord)) → durable_in catalogue id batches ≡ d → durable_in catalogue id (with_life (d.life + 1) batches) ≡ apply (start_record d) d

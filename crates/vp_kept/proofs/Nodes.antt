@@ -121,19 +121,20 @@ module _ (catalogue : Catalogue) (id : ℕ) where
       let at = all_at (IsPlace catalogue) w.places world.places_are old (find_has (λ place. place.id == id) w.places old there) in
       (some_at (λ (site : SiteState). (site.id ≡ old.id) × IsShaped catalogue site) old.up x at.up_is up).0 ∙ place-id id w.places old there
 
-module _ (s : Schedule) (id : ℕ) (k : IsCatalogue s.catalogue) (i : AllByRecursion IsEvent s.events) (listed : Has (sites_of s.catalogue) id) where
-  sent_are : (m : Moment) → Has (moments_of s) m → (sent : Sent) → Has m.before.sent sent → IsFrame (message_frame sent) × Has (sites_of s.catalogue) sent.from
+module _ (s : Schedule) (k : IsCatalogue s.catalogue) (i : AllByRecursion IsEvent s.events) where
+  pub sent_are : (m : Moment) → Has (moments_of s) m → (sent : Sent) → Has m.before.sent sent → IsFrame (message_frame sent) × Has (sites_of s.catalogue) sent.from
   sent_are m has sent q =
       let world = (each_world s m k i (contains (moments_of s) m has)).0 in
       let from = (in_each s.catalogue (With (Fourth s.catalogue) (InvRoutes s.catalogue k)) (routes_last s.catalogue k) s.events m has).0 in
       (all_at (λ (sent : Sent). IsFrame (message_frame sent)) m.before.sent world.sent_are sent q, (from.upper.sent sent q).0)
 
+module _ (s : Schedule) (id : ℕ) (k : IsCatalogue s.catalogue) (i : AllByRecursion IsEvent s.events) (listed : Has (sites_of s.catalogue) id) where
   of_node : (m : Moment) → Has (moments_of s) m → (old new : Place) (before after : List (List LogRecord)) → place_of id m.before.places ≡ Some old → Happened s.catalogue id m.line.event m.before old new before after
       → IsOfNode s.catalogue id before old.up → durable_in s.catalogue id before ≡ old.durable → IsOfNode s.catalogue id after new.up
   of_node m has old new before after there (Happened.stays p q) h folds = rw (p, q) h
   of_node m has old new before after there (Happened.steps x given g up p q) h folds =
       let world = (each_world s m k i (contains (moments_of s) m has)).0 in
-      let d = comes s.catalogue k id listed m.line.event m.before given (events_are s.catalogue s.events i m has) (sent_are m has) g in
+      let d = comes s.catalogue k id listed m.line.event m.before given (events_are s.catalogue s.events i m has) (sent_are s k i m has) g in
       steps_of s.catalogue id old new before after x given d.0 h folds d.1 (named_so s.catalogue id m.before old x world there up) up p q
   of_node m has old new before after there (Happened.crashes p q) h folds = rw (p, q) (record { past = h.past; last = h.last; left = h.left; goes_on = h.goes_on; up_is = tt })
   of_node m has old new before after there (Happened.restarts down p q) h folds = begins_of s.catalogue id old new before after h folds (place-id id m.before.places old there) p q

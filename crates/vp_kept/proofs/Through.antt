@@ -12,10 +12,10 @@ use Rattle.vp_laws.proofs.Occurs.{run-keeps}
 use Rattle.vp_laws.proofs.InvViews.{InvViews}
 use Rattle.vp_laws.proofs.Agreement.{views_last}
 use Rattle.vp_kept.specs.Kept.{with_life, kept_after, kept_in}
-use Rattle.vp_kept.proofs.Happened.{Happened, happened, same_number}
+use Rattle.vp_kept.proofs.Happened.{Effect, effect, Happened, happened, same_number}
 
 -- these moments follow each other from one world to another
-abbrev Follow : Catalogue → WorldState → List Moment → WorldState → Type 0
+abbrev pub Follow : Catalogue → WorldState → List Moment → WorldState → Type 0
 Follow catalogue w [] v = w ≡ v
 Follow catalogue w (m ∷ moments) v = (m ≡ moment m.number w m.line.event (next catalogue m.line.event w)) × Follow catalogue m.after moments v
 
@@ -28,7 +28,7 @@ module _ (catalogue : Catalogue) where
   unfolding one_step
   steps_follow number e run h = one_more number e run.moments (start_world catalogue) run.world h
 
-  moments_follow : (events : List Event) → Follow catalogue (start_world catalogue) (moments_of (record { catalogue = catalogue; events = events })) (run_of (record { catalogue = catalogue; events = events })).world
+  pub moments_follow : (events : List Event) → Follow catalogue (start_world catalogue) (moments_of (record { catalogue = catalogue; events = events })) (run_of (record { catalogue = catalogue; events = events })).world
   moments_follow events = run-keeps catalogue (λ (run : Run). Follow catalogue (start_world catalogue) run.moments run.world) (record { starts = refl; steps = steps_follow }) events
 
   -- ---- one site
@@ -43,15 +43,9 @@ module _ (catalogue : Catalogue) where
     one_moment : (m : Moment) (moments : List Moment) (w : WorldState) → Kept (m ∷ moments) → m ≡ moment m.number w m.line.event (next catalogue m.line.event w) → (batches : List (List LogRecord)) → At w batches
         → At m.after (kept_after catalogue id m batches)
     one_moment m moments w keeps is batches (old, at, h) =
-        let (new, now, done) = happened catalogue m.number m.line.event w id old at batches in
-        let is_after : (next catalogue m.line.event w).world ≡ m.after = ap (λ (m : Moment). m.after) (sym is) in
-        let is_before : w ≡ m.before = ap (λ (m : Moment). m.before) (sym is) in
-        let old_here : place_of id m.before.places ≡ Some old = subst (λ (v : WorldState). place_of id v.places ≡ Some old) is_before at in
-        let kept : kept_after catalogue id (moment m.number w m.line.event (next catalogue m.line.event w)) batches ≡ kept_after catalogue id m batches = ap (λ (m : Moment). kept_after catalogue id m batches) (sym is) in
-        let now_here : place_of id m.after.places ≡ Some new = subst (λ (v : WorldState). place_of id v.places ≡ Some new) is_after now in
-        let done_here : Happened catalogue id m.line.event m.before old new batches (kept_after catalogue id m batches) =
-        subst (λ (v : WorldState). Happened catalogue id m.line.event v old new batches (kept_after catalogue id m batches)) is_before (subst (Happened catalogue id m.line.event w old new batches) kept done) in
-        (new, now_here, keeps m (has_first m moments) old new batches (kept_after catalogue id m batches) old_here done_here h)
+        let old_here : place_of id m.before.places ≡ Some old = subst (λ (v : WorldState). place_of id v.places ≡ Some old) (ap (λ (m : Moment). m.before) (sym is)) at in
+        let (new, now, done) = happened catalogue m id old old_here batches (subst (Effect catalogue) (sym is) (effect catalogue m.number m.line.event w)) in
+        (new, now, keeps m (has_first m moments) old new batches (kept_after catalogue id m batches) old_here done h)
 
     through : (moments : List Moment) (w v : WorldState) → Kept moments → Follow catalogue w moments v → (batches : List (List LogRecord)) → At w batches → At v (for_each moments (kept_after catalogue id) batches)
     through [] w v keeps f batches h = subst (λ (v : WorldState). At v batches) f h
@@ -68,7 +62,7 @@ module _ (catalogue : Catalogue) where
       go true e rest = ap (λ (s : ℕ). Some (start_place catalogue s)) (is_same e)
       go false e rest = rest
 
-  starts_at : (id : ℕ) → Has (sites_of catalogue) id → place_of id (start_world catalogue).places ≡ Some (start_place catalogue id)
+  pub starts_at : (id : ℕ) → Has (sites_of catalogue) id → place_of id (start_world catalogue).places ≡ Some (start_place catalogue id)
   unfolding start_world
   starts_at id h = started id (sites_of catalogue) h
 

@@ -1,0 +1,289 @@
+-- Nodes that follow the line of one moment stay tied to it.
+use Rattle.std.proofs.Common.{◌≡◌, ◌≢◌, ◌∙◌, ap, sym, subst, ℕ, ◌+◌, false, List, ◌∷◌, [], ◌++◌, length, map, refl, ⊎_elim}
+use Rattle.std.specs.Prelude.{Option, Some, None, take, option_and_then}
+use Rattle.std.proofs.lemmas.List.{map-append}
+use Rattle.std.proofs.lemmas.List.Sums.{fold-append}
+use Rattle.vp_catalog.specs.Document.{IsCatalogue}
+use Rattle.vp_wire.specs.Grammar.{IsFrame}
+use Rattle.vp_model.specs.Types.{LogRecord, Event, Sent, Shown, Effects}
+use Rattle.vp_model.specs.Types.event
+use Rattle.vp_model.specs.Types.shown
+use Rattle.vp_model.specs.Words.{value_at}
+use Rattle.vp_model.specs.Catalogue.{Catalogue, sites_of}
+use Rattle.vp_model.specs.Durable.{DurableState, apply_all}
+use Rattle.vp_model.specs.Site.{SiteState}
+use Rattle.vp_model.specs.Step.{step, start, durable_of}
+use Rattle.vp_model.specs.Told.{is_step}
+use Rattle.vp_model.specs.World.{Place, WorldState, Moment, place_of, after_step, restart_place}
+use Rattle.vp_laws.specs.ShapeLaws.{IsEvent, message_frame}
+use Rattle.vp_laws.proofs.Members.{Has, has_right}
+use Rattle.vp_laws.proofs.Order.{same_site}
+use Rattle.vp_laws.proofs.Scenes.{scene_of, kept_in, up-place, place-id}
+use Rattle.vp_laws.proofs.InvViews.{InvViews}
+use Rattle.vp_laws.proofs.TableViews.{local-step}
+use Rattle.vp_laws.proofs.TableDurable.{step-folds}
+use Rattle.vp_outside.specs.declared.datagram.Datagram.{Datagram}
+use Rattle.vp_runs.specs.Arrivals.{arrival}
+use Rattle.vp_runs.specs.Keeping.{durable_in, kept_with}
+use Rattle.vp_runs.specs.Runs.{start_node, after_turn}
+use Rattle.vp_runs.specs.Turns.{Turn, turn_on, step_turn, datagrams_of, reply_datagram}
+use Rattle.vp_kept.specs.Kept.{with_life, kept_after, kept_in as batches_in}
+use Rattle.vp_kept.proofs.Happened.{Leaves, LeavesIt, LeavesOthers, Acts, put_down, RestartEffect, IsPlain, Effect, named, happened}
+use Rattle.vp_kept.proofs.Folds.{folds_on}
+use Rattle.vp_cluster.specs.declared.letter.Letter.{Letter}
+use Rattle.vp_cluster.specs.Letters.{letter_of, as_received, sent_from, letter_for}
+use Rattle.vp_cluster.specs.Hosts.{HostValue, IsAt, node_at, turn_at, Takes, Crashes, Restarts}
+use Rattle.vp_cluster.specs.Nodes.{NodesValue, host_at, ChangesOf, Comes, Steps, Does, Follows}
+use Rattle.vp_cluster.specs.Clusters.{HasSite, AreTied}
+use Rattle.vp_cluster.proofs.TiedLetters.{ports_differ, Brings, brought, posted}
+
+-- what is known of a moment of a schedule
+pub record Facts (catalogue : Catalogue) (m : Moment) : Type 0 where
+  pub event_is : IsEvent m.line.event
+  pub views : InvViews catalogue (scene_of m.before)
+  pub sent : (sent : Sent) → Has m.before.sent sent → IsFrame (message_frame sent) × Has (sites_of catalogue) sent.from
+  pub routed : (sent : Sent) → Has m.after.sent sent → Has (sites_of catalogue) sent.to
+
+-- what each site has to keep is what its log folds to
+abbrev pub Folds : Catalogue → List Moment → WorldState → Type 0
+Folds catalogue moments w = (id : ℕ) (place : Place) → place_of id w.places ≡ Some place → Has (sites_of catalogue) id → durable_in catalogue id (batches_in catalogue id moments) ≡ place.durable
+
+module _ (catalogue : Catalogue) (m : Moment) (moments : List Moment) (old new : NodesValue) where
+  abbrev pub Before : ℕ → ℕ → Type 0
+  Before = HasSite catalogue moments m.before old
+
+  abbrev pub After : ℕ → ℕ → Type 0
+  After = HasSite catalogue (moments ++ m ∷ []) m.after new
+
+  abbrev batches : ℕ → List (List LogRecord)
+  batches id = batches_in catalogue id moments
+
+  more_batches : (id : ℕ) → batches_in catalogue id (moments ++ m ∷ []) ≡ kept_after catalogue id m (batches id)
+  more_batches id = fold-append (λ (batches : List (List LogRecord)) (m : Moment). kept_after catalogue id m batches) (with_life 1 []) moments (m ∷ [])
+
+  -- ---- one site
+
+  turns : (id port : ℕ) (place : Place) (log : List (List LogRecord) → List (List LogRecord)) → Leaves catalogue m id (Some place) log → (host : HostValue) → host_at port new.hosts ≡ Some host → host.id ≡ id → IsAt (log (batches id)) place.up host → After id port
+  turns id port place log l host there id_is at = record {
+    place = place;
+    place_is = l.place_is;
+    host = host;
+    host_is = there;
+    id_is = id_is;
+    at = subst (λ (b : List (List LogRecord)). IsAt b place.up host) (sym (more_batches id ∙ l.log_is (batches id))) at;
+  }
+
+  stays : (id port : ℕ) → Before id port → LeavesIt catalogue m id → host_at port new.hosts ≡ host_at port old.hosts → After id port
+  stays id port h l same = turns id port h.place (λ b. b) (record { place_is = l.place_is ∙ h.place_is; log_is = l.log_is }) h.host (same ∙ h.host_is) h.id_is h.at
+
+  pub folds_now : Effect catalogue m → (id port : ℕ) → Before id port → Has (sites_of catalogue) id → Folds catalogue moments m.before → (place : Place) → place_of id m.after.places ≡ Some place
+      → durable_in catalogue id (batches_in catalogue id (moments ++ m ∷ [])) ≡ place.durable
+  folds_now e id port h listed folds place now =
+      let (next, there, done) = happened catalogue m id h.place h.place_is (batches id) e in
+      let same : next ≡ place = (let z = sym there ∙ now in cc) in
+      ap (durable_in catalogue id) (more_batches id)
+      ∙ folds_on catalogue id m.line.event m.before h.place next (batches id) (kept_after catalogue id m (batches id)) done (folds id h.place h.place_is listed)
+      ∙ ap (λ (p : Place). p.durable) same
+
+  -- ---- a change of the host of a site
+
+  module _ (k : IsCatalogue catalogue) (s : ℕ) (does : HostValue → HostValue → Type 0) (changes : ChangesOf catalogue s does old.hosts new.hosts) where
+    others_stay : (id port : ℕ) → value_at id catalogue.sites ≡ Some port → id ≢ s → host_at port new.hosts ≡ host_at port old.hosts
+    others_stay id port at n = go (value_at s catalogue.sites) refl
+      where
+        go : (o : Option ℕ) → value_at s catalogue.sites ≡ o → host_at port new.hosts ≡ host_at port old.hosts
+        go None none = ap (host_at port) (changes.nowhere none)
+        go (Some q) there = (changes.there q there).others port (ports_differ catalogue k id s port q at there n)
+
+    -- to the site itself, or to another one
+    pub changed : LeavesOthers catalogue m s → ((id port : ℕ) → value_at id catalogue.sites ≡ Some port → Before id port)
+        → ((port : ℕ) (h : Before s port) (host : HostValue) → host_at port new.hosts ≡ Some host → does h.host host → After s port)
+        → (id port : ℕ) → value_at id catalogue.sites ≡ Some port → After id port
+    changed others tied own id port at =
+        ⊎_elim
+        (λ (same : id ≡ s).
+        let there : value_at s catalogue.sites ≡ Some port = ap (λ (id : ℕ). value_at id catalogue.sites) (sym same) ∙ at in
+        let h = tied s port there in
+        let c = (changes.there port there).there h.host h.host_is in
+        subst (λ (id : ℕ). After id port) (sym same) (own port h c.0 c.1 c.2))
+        (λ (n : id ≢ s). stays id port (tied id port at) (others id n) (others_stay id port at n))
+        (same_site id s)
+
+-- an event that is neither a crash nor a restart
+plain_steps : (e : Event) (what : Shown) (old new : NodesValue) → IsPlain e → Does e what old new → Steps e what old new
+plain_steps (event.Crash s) what old new plain h = absurd plain
+plain_steps (event.Restart s) what old new plain h = absurd plain
+plain_steps e what old new plain h = h
+
+-- what shows no step
+none_steps : (e : Event) (what : Shown) (old new : NodesValue) → is_step what ≡ false → Steps e what old new → new ≡ old
+none_steps e (shown.Step commits first messages replies) old new none h = absurd cc
+none_steps e what old new none h = h
+
+module _ (catalogue : Catalogue) (k : IsCatalogue catalogue) (m : Moment) (moments : List Moment) (old new : NodesValue) (facts : Facts catalogue m) (tied : AreTied catalogue moments m.before old) (folds : Folds catalogue moments m.before) (follows : Follows m.line old new) where
+  abbrev Tied : Type 0
+  Tied = AreTied catalogue (moments ++ m ∷ []) m.after new
+
+  abbrev log : ℕ → List (List LogRecord)
+  log id = batches_in catalogue id moments
+
+  at_catalogue : (P : Catalogue → Type 0) → P old.catalogue → P catalogue
+  at_catalogue P h = subst P tied.catalogue_is h
+
+  listed : (id port : ℕ) → value_at id catalogue.sites ≡ Some port → Has (sites_of catalogue) id
+  listed id port at = facts.views.known id (tied.sites id port at).place (tied.sites id port at).place_is
+
+  letters_stay : m.after.sent ≡ m.before.sent → new.letters ≡ old.letters → new.letters ≡ map (letter_for catalogue) m.after.sent
+  letters_stay sent same = same ∙ tied.letters ∙ ap (map (letter_for catalogue)) (sym sent)
+
+  tied_so : ((id port : ℕ) → value_at id catalogue.sites ≡ Some port → HasSite catalogue (moments ++ m ∷ []) m.after new id port) → new.letters ≡ map (letter_for catalogue) m.after.sent → Tied
+  tied_so sites letters = record { catalogue_is = follows.same_catalogue ∙ tied.catalogue_is; sites = sites; letters = letters }
+
+  -- ---- a step
+
+  module _ (s : ℕ) (a : Acts catalogue m s) (others : LeavesOthers catalogue m s) where
+    abbrev effects : Effects
+    effects = (step catalogue a.x a.given).effects
+
+    abbrev taken : Turn
+    taken = step_turn catalogue a.x.id (step catalogue a.x a.given)
+
+    known : Has (sites_of catalogue) s
+    known = let p = up-place (place_of s m.before.places) a.x a.up in facts.views.known s p.0 p.1
+
+    letter : (letter : Letter) × (letter_of catalogue old.letters m.line.event ≡ Some letter) × Brings catalogue k s a.given letter
+    letter =
+        subst (λ (letters : List Letter). (letter : Letter) × (letter_of catalogue letters m.line.event ≡ Some letter) × Brings catalogue k s a.given letter) (sym tied.letters)
+        (brought catalogue k m.line.event m.before s a.given facts.event_is facts.sent known a.gives)
+
+    comes : Comes letter.0 (length effects.messages) old new
+    comes =
+        let plain = (named m.line.event m.before s a.given a.gives).0 in
+        let steps = subst (λ (what : Shown). Steps m.line.event what old new) a.shown_is (plain_steps m.line.event m.line.shown old new plain follows.does) in
+        steps letter.0 (ap (λ (c : Catalogue). letter_of c old.letters m.line.event) tied.catalogue_is ∙ letter.1)
+
+    own : HasSite catalogue moments m.before old s letter.0.to
+    own = tied.sites s letter.0.to letter.2.to_is
+
+    up_is : own.place.up ≡ Some a.x
+    up_is = ap (option_and_then (λ (place : Place). place.up)) (sym own.place_is) ∙ a.up
+
+    is_id : a.x.id ≡ s
+    is_id = (facts.views.site s a.x a.up).id
+
+    durable_is : own.place.durable ≡ durable_of a.x
+    durable_is = sym ((facts.views.site s a.x a.up).kept ∙ ap kept_in own.place_is)
+
+    turn_is : turn_at old.catalogue a.x (as_received letter.0) ≡ taken
+    unfolding turn_on
+    turn_is =
+        ap (λ (c : Catalogue). turn_at c a.x (as_received letter.0)) tied.catalogue_is
+        ∙ ap (turn_on catalogue a.x) (ap (λ (id : ℕ). arrival catalogue id (as_received letter.0)) is_id ∙ letter.2.comes)
+
+    host_now : (after : HostValue) × (host_at letter.0.to new.hosts ≡ Some after) × Takes old.catalogue (as_received letter.0) own.host after comes.0
+    host_now = comes.1.there own.host own.host_is
+
+    done : IsAt (after_turn (node_at a.x (log s)) taken).batches (Some taken.site) host_now.0 × (comes.0 ≡ taken.datagrams)
+    done =
+        let was = subst (λ (up : Option SiteState). IsAt (log s) up own.host) up_is own.at in
+        subst (λ (turn : Turn). IsAt (after_turn (node_at a.x (log s)) turn).batches (Some turn.site) host_now.0 × (comes.0 ≡ turn.datagrams)) turn_is
+        (host_now.2.up (log s) a.x was)
+
+    left : (after_step (step catalogue a.x a.given) own.place).durable ≡ durable_of (step catalogue a.x a.given).site
+    left = ap (apply_all effects.records) durable_is ∙ step-folds catalogue a.x a.given
+
+    own_now : HasSite catalogue (moments ++ m ∷ []) m.after new s letter.0.to
+    own_now =
+        let place = after_step (step catalogue a.x a.given) own.place in
+        turns catalogue m moments old new s letter.0.to place (kept_with place.durable effects.records) (a.here own.place own.place_is) host_now.0 host_now.1 (host_now.2.stays.same_id ∙ own.id_is)
+        (subst (λ (d : DurableState). IsAt (kept_with d effects.records (log s)) place.up host_now.0) (sym left) done.0)
+
+    site_now : (id port : ℕ) → value_at id catalogue.sites ≡ Some port → HasSite catalogue (moments ++ m ∷ []) m.after new id port
+    site_now id port at =
+        ⊎_elim
+        (λ (same : id ≡ s).
+        let there : value_at s catalogue.sites ≡ Some port = ap (λ (id : ℕ). value_at id catalogue.sites) (sym same) ∙ at in
+        let to : letter.0.to ≡ port = (let z = sym letter.2.to_is ∙ there in cc) in
+        subst (λ (id : ℕ). HasSite catalogue (moments ++ m ∷ []) m.after new id port) (sym same) (subst (HasSite catalogue (moments ++ m ∷ []) m.after new s) to own_now))
+        (λ (n : id ≢ s). stays catalogue m moments old new id port (tied.sites id port at) (others id n) (comes.1.others port (ports_differ catalogue k id s port letter.0.to at letter.2.to_is n)))
+        (same_site id s)
+
+    -- each message is from this site to one of the catalogue
+    from_here : (sent : Sent) → Has effects.messages sent → (sent.from ≡ s) × Has (sites_of catalogue) sent.to
+    from_here sent h =
+        let local = local-step catalogue a.x a.given (facts.views.site s a.x a.up).tidy in
+        ((local.sent sent h).0 ∙ is_id, facts.routed sent (subst (λ (all : List Sent). Has all sent) (sym a.sent_is) (has_right m.before.sent effects.messages sent h)))
+
+    letters_more : map (sent_from letter.0.to) (take (length effects.messages) comes.0) ≡ map (letter_for catalogue) effects.messages
+    unfolding datagrams_of
+    letters_more =
+        ap (λ (given : List Datagram). map (sent_from letter.0.to) (take (length effects.messages) given)) done.1
+        ∙ posted catalogue k s letter.0.to letter.2.to_is effects.messages from_here (map (reply_datagram a.x.id) effects.replies)
+
+    letters_now : new.letters ≡ map (letter_for catalogue) m.after.sent
+    letters_now =
+        comes.2 ∙ ap (λ (letters : List Letter). old.letters ++ letters) letters_more
+        ∙ ap (λ (letters : List Letter). letters ++ map (letter_for catalogue) effects.messages) tied.letters
+        ∙ sym (map-append (letter_for catalogue) m.before.sent effects.messages)
+        ∙ ap (map (letter_for catalogue)) (sym a.sent_is)
+
+    acted : Tied
+    acted = tied_so site_now letters_now
+
+  -- ---- a crash
+
+  crashed : (s : ℕ) → m.line.event ≡ event.Crash s → m.after.sent ≡ m.before.sent → ((place : Place) → place_of s m.before.places ≡ Some place → Leaves catalogue m s (Some (put_down place)) (λ b. b)) → LeavesOthers catalogue m s → Tied
+  crashed s is sent own others =
+      let does : ChangesOf old.catalogue s (Crashes old.catalogue) old.hosts new.hosts × (new.letters ≡ old.letters) = subst (λ (e : Event). Does e m.line.shown old new) is follows.does in
+      let changes = at_catalogue (λ c. ChangesOf c s (Crashes c) old.hosts new.hosts) does.0 in
+      tied_so
+      (changed catalogue m moments old new k s (Crashes catalogue) changes others tied.sites
+      (λ port h host there crashes. turns catalogue m moments old new s port (put_down h.place) (λ b. b) (own h.place h.place_is) host there (crashes.stays.same_id ∙ h.id_is) (crashes.down (log s) h.place.up h.at)))
+      (letters_stay sent does.1)
+
+  -- ---- a restart
+
+  module _ (s port : ℕ) (h : HasSite catalogue moments m.before old s port) (host : HostValue) (there : host_at port new.hosts ≡ Some host) (restarts : Restarts catalogue h.host host) where
+    it : LeavesIt catalogue m s → IsAt (log s) h.place.up host → HasSite catalogue (moments ++ m ∷ []) m.after new s port
+    it l at = turns catalogue m moments old new s port h.place (λ b. b) (record { place_is = l.place_is ∙ h.place_is; log_is = l.log_is }) host there (restarts.stays.same_id ∙ h.id_is) at
+
+    was : (up : Option SiteState) → h.place.up ≡ up → IsAt (log s) up h.host
+    was up u = subst (λ (up : Option SiteState). IsAt (log s) up h.host) u h.at
+
+    folded : durable_in catalogue h.host.id (log s) ≡ h.place.durable
+    folded = ap (λ (id : ℕ). durable_in catalogue id (log s)) h.id_is ∙ folds s h.place h.place_is (facts.views.known s h.place h.place_is)
+
+    begun : h.place.up ≡ None → IsAt (start_node catalogue h.host.id (log s)).batches (Some (start_node catalogue h.host.id (log s)).site) host → IsAt (with_life (h.place.durable.life + 1) (log s)) (restart_place catalogue h.place).up host
+    begun down at =
+        let id : h.host.id ≡ h.place.id = h.id_is ∙ sym (place-id s m.before.places h.place h.place_is) in
+        subst (λ (id : ℕ). IsAt (with_life (h.place.durable.life + 1) (log s)) (Some (start catalogue id h.place.durable)) host) id
+        (subst (λ (d : DurableState). IsAt (with_life (d.life + 1) (log s)) (Some (start catalogue h.host.id d)) host) folded at)
+
+    restarted_so : RestartEffect catalogue m s h.place → HasSite catalogue (moments ++ m ∷ []) m.after new s port
+    restarted_so (RestartEffect.is_up x u l) = it l (subst (λ (up : Option SiteState). IsAt (log s) up host) (sym u) (restarts.up (log s) x (was (Some x) u)))
+    restarted_so (RestartEffect.spent down life l) =
+        it l (subst (λ (up : Option SiteState). IsAt (log s) up host) (sym down) (restarts.spent (log s) (was None down) (ap (λ (d : DurableState). d.life) folded ∙ life)))
+    restarted_so (RestartEffect.starts down left l) =
+        turns catalogue m moments old new s port (restart_place catalogue h.place) (with_life (h.place.durable.life + 1)) l host there (restarts.stays.same_id ∙ h.id_is)
+        (begun down (restarts.down (log s) (was None down) (λ spent. left (ap (λ (d : DurableState). d.life) (sym folded) ∙ spent))))
+
+  restarted : (s : ℕ) → m.line.event ≡ event.Restart s → m.after.sent ≡ m.before.sent → ((place : Place) → place_of s m.before.places ≡ Some place → RestartEffect catalogue m s place) → LeavesOthers catalogue m s → Tied
+  restarted s is sent own others =
+      let does : ChangesOf old.catalogue s (Restarts old.catalogue) old.hosts new.hosts × (new.letters ≡ old.letters) = subst (λ (e : Event). Does e m.line.shown old new) is follows.does in
+      let changes = at_catalogue (λ c. ChangesOf c s (Restarts c) old.hosts new.hosts) does.0 in
+      tied_so
+      (changed catalogue m moments old new k s (Restarts catalogue) changes others tied.sites (λ port h host there restarts. restarted_so s port h host there restarts (own h.place h.place_is)))
+      (letters_stay sent does.1)
+
+  -- ---- any moment
+
+  quiet : IsPlain m.line.event → is_step m.line.shown ≡ false → m.after.sent ≡ m.before.sent → ((id : ℕ) → LeavesIt catalogue m id) → Tied
+  quiet plain none sent all =
+      let same : new ≡ old = none_steps m.line.event m.line.shown old new none (plain_steps m.line.event m.line.shown old new plain follows.does) in
+      tied_so (λ id port at. stays catalogue m moments old new id port (tied.sites id port at) (all id) (ap (λ (nodes : NodesValue). host_at port nodes.hosts) same)) (letters_stay sent (ap (λ (nodes : NodesValue). nodes.letters) same))
+
+  pub tied_on : Effect catalogue m → Tied
+  tied_on (Effect.acts s a others) = acted s a others
+  tied_on (Effect.crashes s is sent own others) = crashed s is sent own others
+  tied_on (Effect.restarts s is sent own others) = restarted s is sent own others
+  tied_on (Effect.stands plain none sent all) = quiet plain none sent all
