@@ -1,8 +1,11 @@
 -- The hosts of a catalogue: each is found by its port.
-use Rattle.std.proofs.Common.{◌≡◌, ◌≢◌, ◌∙◌, ap, sym, subst, ℕ, ◌≤◌, ◌<◌, suc, zero, Bool, true, false, cond, List, [], ◌∷◌, length, get_or, Some, None, refl, arith, map, nat_eq, find, ◌==◌}
+use Rattle.std.proofs.Common.{◌≡◌, ◌≢◌, ◌∙◌, ap, sym, subst, ℕ, ◌≤◌, ◌<◌, suc, zero, Bool, true, false, cond, List, [], ◌∷◌, ◌++◌, ◌+◌, length, take, get_or, Some, None, refl, arith, map, nat_eq, find, ◌==◌}
 use Rattle.std.specs.Prelude.{Option, option_map}
 use Rattle.std.specs.List.{AllByRecursion, IsDistinct}
 use Rattle.std.proofs.lemmas.Bool.Decides.{nat_tests}
+use Rattle.std.proofs.lemmas.List.{map-append}
+use Rattle.std.proofs.Math.Seq.{take-suc, take-length}
+use Rattle.vp_text.proofs.Items.{all_push}
 use Rattle.vp_model.specs.Types.{LogRecord}
 use Rattle.vp_model.specs.Words.{value_at}
 use Rattle.vp_model.specs.Catalogue.{Catalogue, sites_of}
@@ -32,7 +35,7 @@ listed_from above (s ∷ sites) d h (suc i) l =
     rw other rest
 
 -- each site is listed with its port
-pub each_listed : (catalogue : Catalogue) (d : ℕ × ℕ) → IsCatalogueSoFar catalogue → (i : ℕ) → i < length catalogue.sites → value_at (get_or catalogue.sites i d).0 catalogue.sites ≡ Some (get_or catalogue.sites i d).1
+each_listed : (catalogue : Catalogue) (d : ℕ × ℕ) → IsCatalogueSoFar catalogue → (i : ℕ) → i < length catalogue.sites → value_at (get_or catalogue.sites i d).0 catalogue.sites ≡ Some (get_or catalogue.sites i d).1
 each_listed catalogue d k i l = listed_from 0 catalogue.sites d k.sites_are i l
 
 -- ---- hosts
@@ -73,11 +76,11 @@ each_found (host ∷ hosts) h = (let same : (host.port == host.port) ≡ true = 
 -- a host whose port is another one than those of these is not at the port of one that is found among them
 other_than : (own : ℕ) (hosts : List HostValue) (port : ℕ) (it : HostValue) → AllByRecursion (λ p. nat_eq own p ≡ false) (map (λ (host : HostValue). host.port) hosts) → host_at port hosts ≡ Some it → (own == port) ≡ false
 other_than own [] port it h f = absurd cc
-other_than own (x ∷ xs) port it h f = go (x.port == port) refl f
+other_than own (x ∷ xs) port it h f = go (x.port == port) refl f (other_than own xs port it h.1)
   where
-    go : (b : Bool) → (x.port == port) ≡ b → cond b (Some x) (host_at port xs) ≡ Some it → (own == port) ≡ false
-    go true e f = let is : x.port ≡ port = grind (arith, nat_tests, e) in subst (λ p. (own == p) ≡ false) is h.0
-    go false e f = other_than own xs port it h.1 f
+    go : (b : Bool) → (x.port == port) ≡ b → cond b (Some x) (host_at port xs) ≡ Some it → (host_at port xs ≡ Some it → (own == port) ≡ false) → (own == port) ≡ false
+    go true e f rest = let is : x.port ≡ port = grind (arith, nat_tests, e) in subst (λ p. (own == p) ≡ false) is h.0
+    go false e f rest = rest f
 
 found_behind : (host it : HostValue) (hosts : List HostValue) (port : ℕ) → (host.port == port) ≡ false → host_at port hosts ≡ Some it → host_at port (host ∷ hosts) ≡ Some it
 found_behind host it hosts port other f = rw other f
@@ -117,3 +120,46 @@ begun_hosts catalogue hosts begun = record { sites_are = begun.sites_are; each =
     go : (hosts : List HostValue) → AllByRecursion (λ (host : HostValue). Begins catalogue host.id host.port host) hosts → AllByRecursion (IsHost catalogue) hosts
     go [] h = tt
     go (host ∷ hosts) h = (h.0.is_host, go hosts h.1)
+
+-- ---- one after the other
+
+-- the first so many sites have their hosts
+pub record AreBegunTo (catalogue : Catalogue) (sites : List (ℕ × ℕ)) (i : ℕ) (hosts : List HostValue) : Type 0 where
+  pub sites_are : map place_of hosts ≡ take i sites
+  pub each : AllByRecursion (λ (host : HostValue). Begins catalogue host.id host.port host) hosts
+
+pub begun_none : (catalogue : Catalogue) (sites : List (ℕ × ℕ)) (hosts : List HostValue) → hosts ≡ [] → AreBegunTo catalogue sites 0 hosts
+begun_none catalogue sites hosts none = rw none (record { sites_are = refl; each = tt })
+
+begun_more : (catalogue : Catalogue) (sites : List (ℕ × ℕ)) (i : ℕ) (hosts more : List HostValue) (host : HostValue) (d : ℕ × ℕ) → i < length sites → AreBegunTo catalogue sites i hosts
+    → Begins catalogue (get_or sites i d).0 (get_or sites i d).1 host → more ≡ hosts ++ host ∷ [] → AreBegunTo catalogue sites (i + 1) more
+begun_more catalogue sites i hosts more host d l h begins is =
+    let id = begins.id_is in
+    let port = begins.port_is in
+    let next : suc i ≡ i + 1 = omega arith in
+    rw is (record {
+      sites_are =
+          map-append place_of hosts (host ∷ []) ∙ ap (λ front. front ++ place_of host ∷ []) h.sites_are
+          ∙ ap (λ (site : ℕ × ℕ). take i sites ++ site ∷ []) (ap (λ id. (id, host.port)) id ∙ ap (λ port. ((get_or sites i d).0, port)) port)
+          ∙ sym (take-suc sites i d l) ∙ ap (λ n. take n sites) next;
+      each = all_push (λ (host : HostValue). Begins catalogue host.id host.port host) hosts host h.each
+          (subst (λ n. Begins catalogue n host.port host) (sym id) (subst (λ p. Begins catalogue (get_or sites i d).0 p host) (sym port) begins));
+    })
+
+-- the site in a list's place
+module _ (catalogue : Catalogue) (items : List (ℕ × ℕ)) (i : ℕ) (item : ℕ × ℕ) (same : items ≡ catalogue.sites) (within : i < length items) (is : item ≡ get_or items i item) where
+  here : get_or catalogue.sites i item ≡ item
+  here = ap (λ sites. get_or sites i item) (sym same) ∙ sym is
+
+  inside : i < length catalogue.sites
+  inside = subst (λ sites. i < length sites) same within
+
+  pub item_listed : IsCatalogueSoFar catalogue → value_at item.0 catalogue.sites ≡ Some item.1
+  item_listed k = subst (λ (site : ℕ × ℕ). value_at site.0 catalogue.sites ≡ Some site.1) here (each_listed catalogue item k i inside)
+
+  pub item_begun : (hosts more : List HostValue) (host : HostValue) → AreBegunTo catalogue catalogue.sites i hosts → Begins catalogue item.0 item.1 host → more ≡ hosts ++ host ∷ [] → AreBegunTo catalogue catalogue.sites (i + 1) more
+  item_begun hosts more host h begins e =
+      begun_more catalogue catalogue.sites i hosts more host item inside h (subst (λ (site : ℕ × ℕ). Begins catalogue site.0 site.1 host) (sym here) begins) e
+
+pub begun_all : (catalogue : Catalogue) (i : ℕ) (hosts : List HostValue) → i ≡ length catalogue.sites → AreBegunTo catalogue catalogue.sites i hosts → AreBegun catalogue hosts
+begun_all catalogue i hosts e h = record { sites_are = h.sites_are ∙ ap (λ n. take n catalogue.sites) e ∙ take-length catalogue.sites; each = h.each }

@@ -1,12 +1,12 @@
 //! The hosts of a cluster, each found by its port.
 
-ghost use Rattle.std.specs.Prelude.{◌≡◌, ◌==◌, ◌<◌, OnOk, IfOk, IfSome, length};
+ghost use Rattle.std.specs.Prelude.{◌≡◌, ◌==◌, ◌<◌, OnOk, IfOk, IfSome, length, map};
 ghost use Rattle.std.specs.List.{position};
-ghost use Rattle.vp_cluster.specs.Hosts.{Takes, Crashes, Restarts};
+ghost use Rattle.vp_cluster.specs.Hosts.{Takes, Crashes, Restarts, site_log};
 ghost use Rattle.vp_cluster.specs.Letters.{as_received};
 ghost use Rattle.vp_cluster.specs.Nodes.{AreBegun, AreHosts, ChangesAt, ChangesOf};
 
-use crate::host::Host;
+use crate::host::{Host, SiteLog};
 use crate::letter::Letter;
 use std::alloc::Global;
 use vp_base::{NoMemory, SiteId};
@@ -14,11 +14,10 @@ use vp_catalog::Catalog;
 use vp_outside::Datagrams;
 
 /// A host for each site of the catalogue, in its first life.
-#[tactic(auto, using(crate::proofs::Begun::each_listed))]
-pub fn begin_all(alloc: Global, catalog: &Catalog) -> Result<Vec<Host>, NoMemory>
+pub fn begin_all(catalog: &Catalog) -> Result<Vec<Host>, NoMemory>
     ensures { IfOk result (λ hosts. AreBegun catalog.now hosts.items) }
 {
-    let mut hosts = Vec::new(alloc);
+    let mut hosts = Vec::new(catalog.sites().allocator());
     for (id, port) in catalog.ports() {
         hosts.push(Host::begin(catalog, *id, *port)?)?;
     }
@@ -30,6 +29,17 @@ fn place_of(hosts: &[Host], port: u16) -> Option<usize>
     ensures within { IfSome result (λ i. i < length hosts.now) }
 {
     hosts.iter().position(|host| host.port() == port)
+}
+
+/// The logs on the disks of the hosts.
+pub fn logs_of(alloc: Global, hosts: &[Host]) -> Result<Vec<SiteLog>, NoMemory>
+    ensures { IfOk result (λ logs. logs.items ≡ map site_log hosts.now) }
+{
+    let mut logs = Vec::new(alloc);
+    for host in hosts {
+        logs.push(host.log(alloc)?)?;
+    }
+    Ok(logs)
 }
 
 /// The letter comes to the host at its port, which takes it.

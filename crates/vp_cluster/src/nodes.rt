@@ -8,7 +8,7 @@ ghost use Rattle.vp_cluster.specs.Nodes.{Begin, ChangesOf, Comes, Does, Follows}
 ghost use Rattle.vp_cluster.specs.declared.letter.Letter.{Letter};
 
 use crate::host::{Host, Logs};
-use crate::hosts::{begin_all, crash_at, restart_at, take_at};
+use crate::hosts::{begin_all, crash_at, logs_of, restart_at, take_at};
 use crate::letter::{Letter, put_letters, to_site};
 use std::alloc::Global;
 use std::marker::Model;
@@ -51,7 +51,7 @@ impl Nodes {
         ensures { IfOk result (Begin catalog) }
     {
         Ok(Nodes {
-            hosts: begin_all(alloc, &catalog)?,
+            hosts: begin_all(&catalog)?,
             letters: Vec::new(alloc),
             catalog,
         })
@@ -61,11 +61,7 @@ impl Nodes {
     pub fn logs(&self, alloc: Global) -> Result<Logs, NoMemory>
         ensures { IfOk result (λ logs. logs ≡ map site_log self.now.hosts) }
     {
-        let mut logs = Logs::new(alloc);
-        for host in &self.hosts {
-            logs.push(host.log(alloc)?)?;
-        }
-        Ok(logs)
+        Ok(Logs::from_vec(logs_of(alloc, &self.hosts)?))
     }
 
     /// What the event brings to a site.

@@ -1,9 +1,5 @@
-use Rattle.std.proofs.Common.{◌≡◌, ◌==◌, ◌<◌, OnOk, IfOk, IfSome, length, ℕ, ◌+◌, ◌-◌, ◌*◌, ◌≤◌}
-use Rattle.std.specs.List.{position}
-use Rattle.vp_cluster.specs.Hosts.{Takes, Crashes, Restarts}
-use Rattle.vp_cluster.specs.Letters.{as_received}
-use Rattle.vp_cluster.specs.Nodes.{AreBegun, AreHosts, ChangesAt, ChangesOf}
+use Rattle.vp_cluster.proofs.Begun.{AreBegunTo}
 use Rattle.vp_cluster.proofs.hosts.begin_all.Given as goal
 
 abbrev pub invariant-loop-id : goal.invariant-loop-id
-invariant-loop-id l = ?
+invariant-loop-id l = AreBegunTo l.fn.catalog l.fn.catalog.sites l.id-index l.hosts.items
