@@ -1,37 +1,20 @@
 -- Nodes that follow the lines of a schedule's trace follow those of its moments.
-use Rattle.std.proofs.Common.{◌≡◌, ◌∙◌, ap, sym, subst, ℕ, zero, suc, ◌+◌, List, [], ◌∷◌, ◌++◌, map, length, drop, refl, append_assoc, append-nil}
-use Rattle.std.specs.Prelude.{Option, Some, None}
-use Rattle.std.proofs.lemmas.List.{map-append}
+use Rattle.std.proofs.Common.{◌≡◌, ◌∙◌, ap, sym, subst, ℕ, ◌+◌, List, [], ◌∷◌, ◌++◌, length, drop, refl, append_assoc, append-nil}
 use Rattle.std.proofs.Math.Seq.{drop-append_seam}
 use Rattle.vp_model.specs.Types.{Event, Line}
 use Rattle.vp_model.specs.Types.event
-use Rattle.vp_model.specs.Words.{for_some}
 use Rattle.vp_model.specs.Catalogue.{Catalogue}
-use Rattle.vp_model.specs.World.{Moment, Run, Schedule, flowing, one_step, flow, one_event, run_from, run_of, start_run, numbered_lines}
+use Rattle.vp_model.specs.World.{Moment, Run, Schedule, one_event, run_from, run_of, start_run, numbered_lines}
 use Rattle.vp_model.specs.Texts.Trace.{own_line, printed_from, printed_lines}
+use Rattle.vp_playing.specs.Played.{run_in, lines_in, SeesAll}
+use Rattle.vp_playing.proofs.Seen.{sees_steps}
+use Rattle.vp_playing.proofs.Turns.{event_behind}
 use Rattle.vp_cluster.specs.Nodes.{NodesValue, Follows}
-
--- lines seen one after the other
-abbrev pub SeesAll : {S : Type 0} → (ℕ × Line → S → S → Type 0) → List (ℕ × Line) → S → S → Type 0
-SeesAll sees [] old new = new ≡ old
-SeesAll {S} sees (line ∷ lines) old new = (mid : S) × sees line old mid × SeesAll sees lines mid new
-
-abbrev lines_in : List Moment → List (ℕ × Line)
-lines_in moments = map (λ (m : Moment). (m.number, m.line)) moments
 
 module _ {S : Type 0} (sees : ℕ × Line → S → S → Type 0) where
   sees_split : (xs ys : List (ℕ × Line)) (old new : S) → SeesAll sees (xs ++ ys) old new → (mid : S) × SeesAll sees xs old mid × SeesAll sees ys mid new
   sees_split [] ys old new h = (old, refl, h)
   sees_split (x ∷ xs) ys old new h = let more = sees_split xs ys h.0 new h.2 in (more.0, (h.0, h.1, more.1), more.2)
-
-  sees_join : (xs ys : List (ℕ × Line)) (old mid new : S) → SeesAll sees xs old mid → SeesAll sees ys mid new → SeesAll sees (xs ++ ys) old new
-  sees_join [] ys old mid new e more = subst (λ (s : S). SeesAll sees ys s new) e more
-  sees_join (x ∷ xs) ys old mid new h more = (h.0, h.1, sees_join xs ys h.0 mid new h.2 more)
-
-  sees_steps : (xs ys : List Moment) (old mid new : S) → SeesAll sees (lines_in xs) old mid → SeesAll sees (lines_in ys) mid new → SeesAll sees (lines_in (xs ++ ys)) old new
-  sees_steps xs ys old mid new h more =
-      subst (λ (lines : List (ℕ × Line)). SeesAll sees lines old new) (sym (map-append (λ (m : Moment). (m.number, m.line)) xs ys))
-      (sees_join (lines_in xs) (lines_in ys) old mid new h more)
 
 -- the nodes do what each line tells
 abbrev follows_line : ℕ × Line → NodesValue → NodesValue → Type 0
@@ -40,34 +23,10 @@ follows_line line old new = Follows line.1 old new
 abbrev pub FollowAll : List (ℕ × Line) → NodesValue → NodesValue → Type 0
 FollowAll = SeesAll follows_line
 
--- ---- moments are only added
-
-abbrev Grows : Run → Run → Type 0
-Grows run after = (more : List Moment) × (after.moments ≡ run.moments ++ more)
-
 module _ (catalogue : Catalogue) where
-  step_grows : (number : ℕ) (e : Event) (run : Run) → Grows run (one_step catalogue number e run)
-  unfolding one_step
-  step_grows number e run = (_, refl)
-
-  flow_grows : (number count : ℕ) (run : Run) → Grows run (flow catalogue number count run)
-  unfolding flow
-  flow_grows number zero run = ([], sym (append-nil run.moments))
-  flow_grows number (suc count) run = go (flowing run.world) (λ k. step_grows number (event.Deliver k) run) (λ k. flow_grows number count (one_step catalogue number (event.Deliver k) run))
-    where
-      next : ℕ → Run → Run
-      next k run = flow catalogue number count (one_step catalogue number (event.Deliver k) run)
-
-      go : (o : Option ℕ) → ((k : ℕ) → Grows run (one_step catalogue number (event.Deliver k) run)) → ((k : ℕ) → Grows (one_step catalogue number (event.Deliver k) run) (next k run)) → Grows run (for_some o next run)
-      go None one rest = ([], sym (append-nil run.moments))
-      go (Some k) one rest = let a = one k in let b = rest k in (a.0 ++ b.0, b.1 ∙ ap (λ (ms : List Moment). ms ++ b.0) a.1 ∙ append_assoc run.moments a.0 b.0)
-
-  event_grows : (number : ℕ) (e : Event) (run : Run) → Grows run (one_event catalogue number e run)
-  unfolding one_event
-  event_grows number (event.Flow count) run = flow_grows number count run
-  event_grows number e run = step_grows number e run
-
-  -- ---- lines
+  -- moments are only added
+  event_grows : (number : ℕ) (e : Event) (run : Run) → (one_event catalogue number e run).moments ≡ run.moments ++ (one_event catalogue number e (run_in run.world)).moments
+  event_grows number e run = ap (λ (r : Run). r.moments) (event_behind catalogue number e run)
 
   -- a flow's own line leaves the nodes as they are
   own_line_stays : (number : ℕ) (e : Event) (old new : NodesValue) → FollowAll (own_line number e) old new → new ≡ old
@@ -79,10 +38,10 @@ module _ (catalogue : Catalogue) where
 
   under_event : (number : ℕ) (e : Event) (run : Run) (old new : NodesValue) → FollowAll (own_line number e ++ lines_in (drop (length run.moments) (one_event catalogue number e run).moments)) old new → FollowMore run (one_event catalogue number e run) old new
   under_event number e run old new h =
-      let grown = event_grows number e run in
+      let added = (one_event catalogue number e (run_in run.world)).moments in
       let (mid, own, steps) = sees_split follows_line (own_line number e) (lines_in (drop (length run.moments) (one_event catalogue number e run).moments)) old new h in
-      let dropped : drop (length run.moments) (one_event catalogue number e run).moments ≡ grown.0 = ap (drop (length run.moments)) grown.1 ∙ drop-append_seam run.moments grown.0 in
-      (grown.0, grown.1, subst (λ (nodes : NodesValue). FollowAll (lines_in grown.0) nodes new) (own_line_stays number e old mid own) (subst (λ (ms : List Moment). FollowAll (lines_in ms) mid new) dropped steps))
+      let dropped : drop (length run.moments) (one_event catalogue number e run).moments ≡ added = ap (drop (length run.moments)) (event_grows number e run) ∙ drop-append_seam run.moments added in
+      (added, event_grows number e run, subst (λ (nodes : NodesValue). FollowAll (lines_in added) nodes new) (own_line_stays number e old mid own) (subst (λ (ms : List Moment). FollowAll (lines_in ms) mid new) dropped steps))
 
   follow_from : (number : ℕ) (events : List Event) (run : Run) (old new : NodesValue) → FollowAll (printed_from catalogue number events run) old new → FollowMore run (run_from catalogue number events run) old new
   unfolding run_from printed_from
