@@ -1,7 +1,6 @@
 -- What each event adds to the run of a schedule, and what an observer sees of it.
 use Rattle.std.proofs.Common.{◌≡◌, ◌∙◌, ap, sym, ℕ, zero, suc, ◌+◌, ◌<◌, Bool, true, false, cond, List, [], ◌∷◌, ◌++◌, refl, arith, length, drop, append_assoc, append-nil, subst}
 use Rattle.std.proofs.lemmas.Bool.{false≢true}
-use Rattle.std.proofs.lemmas.List.{map-append}
 use Rattle.std.proofs.lemmas.List.Folds.{list_any-append, find-append}
 use Rattle.std.proofs.Math.Seq.{drop-append_seam}
 use Rattle.std.specs.Prelude.{Result, Ok, Err, Option, Some, None, ◌-◌, ◌||◌, find, take, option_and_then, get_or}
@@ -19,7 +18,8 @@ use Rattle.vp_world.specs.Known.{Known}
 use Rattle.vp_world.specs.Limits.{Ends}
 use Rattle.vp_world.specs.declared.end.WorldEnd.{WorldEnd}
 use Rattle.vp_world.specs.declared.end.WorldEnd.TheVariants as end
-use Rattle.vp_replay.specs.Played.{run_in, lines_in, seen_all, Sees, Plays}
+use Rattle.vp_playing.specs.Played.{run_in, lines_in, SeesAll, Sees, Plays}
+use Rattle.vp_playing.proofs.Seen.{sees_append, sees_steps}
 
 abbrev over : Moment → Bool
 over = is_over world_limits
@@ -139,20 +139,10 @@ none_reached ms e = ap (option_and_then (λ (m : Moment). exceeded world_limits 
 both_false : (xs ys : List Moment) → list_any over xs ≡ false → list_any over ys ≡ false → list_any over (xs ++ ys) ≡ false
 both_false xs ys x y = list_any-append over xs ys ∙ rw (x, y) refl
 
--- what is seen of some lines, and then of more
-pub seen_append : {S : Type 0} (see : ℕ × Line → S → S) (xs ys : List (ℕ × Line)) (s : S) → seen_all see (xs ++ ys) s ≡ seen_all see ys (seen_all see xs s)
-seen_append see [] ys s = refl
-seen_append see (x ∷ xs) ys s = seen_append see xs ys (see x s)
-
-seen_steps : {S : Type 0} (see : ℕ × Line → S → S) (xs ys : List Moment) (s : S) → seen_all see (lines_in (xs ++ ys)) s ≡ seen_all see (lines_in ys) (seen_all see (lines_in xs) s)
-seen_steps see xs ys s =
-    ap (λ (lines : List (ℕ × Line)). seen_all see lines s) (map-append (λ (m : Moment). (m.number, m.line)) xs ys)
-    ∙ seen_append see (lines_in xs) (lines_in ys) s
-
 -- a limit ends the steps, and the lines of those before it are seen
-pub record IsCutShort {S : Type 0} (see : ℕ × Line → S → S) (moments : List Moment) (counted : Counted) (old new : S) : Type 0 where
+pub record IsCutShort {S : Type 0} (sees : ℕ × Line → S → S → Type 0) (moments : List Moment) (counted : Counted) (old new : S) : Type 0 where
   pub limit : limit_in world_limits moments ≡ Some counted
-  pub seen : new ≡ seen_all see (lines_in (before_first over moments)) old
+  pub seen : SeesAll sees (lines_in (before_first over moments)) old new
 
 one_more : (n : ℕ) (m : Moment) (ms : List Moment) → take (1 + n) (m ∷ ms) ≡ m ∷ take n ms
 one_more n m ms = ap (λ k. take k (m ∷ ms)) (follows n)
@@ -191,26 +181,26 @@ before_behind : (xs ys rest : List Moment) → list_any over xs ≡ false → li
 before_behind xs ys rest none some =
     ap (before_first over) (append_assoc xs ys rest) ∙ before_behind_all xs (ys ++ rest) none ∙ ap (λ (front : List Moment). xs ++ front) (before_front ys rest some)
 
-cut_behind : {S : Type 0} (see : ℕ × Line → S → S) (xs ys rest : List Moment) (counted : Counted) (old mid new : S) → list_any over xs ≡ false → mid ≡ seen_all see (lines_in xs) old → limit_in world_limits ys ≡ Some counted → new ≡ seen_all see (lines_in (before_first over ys)) mid → IsCutShort see ((xs ++ ys) ++ rest) counted old new
-cut_behind see xs ys rest counted old mid new none so_far some e = record {
+cut_behind : {S : Type 0} (sees : ℕ × Line → S → S → Type 0) (xs ys rest : List Moment) (counted : Counted) (old mid new : S) → list_any over xs ≡ false → SeesAll sees (lines_in xs) old mid → limit_in world_limits ys ≡ Some counted → SeesAll sees (lines_in (before_first over ys)) mid new → IsCutShort sees ((xs ++ ys) ++ rest) counted old new
+cut_behind sees xs ys rest counted old mid new none so_far some more = record {
   limit = limit_behind xs ys rest counted none some;
   seen =
-      e ∙ ap (seen_all see (lines_in (before_first over ys))) so_far ∙ sym (seen_steps see xs (before_first over ys) old)
-      ∙ ap (λ (ms : List Moment). seen_all see (lines_in ms) old) (sym (before_behind xs ys rest none (found_any ys counted some)));
+      subst (λ (ms : List Moment). SeesAll sees (lines_in ms) old new) (sym (before_behind xs ys rest none (found_any ys counted some)))
+      (sees_steps sees xs (before_first over ys) old mid new so_far more);
 }
 
 -- ---- a flow, delivery by delivery
 
 -- i deliveries of a flow in the world w were done
-pub record Flowing {S : Type 0} (see : Catalogue → ℕ × Line → S → S) (catalogue : Catalogue) (n count : ℕ) (w : WorldState) (i : ℕ) (now : WorldState) (old new : S) : Type 0 where
+pub record Flowing {S : Type 0} (sees : Catalogue → ℕ × Line → S → S → Type 0) (catalogue : Catalogue) (n count : ℕ) (w : WorldState) (i : ℕ) (now : WorldState) (old new : S) : Type 0 where
   pub run : Run
   pub world : now ≡ run.world
   pub ahead : flow catalogue n (count - i) run ≡ flow catalogue n count (run_in w)
   pub within : list_any over run.moments ≡ false
-  pub seen : new ≡ seen_all (see catalogue) (lines_in run.moments) old
+  pub seen : SeesAll (sees catalogue) (lines_in run.moments) old new
 
-pub flow_starts : {S : Type 0} (see : Catalogue → ℕ × Line → S → S) (catalogue : Catalogue) (n count : ℕ) (w : WorldState) (old : S) → Flowing see catalogue n count w 0 w old old
-flow_starts see catalogue n count w old = record { run = run_in w; world = refl; ahead = ap (λ k. flow catalogue n k (run_in w)) (all_left count); within = refl; seen = refl }
+pub flow_starts : {S : Type 0} (sees : Catalogue → ℕ × Line → S → S → Type 0) (catalogue : Catalogue) (n count : ℕ) (w : WorldState) (old : S) → Flowing sees catalogue n count w 0 w old old
+flow_starts sees catalogue n count w old = record { run = run_in w; world = refl; ahead = ap (λ k. flow catalogue n k (run_in w)) (all_left count); within = refl; seen = refl }
   where
     all_left : (count : ℕ) → count - 0 ≡ count
     all_left count = omega arith
@@ -218,7 +208,7 @@ flow_starts see catalogue n count w old = record { run = run_in w; world = refl;
 one_less : (count i : ℕ) → i < count → count - i ≡ suc (count - suc i)
 one_less count i lt = omega (arith, lt)
 
-module _ {S : Type 0} (see : Catalogue → ℕ × Line → S → S) (catalogue : Catalogue) (n count : ℕ) (w : WorldState) (i : ℕ) (now : WorldState) (old new : S) (so_far : Flowing see catalogue n count w i now old new) where
+module _ {S : Type 0} (sees : Catalogue → ℕ × Line → S → S → Type 0) (catalogue : Catalogue) (n count : ℕ) (w : WorldState) (i : ℕ) (now : WorldState) (old new : S) (so_far : Flowing sees catalogue n count w i now old new) where
   -- the flow ends where no message may be delivered
   pub flow_stops : i < count → flowing now ≡ None → flow catalogue n count (run_in w) ≡ so_far.run
   unfolding flow
@@ -240,13 +230,13 @@ module _ {S : Type 0} (see : Catalogue → ℕ × Line → S → S) (catalogue :
     unfolding flow one_step
     ahead_more = sym (sym so_far.ahead ∙ ap (λ k. flow catalogue n k so_far.run) (one_less count i lt) ∙ rw (sym so_far.world, some) refl)
 
-    pub flow_turns : (after : S) → list_any over delivered.moments ≡ false → after ≡ seen_all (see catalogue) (lines_in delivered.moments) new → Flowing see catalogue n count w (suc i) delivered.world old after
-    flow_turns after none e = record {
+    pub flow_turns : (after : S) → list_any over delivered.moments ≡ false → SeesAll (sees catalogue) (lines_in delivered.moments) new after → Flowing sees catalogue n count w (suc i) delivered.world old after
+    flow_turns after none more = record {
       run = behind so_far.run.moments delivered;
       world = refl;
       ahead = ahead_more;
       within = both_false so_far.run.moments delivered.moments so_far.within none;
-      seen = e ∙ ap (seen_all (see catalogue) (lines_in delivered.moments)) so_far.seen ∙ sym (seen_steps (see catalogue) so_far.run.moments delivered.moments old);
+      seen = sees_steps (sees catalogue) so_far.run.moments delivered.moments old new after so_far.seen more;
     }
 
     -- the moments of the whole flow are those so far, this delivery's, and more
@@ -255,51 +245,53 @@ module _ {S : Type 0} (see : Catalogue → ℕ × Line → S → S) (catalogue :
         let more = flow catalogue n (count - suc i) (run_in delivered.world) in
         (more.moments, ap (λ (r : Run). r.moments) (sym ahead_more ∙ flow_behind catalogue n (count - suc i) (behind so_far.run.moments delivered)))
 
-    pub flow_is_cut : (counted : Counted) (after : S) → limit_in world_limits delivered.moments ≡ Some counted → after ≡ seen_all (see catalogue) (lines_in (before_first over delivered.moments)) new → IsCutShort (see catalogue) (flow catalogue n count (run_in w)).moments counted old after
-    flow_is_cut counted after some e =
+    pub flow_is_cut : (counted : Counted) (after : S) → limit_in world_limits delivered.moments ≡ Some counted → SeesAll (sees catalogue) (lines_in (before_first over delivered.moments)) new after → IsCutShort (sees catalogue) (flow catalogue n count (run_in w)).moments counted old after
+    flow_is_cut counted after some more =
         let whole = whole_moments in
-        subst (λ (ms : List Moment). IsCutShort (see catalogue) ms counted old after) (sym whole.1)
-        (cut_behind (see catalogue) so_far.run.moments delivered.moments whole.0 counted old new after so_far.within so_far.seen some e)
+        subst (λ (ms : List Moment). IsCutShort (sees catalogue) ms counted old after) (sym whole.1)
+        (cut_behind (sees catalogue) so_far.run.moments delivered.moments whole.0 counted old new after so_far.within so_far.seen some more)
 
 -- ---- a schedule, event by event
 
 -- the first i events of the schedule were played
-pub record Played {S : Type 0} (see : Catalogue → ℕ × Line → S → S) (s : Schedule) (i : ℕ) (now : WorldState) (old new : S) : Type 0 where
+pub record Played {S : Type 0} (sees : Catalogue → ℕ × Line → S → S → Type 0) (s : Schedule) (i : ℕ) (now : WorldState) (old new : S) : Type 0 where
   pub run : Run
   pub world : now ≡ run.world
   pub ahead : run_from s.catalogue (i + 1) (drop i s.events) run ≡ run_of s
   pub within : list_any over run.moments ≡ false
-  pub seen :
-      seen_all (see s.catalogue) (lines_within_from world_limits s.catalogue (i + 1) (drop i s.events) run) new
-      ≡ seen_all (see s.catalogue) (lines_within world_limits s) old
+  pub lines : List (ℕ × Line)
+  pub shown : lines ++ lines_within_from world_limits s.catalogue (i + 1) (drop i s.events) run ≡ lines_within world_limits s
+  pub seen : SeesAll (sees s.catalogue) lines old new
 
-pub play_starts : {S : Type 0} (see : Catalogue → ℕ × Line → S → S) (s : Schedule) (now : WorldState) (old : S) → now ≡ start_world s.catalogue → Played see s 0 now old old
+pub play_starts : {S : Type 0} (sees : Catalogue → ℕ × Line → S → S → Type 0) (s : Schedule) (now : WorldState) (old : S) → now ≡ start_world s.catalogue → Played sees s 0 now old old
 unfolding run_of
-play_starts see s now old e = record { run = start_run s.catalogue; world = e; ahead = refl; within = refl; seen = refl }
+play_starts sees s now old e = record { run = start_run s.catalogue; world = e; ahead = refl; within = refl; lines = []; shown = refl; seen = refl }
 
 -- all events were played, and no limit was reached
-pub record IsPlayed {S : Type 0} (see : Catalogue → ℕ × Line → S → S) (s : Schedule) (now : WorldState) (old new : S) : Type 0 where
+pub record IsPlayed {S : Type 0} (sees : Catalogue → ℕ × Line → S → S → Type 0) (s : Schedule) (now : WorldState) (old new : S) : Type 0 where
   pub none : limit_reached world_limits s ≡ None
   pub world : now ≡ (run_of s).world
-  pub seen : new ≡ seen_all (see s.catalogue) (lines_within world_limits s) old
+  pub seen : SeesAll (sees s.catalogue) (lines_within world_limits s) old new
 
 -- a limit ended the events
-pub record IsEnded {S : Type 0} (see : Catalogue → ℕ × Line → S → S) (s : Schedule) (counted : Counted) (old new : S) : Type 0 where
+pub record IsEnded {S : Type 0} (sees : Catalogue → ℕ × Line → S → S → Type 0) (s : Schedule) (counted : Counted) (old new : S) : Type 0 where
   pub some : limit_reached world_limits s ≡ Some counted
-  pub seen : new ≡ seen_all (see s.catalogue) (lines_within world_limits s) old
+  pub seen : SeesAll (sees s.catalogue) (lines_within world_limits s) old new
 
-pub play_ends : {S : Type 0} (see : Catalogue → ℕ × Line → S → S) (s : Schedule) (i : ℕ) (now : WorldState) (old new : S) → Played see s i now old new → i ≡ length s.events → IsPlayed see s now old new
+pub play_ends : {S : Type 0} (sees : Catalogue → ℕ × Line → S → S → Type 0) (s : Schedule) (i : ℕ) (now : WorldState) (old new : S) → Played sees s i now old new → i ≡ length s.events → IsPlayed sees s now old new
 unfolding run_from lines_within_from
-play_ends see s i now old new p e =
+play_ends sees s i now old new p e =
     let none_left : drop i s.events ≡ [] = all_dropped s.events i e in
     let last : p.run ≡ run_of s = subst (λ (es : List Event). run_from s.catalogue (i + 1) es p.run ≡ run_of s) none_left p.ahead in
     record {
       none = none_reached (moments_of s) (subst (λ (r : Run). list_any over r.moments ≡ false) last p.within);
       world = p.world ∙ ap (λ (r : Run). r.world) last;
       seen =
-          subst
-          (λ (es : List Event). seen_all (see s.catalogue) (lines_within_from world_limits s.catalogue (i + 1) es p.run) new ≡ seen_all (see s.catalogue) (lines_within world_limits s) old)
-          none_left
+          subst (λ (lines : List (ℕ × Line)). SeesAll (sees s.catalogue) lines old new)
+          (
+          sym (append-nil p.lines)
+          ∙ subst (λ (es : List Event). p.lines ++ lines_within_from world_limits s.catalogue (i + 1) es p.run ≡ lines_within world_limits s) none_left p.shown
+          )
           p.seen;
     }
   where
@@ -314,7 +306,7 @@ next_first [] i x lt e = absurd (omega (arith, lt))
 next_first (y ∷ es) zero x lt e = ap (λ (z : Event). z ∷ es) (sym e)
 next_first (y ∷ es) (suc i) x lt e = next_first es i x (omega (arith, lt)) e
 
-module _ {S : Type 0} (see : Catalogue → ℕ × Line → S → S) (s : Schedule) (i : ℕ) (now : WorldState) (old new : S) (p : Played see s i now old new) (x : Event) (lt : i < length s.events) (at : x ≡ get_or s.events i x) where
+module _ {S : Type 0} (sees : Catalogue → ℕ × Line → S → S → Type 0) (s : Schedule) (i : ℕ) (now : WorldState) (old new : S) (p : Played sees s i now old new) (x : Event) (lt : i < length s.events) (at : x ≡ get_or s.events i x) where
   -- the steps of the next event
   abbrev pub added : Run
   added = one_event s.catalogue (i + 1) x (run_in now)
@@ -341,37 +333,33 @@ module _ {S : Type 0} (see : Catalogue → ℕ × Line → S → S) (s : Schedul
   abbrev under : List Moment → List (ℕ × Line)
   under steps = own_line (i + 1) x ++ (lines_in (before_first over steps) ++ (cond (list_any over steps) [] rest_within))
 
-  abbrev see_lines : List (ℕ × Line) → S → S
-  see_lines = seen_all (see s.catalogue)
-
-  seen_after : see_lines (under added.moments) new ≡ see_lines (lines_within world_limits s) old
+  shown_after : p.lines ++ under added.moments ≡ lines_within world_limits s
   unfolding lines_within_from
-  seen_after =
-      ap (λ (steps : List Moment). see_lines (under steps) new) (sym steps_are)
-      ∙ subst (λ (r : Run). see_lines (own_line (i + 1) x ++ (lines_in (before_first over (drop (length p.run.moments) r.moments)) ++ (cond (list_any over (drop (length p.run.moments) r.moments)) [] (lines_within_from world_limits s.catalogue (i + 1 + 1) (drop (suc i) s.events) r)))) new ≡ see_lines (lines_within world_limits s) old) after_is
-      (subst (λ (es : List Event). see_lines (lines_within_from world_limits s.catalogue (i + 1) es p.run) new ≡ see_lines (lines_within world_limits s) old) (next_first s.events i x lt at) p.seen)
+  shown_after =
+      ap (λ (steps : List Moment). p.lines ++ under steps) (sym steps_are)
+      ∙ subst (λ (r : Run). p.lines ++ (own_line (i + 1) x ++ (lines_in (before_first over (drop (length p.run.moments) r.moments)) ++ (cond (list_any over (drop (length p.run.moments) r.moments)) [] (lines_within_from world_limits s.catalogue (i + 1 + 1) (drop (suc i) s.events) r)))) ≡ lines_within world_limits s) after_is
+      (subst (λ (es : List Event). p.lines ++ lines_within_from world_limits s.catalogue (i + 1) es p.run ≡ lines_within world_limits s) (next_first s.events i x lt at) p.shown)
 
-  -- the observer after the event's own line
-  abbrev own : S
-  own = see_lines (own_line (i + 1) x) new
-
-  in_parts : (ys zs : List (ℕ × Line)) → see_lines (own_line (i + 1) x ++ (ys ++ zs)) new ≡ see_lines zs (see_lines ys own)
-  in_parts ys zs = seen_append (see s.catalogue) (own_line (i + 1) x) (ys ++ zs) new ∙ seen_append (see s.catalogue) ys zs own
+  -- the event's own line, and those of these steps of it
+  abbrev pub shown_of : List Moment → List (ℕ × Line)
+  shown_of steps = own_line (i + 1) x ++ lines_in steps
 
   -- all steps of the event are done
-  pub play_turns : (now_seen : S) → list_any over added.moments ≡ false → now_seen ≡ see_lines (lines_in added.moments) own → Played see s (suc i) added.world old now_seen
-  play_turns now_seen none e = record {
+  pub play_turns : (now_seen : S) → list_any over added.moments ≡ false → SeesAll (sees s.catalogue) (shown_of added.moments) new now_seen → Played sees s (suc i) added.world old now_seen
+  play_turns now_seen none more = record {
     run = behind p.run.moments added;
     world = refl;
     ahead = ap (λ n. run_from s.catalogue n (drop (suc i) s.events) (behind p.run.moments added)) next_number ∙ ahead_after;
     within = both_false p.run.moments added.moments p.within none;
-    seen =
-        ap (λ n. see_lines (lines_within_from world_limits s.catalogue n (drop (suc i) s.events) (behind p.run.moments added)) now_seen) next_number
-        ∙ ap (see_lines rest_within) e
-        ∙ sym (in_parts (lines_in added.moments) rest_within)
-        ∙ ap (λ (steps : List Moment). see_lines (own_line (i + 1) x ++ (lines_in steps ++ rest_within)) new) (sym (none_before added.moments none))
-        ∙ ap (λ (any : Bool). see_lines (own_line (i + 1) x ++ (lines_in (before_first over added.moments) ++ cond any [] rest_within)) new) (sym none)
-        ∙ seen_after;
+    lines = p.lines ++ shown_of added.moments;
+    shown =
+        ap (λ n. (p.lines ++ shown_of added.moments) ++ lines_within_from world_limits s.catalogue n (drop (suc i) s.events) (behind p.run.moments added)) next_number
+        ∙ append_assoc p.lines (shown_of added.moments) rest_within
+        ∙ ap (λ (lines : List (ℕ × Line)). p.lines ++ lines) (append_assoc (own_line (i + 1) x) (lines_in added.moments) rest_within)
+        ∙ ap (λ (steps : List Moment). p.lines ++ (own_line (i + 1) x ++ (lines_in steps ++ rest_within))) (sym (none_before added.moments none))
+        ∙ ap (λ (any : Bool). p.lines ++ (own_line (i + 1) x ++ (lines_in (before_first over added.moments) ++ cond any [] rest_within))) (sym none)
+        ∙ shown_after;
+    seen = sees_append (sees s.catalogue) p.lines (shown_of added.moments) old new now_seen p.seen more;
   }
     where
       next_number : suc i + 1 ≡ i + 1 + 1
@@ -396,16 +384,19 @@ module _ {S : Type 0} (see : Catalogue → ℕ × Line → S → S) (s : Schedul
       )
 
   -- a limit ends the steps of the event
-  pub play_is_cut : (counted : Counted) (now_seen : S) → IsCutShort (see s.catalogue) added.moments counted own now_seen → IsEnded see s counted old now_seen
-  play_is_cut counted now_seen h =
-      let some = found_any added.moments counted h.limit in
+  pub play_is_cut : (counted : Counted) (now_seen : S) → limit_in world_limits added.moments ≡ Some counted → SeesAll (sees s.catalogue) (shown_of (before_first over added.moments)) new now_seen → IsEnded sees s counted old now_seen
+  play_is_cut counted now_seen limit more =
+      let some = found_any added.moments counted limit in
+      let front = before_first over added.moments in
+      let shown_last : p.lines ++ shown_of front ≡ lines_within world_limits s =
+      ap (λ (lines : List (ℕ × Line)). p.lines ++ (own_line (i + 1) x ++ lines)) (sym (append-nil (lines_in front)))
+      ∙ ap (λ (any : Bool). p.lines ++ (own_line (i + 1) x ++ (lines_in front ++ cond any [] rest_within))) (sym some)
+      ∙ shown_after in
       record {
-        some = ap (limit_in world_limits) whole_run.1 ∙ limit_behind p.run.moments added.moments whole_run.0 counted p.within h.limit;
+        some = ap (limit_in world_limits) whole_run.1 ∙ limit_behind p.run.moments added.moments whole_run.0 counted p.within limit;
         seen =
-            h.seen
-            ∙ sym (in_parts (lines_in (before_first over added.moments)) [])
-            ∙ ap (λ (any : Bool). see_lines (own_line (i + 1) x ++ (lines_in (before_first over added.moments) ++ cond any [] rest_within)) new) (sym some)
-            ∙ seen_after;
+            subst (λ (lines : List (ℕ × Line)). SeesAll (sees s.catalogue) lines old now_seen) shown_last
+            (sees_append (sees s.catalogue) p.lines (shown_of front) old new now_seen p.seen more);
       }
 
 -- ---- one step
@@ -421,88 +412,89 @@ pub step_within : (catalogue : Catalogue) (n : ℕ) (e : Event) (w : WorldState)
 unfolding one_step
 step_within catalogue n e w none = rw none refl
 
-pub step_line : {S : Type 0} (see : ℕ × Line → S → S) (catalogue : Catalogue) (n : ℕ) (e : Event) (w : WorldState) (s : S) → seen_all see (lines_in (stepped catalogue n e w).moments) s ≡ see (n, line_of catalogue e w) s
+step_lines : (catalogue : Catalogue) (n : ℕ) (e : Event) (w : WorldState) → lines_in (stepped catalogue n e w).moments ≡ (n, line_of catalogue e w) ∷ []
 unfolding one_step
-step_line see catalogue n e w s = refl
+step_lines catalogue n e w = refl
 
 pub step_world : (catalogue : Catalogue) (n : ℕ) (e : Event) (w : WorldState) → (stepped catalogue n e w).world ≡ (next catalogue e w).world
 unfolding one_step
 step_world catalogue n e w = refl
 
 -- a step that exceeds one
-pub step_is_cut : {S : Type 0} (see : ℕ × Line → S → S) (catalogue : Catalogue) (n : ℕ) (e : Event) (w : WorldState) (counted : Counted) (s : S) → refused world_limits catalogue e w ≡ Some counted → IsCutShort see (stepped catalogue n e w).moments counted s s
+pub step_is_cut : {S : Type 0} (sees : ℕ × Line → S → S → Type 0) (catalogue : Catalogue) (n : ℕ) (e : Event) (w : WorldState) (counted : Counted) (s : S) → refused world_limits catalogue e w ≡ Some counted → IsCutShort sees (stepped catalogue n e w).moments counted s s
 unfolding one_step
-step_is_cut see catalogue n e w counted s some = record { limit = rw some some; seen = rw some refl }
+step_is_cut sees catalogue n e w counted s some = record { limit = rw some some; seen = rw some refl }
 
 -- what is answered of a step
-pub step_ends : {S : Type 0} (see : Catalogue → ℕ × Line → S → S) (catalogue : Catalogue) (n : ℕ) (e : Event) (w : WorldState) (why : WorldEnd) (s : S) → Ends {A = Unit {0}} (refused world_limits catalogue e w) (Err why) → Sees see catalogue (stepped catalogue n e w) (Err why) s s
-step_ends see catalogue n e w (end.Limit what limit) s h = let cut = step_is_cut (see catalogue) catalogue n e w what s h.0 in (cut.limit, h.1, cut.seen)
-step_ends see catalogue n e w end.NoMemory s h = tt
+pub step_ends : {S : Type 0} (sees : Catalogue → ℕ × Line → S → S → Type 0) (catalogue : Catalogue) (n : ℕ) (e : Event) (w : WorldState) (why : WorldEnd) (s : S) → Ends {A = Unit {0}} (refused world_limits catalogue e w) (Err why) → Sees sees catalogue [] (stepped catalogue n e w) (Err why) s s
+step_ends sees catalogue n e w (end.Limit what limit) s h = let cut = step_is_cut (sees catalogue) catalogue n e w what s h.0 in (cut.limit, h.1, cut.seen)
+step_ends sees catalogue n e w end.NoMemory s h = tt
 
-pub step_shows : {S : Type 0} (see : Catalogue → ℕ × Line → S → S) (catalogue : Catalogue) (n : ℕ) (e : Event) (w : WorldState) (known : Known) (line : Line) (old new : S) → refused world_limits catalogue e w ≡ None → known ≡ record { catalogue = catalogue; world = (next catalogue e w).world } → line ≡ line_of catalogue e w → new ≡ see catalogue (n, line) old → Sees see catalogue (stepped catalogue n e w) (Ok known) old new
-step_shows see catalogue n e w known line old new none is line_is seen = (
+pub step_shows : {S : Type 0} (sees : Catalogue → ℕ × Line → S → S → Type 0) (catalogue : Catalogue) (n : ℕ) (e : Event) (w : WorldState) (known : Known) (line : Line) (old new : S) → refused world_limits catalogue e w ≡ None → known ≡ record { catalogue = catalogue; world = (next catalogue e w).world } → line ≡ line_of catalogue e w → sees catalogue (n, line) old new → Sees sees catalogue [] (stepped catalogue n e w) (Ok known) old new
+step_shows sees catalogue n e w known line old new none is line_is seen = (
   step_within catalogue n e w none,
   is ∙ ap (λ (after : WorldState). record { catalogue = catalogue; world = after }) (sym (step_world catalogue n e w)),
-  seen ∙ ap (λ (l : Line). see catalogue (n, l) old) line_is ∙ sym (step_line (see catalogue) catalogue n e w old),
+  subst (λ (lines : List (ℕ × Line)). SeesAll (sees catalogue) lines old new) (sym (step_lines catalogue n e w))
+      (new, subst (λ (l : Line). sees catalogue (n, l) old new) line_is seen, refl),
 )
 
 -- ---- what is answered of a flow
 
-module _ {S : Type 0} (see : Catalogue → ℕ × Line → S → S) (catalogue : Catalogue) (n count : ℕ) (w : WorldState) (i : ℕ) (known : Known) (old new : S) (same : known.catalogue ≡ catalogue) (so_far : Flowing see catalogue n count w i known.world old new) where
-  pub flow_shows : flow catalogue n count (run_in w) ≡ so_far.run → Sees see catalogue (flow catalogue n count (run_in w)) (Ok known) old new
+module _ {S : Type 0} (sees : Catalogue → ℕ × Line → S → S → Type 0) (catalogue : Catalogue) (n count : ℕ) (w : WorldState) (i : ℕ) (known : Known) (old new : S) (same : known.catalogue ≡ catalogue) (so_far : Flowing sees catalogue n count w i known.world old new) where
+  pub flow_shows : flow catalogue n count (run_in w) ≡ so_far.run → Sees sees catalogue [] (flow catalogue n count (run_in w)) (Ok known) old new
   flow_shows e =
-      subst (λ (run : Run). Sees see catalogue run (Ok known) old new) (sym e)
+      subst (λ (run : Run). Sees sees catalogue [] run (Ok known) old new) (sym e)
       (so_far.within, ap (λ c. record { catalogue = c; world = known.world }) same ∙ ap (λ (after : WorldState). record { catalogue = catalogue; world = after }) so_far.world, so_far.seen)
 
-  pub flow_turns_on : (k : ℕ) (after : Known) (now_seen : S) → i < count → flowing known.world ≡ Some k → Sees see known.catalogue (stepped known.catalogue n (event.Deliver k) known.world) (Ok after) new now_seen → (after.catalogue ≡ catalogue) × Flowing see catalogue n count w (i + 1) after.world old now_seen
+  pub flow_turns_on : (k : ℕ) (after : Known) (now_seen : S) → i < count → flowing known.world ≡ Some k → Sees sees known.catalogue [] (stepped known.catalogue n (event.Deliver k) known.world) (Ok after) new now_seen → (after.catalogue ≡ catalogue) × Flowing sees catalogue n count w (i + 1) after.world old now_seen
   flow_turns_on k after now_seen lt some h =
-      let g = subst (λ c. Sees see c (stepped c n (event.Deliver k) known.world) (Ok after) new now_seen) same h in
-      let turn = flow_turns see catalogue n count w i known.world old new so_far k lt some now_seen g.0 g.2 in
-      (ap (λ (a : Known). a.catalogue) g.1, subst (λ (a : WorldState). Flowing see catalogue n count w (i + 1) a old now_seen) (sym (ap (λ (a : Known). a.world) g.1)) (subst (λ j. Flowing see catalogue n count w j (stepped catalogue n (event.Deliver k) known.world).world old now_seen) (next_is i) turn))
+      let g = subst (λ c. Sees sees c [] (stepped c n (event.Deliver k) known.world) (Ok after) new now_seen) same h in
+      let turn = flow_turns sees catalogue n count w i known.world old new so_far k lt some now_seen g.0 g.2 in
+      (ap (λ (a : Known). a.catalogue) g.1, subst (λ (a : WorldState). Flowing sees catalogue n count w (i + 1) a old now_seen) (sym (ap (λ (a : Known). a.world) g.1)) (subst (λ j. Flowing sees catalogue n count w j (stepped catalogue n (event.Deliver k) known.world).world old now_seen) (next_is i) turn))
     where
       next_is : (i : ℕ) → suc i ≡ i + 1
       next_is i = omega arith
 
-  pub flow_ends : (k : ℕ) (why : WorldEnd) (now_seen : S) → i < count → flowing known.world ≡ Some k → Sees see known.catalogue (stepped known.catalogue n (event.Deliver k) known.world) (Err why) new now_seen → Sees see catalogue (flow catalogue n count (run_in w)) (Err why) old now_seen
+  pub flow_ends : (k : ℕ) (why : WorldEnd) (now_seen : S) → i < count → flowing known.world ≡ Some k → Sees sees known.catalogue [] (stepped known.catalogue n (event.Deliver k) known.world) (Err why) new now_seen → Sees sees catalogue [] (flow catalogue n count (run_in w)) (Err why) old now_seen
   flow_ends k (end.Limit what limit) now_seen lt some h =
-      let g = subst (λ c. Sees see c (stepped c n (event.Deliver k) known.world) (Err (end.Limit what limit)) new now_seen) same h in
-      let cut = flow_is_cut see catalogue n count w i known.world old new so_far k lt some what now_seen g.0 g.2 in
+      let g = subst (λ c. Sees sees c [] (stepped c n (event.Deliver k) known.world) (Err (end.Limit what limit)) new now_seen) same h in
+      let cut = flow_is_cut sees catalogue n count w i known.world old new so_far k lt some what now_seen g.0 g.2 in
       (cut.limit, g.1, cut.seen)
   flow_ends k end.NoMemory now_seen lt some h = tt
 
 -- ---- what is answered of a schedule
 
-pub play_is_over : {S : Type 0} (see : Catalogue → ℕ × Line → S → S) (s : Schedule) (i : ℕ) (known : Known) (old new : S) → known.catalogue ≡ s.catalogue → Played see s i known.world old new → i ≡ length s.events → Plays see s (Ok known) old new
-play_is_over see s i known old new same so_far e =
-    let h = play_ends see s i known.world old new so_far e in (
+pub play_is_over : {S : Type 0} (sees : Catalogue → ℕ × Line → S → S → Type 0) (s : Schedule) (i : ℕ) (known : Known) (old new : S) → known.catalogue ≡ s.catalogue → Played sees s i known.world old new → i ≡ length s.events → Plays sees s (Ok known) old new
+play_is_over sees s i known old new same so_far e =
+    let h = play_ends sees s i known.world old new so_far e in (
       h.none,
       ap (λ c. record { catalogue = c; world = known.world }) same ∙ ap (λ (w : WorldState). record { catalogue = s.catalogue; world = w }) h.world,
       h.seen,
     )
 
-module _ {S : Type 0} (see : Catalogue → ℕ × Line → S → S) (s : Schedule) (i number : ℕ) (known : Known) (old new : S) (same : known.catalogue ≡ s.catalogue) (counted : number ≡ i) (so_far : Played see s i known.world old new) (x : Event) (lt : i < length s.events) (at : x ≡ get_or s.events i x) where
+module _ {S : Type 0} (sees : Catalogue → ℕ × Line → S → S → Type 0) (s : Schedule) (i number : ℕ) (known : Known) (old new : S) (same : known.catalogue ≡ s.catalogue) (counted : number ≡ i) (so_far : Played sees s i known.world old new) (x : Event) (lt : i < length s.events) (at : x ≡ get_or s.events i x) where
   abbrev pub Answers : Result Known WorldEnd → S → Type 0
-  Answers result now_seen = Sees see known.catalogue (one_event known.catalogue (number + 1) x (run_in known.world)) result (seen_all (see known.catalogue) (own_line (number + 1) x) new) now_seen
+  Answers result now_seen = Sees sees known.catalogue (own_line (number + 1) x) (one_event known.catalogue (number + 1) x (run_in known.world)) result new now_seen
 
-  answers_so : (result : Result Known WorldEnd) (now_seen : S) → Answers result now_seen → Sees see s.catalogue (one_event s.catalogue (i + 1) x (run_in known.world)) result (seen_all (see s.catalogue) (own_line (i + 1) x) new) now_seen
+  answers_so : (result : Result Known WorldEnd) (now_seen : S) → Answers result now_seen → Sees sees s.catalogue (own_line (i + 1) x) (one_event s.catalogue (i + 1) x (run_in known.world)) result new now_seen
   answers_so result now_seen h =
-      subst (λ j. Sees see s.catalogue (one_event s.catalogue (j + 1) x (run_in known.world)) result (seen_all (see s.catalogue) (own_line (j + 1) x) new) now_seen) counted
-      (subst (λ c. Sees see c (one_event c (number + 1) x (run_in known.world)) result (seen_all (see c) (own_line (number + 1) x) new) now_seen) same h)
+      subst (λ j. Sees sees s.catalogue (own_line (j + 1) x) (one_event s.catalogue (j + 1) x (run_in known.world)) result new now_seen) counted
+      (subst (λ c. Sees sees c (own_line (number + 1) x) (one_event c (number + 1) x (run_in known.world)) result new now_seen) same h)
 
-  pub play_goes_on : (after : Known) (now_seen : S) → Answers (Ok after) now_seen → (after.catalogue ≡ s.catalogue) × Played see s (i + 1) after.world old now_seen
+  pub play_goes_on : (after : Known) (now_seen : S) → Answers (Ok after) now_seen → (after.catalogue ≡ s.catalogue) × Played sees s (i + 1) after.world old now_seen
   play_goes_on after now_seen h =
       let g = answers_so (Ok after) now_seen h in
-      let turn = play_turns see s i known.world old new so_far x lt at now_seen g.0 g.2 in (
+      let turn = play_turns sees s i known.world old new so_far x lt at now_seen g.0 g.2 in (
         ap (λ (a : Known). a.catalogue) g.1,
-        subst (λ (a : WorldState). Played see s (i + 1) a old now_seen) (sym (ap (λ (a : Known). a.world) g.1)) (subst (λ j. Played see s j (one_event s.catalogue (i + 1) x (run_in known.world)).world old now_seen) (next_is i) turn),
+        subst (λ (a : WorldState). Played sees s (i + 1) a old now_seen) (sym (ap (λ (a : Known). a.world) g.1)) (subst (λ j. Played sees s j (one_event s.catalogue (i + 1) x (run_in known.world)).world old now_seen) (next_is i) turn),
       )
     where
       next_is : (i : ℕ) → suc i ≡ i + 1
       next_is i = omega arith
 
-  pub play_is_ended : (why : WorldEnd) (now_seen : S) → Answers (Err why) now_seen → Plays see s (Err why) old now_seen
+  pub play_is_ended : (why : WorldEnd) (now_seen : S) → Answers (Err why) now_seen → Plays sees s (Err why) old now_seen
   play_is_ended (end.Limit what limit) now_seen h =
       let g = answers_so (Err (end.Limit what limit)) now_seen h in
-      let ended = play_is_cut see s i known.world old new so_far x lt at what now_seen (record { limit = g.0; seen = g.2 }) in
+      let ended = play_is_cut sees s i known.world old new so_far x lt at what now_seen g.0 g.2 in
       (ended.some, g.1, ended.seen)
   play_is_ended end.NoMemory now_seen h = tt

@@ -1,9 +1,10 @@
 //! Playing the events of a schedule in a world, before an observer.
 
-ghost use Rattle.std.specs.Prelude.{◌≡◌, ◌≤◌, OnOk, length};
+ghost use Rattle.std.specs.Prelude.{◌≤◌, [], OnOk, length};
+ghost use Rattle.std.specs.List.{AllByRecursion};
 ghost use Rattle.vp_model.specs.World.{one_step, flow, one_event};
 ghost use Rattle.vp_model.specs.Texts.Trace.{own_line};
-ghost use Rattle.vp_replay.specs.Played.{Sees, Plays, run_in, seen_all, schedule_of};
+ghost use Rattle.vp_playing.specs.Played.{SeesAll, Sees, Plays, run_in, schedule_of};
 
 use crate::observer::Observer;
 use vp_base::{Event, Line, NoMemory, Shown};
@@ -17,7 +18,8 @@ fn play_step<O: Observer>(
     world: World,
     observer: &mut O,
 ) -> Result<World, WorldEnd>
-    ensures { Sees O.seen world.catalogue (one_step world.catalogue number event.now (run_in world.world)) result observer.old observer.new }
+    requires { O.allows event.now }
+    ensures { Sees O.sees world.catalogue [] (one_step world.catalogue number event.now (run_in world.world)) result observer.old observer.new }
 {
     match world.next(event) {
         Err(end) => Err(end),
@@ -35,7 +37,7 @@ fn play_flow<O: Observer>(
     world: World,
     observer: &mut O,
 ) -> Result<World, WorldEnd>
-    ensures { Sees O.seen world.catalogue (flow world.catalogue number count (run_in world.world)) result observer.old observer.new }
+    ensures { Sees O.sees world.catalogue [] (flow world.catalogue number count (run_in world.world)) result observer.old observer.new }
 {
     let mut world = world;
     for _ in 0..count {
@@ -54,7 +56,7 @@ fn show_own_line<O: Observer>(
     catalog: &Catalog,
     observer: &mut O,
 ) -> Result<(), NoMemory>
-    ensures { OnOk result (observer.new ≡ seen_all (O.seen catalog.now) (own_line number event.now) observer.old) }
+    ensures { OnOk result (SeesAll (O.sees catalog.now) (own_line number event.now) observer.old observer.new) }
 {
     let Event::Flow { count } = event else {
         return Ok(());
@@ -74,8 +76,9 @@ pub fn play_event<O: Observer>(
     world: World,
     observer: &mut O,
 ) -> Result<World, WorldEnd>
-    ensures { Sees O.seen world.catalogue (one_event world.catalogue number event.now (run_in world.world)) result
-        (seen_all (O.seen world.catalogue) (own_line number event.now) observer.old) observer.new }
+    requires { O.allows event.now }
+    ensures { Sees O.sees world.catalogue (own_line number event.now) (one_event world.catalogue number event.now (run_in world.world)) result
+        observer.old observer.new }
 {
     show_own_line(number, event, world.catalog(), observer)?;
     match event {
@@ -91,8 +94,9 @@ pub fn play<O: Observer>(
     events: &[Event],
     observer: &mut O,
 ) -> Result<World, WorldEnd>
-    requires { length events.now ≤ 100000 }
-    ensures { Plays O.seen (schedule_of catalog events.now) result observer.old observer.new }
+    requires few { length events.now ≤ 100000 }
+    requires allowed { AllByRecursion O.allows events.now }
+    ensures { Plays O.sees (schedule_of catalog events.now) result observer.old observer.new }
 {
     let mut world = World::new(catalog)?;
     let mut number = 0;

@@ -1,23 +1,35 @@
 //! Who is shown the lines of a run, step by step.
 
-ghost use Rattle.std.specs.Prelude.{◌≡◌, ◌++◌, ℕ, OnOk};
+ghost use Rattle.std.specs.Prelude.{◌≡◌, ◌++◌, ℕ, ⊤, OnOk};
+ghost use Rattle.vp_base.specs.declared.event.Event.TheVariants as event;
 
 use std::marker::Model;
 use vp_base::{CopyOf, Line, NoMemory, Replies, Shown};
 use vp_catalog::Catalog;
 use vp_schedule::print_line;
 
-/// What is done with each line of a run.
+/// What is done with each line of a run. A delivery and a flow may be shown to every observer.
 pub trait Observer {
+    ghost use Rattle.vp_base.specs.declared.event.Event.{Event};
     ghost use Rattle.vp_base.specs.declared.event.Line.{Line};
     ghost use Rattle.vp_model.specs.Catalogue.{Catalogue};
 
-    /// The observer after it has seen a line, under the number of its event.
-    ghost seen: { Catalogue → ℕ × Line → Self → Self };
+    /// The events whose lines it may be shown.
+    ghost allows: { Event → Type 0 };
+
+    /// What it makes of a line, under the number of its event: the observer before and after.
+    ghost sees: { Catalogue → ℕ × Line → Self → Self → Type 0 };
 
     /// Shows it the next line. Without memory the observer may only be dropped.
     fn see(&mut self, number: u32, line: &Line, catalog: &Catalog) -> Result<(), NoMemory>
-        ensures { OnOk result (self.new ≡ seen catalog.now (number, line.now) self.old) };
+        requires { allows line.now.event }
+        ensures { OnOk result (sees catalog.now (number, line.now) self.old self.new) };
+
+    /// It may be shown each delivery of a flow.
+    ghost deliveries: { (k : ℕ) → allows (event.Deliver k) };
+
+    /// It may be shown the line of a flow itself.
+    ghost flows: { (count : ℕ) → allows (event.Flow count) };
 }
 
 /// The text of a trace.
@@ -37,7 +49,13 @@ impl Model for TraceText {
 impl Observer for TraceText {
     ghost use Rattle.vp_model.specs.Texts.Trace.{line_text};
 
-    ghost seen = { λ catalogue line text. text ++ line_text catalogue line };
+    ghost allows = { λ _. ⊤ };
+
+    ghost sees = { λ catalogue line old new. new ≡ old ++ line_text catalogue line };
+
+    ghost deliveries = { λ _. tt };
+
+    ghost flows = { λ _. tt };
 
     fn see(&mut self, number: u32, line: &Line, catalog: &Catalog) -> Result<(), NoMemory> {
         print_line(number, line, catalog, &mut self.bytes)
@@ -47,7 +65,13 @@ impl Observer for TraceText {
 impl Observer for Replies {
     ghost use Rattle.vp_model.specs.Told.{replies_in};
 
-    ghost seen = { λ catalogue line replies. replies ++ replies_in line.1.shown };
+    ghost allows = { λ _. ⊤ };
+
+    ghost sees = { λ catalogue line old new. new ≡ old ++ replies_in line.1.shown };
+
+    ghost deliveries = { λ _. tt };
+
+    ghost flows = { λ _. tt };
 
     fn see(&mut self, _: u32, line: &Line, _: &Catalog) -> Result<(), NoMemory> {
         let Shown::Step { replies, .. } = &line.shown else {

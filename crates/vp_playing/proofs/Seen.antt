@@ -1,0 +1,41 @@
+-- What is seen of some lines and then of more, and of lines that each leave one value.
+use Rattle.std.proofs.Common.{◌≡◌, ◌∙◌, ap, sym, subst, ℕ, List, [], ◌∷◌, ◌++◌, append_assoc, append-nil}
+use Rattle.std.proofs.lemmas.List.{map-append}
+use Rattle.std.specs.Prelude.{Result, Ok, Err}
+use Rattle.std.specs.List.{fold, flat_map}
+use Rattle.vp_model.specs.Types.{Line}
+use Rattle.vp_model.specs.Catalogue.{Catalogue}
+use Rattle.vp_model.specs.World.{Moment, Run}
+use Rattle.vp_world.specs.Known.{Known}
+use Rattle.vp_world.specs.declared.end.WorldEnd.{WorldEnd}
+use Rattle.vp_world.specs.declared.end.WorldEnd.TheVariants as end
+use Rattle.vp_playing.specs.Played.{lines_in, SeesAll, Sees}
+
+module _ {S : Type 0} (sees : ℕ × Line → S → S → Type 0) where
+  pub sees_append : (xs ys : List (ℕ × Line)) (old mid new : S) → SeesAll sees xs old mid → SeesAll sees ys mid new → SeesAll sees (xs ++ ys) old new
+  sees_append [] ys old mid new e more = subst (λ (s : S). SeesAll sees ys s new) e more
+  sees_append (x ∷ xs) ys old mid new h more = (h.0, h.1, sees_append xs ys h.0 mid new h.2 more)
+
+  pub sees_steps : (xs ys : List Moment) (old mid new : S) → SeesAll sees (lines_in xs) old mid → SeesAll sees (lines_in ys) mid new → SeesAll sees (lines_in (xs ++ ys)) old new
+  sees_steps xs ys old mid new h more =
+      subst (λ (lines : List (ℕ × Line)). SeesAll sees lines old new) (sym (map-append (λ (m : Moment). (m.number, m.line)) xs ys))
+      (sees_append (lines_in xs) (lines_in ys) old mid new h more)
+
+-- where each line leaves one value, so do some lines
+pub sees_fold : {S : Type 0} (see : S → ℕ × Line → S) (lines : List (ℕ × Line)) (old new : S) → SeesAll (λ line before after. after ≡ see before line) lines old new → new ≡ fold see old lines
+sees_fold see [] old new e = e
+sees_fold see (line ∷ lines) old new h = sees_fold see lines h.0 new h.2 ∙ ap (λ s. fold see s lines) h.1
+
+-- an observer that appends something for each line
+pub sees_appended : {A : Type 0} (shows : ℕ × Line → List A) (lines : List (ℕ × Line)) (old new : List A) → SeesAll (λ line before after. after ≡ before ++ shows line) lines old new → new ≡ old ++ flat_map shows lines
+sees_appended {A} shows lines old new h = sees_fold (λ before line. before ++ shows line) lines old new h ∙ appended lines old
+  where
+    appended : (lines : List (ℕ × Line)) (old : List A) → fold (λ (before : List A) line. before ++ shows line) old lines ≡ old ++ flat_map shows lines
+    appended [] old = sym (append-nil old)
+    appended (line ∷ lines) old = appended lines (old ++ shows line) ∙ append_assoc old (shows line) (flat_map shows lines)
+
+-- an event's own lines, and then those of its steps
+pub sees_own : {S : Type 0} (sees : Catalogue → ℕ × Line → S → S → Type 0) (catalogue : Catalogue) (own : List (ℕ × Line)) (run : Run) (result : Result Known WorldEnd) (old mid new : S) → SeesAll (sees catalogue) own old mid → Sees sees catalogue [] run result mid new → Sees sees catalogue own run result old new
+sees_own sees catalogue own run (Ok known) old mid new h more = (more.0, more.1, sees_append (sees catalogue) own _ old mid new h more.2)
+sees_own sees catalogue own run (Err (end.Limit what limit)) old mid new h more = (more.0, more.1, sees_append (sees catalogue) own _ old mid new h more.2)
+sees_own sees catalogue own run (Err end.NoMemory) old mid new h more = tt
