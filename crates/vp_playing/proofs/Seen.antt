@@ -1,15 +1,10 @@
 -- What is seen of some lines and then of more, and of lines that each leave one value.
 use Rattle.std.proofs.Common.{◌≡◌, ◌∙◌, ap, sym, subst, ℕ, List, [], ◌∷◌, ◌++◌, append_assoc, append-nil}
 use Rattle.std.proofs.lemmas.List.{map-append}
-use Rattle.std.specs.Prelude.{Result, Ok, Err}
 use Rattle.std.specs.List.{fold, flat_map}
 use Rattle.vp_model.specs.Types.{Line}
-use Rattle.vp_model.specs.Catalogue.{Catalogue}
-use Rattle.vp_model.specs.World.{Moment, Run}
-use Rattle.vp_world.specs.Known.{Known}
-use Rattle.vp_world.specs.declared.end.WorldEnd.{WorldEnd}
-use Rattle.vp_world.specs.declared.end.WorldEnd.TheVariants as end
-use Rattle.vp_playing.specs.Played.{lines_in, SeesAll, Sees}
+use Rattle.vp_model.specs.World.{Moment}
+use Rattle.vp_playing.specs.Played.{lines_in, SeesAll}
 
 module _ {S : Type 0} (sees : ℕ × Line → S → S → Type 0) where
   pub sees_append : (xs ys : List (ℕ × Line)) (old mid new : S) → SeesAll sees xs old mid → SeesAll sees ys mid new → SeesAll sees (xs ++ ys) old new
@@ -33,9 +28,3 @@ sees_appended {A} shows lines old new h = sees_fold (λ before line. before ++ s
     appended : (lines : List (ℕ × Line)) (old : List A) → fold (λ (before : List A) line. before ++ shows line) old lines ≡ old ++ flat_map shows lines
     appended [] old = sym (append-nil old)
     appended (line ∷ lines) old = appended lines (old ++ shows line) ∙ append_assoc old (shows line) (flat_map shows lines)
-
--- an event's own lines, and then those of its steps
-pub sees_own : {S : Type 0} (sees : Catalogue → ℕ × Line → S → S → Type 0) (catalogue : Catalogue) (own : List (ℕ × Line)) (run : Run) (result : Result Known WorldEnd) (old mid new : S) → SeesAll (sees catalogue) own old mid → Sees sees catalogue [] run result mid new → Sees sees catalogue own run result old new
-sees_own sees catalogue own run (Ok known) old mid new h more = (more.0, more.1, sees_append (sees catalogue) own _ old mid new h more.2)
-sees_own sees catalogue own run (Err (end.Limit what limit)) old mid new h more = (more.0, more.1, sees_append (sees catalogue) own _ old mid new h more.2)
-sees_own sees catalogue own run (Err end.NoMemory) old mid new h more = tt

@@ -1,4 +1,3 @@
-pub mod Turns
 pub mod Values
 pub mod Replays
 pub mod GeneratedCatalogue

@@ -18,12 +18,13 @@ use Rattle.vp_model.proofs.RunGrows.{run_from-more}
 use Rattle.vp_world.specs.Known.{Known}
 use Rattle.vp_world.specs.declared.end.WorldEnd.{WorldEnd}
 use Rattle.vp_world.specs.declared.end.WorldEnd.TheVariants as end
-use Rattle.vp_replay.specs.Played.{run_in, seen_all, Sees}
+use Rattle.vp_playing.specs.Played.{run_in, Sees}
 use Rattle.vp_laws.proofs.CutTraces.{limits_cut_traces}
 use Rattle.vp_replay.specs.Summary.{replies_of}
 use Rattle.vp_replay.specs.Generated.{Makes}
 use Rattle.vp_replay.specs.declared.generating.Made.{Made}
-use Rattle.vp_replay.proofs.Turns.{Played, play_starts, play_goes_on, play_is_ended, play_is_over, cut_here, event_behind}
+use Rattle.vp_playing.proofs.Seen.{sees_appended}
+use Rattle.vp_playing.proofs.Turns.{Played, play_starts, play_goes_on, play_is_ended, play_is_over, cut_here, event_behind}
 
 -- ---- calls
 
@@ -182,12 +183,8 @@ module _ (seed count i : ℕ) (lt : i < count) where
 -- ---- the loop
 
 -- an observer that collects the replies
-abbrev pub collect : Catalogue → ℕ × Line → List Reply → List Reply
-collect catalogue line replies = replies ++ replies_in line.1.shown
-
-collected : (catalogue : Catalogue) (lines : List (ℕ × Line)) (replies : List Reply) → seen_all (collect catalogue) lines replies ≡ replies ++ replies_of lines
-collected catalogue [] replies = sym (append-nil replies)
-collected catalogue (line ∷ lines) replies = collected catalogue lines (replies ++ replies_in line.1.shown) ∙ append_assoc replies (replies_in line.1.shown) (replies_of lines)
+abbrev pub Collects : Catalogue → ℕ × Line → List Reply → List Reply → Type 0
+Collects catalogue line old new = new ≡ old ++ replies_in line.1.shown
 
 -- i events were made and played
 pub record IsMaking (seed count i : ℕ) (known : Known) (state : ℕ) (m : Made) : Type 0 where
@@ -195,7 +192,7 @@ pub record IsMaking (seed count i : ℕ) (known : Known) (state : ℕ) (m : Made
   pub source : state ≡ (after_rounds seed i).source
   pub events : m.events ≡ (after_rounds seed i).events
   pub catalogue : known.catalogue ≡ generated_catalogue
-  pub played : Played collect (made seed count) i known.world [] m.replies
+  pub played : Played Collects (made seed count) i known.world [] m.replies
 
 pub making_starts : (seed count : ℕ) (known : Known) → known ≡ record { catalogue = generated_catalogue; world = start_world generated_catalogue } → IsMaking seed count 0 known seed (record { events = []; replies = [] })
 unfolding rounds
@@ -204,18 +201,18 @@ making_starts seed count known e = record {
   source = refl;
   events = refl;
   catalogue = ap (λ (k : Known). k.catalogue) e;
-  played = play_starts collect (made seed count) known.world [] (ap (λ (k : Known). k.world) e);
+  played = play_starts Collects (made seed count) known.world [] (ap (λ (k : Known). k.world) e);
 }
 
 module _ (seed count i : ℕ) (known : Known) (source : ℕ) (m : Made) (h : IsMaking seed count i known source m) where
   pub making_is_over : i ≡ count → Makes seed count (Ok known) m
   making_is_over e =
       let s = made seed count in
-      let plays = play_is_over collect s i known [] m.replies h.catalogue h.played (e ∙ sym (ap (λ (g : Generating). length g.events) (generating_is seed count) ∙ count_is seed count)) in (
+      let plays = play_is_over Collects s i known [] m.replies h.catalogue h.played (e ∙ sym (ap (λ (g : Generating). length g.events) (generating_is seed count) ∙ count_is seed count)) in (
         ap (λ (r : Run). limit_in world_limits r.moments) (made_run seed count) ∙ plays.0,
         plays.1 ∙ ap (λ (r : Run). record { catalogue = generated_catalogue; world = r.world }) (sym (made_run seed count)),
         h.events ∙ ap (λ k. (after_rounds seed k).events) e ∙ sym (ap (λ (g : Generating). g.events) (generating_is seed count)),
-        plays.2 ∙ collected generated_catalogue (lines_within world_limits s) [] ∙ ap replies_of (limits_cut_traces.whole world_limits s plays.0),
+        sees_appended (λ (line : ℕ × Line). replies_in line.1.shown) (lines_within world_limits s) [] m.replies plays.2 ∙ ap replies_of (limits_cut_traces.whole world_limits s plays.0),
       )
 
   -- one more event
@@ -236,11 +233,11 @@ module _ (seed count i : ℕ) (known : Known) (source : ℕ) (m : Made) (h : IsM
     at = subst (λ (y : Event). y ≡ get_or (made seed count).events i y) (sym x_is) (event_at seed count i lt)
 
     abbrev pub Answers : Result Known WorldEnd → List Reply → Type 0
-    Answers result replies = Sees collect known.catalogue (one_event known.catalogue (number + 1) x (run_in known.world)) result (seen_all (collect known.catalogue) (own_line (number + 1) x) m.replies) replies
+    Answers result replies = Sees Collects known.catalogue (own_line (number + 1) x) (one_event known.catalogue (number + 1) x (run_in known.world)) result m.replies replies
 
     pub making_goes_on : (after : Known) (replies : List Reply) → Answers (Ok after) replies → IsMaking seed count (i + 1) after next (record { events = m.events ++ x ∷ []; replies = replies })
     making_goes_on after replies a =
-        let turn = play_goes_on collect (made seed count) i number known [] m.replies h.catalogue counted h.played x (within_made seed count i lt) at after replies a in
+        let turn = play_goes_on Collects (made seed count) i number known [] m.replies h.catalogue counted h.played x (within_made seed count i lt) at after replies a in
         record {
           world =
               ap (λ (k : Known). k.world) (a.1)
@@ -260,9 +257,9 @@ module _ (seed count i : ℕ) (known : Known) (source : ℕ) (m : Made) (h : IsM
 
     pub making_is_ended : (why : WorldEnd) (replies : List Reply) → Answers (Err why) replies → Makes seed count (Err why) (record { events = m.events; replies = replies })
     making_is_ended (end.Limit what limit) replies a =
-        let plays = play_is_ended collect (made seed count) i number known [] m.replies h.catalogue counted h.played x (within_made seed count i lt) at (end.Limit what limit) replies a in
+        let plays = play_is_ended Collects (made seed count) i number known [] m.replies h.catalogue counted h.played x (within_made seed count i lt) at (end.Limit what limit) replies a in
         let here = ap (λ c. limit_in world_limits (one_event c (i + 1) x (run_in known.world)).moments) (sym h.catalogue) ∙ ap (λ n. limit_in world_limits (one_event known.catalogue (n + 1) x (run_in known.world)).moments) (sym counted) ∙ a.0 in
-        let cut = cut_here collect (made seed count) i known.world [] m.replies h.played x (within_made seed count i lt) at what here in
+        let cut = cut_here Collects (made seed count) i known.world [] m.replies h.played x (within_made seed count i lt) at what here in
         let first : first_over world_limits (generating seed count).run.moments ≡ Some cut.0 = ap (λ (r : Run). first_over world_limits r.moments) (made_run seed count) ∙ cut.1 in
         let before : i ≡ cut.0.number - 1 = omega (arith, cut.2) in (
           ap (λ (r : Run). limit_in world_limits r.moments) (made_run seed count) ∙ plays.0,

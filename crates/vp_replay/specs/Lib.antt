@@ -1,4 +1,3 @@
-pub mod Played
 pub mod Replayed
 pub mod Summary
 pub mod Generated

@@ -4,14 +4,14 @@ ghost use Rattle.std.specs.Prelude.{◌≡◌, ◌≤◌, [], IfOk, Some, None};
 ghost use Rattle.vp_text.specs.Printing.{Appends};
 ghost use Rattle.vp_model.specs.Generated.{generated_catalogue};
 ghost use Rattle.vp_model.specs.Texts.Schedule.{schedule_text};
-ghost use Rattle.vp_replay.specs.Played.{schedule_of};
+ghost use Rattle.vp_playing.specs.Played.{schedule_of};
 ghost use Rattle.vp_replay.specs.Generated.{Makes, Generates, IsGenerated};
 
 use crate::drawing::Draws;
 use crate::generated_catalogue::generated_catalogue;
-use crate::playing::play_event;
 use std::alloc::Global;
 use vp_base::{Events, NoMemory, Replies};
+use vp_playing::play_event;
 use vp_schedule::{Schedule, print};
 use vp_status::{Defined, Status, print_limit};
 use vp_world::{World, WorldEnd};

@@ -6,8 +6,6 @@ mod check;
 mod drawing;
 mod generated_catalogue;
 mod generating;
-mod observer;
-mod playing;
 mod replay;
 mod soaking;
 

@@ -7,11 +7,10 @@ ghost use Rattle.vp_model.specs.Texts.History.{history_lines};
 ghost use Rattle.vp_schedule.specs.Document.{IsSchedule};
 ghost use Rattle.vp_replay.specs.Replayed.{IsReplayAnswer, Gives, Tells};
 
-use crate::observer::TraceText;
-use crate::playing::play;
 use std::alloc::Global;
 use vp_base::NoMemory;
 use vp_onecopy::{History, Map, order, print_history};
+use vp_playing::{TraceText, play};
 use vp_schedule::{Schedule, ScheduleFault, read};
 use vp_status::{Defined, Status, print_bad_line, print_limit, print_twice};
 use vp_world::{World, WorldEnd};
