@@ -1,4 +1,5 @@
 mod Begun
+mod Calls
 mod Changing
 mod Replaced
 mod Tied

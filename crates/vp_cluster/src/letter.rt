@@ -1,6 +1,7 @@
 //! Datagrams on their way.
 
-ghost use Rattle.std.specs.Prelude.{◌≡◌, ◌++◌, IfOk, OnOk, map, take};
+ghost use Rattle.std.specs.Prelude.{◌≡◌, ◌++◌, ℕ, IfOk, OnOk, map, take};
+ghost use Rattle.vp_bytes.specs.Fields.{IsSite};
 ghost use Rattle.vp_cluster.specs.Letters.{letter_to, sent_from};
 ghost use Rattle.vp_wire.specs.Frames.{frame_of};
 ghost use Rattle.vp_wire.specs.Grammar.{IsFrame};
@@ -29,9 +30,10 @@ impl CopyOf for Letter {
     }
 }
 
-/// The letter of a client to the site, which comes from port 0; none where the catalogue lacks the site.
+/// The letter of a client to the site, which comes from port 0; none where the catalogue lacks the site. The body is one that can be
+/// framed.
 pub fn to_site(catalog: &Catalog, site: SiteId, body: Body) -> Result<Option<Letter>, NoMemory>
-    requires { IsFrame (frame_of 0 site body) }
+    requires { (id : ℕ) → IsSite id → IsFrame (frame_of 0 id body) }
     ensures { IfOk result (λ letter. letter ≡ letter_to catalog.now site (frame_of 0 site body)) }
 {
     let Some(port) = catalog.port(site) else {
