@@ -1,5 +1,5 @@
 -- A host: a node in memory, with the disk that keeps its log.
-use Rattle.std.specs.Prelude.{◌≡◌, ℕ, ◌-◌, ◌^◌, ◌≢◌, List, [], ◌++◌, Option, Some, None, IfSome, option_map}
+use Rattle.std.specs.Prelude.{◌≡◌, ℕ, ◌-◌, ◌^◌, ◌≢◌, List, [], ◌++◌, Option, Some, None, IfSome, option_map, true}
 use Rattle.vp_model.specs.Types.{LogRecord}
 use Rattle.vp_model.specs.Words.{value_at}
 use Rattle.vp_model.specs.Catalogue.{Catalogue}
@@ -29,6 +29,14 @@ told host = state_after host.disk true 0
 -- the halves of its log
 abbrev pub log_in : HostValue → Halves
 log_in host = content_of (changes_of (asked_of host.disk) host.disk)
+
+-- its site with them
+abbrev pub site_log : HostValue → ℕ × List ℕ × List ℕ
+site_log host = (host.id, (log_in host).0, (log_in host).1)
+
+-- its site with its port
+abbrev pub place_of : HostValue → ℕ × ℕ
+place_of host = (host.id, host.port)
 
 -- It is a host over this catalogue: its port is its site's, and where the site is up it is at its node, whose log the disk keeps.
 pub record IsHost (catalogue : Catalogue) (host : HostValue) : Type 0 where

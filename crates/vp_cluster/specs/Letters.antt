@@ -18,10 +18,14 @@ use Rattle.vp_cluster.specs.declared.letter.Letter.{Letter}
 abbrev pub letter_to : Catalogue → ℕ → Frame → Option Letter
 letter_to catalogue site frame = option_map (λ port. record { from = 0; to = port; bytes = frame_bytes frame }) (value_at site catalogue.sites)
 
+-- letter K, from 1
+abbrev pub in_order : ℕ → List Letter → Option Letter
+in_order k letters = if k == 0 then None else slice_get letters (k - 1)
+
 -- what the event brings to a site, where these letters were sent so far
 abbrev pub letter_of : Catalogue → List Letter → Event → Option Letter
 letter_of catalogue letters (event.Call site words) = letter_to catalogue site (call_frame site words)
-letter_of catalogue letters (event.Deliver k) = if k == 0 then None else slice_get letters (k - 1)
+letter_of catalogue letters (event.Deliver k) = in_order k letters
 letter_of catalogue letters (event.Tick site) = letter_to catalogue site (frame_of 0 site body.Tick)
 letter_of catalogue letters (event.Probe site) = letter_to catalogue site (frame_of 0 site body.ProbeNow)
 letter_of catalogue letters _ = None

@@ -1,17 +1,25 @@
 //! A host: a node in memory, with the disk that keeps its log.
 
 ghost use Rattle.std.specs.Prelude.{◌≡◌, OnErr, OnOk, IfOk, Some};
-ghost use Rattle.vp_cluster.specs.Hosts.{IsHost, Begins, Takes, Crashes, Restarts, log_in};
+ghost use Rattle.vp_cluster.specs.Hosts.{IsHost, Begins, Takes, Crashes, Restarts, log_in, site_log, place_of};
 ghost use Rattle.vp_cluster.specs.Letters.{as_received};
 ghost use Rattle.vp_model.specs.Words.{value_at};
 ghost use Rattle.vp_outside.specs.Disk.{half_of};
 
 use crate::letter::Letter;
+use std::alloc::Global;
 use std::marker::Model;
-use vp_base::{NoMemory, SiteId};
+use vp_base::{NoMemory, Seq, SiteId, Word};
 use vp_catalog::Catalog;
 use vp_node::{Node, NodeEnd};
 use vp_outside::{Datagrams, SureDisk};
+use vp_stable::halves_are_one_log;
+
+/// A site with both halves of its log.
+pub type SiteLog = (SiteId, Word, Word);
+
+/// The logs of sites.
+pub type Logs = Seq<SiteLog>;
 
 /// A site with its port: its node while it is up, and the disk that keeps its log.
 #[derive(Drop)]
@@ -36,9 +44,12 @@ impl Host {
         requires listed { value_at id catalog.now.sites ≡ Some port }
         ensures { IfOk result (Begins catalog.now id port) }
     {
+        halves_are_one_log();
         let mut disk = SureDisk::new(catalog.sites().allocator());
         // the first life is not the last one, and this disk fails for want of memory alone
-        let node = Node::start(catalog, id, &mut disk).map_err(|_| NoMemory)?;
+        let Ok(node) = Node::start(catalog, id, &mut disk) else {
+            return Err(NoMemory);
+        };
         Ok(Host {
             id,
             port,
@@ -47,23 +58,23 @@ impl Host {
         })
     }
 
-    pub fn id(&self) -> SiteId
-        ensures { result ≡ self.now.id }
-    {
-        self.id
-    }
-
     pub fn port(&self) -> u16
         ensures { result ≡ self.now.port }
     {
         self.port
     }
 
-    /// The bytes of a half of its log.
-    pub fn half(&self, half: u8) -> &[u8]
-        ensures { result.now ≡ half_of half (log_in self.now) }
+    /// The bytes of its log.
+    pub fn log(&self, alloc: Global) -> Result<SiteLog, NoMemory>
+        ensures { IfOk result (λ log. log ≡ site_log self.now) }
     {
-        self.disk.half(half)
+        Ok((self.id, self.half(alloc, 0)?, self.half(alloc, 1)?))
+    }
+
+    fn half(&self, alloc: Global, half: u8) -> Result<Word, NoMemory>
+        ensures { IfOk result (λ bytes. bytes ≡ half_of half (log_in self.now)) }
+    {
+        Ok(Word::from_vec(self.disk.half(half).to_vec(alloc)?))
     }
 
     /// The letter comes: where the site is up its node takes it, and the datagrams that this gives are answered. Without memory the site
@@ -72,14 +83,14 @@ impl Host {
         requires host { IsHost catalog.now self.old }
         ensures takes { IfOk result (Takes catalog.now (as_received letter.now) self.old self.new) }
         ensures host { IsHost catalog.now self.new }
-        ensures port { self.new.port ≡ self.old.port }
+        ensures place { place_of self.new ≡ place_of self.old }
     {
         let Some(node) = self.node.take() else {
             return Ok(Datagrams::new(catalog.sites().allocator()));
         };
-        let (node, turned) = node
-            .turn(catalog, &mut self.disk, letter.from, &letter.bytes)
-            .map_err(|_| NoMemory)?;
+        let Ok((node, turned)) = node.turn(catalog, &mut self.disk, letter.from, &letter.bytes) else {
+            return Err(NoMemory);
+        };
         self.node = Some(node);
         Ok(turned.datagrams)
     }
@@ -97,11 +108,12 @@ impl Host {
         requires host { IsHost catalog.now self.old }
         ensures restarts { OnOk result (Restarts catalog.now self.old self.new) }
         ensures host { IsHost catalog.now self.new }
-        ensures port { self.new.port ≡ self.old.port }
+        ensures place { place_of self.new ≡ place_of self.old }
     {
         if self.node.is_some() {
             return Ok(());
         }
+        halves_are_one_log();
         match Node::start(catalog, self.id, &mut self.disk) {
             Ok(node) => {
                 self.node = Some(node);

@@ -1,14 +1,12 @@
 //! Datagrams on their way.
 
 ghost use Rattle.std.specs.Prelude.{◌≡◌, ◌++◌, IfOk, OnOk, map, take};
-ghost use Rattle.vp_base.specs.Calls.{IsCall};
 ghost use Rattle.vp_cluster.specs.Letters.{letter_to, sent_from};
-ghost use Rattle.vp_runs.specs.Asking.{call_frame};
 ghost use Rattle.vp_wire.specs.Frames.{frame_of};
 ghost use Rattle.vp_wire.specs.Grammar.{IsFrame};
 
 use bytes::{Bytes, BytesMut};
-use vp_base::{Call, CopyOf, NoMemory, SiteId};
+use vp_base::{CopyOf, NoMemory, SiteId};
 use vp_catalog::Catalog;
 use vp_outside::Datagrams;
 use vp_wire::{Body, Frame, encode};
@@ -19,6 +17,16 @@ pub struct Letter {
     pub from: u16,
     pub to: u16,
     pub bytes: Bytes,
+}
+
+impl CopyOf for Letter {
+    fn copy_of(&self) -> Result<Letter, NoMemory> {
+        Ok(Letter {
+            from: self.from,
+            to: self.to,
+            bytes: self.bytes.clone()?,
+        })
+    }
 }
 
 /// The letter of a client to the site, which comes from port 0; none where the catalogue lacks the site.
@@ -52,7 +60,9 @@ pub fn put_letters(
 ) -> Result<(), NoMemory>
     ensures { OnOk result (letters.new.items ≡ letters.old.items ++ map (sent_from from) (take count given)) }
 {
-    for datagram in given.into_vec().into_iter().take(count) {
+    let mut sent = given.into_vec();
+    sent.truncate(count);
+    for datagram in sent {
         letters.push(Letter {
             from,
             to: datagram.port,
