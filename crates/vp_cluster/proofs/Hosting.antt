@@ -35,7 +35,7 @@ listed id port sites is = sym (is_there id sites) ∙ ap is_some is
 
 -- an empty log has no batches
 pub no_batches : HaveBatches [] ([], [])
-no_batches = (0, record { first = 0; second = 0; of_first = none; of_second = none; is = refl }, inl (omega arith, refl))
+no_batches = (0, record { first = 0; second = 0; of_first = inr none; of_second = inr none; is = refl }, inl (omega arith, refl))
   where
     none : ((batch : List LogRecord) → IsFirst batch [] → ⊥) × (0 ≡ 0)
     none = (λ batch first. let e = first.open_ in cc, refl)
@@ -235,3 +235,42 @@ pub stays_down : (catalogue : Catalogue) (host : HostValue) (new : List Change) 
 stays_down catalogue host new life rests one asked spent alike is =
     subst (λ (n : Option NodeValue). IsHost catalogue (host_with host.id host.port host.disk n) → Restarts catalogue (host_with host.id host.port host.disk n) (host_with host.id host.port new None))
     (sym (is_down host.node rests)) (λ known. is_over catalogue host.id host.port host.disk new one asked life known spent alike) is
+
+-- ---- the same, of a host by its parts
+
+module _ (catalogue : Catalogue) (parts host : HostValue) (same : parts ≡ host) where
+  known : IsHost catalogue host → IsHost catalogue parts
+  known is = subst (λ h. IsHost catalogue h) (sym same) is
+
+  pub parts_listed : IsHost catalogue host → has (sites_of catalogue) parts.id ≡ true
+  parts_listed is = listed parts.id parts.port catalogue.sites (known is).port_is
+
+  pub parts_rest : (disk : List Change) → IsHost catalogue host → IsHost catalogue (host_with parts.id parts.port disk None)
+  parts_rest disk is = down catalogue parts.id parts.port disk (known is).port_is
+
+  pub parts_node : (node : NodeValue) → parts.node ≡ Some node → IsHost catalogue host → (node.site.id ≡ parts.id) × IsNode catalogue node × IsKept catalogue node (told parts)
+  parts_node node up is = its_node catalogue parts node up (known is)
+
+  pub parts_crash : IsHost catalogue host → Crashes catalogue host (host_with parts.id parts.port parts.disk None)
+  parts_crash is = subst (λ h. Crashes catalogue h (host_with parts.id parts.port parts.disk None)) same (crashes catalogue parts (known is))
+
+  pub parts_idle : (d : Datagram) → parts.node ≡ None → IsHost catalogue host → Takes catalogue d host (host_with parts.id parts.port parts.disk None) []
+  parts_idle d rests is = subst (λ h. Takes catalogue d h (host_with parts.id parts.port parts.disk None) []) same (idles catalogue d parts rests (known is))
+
+  pub parts_take : (d : Datagram) (new : List Change) (node after : NodeValue) (given : Turned) → parts.node ≡ Some node → d.port < 2 ^ 16 → IsHost catalogue host → asked_of new ≡ asked_of parts.disk
+      → Turns catalogue node d after given → Steps (Saves (turn_of catalogue node d) node.at after.at) (told parts) (state_after new true 0) → IsNode catalogue after
+      → IsKept catalogue after (state_after new true 0) → Takes catalogue d host (host_with parts.id parts.port new (Some after)) given.datagrams
+  parts_take d new node after given up fits is asked turns saved is_node kept =
+      subst (λ h. Takes catalogue d h (host_with parts.id parts.port new (Some after)) given.datagrams) same (takes catalogue d parts new node after given up fits (known is) asked turns saved is_node kept)
+
+  pub parts_go_on : is_some parts.node ≡ true → IsHost catalogue host → Restarts catalogue host parts
+  parts_go_on up is = subst (λ h. Restarts catalogue h parts) same (goes_on catalogue parts up (known is))
+
+  module _ (one : HalvesAreOneLog) (rests : is_some parts.node ≡ false) (is : IsHost catalogue host) (new : List Change) (asked : asked_of new ≡ asked_of parts.disk) where
+    pub parts_go_up : (node : NodeValue) → Starts catalogue parts.id node (told parts) (state_after new true 0) → node.site.life < 2 ^ 32 → IsNode catalogue node
+        → IsKept catalogue node (state_after new true 0) → Restarts catalogue host (host_with parts.id parts.port new (Some node))
+    parts_go_up node starts lives is_node kept =
+        subst (λ h. Restarts catalogue h (host_with parts.id parts.port new (Some node))) same (goes_up catalogue parts new node rests one asked starts (known is) lives is_node kept)
+
+    pub parts_stay_down : (life : ℕ) → IsSpent catalogue parts.id life (told parts) → Steps ReadAlike (told parts) (state_after new true 0) → Restarts catalogue host (host_with parts.id parts.port new None)
+    parts_stay_down life spent alike = subst (λ h. Restarts catalogue h (host_with parts.id parts.port new None)) same (stays_down catalogue parts new life rests one asked spent alike (known is))
