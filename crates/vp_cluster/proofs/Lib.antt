@@ -1,6 +1,7 @@
 mod Begun
 mod Calls
 mod Changing
+mod Hosting
 mod Replaced
 mod Tied
 mod TiedLetters

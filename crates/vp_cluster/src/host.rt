@@ -13,6 +13,13 @@ use vp_base::{NoMemory, Seq, SiteId, Word};
 use vp_catalog::Catalog;
 use vp_node::{Node, NodeEnd};
 use vp_outside::{Datagrams, SureDisk};
+use vp_stable::halves_are_one_log;
+
+/// A site with both halves of its log.
+pub type SiteLog = (SiteId, Word, Word);
+
+/// The logs of sites.
+pub type Logs = Seq<SiteLog>;
 
 /// A site with both halves of its log.
 pub type SiteLog = (SiteId, Word, Word);
@@ -43,9 +50,12 @@ impl Host {
         requires listed { value_at id catalog.now.sites ≡ Some port }
         ensures { IfOk result (Begins catalog.now id port) }
     {
+        halves_are_one_log();
         let mut disk = SureDisk::new(catalog.sites().allocator());
         // the first life is not the last one, and this disk fails for want of memory alone
-        let node = Node::start(catalog, id, &mut disk).map_err(|_| NoMemory)?;
+        let Ok(node) = Node::start(catalog, id, &mut disk) else {
+            return Err(NoMemory);
+        };
         Ok(Host {
             id,
             port,
@@ -84,9 +94,9 @@ impl Host {
         let Some(node) = self.node.take() else {
             return Ok(Datagrams::new(catalog.sites().allocator()));
         };
-        let (node, turned) = node
-            .turn(catalog, &mut self.disk, letter.from, &letter.bytes)
-            .map_err(|_| NoMemory)?;
+        let Ok((node, turned)) = node.turn(catalog, &mut self.disk, letter.from, &letter.bytes) else {
+            return Err(NoMemory);
+        };
         self.node = Some(node);
         Ok(turned.datagrams)
     }
@@ -109,6 +119,7 @@ impl Host {
         if self.node.is_some() {
             return Ok(());
         }
+        halves_are_one_log();
         match Node::start(catalog, self.id, &mut self.disk) {
             Ok(node) => {
                 self.node = Some(node);

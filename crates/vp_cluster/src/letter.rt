@@ -62,7 +62,9 @@ pub fn put_letters(
 ) -> Result<(), NoMemory>
     ensures { OnOk result (letters.new.items ≡ letters.old.items ++ map (sent_from from) (take count given)) }
 {
-    for datagram in given.into_vec().into_iter().take(count) {
+    let mut sent = given.into_vec();
+    sent.truncate(count);
+    for datagram in sent {
         letters.push(Letter {
             from,
             to: datagram.port,
