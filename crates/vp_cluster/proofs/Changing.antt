@@ -1,5 +1,5 @@
 -- What the change of one host is to all of them.
-use Rattle.std.proofs.Common.{◌≡◌, ◌≢◌, ◌∙◌, ap, sym, subst, ℕ, ◌<◌, Bool, true, false, List, length, get_or, set, Some, None, refl, arith, map, ◌==◌}
+use Rattle.std.proofs.Common.{◌≡◌, ◌≢◌, ◌∙◌, ap, sym, subst, ℕ, ◌<◌, Bool, true, false, List, ◌++◌, length, take, get_or, set, Some, None, refl, arith, map, ◌==◌}
 use Rattle.std.specs.Prelude.{Result, Ok, Err, OnOk, IfOk}
 use Rattle.std.specs.List.{AllByRecursion, position}
 use Rattle.vp_model.specs.Words.{value_at}
@@ -7,8 +7,11 @@ use Rattle.std.proofs.lemmas.Bool.Decides.{nat_tests}
 use Rattle.std.proofs.lemmas.List.Quantifiers.{position-Some}
 use Rattle.vp_lists.proofs.Found.{find_none, find_some}
 use Rattle.vp_model.specs.Catalogue.{Catalogue}
-use Rattle.vp_cluster.specs.Hosts.{HostValue, place_of, IsHost, Stays}
-use Rattle.vp_cluster.specs.Nodes.{AreHosts, ChangesAt, ChangesOf, host_at}
+use Rattle.vp_cluster.specs.Hosts.{HostValue, place_of, IsHost, Stays, Takes}
+use Rattle.vp_cluster.specs.Letters.{as_received, sent_from}
+use Rattle.vp_cluster.specs.Nodes.{NodesValue, AreHosts, ChangesAt, ChangesOf, Comes, host_at}
+use Rattle.vp_cluster.specs.declared.letter.Letter.{Letter}
+use Rattle.vp_outside.specs.declared.datagram.Datagram.{Datagram}
 use Rattle.vp_cluster.proofs.Replaced.{finds_new, finds_others, maps_same, all_set}
 
 module _ (port : ℕ) (does : HostValue → HostValue → Type 0) (hosts : List HostValue) where
@@ -70,3 +73,10 @@ at_no_port catalogue site does hosts none = record {
   there = λ p e. absurd (let z = sym none ∙ e in cc);
   nowhere = λ none. refl;
 }
+
+-- ---- a letter that comes
+
+pub letter_came : (letter : Letter) (count : ℕ) (catalogue : Catalogue) (hosts after : List HostValue) (letters more : List Letter) (given : List Datagram) (old : NodesValue) → record { catalogue = catalogue; hosts = hosts; letters = letters } ≡ old
+    → ChangesAt letter.to (λ host after. Takes catalogue (as_received letter) host after given) hosts after → more ≡ letters ++ map (sent_from letter.to) (take count given)
+    → Comes letter count old (record { catalogue = catalogue; hosts = after; letters = more })
+letter_came letter count catalogue hosts after letters more given old is changes put = subst (λ (old : NodesValue). Comes letter count old (record { catalogue = catalogue; hosts = after; letters = more })) is (given, changes, put)

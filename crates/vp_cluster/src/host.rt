@@ -21,12 +21,6 @@ pub type SiteLog = (SiteId, Word, Word);
 /// The logs of sites.
 pub type Logs = Seq<SiteLog>;
 
-/// A site with both halves of its log.
-pub type SiteLog = (SiteId, Word, Word);
-
-/// The logs of sites.
-pub type Logs = Seq<SiteLog>;
-
 /// A site with its port: its node while it is up, and the disk that keeps its log.
 #[derive(Drop)]
 pub struct Host {

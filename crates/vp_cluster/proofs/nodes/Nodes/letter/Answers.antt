@@ -4,7 +4,7 @@ use Rattle.vp_cluster.proofs.nodes.Nodes.letter.Goals as goal
 
 -- src/nodes.rt:73:43
 pub to_site-requires : goal.to_site-requires
-to_site-requires c = λ id s. (refl, s, call_in c.args.event.now c.in-Call.site c.in-Call.call.now c.in_ok-copy_of-in-Call.field-0 c.requires c.in-Call.is c.in_ok-copy_of-in-Call.ensures)
+to_site-requires c = λ id s. (refl, s, call_in c.args.event.now c.in-Call.site c.in-Call.call c.in_ok-copy_of-in-Call.field-0 c.requires c.in-Call.is c.in_ok-copy_of-in-Call.ensures)
 
 -- src/nodes.rt:78:37
 pub to_site-requires-in-Tick : goal.to_site-requires-in-Tick
