@@ -1,5 +1,5 @@
 use Rattle.std.proofs.Common.{◌≡◌, false, inr, ap}
-use Rattle.std.specs.Prelude.{is_some, Err}
+use Rattle.std.specs.Prelude.{is_some, Result, Err}
 use Rattle.vp_node.specs.Nodes.{NodeValue}
 use Rattle.vp_node.specs.declared.end.NodeEnd.{NodeEnd}
 use Rattle.vp_cluster.proofs.Hosting.{parts_listed, parts_go_up, parts_stay_down}
@@ -21,6 +21,7 @@ pub returns-in-Err-LivesSpent-clause-restarts : goal.returns-in-Err-LivesSpent-c
 returns-in-Err-LivesSpent-clause-restarts c =
     let spent = c.in-Err-LivesSpent in
     let rests : is_some c.self.inside.node ≡ false = cc in
-    let is = ap (λ (e : NodeEnd). Err {T = NodeValue} e) spent.field-0-is in
+    let failed : NodeEnd → Result NodeValue NodeEnd = λ e. Err e in
+    let is = ap failed spent.field-0-is in
     parts_stay_down c.args.catalog.now _ c.args.self.now c.self.view_is c.halves_are_one_log.ensures.batches rests c.requires.host c.start.new.disk spent.ensures.others.stays.same_name spent.field-0-0
     (spent.ensures.lives_spent spent.field-0-0 is) (spent.ensures.unchanged 0 0 spent.field-0-0 (inr is))
