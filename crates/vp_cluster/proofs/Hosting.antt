@@ -16,7 +16,7 @@ use Rattle.vp_outside.specs.Disk.{Halves, DiskState, log_of, Steps}
 use Rattle.vp_outside.specs.Changes.{asked_of, changes_of, content_of, state_after}
 use Rattle.vp_outside.specs.declared.changes.Change.{Change}
 use Rattle.vp_outside.specs.declared.datagram.Datagram.{Datagram}
-use Rattle.vp_stable.specs.Halves.{Standing, StandsAt, HaveBatches, IsFirst, ReadAlike, HalvesAreOneLog}
+use Rattle.vp_stable.specs.Halves.{Standing, StandsAt, HaveBatches, HasGeneration, ReadAlike, HalvesAreOneLog}
 use Rattle.vp_runs.specs.declared.arrival.Arrival.{Arrival}
 use Rattle.vp_runs.specs.declared.arrival.Arrival.TheVariants.{Bad, Stray, Stops, Gives}
 use Rattle.vp_runs.specs.Arrivals.{arrival, IsArrival}
@@ -35,10 +35,10 @@ listed id port sites is = sym (is_there id sites) ∙ ap is_some is
 
 -- an empty log has no batches
 pub no_batches : HaveBatches [] ([], [])
-no_batches = (0, record { first = 0; second = 0; of_first = inr none; of_second = inr none; is = refl }, inl (omega arith, refl))
+no_batches = (0, record { first = 0; second = 0; of_first = none; of_second = none; is = refl }, inl (omega arith, refl))
   where
-    none : ((batch : List LogRecord) → IsFirst batch [] → ⊥) × (0 ≡ 0)
-    none = (λ batch first. let e = first.open_ in cc, refl)
+    none : HasGeneration 0 []
+    none = inr (λ batch first. let e = first.open_ in cc, refl)
 
 -- the number of a site that starts, and of one that takes a turn
 pub start_id : (catalogue : Catalogue) (id : ℕ) (batches : List (List LogRecord)) → (start_node catalogue id batches).site.id ≡ id
@@ -206,7 +206,7 @@ goes_on catalogue host up is = by host.node refl
       spent = λ batches h last. h;
       down = λ batches h left. absurd (not_down batches host.id host.port host.disk n (rw e at h));
     }
-    by None e = let none : is_some None ≡ true = rw e at up in cc
+    by None e = let none : is_some {T = NodeValue} None ≡ true = rw e at up in cc
 
 pub is_down : (node : Option NodeValue) → is_some node ≡ false → node ≡ None
 is_down None e = refl
@@ -272,5 +272,7 @@ module _ (catalogue : Catalogue) (parts host : HostValue) (same : parts ≡ host
     parts_go_up node starts lives is_node kept =
         subst (λ h. Restarts catalogue h (host_with parts.id parts.port new (Some node))) same (goes_up catalogue parts new node rests one asked starts (known is) lives is_node kept)
 
-    pub parts_stay_down : (life : ℕ) → IsSpent catalogue parts.id life (told parts) → Steps ReadAlike (told parts) (state_after new true 0) → Restarts catalogue host (host_with parts.id parts.port new None)
-    parts_stay_down life spent alike = subst (λ h. Restarts catalogue h (host_with parts.id parts.port new None)) same (stays_down catalogue parts new life rests one asked spent alike (known is))
+    pub parts_stay_down : (life : ℕ) → IsSpent catalogue parts.id life (told parts) → Steps ReadAlike (told parts) (state_after new true 0) → Restarts catalogue host (host_with parts.id parts.port new parts.node)
+    parts_stay_down life spent alike =
+        subst (λ (n : Option NodeValue). Restarts catalogue host (host_with parts.id parts.port new n)) (sym (is_down parts.node rests))
+        (subst (λ h. Restarts catalogue h (host_with parts.id parts.port new None)) same (stays_down catalogue parts new life rests one asked spent alike (known is)))
