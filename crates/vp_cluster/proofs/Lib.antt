@@ -3,6 +3,7 @@ mod Calls
 mod Changing
 mod Hosting
 mod Replaced
+mod Running
 mod Tied
 mod TiedLetters
 mod TiedLines

@@ -1,4 +1,5 @@
 pub mod Hosts
 pub mod Letters
 pub mod Nodes
+pub mod Ran
 pub mod Clusters

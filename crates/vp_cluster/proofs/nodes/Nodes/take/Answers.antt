@@ -1,9 +1,14 @@
+use Rattle.std.proofs.Common.{subst}
+use Rattle.vp_cluster.specs.Hosts.{Takes}
+use Rattle.vp_cluster.specs.Letters.{as_received}
+use Rattle.vp_cluster.specs.Nodes.{ChangesAt}
 use Rattle.vp_cluster.proofs.Changing.{done_so, letter_came}
 use Rattle.vp_cluster.proofs.nodes.Nodes.take.Goals as goal
 
 -- src/nodes.rt:85:5
 pub returns-clause-comes : goal.returns-clause-comes
 returns-clause-comes c =
+    let came = subst (λ hosts. ChangesAt c.args.letter.now.to (λ host after. Takes c.self.inside.catalog (as_received c.args.letter.now) host after c.in_ok-given.given) hosts c.take_at.new.hosts) c.deref_mut.ensures.value c.in_ok-given.ensures.takes in
     done_so c.put_letters.result
-    (letter_came c.args.letter.now c.args.count c.self.inside.catalog c.self.inside.hosts.items c.take_at.new.hosts c.self.inside.letters.items c.put_letters.new.letters.items c.in_ok-given.given c.args.self.now c.self.view_is c.in_ok-given.ensures.takes)
+    (letter_came c.args.letter.now c.args.count c.self.inside.catalog c.self.inside.hosts.items c.take_at.new.hosts c.self.inside.letters.items c.put_letters.new.letters.items c.in_ok-given.given c.args.self.now c.self.view_is came)
     c.put_letters.ensures
