@@ -1,18 +1,33 @@
 -- What the run of a schedule comes to.
 use Rattle.std.proofs.Common.{◌≡◌, ◌∙◌, ap, sym, subst, ℕ, List, [], ◌∷◌, ◌++◌, map, Some, None, refl}
-use Rattle.std.specs.Prelude.{Ok, Err}
+use Rattle.std.specs.Prelude.{Result, Ok, Err}
 use Rattle.std.specs.List.{AllByRecursion, flat_map}
 use Rattle.vp_catalog.specs.Document.{IsCatalogue}
 use Rattle.vp_model.specs.Catalogue.{Catalogue, sites_of}
 use Rattle.vp_model.specs.Types.{Event, Line}
+use Rattle.vp_model.specs.Types.event
+use Rattle.vp_model.specs.Limits.{world_limits, limit_reached, lines_within, trace_text_within}
+use Rattle.vp_model.specs.Texts.Trace.{line_text, trace_text}
+use Rattle.vp_laws.specs.ShapeLaws.{IsEvent}
+use Rattle.vp_laws.proofs.CutTraces.{limits_cut_traces}
+use Rattle.vp_schedule.specs.Document.{IsSchedule}
+use Rattle.vp_schedule.specs.Events.{IsEvent as IsReadable}
+use Rattle.vp_world.specs.Known.{Known}
+use Rattle.vp_world.specs.declared.end.WorldEnd.{WorldEnd}
+use Rattle.vp_world.specs.declared.end.WorldEnd.TheVariants as end
 use Rattle.vp_model.specs.World.{Schedule, run_of, moments_of}
-use Rattle.vp_playing.specs.Played.{SeesAll}
+use Rattle.vp_playing.specs.Played.{SeesAll, Plays}
+use Rattle.vp_playing.proofs.Seen.{sees_appended}
 use Rattle.vp_stable.specs.Halves.{HaveBatches}
 use Rattle.vp_kept.specs.Kept.{kept, kept_in}
 use Rattle.vp_cluster.specs.Hosts.{HostValue, place_of, site_log, log_in, IsHost}
-use Rattle.vp_cluster.specs.Nodes.{NodesValue, AreHosts, host_at}
+use Rattle.vp_cluster.specs.Nodes.{NodesValue, AreHosts, Begin, Follows, host_at}
 use Rattle.vp_cluster.specs.Clusters.{HasSite, AreTied}
-use Rattle.vp_cluster.specs.Ran.{AreLogs}
+use Rattle.vp_cluster.specs.Ran.{AreLogs, Runs}
+use Rattle.vp_cluster.specs.declared.cluster.Ran.{Ran}
+use Rattle.vp_cluster.specs.declared.cluster.Cluster.{Cluster}
+use Rattle.vp_cluster.proofs.TiedLines.{FollowAll}
+use Rattle.vp_cluster.proofs.Tied.{traces_tie}
 use Rattle.vp_cluster.proofs.Begun.{ports_differ, each_found}
 
 -- two that see the same lines
@@ -44,3 +59,52 @@ module _ (s : Schedule) (k : IsCatalogue s.catalogue) (nodes : NodesValue) (are 
     sites_are = sites_in nodes.hosts ∙ ap (map (λ (site : ℕ × ℕ). site.0)) are.sites_are;
     kept = logs_of nodes.hosts are.each (each_found nodes.hosts (ports_differ s.catalogue nodes.hosts k.so_far are.sites_are));
   }
+
+-- ---- what is played before the nodes
+
+-- a schedule that was read has calls in their form
+pub events_formed : (sites : List ℕ) (events : List Event) → AllByRecursion (IsReadable sites) events → AllByRecursion IsEvent events
+events_formed sites [] h = tt
+events_formed sites (e ∷ events) h = (event_formed sites e h.0, events_formed sites events h.1)
+  where
+    event_formed : (sites : List ℕ) (e : Event) → IsReadable sites e → IsEvent e
+    event_formed sites (event.Call site words) h = h.1
+    event_formed sites (event.Deliver k) h = tt
+    event_formed sites (event.Flow count) h = tt
+    event_formed sites (event.Tick site) h = tt
+    event_formed sites (event.Probe site) h = tt
+    event_formed sites (event.Cut a b) h = tt
+    event_formed sites (event.Heal a b) h = tt
+    event_formed sites (event.Crash site) h = tt
+    event_formed sites (event.Restart site) h = tt
+
+-- what the nodes and the trace make of a line
+abbrev pub SeesLine : Catalogue → ℕ × Line → Cluster → Cluster → Type 0
+SeesLine catalogue line old new = Follows line.1 old.nodes new.nodes × (new.trace ≡ old.trace ++ line_text catalogue line)
+
+-- the same of a schedule that is equal
+pub same_plays : (s t : Schedule) (result : Result Known WorldEnd) (old new : Cluster) → s ≡ t → Plays SeesLine s result old new → Plays SeesLine t result old new
+same_plays s t result old new e = subst (λ (s : Schedule). Plays SeesLine s result old new) e
+
+module _ (s : Schedule) (is : IsSchedule s) (old new : Cluster) where
+  both : SeesAll (SeesLine s.catalogue) (lines_within world_limits s) old new → FollowAll (lines_within world_limits s) old.nodes new.nodes × (new.trace ≡ old.trace ++ trace_text_within world_limits s)
+  both h =
+      let two = sees_both (λ (c : Cluster). c.nodes) (λ (c : Cluster). c.trace) (λ line old new. Follows line.1 old new) (λ line old new. new ≡ old ++ line_text s.catalogue line) (lines_within world_limits s) old new h in
+      (two.0, sees_appended (line_text s.catalogue) (lines_within world_limits s) old.trace new.trace two.1)
+
+  -- a limit ends it
+  pub run_is_cut : (why : WorldEnd) (result : Result Ran WorldEnd) → Plays SeesLine s (Err why) old new → result ≡ Err why → Runs s result old.trace new.trace
+  run_is_cut (end.Limit what limit) result plays e = rw e (plays.0, plays.1, (both plays.2).1)
+  run_is_cut end.NoMemory result plays e = rw e tt
+
+  -- it is done
+  pub run_is_done : (known : Known) → Plays SeesLine s (Ok known) old new → Begin s.catalogue old.nodes → AreHosts s.catalogue new.nodes.hosts
+      → (limit_reached world_limits s ≡ None) × (new.trace ≡ old.trace ++ trace_text s) × (known.world.journal ≡ (run_of s).world.journal) × AreLogs s (map site_log new.nodes.hosts)
+  run_is_done known plays begins are =
+      let two = both plays.2 in
+      let tied = traces_tie s is.catalogue_is (events_formed (sites_of s.catalogue) s.events is.events_are) world_limits plays.0 old.nodes new.nodes begins two.0 in (
+        plays.0,
+        two.1 ∙ ap (λ lines. old.trace ++ flat_map (line_text s.catalogue) lines) (limits_cut_traces.whole world_limits s plays.0),
+        ap (λ (k : Known). k.world.journal) plays.1,
+        are_logs s is.catalogue_is new.nodes are tied,
+      )
