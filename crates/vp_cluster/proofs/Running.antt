@@ -1,6 +1,7 @@
 -- What the run of a schedule comes to.
 use Rattle.std.proofs.Common.{◌≡◌, ◌∙◌, ap, sym, subst, ℕ, List, [], ◌∷◌, ◌++◌, map, Some, None, refl}
 use Rattle.std.specs.Prelude.{Result, Ok, Err}
+use Rattle.std.specs.Result.{IsErrAnd}
 use Rattle.std.specs.List.{AllByRecursion, flat_map}
 use Rattle.vp_catalog.specs.Document.{IsCatalogue}
 use Rattle.vp_model.specs.Catalogue.{Catalogue, sites_of}
@@ -82,6 +83,11 @@ events_formed sites (e ∷ events) h = (event_formed sites e h.0, events_formed 
 abbrev pub SeesLine : Catalogue → ℕ × Line → Cluster → Cluster → Type 0
 SeesLine catalogue line old new = Follows line.1 old.nodes new.nodes × (new.trace ≡ old.trace ++ line_text catalogue line)
 
+-- an error that is handed on
+pub handed_on : {T E : Type 0} (r : Result T E) (why : E) → IsErrAnd r (λ e. e ≡ why) → r ≡ Err why
+handed_on (Ok x) why h = absurd h
+handed_on (Err e) why h = ap Err h
+
 -- the same of a schedule that is equal
 pub same_plays : (s t : Schedule) (result : Result Known WorldEnd) (old new : Cluster) → s ≡ t → Plays SeesLine s result old new → Plays SeesLine t result old new
 same_plays s t result old new e = subst (λ (s : Schedule). Plays SeesLine s result old new) e
@@ -98,7 +104,7 @@ module _ (s : Schedule) (is : IsSchedule s) (old new : Cluster) where
   run_is_cut end.NoMemory result plays e = rw e tt
 
   -- it is done
-  pub run_is_done : (known : Known) → Plays SeesLine s (Ok known) old new → Begin s.catalogue old.nodes → AreHosts s.catalogue new.nodes.hosts
+  pub run_is_done : (known : Known) → Plays SeesLine s (Ok known) old new → Begin s.catalogue old.nodes → AreHosts new.nodes.catalogue new.nodes.hosts
       → (limit_reached world_limits s ≡ None) × (new.trace ≡ old.trace ++ trace_text s) × (known.world.journal ≡ (run_of s).world.journal) × AreLogs s (map site_log new.nodes.hosts)
   run_is_done known plays begins are =
       let two = both plays.2 in
@@ -106,5 +112,5 @@ module _ (s : Schedule) (is : IsSchedule s) (old new : Cluster) where
         plays.0,
         two.1 ∙ ap (λ lines. old.trace ++ flat_map (line_text s.catalogue) lines) (limits_cut_traces.whole world_limits s plays.0),
         ap (λ (k : Known). k.world.journal) plays.1,
-        are_logs s is.catalogue_is new.nodes are tied,
+        are_logs s is.catalogue_is new.nodes (subst (λ catalogue. AreHosts catalogue new.nodes.hosts) tied.catalogue_is are) tied,
       )
