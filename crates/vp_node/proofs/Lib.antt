@@ -1,5 +1,4 @@
 pub mod Faults
 pub mod Kept
 mod Revived
-mod Taken
 mod Turning

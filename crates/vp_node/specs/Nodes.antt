@@ -15,7 +15,7 @@ use Rattle.vp_runs.specs.Keeping.{durable_in}
 use Rattle.vp_node.specs.Keeping.{KeepsAt, MayKeepAt}
 use Rattle.vp_runs.specs.Turns.{Turn, turn_on, turn_lines}
 use Rattle.vp_runs.specs.Runs.{start_node}
-use Rattle.vp_node.specs.declared.turned.Turned.{Turned}
+use Rattle.vp_turns.specs.declared.turned.Turned.{Turned}
 
 -- what contracts see of a node: its site, and where its log stands
 pub record NodeValue : Type 0 where

@@ -13,14 +13,13 @@ ghost use Rattle.vp_node.specs.declared.end.NodeEnd.TheVariants as ends;
 use crate::end::NodeEnd;
 use crate::keeping::keep;
 use crate::starting::next_life;
-use crate::taking::take;
-use crate::turned::Turned;
 use std::marker::Model;
 use vp_base::SiteId;
 use vp_catalog::Catalog;
 use vp_outside::Disk;
 use vp_site::Site;
 use vp_stable::{Log, halves_are_one_log};
+use vp_turns::{Turned, take};
 
 /// A site that is up, with its log.
 #[derive(Drop)]

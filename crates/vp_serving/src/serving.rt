@@ -13,8 +13,9 @@ use crate::end::End;
 use crate::telling::tell;
 use vp_base::SiteId;
 use vp_catalog::Catalog;
-use vp_node::{Node, number_line};
+use vp_node::Node;
 use vp_outside::{Disk, Link, MOST_GIVEN, Sink, write_all};
+use vp_turns::number_line;
 
 /// Starts the node on the log that is attached, binds its port, and takes the datagrams that come, at most `turns`, each by a turn: its
 /// records are synced, its lines are printed, and then its datagrams are sent. A datagram whose sending fails is lost.

@@ -9,8 +9,8 @@ ghost use Rattle.vp_serving.specs.Telling.{HandsPrefix, Tells};
 
 use crate::end::End;
 use vp_base::{NoMemory, Seq};
-use vp_node::{Lines, Turned};
 use vp_outside::{Datagram, Link, OutFault, Sink, write_all};
+use vp_turns::{Lines, Turned};
 
 /// Prints what a turn recorded, and then hands its datagrams over.
 pub fn tell<L: Link, K: Sink>(link: &mut L, sink: &mut K, turned: Turned) -> Result<(), End>

@@ -1,9 +1,5 @@
-//! The tests of the coordinator, a site and the world, outside the crates that have them: a crate with tests is proved twice.
+//! The tests of a site, outside the crate that has it: a crate with tests is proved twice.
 #![tactic(auto)]
 
 #[cfg(test)]
-mod coordinators;
-#[cfg(test)]
 mod sites;
-#[cfg(test)]
-mod worlds;

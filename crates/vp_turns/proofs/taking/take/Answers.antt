@@ -2,8 +2,8 @@ use Rattle.std.proofs.Common.{sym, subst, arith}
 use Rattle.vp_runs.specs.declared.arrival.Arrival.{Arrival}
 use Rattle.vp_runs.specs.Arrivals.{IsArrival}
 use Rattle.vp_runs.proofs.Shaped.{arrives}
-use Rattle.vp_node.proofs.Taken.{is_catalogue}
-use Rattle.vp_node.proofs.taking.take.Goals as goal
+use Rattle.vp_turns.proofs.Taken.{is_catalogue}
+use Rattle.vp_turns.proofs.taking.take.Goals as goal
 
 pub follow-requires-clause-catalogue : goal.follow-requires-clause-catalogue
 follow-requires-clause-catalogue c = is_catalogue c.args.catalog.now c.args.site.id c.sites.ensures.so_far c.requires.site.listed

@@ -6,10 +6,10 @@ use Rattle.vp_laws.specs.Shapes.{IsSent, IsReply}
 use Rattle.vp_laws.specs.ShapeLaws.{reply_frame}
 use Rattle.vp_wire.specs.Grammar.{IsFrame}
 use Rattle.vp_runs.specs.Turns.{step_turn}
-use Rattle.vp_node.specs.declared.turned.Turned.{Turned}
-use Rattle.vp_node.specs.Taking.{Does}
-use Rattle.vp_node.proofs.Taken.{messages_are_frames, replies_are_frames, does}
-use Rattle.vp_node.proofs.taking.step.Goals as goal
+use Rattle.vp_turns.specs.declared.turned.Turned.{Turned}
+use Rattle.vp_turns.specs.Taking.{Does}
+use Rattle.vp_turns.proofs.Taken.{messages_are_frames, replies_are_frames, does}
+use Rattle.vp_turns.proofs.taking.step.Goals as goal
 
 pub send-requires-clause-messages : goal.send-requires-clause-messages
 send-requires-clause-messages c =

@@ -6,7 +6,7 @@ ghost use Rattle.vp_laws.specs.Shapes.{IsInput, IsShaped};
 ghost use Rattle.vp_model.specs.Step.{step};
 ghost use Rattle.vp_runs.specs.Arrivals.{IsArrival};
 ghost use Rattle.vp_runs.specs.Turns.{step_turn, quiet_turn, turn_on};
-ghost use Rattle.vp_node.specs.Taking.{IsQuiet, Does, Takes};
+ghost use Rattle.vp_turns.specs.Taking.{IsQuiet, Does, Takes};
 
 use crate::arrivals::arrival;
 use crate::recording::arrival_line;

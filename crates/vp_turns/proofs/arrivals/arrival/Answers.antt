@@ -1,7 +1,7 @@
 use Rattle.std.proofs.Common.{◌≡◌, ◌∙◌, sym, ap, subst, Ok, Err}
 use Rattle.vp_runs.specs.Arrivals.{arrival_of, arrival}
 use Rattle.vp_wire.specs.Decoded.{IsReadAs, read_frame}
-use Rattle.vp_node.proofs.arrivals.arrival.Goals as goal
+use Rattle.vp_turns.proofs.arrivals.arrival.Goals as goal
 
 pub returns-in-Ok : goal.returns-in-Ok
 unfolding arrival

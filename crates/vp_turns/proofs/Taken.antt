@@ -11,8 +11,8 @@ use Rattle.vp_laws.specs.Shapes.{IsSent, IsReply}
 use Rattle.vp_laws.specs.ShapeLaws.{GivenAreFrames, message_frame, reply_frame}
 use Rattle.vp_wire.specs.Grammar.{IsFrame}
 use Rattle.vp_runs.specs.Turns.{step_turn, message_datagram, reply_datagram, datagrams_of, out_line}
-use Rattle.vp_node.specs.declared.turned.Turned.{Turned}
-use Rattle.vp_node.specs.Taking.{Does}
+use Rattle.vp_turns.specs.declared.turned.Turned.{Turned}
+use Rattle.vp_turns.specs.Taking.{Does}
 
 module _ (catalogue : Catalogue) (id : ℕ) (frames : GivenAreFrames) (is : IsCatalogue catalogue) (listed : has (sites_of catalogue) id ≡ true) where
   pub messages_are_frames : (messages : List Sent) → AllByRecursion (IsSent id) messages → AllByRecursion (λ (sent : Sent). IsFrame (message_frame sent)) messages

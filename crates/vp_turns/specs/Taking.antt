@@ -6,7 +6,7 @@ use Rattle.vp_model.specs.Site.{SiteState}
 use Rattle.vp_outside.specs.declared.datagram.Datagram.{Datagram}
 use Rattle.vp_runs.specs.Arrivals.{arrival}
 use Rattle.vp_runs.specs.Turns.{Turn, turn_on, arrival_line, out_line}
-use Rattle.vp_node.specs.declared.turned.Turned.{Turned}
+use Rattle.vp_turns.specs.declared.turned.Turned.{Turned}
 
 -- nothing is to be sent, and nothing was committed
 pub record IsQuiet (told : Turned) : Type 0 where

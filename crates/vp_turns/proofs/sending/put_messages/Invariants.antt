@@ -4,7 +4,7 @@ use Rattle.vp_model.specs.Types.{Sent}
 use Rattle.vp_laws.specs.ShapeLaws.{message_frame}
 use Rattle.vp_runs.specs.Turns.{message_datagram}
 use Rattle.vp_wire.specs.Grammar.{IsFrame}
-use Rattle.vp_node.proofs.sending.put_messages.Given as goal
+use Rattle.vp_turns.proofs.sending.put_messages.Given as goal
 
 abbrev pub invariant-loop-sent : goal.invariant-loop-sent
 invariant-loop-sent l = (l.datagrams ≡ l.fn.datagrams ++ flat_map (message_datagram l.catalog) l.yielded)
