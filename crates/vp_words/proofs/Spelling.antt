@@ -261,11 +261,11 @@ named_parsed name words v u same =
                                                     elim (test name (codes "soak")) [
                                                       | inl e ↦ known (codes "soak") draws_ids e soak_met (draws_found (codes "soak") words u) soak_says
                                                       | inr s ↦
-                                                            elim (test name (codes "logs")) [
-                                                              | inl e ↦ known (codes "logs") alone_ids e logs_met (alone_found (codes "logs") words u) logs_says
-                                                              | inr o ↦
-                                                                  other_parsed name words v (record { named = λ rest. rw (r.0, c.0, n.0, l.0, t.0, p.0, k.0, g.0, s.0, o.0) refl; met = rw (r.1, c.1, n.1, l.1, t.1, p.1, k.1, g.1, s.1, o.1) refl })
-                                                            ]
+                                                          elim (test name (codes "logs")) [
+                                                            | inl e ↦ known (codes "logs") alone_ids e logs_met (alone_found (codes "logs") words u) logs_says
+                                                            | inr o ↦
+                                                                other_parsed name words v (record { named = λ rest. rw (r.0, c.0, n.0, l.0, t.0, p.0, k.0, g.0, s.0, o.0) refl; met = rw (r.1, c.1, n.1, l.1, t.1, p.1, k.1, g.1, s.1, o.1) refl })
+                                                          ]
                                                     ]
                                               ]
                                         ]
