@@ -1,5 +1,6 @@
 pub mod Played
 pub mod Replayed
+pub mod Logged
 pub mod Summary
 pub mod Generated
 pub mod Checked

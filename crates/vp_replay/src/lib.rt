@@ -1,11 +1,12 @@
-//! What is done with schedules and histories: `replay`, `check`, `generate` and `soak`, each from its input or its numbers to a status
-//! and a text.
+//! What is done with schedules and histories: `replay`, `logs`, `check`, `generate` and `soak`, each from its input or its numbers to a
+//! status and a text.
 #![tactic(auto)]
 
 mod check;
 mod drawing;
 mod generated_catalogue;
 mod generating;
+mod logs;
 mod observer;
 mod playing;
 mod replay;
@@ -13,5 +14,6 @@ mod soaking;
 
 pub use check::checked;
 pub use generating::{generate, generated};
+pub use logs::print_logs;
 pub use replay::replayed;
 pub use soaking::soaked;

@@ -57,7 +57,7 @@ fn serve(alloc: Global, schedule: Schedule) -> Result<Defined, NoMemory>
 }
 
 /// What is told of an input that is no schedule.
-fn refuse(alloc: Global, fault: ScheduleFault) -> Result<Defined, NoMemory>
+pub fn refuse(alloc: Global, fault: ScheduleFault) -> Result<Defined, NoMemory>
     ensures { IfOk result (λ defined. Tells fault defined.status defined.text.items) }
 {
     let mut text = Vec::new(alloc);
