@@ -14,6 +14,6 @@ mod soaking;
 
 pub use check::checked;
 pub use generating::{generate, generated};
-pub use logs::print_logs;
+pub use logs::logged;
 pub use replay::replayed;
 pub use soaking::soaked;
