@@ -105,7 +105,7 @@ module _ (words : List (List ℕ)) (source source' : SourceState) (link link' : 
 
       all_taken : (end : Status) (text d : List ℕ) → Consumes source.left source'.left d → IsAnswered words d (IsEnded source') link link' end text → d ≡ bytes
       all_taken end text d gone a =
-          taken_all source.left source'.left bytes d given.left gone (reads d (IsEnded source') (command_answers words d (IsEnded source') link link' end text c a w).0).1
+          taken_all source.left source'.left bytes d given.left gone (reads d (IsEnded source') (command_answers words d (IsEnded source') link link' end text c a w).0).1.1
 
       pub play_ends : (end : Status) → EndsInText words source source' link link' sink sink' end
           → ((end ≡ status.Done) × ((text : List ℕ) × gives schedule status.Done text × Appends sink.held sink'.held text)) ⊎ (end ≡ status.NoMemory)
