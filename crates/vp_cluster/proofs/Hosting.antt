@@ -25,7 +25,7 @@ use Rattle.vp_runs.specs.Runs.{start_node, after_turn}
 use Rattle.vp_runs.specs.Turns.{Turn, turn_on}
 use Rattle.vp_runs.proofs.Shaped.{arrives}
 use Rattle.vp_node.specs.Nodes.{NodeValue, IsNode, IsKept, Starts, IsSpent, Turns, Saves, turn_of}
-use Rattle.vp_node.specs.declared.turned.Turned.{Turned}
+use Rattle.vp_turns.specs.declared.turned.Turned.{Turned}
 use Rattle.vp_node.proofs.Kept.{has as have}
 use Rattle.vp_cluster.specs.Hosts.{HostValue, IsHost, IsAt, Stays, Takes, Crashes, Restarts, Begins, is_spent, log_in, told, node_at, turn_at}
 

@@ -1,54 +1,35 @@
 -- What a replay comes to.
-use Rattle.std.proofs.Common.{◌≡◌, ◌∙◌, ap, ℕ, List, [], ◌∷◌, ◌++◌, map}
-use Rattle.std.specs.Prelude.{⊤, Ok, Err}
-use Rattle.std.specs.List.{AllByRecursion, flat_map}
-use Rattle.vp_model.specs.Catalogue.{start_values}
+use Rattle.std.proofs.Common.{◌≡◌, ◌∙◌, ap, ℕ, List, [], ◌++◌, map}
+use Rattle.std.specs.Prelude.{Ok, Err}
+use Rattle.vp_model.specs.Types.{Commit, Counted}
+use Rattle.vp_model.specs.Catalogue.{Catalogue, start_values}
 use Rattle.vp_model.specs.OneCopy.{order}
 use Rattle.vp_model.specs.World.{Schedule, run_of}
-use Rattle.vp_model.specs.Limits.{world_limits, lines_within}
-use Rattle.vp_model.specs.Texts.Trace.{line_text}
+use Rattle.vp_model.specs.Texts.Trace.{trace_text}
 use Rattle.vp_model.specs.Texts.History.{history_lines}
 use Rattle.vp_schedule.specs.Document.{IsSchedule}
 use Rattle.vp_laws.proofs.ToldRuns.{one_copy_told}
 use Rattle.vp_laws.proofs.Catalogues.{catalogue_apart}
-use Rattle.vp_laws.proofs.CutTraces.{limits_cut_traces}
-use Rattle.vp_world.specs.Known.{Known}
-use Rattle.vp_model.specs.Types.{Event, Line, Counted}
-use Rattle.vp_model.specs.Catalogue.{Catalogue}
-use Rattle.vp_playing.specs.Played.{Plays}
-use Rattle.vp_playing.proofs.Seen.{sees_appended}
 use Rattle.vp_status.specs.Refused.{limit_text}
-use Rattle.vp_replay.specs.Replayed.{IsDone, IsLimited}
-use Rattle.vp_world.specs.Limits.{limit_of}
 use Rattle.vp_world.specs.declared.end.WorldEnd.TheVariants as end
+use Rattle.vp_cluster.specs.Ran.{Runs}
+use Rattle.vp_cluster.specs.declared.cluster.Ran.{Ran}
+use Rattle.vp_replay.specs.Replayed.{IsDone, IsLimited}
 
--- the history of a world
-abbrev pub ended : Known → List ℕ
-ended known = history_lines (map (λ entry. entry.name) known.catalogue.records) (start_values known.catalogue) (order known.world.journal)
+-- the history of a journal
+abbrev pub ended : Catalogue → List Commit → List ℕ
+ended catalogue journal = history_lines (map (λ entry. entry.name) catalogue.records) (start_values catalogue) (order journal)
 
--- a trace's text with one more line
-abbrev pub Writes : Catalogue → ℕ × Line → List ℕ → List ℕ → Type 0
-Writes catalogue line old new = new ≡ old ++ line_text catalogue line
-
--- each event may be shown to what writes a trace
-pub all_allowed : (events : List Event) → AllByRecursion (λ (e : Event). ⊤) events
-all_allowed [] = tt
-all_allowed (e ∷ events) = (tt, all_allowed events)
-
-pub replay_is_done : (s : Schedule) (known : Known) (mid text : List ℕ) → IsSchedule s → Plays Writes s (Ok known) [] mid → text ≡ mid ++ ended known → IsDone s text
-replay_is_done s known mid text schedule plays e = record {
-  whole = plays.0;
-  printed =
-      e
-      ∙ ap (λ (k : Known). mid ++ ended k) plays.1
-      ∙ ap (λ t. t ++ ended (record { catalogue = s.catalogue; world = (run_of s).world }))
-      (sees_appended (line_text s.catalogue) (lines_within world_limits s) [] mid plays.2 ∙ ap (flat_map (line_text s.catalogue)) (limits_cut_traces.whole world_limits s plays.0));
+pub replay_is_done : (s : Schedule) (ran : Ran) (mid text : List ℕ) → IsSchedule s → Runs s (Ok ran) [] mid → text ≡ mid ++ ended s.catalogue ran.commits → IsDone s text
+replay_is_done s ran mid text schedule runs e = record {
+  whole = runs.0;
+  printed = e ∙ ap (λ t. t ++ ended s.catalogue ran.commits) runs.1 ∙ ap (λ journal. trace_text s ++ ended s.catalogue journal) runs.2;
   one_copy = one_copy_told s (catalogue_apart s.catalogue schedule.catalogue_is.so_far);
 }
 
-pub replay_is_limited : (s : Schedule) (what : Counted) (limit : ℕ) (mid text : List ℕ) → Plays Writes s (Err (end.Limit what limit)) [] mid → text ≡ mid ++ limit_text limit → IsLimited s text
-replay_is_limited s what limit mid text plays e = record {
+pub replay_is_limited : (s : Schedule) (what : Counted) (limit : ℕ) (mid text : List ℕ) → Runs s (Err (end.Limit what limit)) [] mid → text ≡ mid ++ limit_text limit → IsLimited s text
+replay_is_limited s what limit mid text runs e = record {
   counted = what;
-  reached = plays.0;
-  printed = e ∙ ap (λ n. mid ++ limit_text n) plays.1 ∙ ap (λ t. t ++ limit_text (limit_of what)) (sees_appended (line_text s.catalogue) (lines_within world_limits s) [] mid plays.2);
+  reached = runs.0;
+  printed = e ∙ ap (λ n. mid ++ limit_text n) runs.1 ∙ ap (λ t. t ++ limit_text _) runs.2;
 }

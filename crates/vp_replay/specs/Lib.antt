@@ -1,4 +1,5 @@
 pub mod Replayed
+pub mod Logged
 pub mod Summary
 pub mod Generated
 pub mod Checked

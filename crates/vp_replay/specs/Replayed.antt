@@ -33,11 +33,11 @@ Gives s status.Limit text = IsLimited s text
 Gives s _ text = ⊥
 
 -- the bytes are the text of this schedule and of no other, and this is what it gives
-pub record IsReplayed (bytes : List ℕ) (end : Status) (text : List ℕ) : Type 0 where
+pub record IsPlayed (prints : Schedule → Status → List ℕ → Type 0) (bytes : List ℕ) (end : Status) (text : List ℕ) : Type 0 where
   pub schedule : Schedule
   pub spelled : Answered bytes (Ok schedule)
   pub only : IsOnly bytes (Ok schedule)
-  pub gives : Gives schedule end text
+  pub gives : prints schedule end text
 
 -- how a fault is told
 abbrev pub Tells : ScheduleFault → Status → List ℕ → Type 0
@@ -53,9 +53,14 @@ pub record IsRefused (bytes : List ℕ) (end : Status) (text : List ℕ) : Type 
   pub only : IsOnly bytes (Err fault)
   pub told : Tells fault end text
 
--- The text that is defined for an input of `replay` at each status; other statuses are none of its.
+-- The text that is defined at each status for the input of a command that plays a schedule, by what a schedule gives; other statuses are
+-- none of the command's.
+abbrev pub IsPlayAnswer : (Schedule → Status → List ℕ → Type 0) → List ℕ → Status → List ℕ → Type 0
+IsPlayAnswer prints bytes status.Done text = IsPlayed prints bytes status.Done text
+IsPlayAnswer prints bytes status.BadLine text = IsRefused bytes status.BadLine text
+IsPlayAnswer prints bytes status.Limit text = IsPlayed prints bytes status.Limit text ⊎ IsRefused bytes status.Limit text
+IsPlayAnswer prints bytes _ text = ⊥
+
+-- the same of `replay`
 abbrev pub IsReplayAnswer : List ℕ → Status → List ℕ → Type 0
-IsReplayAnswer bytes status.Done text = IsReplayed bytes status.Done text
-IsReplayAnswer bytes status.BadLine text = IsRefused bytes status.BadLine text
-IsReplayAnswer bytes status.Limit text = IsReplayed bytes status.Limit text ⊎ IsRefused bytes status.Limit text
-IsReplayAnswer bytes _ text = ⊥
+IsReplayAnswer bytes end text = IsPlayAnswer Gives bytes end text

@@ -8,37 +8,33 @@ ghost use Rattle.vp_schedule.specs.Document.{IsSchedule};
 ghost use Rattle.vp_replay.specs.Replayed.{IsReplayAnswer, Gives, Tells};
 
 use std::alloc::Global;
-use vp_base::NoMemory;
+use vp_base::{Commits, NoMemory};
+use vp_catalog::Catalog;
+use vp_cluster::run;
 use vp_onecopy::{History, Map, order, print_history};
-use vp_playing::{TraceText, play};
 use vp_schedule::{Schedule, ScheduleFault, read};
 use vp_status::{Defined, Status, print_bad_line, print_limit, print_twice};
-use vp_world::{World, WorldEnd};
+use vp_world::WorldEnd;
 
 /// The status and the text that are defined for an input of `replay`.
 pub fn replayed(alloc: Global, input: &[u8]) -> Result<Defined, NoMemory>
     ensures { IfOk result (λ defined. IsReplayAnswer input.now defined.status defined.text.items) }
 {
     match read(alloc, input) {
-        Ok(schedule) => serve(alloc, schedule),
+        Ok(schedule) => serve(alloc, &schedule),
         Err(fault) => refuse(alloc, fault),
     }
 }
 
 /// What a schedule gives: its trace and its history, or what a limit of the world leaves of its trace.
-fn serve(alloc: Global, schedule: Schedule) -> Result<Defined, NoMemory>
-    requires { IsSchedule schedule }
-    ensures { IfOk result (λ defined. Gives schedule defined.status defined.text.items) }
+fn serve(alloc: Global, schedule: &Schedule) -> Result<Defined, NoMemory>
+    requires { IsSchedule schedule.now }
+    ensures { IfOk result (λ defined. Gives schedule.now defined.status defined.text.items) }
 {
-    let Schedule { catalog, events } = schedule;
-    let mut trace = TraceText {
-        bytes: Vec::new(alloc),
-    };
-    let played = play(catalog, events.as_slice(), &mut trace);
-    let mut text = trace.bytes;
-    match played {
-        Ok(world) => {
-            print_end(alloc, &world, &mut text)?;
+    let mut text = Vec::new(alloc);
+    match run(schedule, &mut text) {
+        Ok(ran) => {
+            print_end(alloc, &schedule.catalog, &ran.commits, &mut text)?;
             Ok(Defined {
                 status: Status::Done,
                 text,
@@ -56,7 +52,7 @@ fn serve(alloc: Global, schedule: Schedule) -> Result<Defined, NoMemory>
 }
 
 /// What is told of an input that is no schedule.
-fn refuse(alloc: Global, fault: ScheduleFault) -> Result<Defined, NoMemory>
+pub fn refuse(alloc: Global, fault: ScheduleFault) -> Result<Defined, NoMemory>
     ensures { IfOk result (λ defined. Tells fault defined.status defined.text.items) }
 {
     let mut text = Vec::new(alloc);
@@ -86,16 +82,20 @@ fn refuse(alloc: Global, fault: ScheduleFault) -> Result<Defined, NoMemory>
     }
 }
 
-/// Appends the history of the world.
-fn print_end(alloc: Global, world: &World, out: &mut Vec<u8>) -> Result<(), NoMemory>
+/// Appends the history of a run over this catalogue, with the commits in the order of the steps.
+fn print_end(
+    alloc: Global,
+    catalog: &Catalog,
+    journal: &Commits,
+    out: &mut Vec<u8>,
+) -> Result<(), NoMemory>
     ensures { OnOk result (out.new.items ≡ out.old.items
-        ++ history_lines (map (λ entry. entry.name) world.now.catalogue.records) (start_values world.now.catalogue) (order world.now.world.journal)) }
+        ++ history_lines (map (λ entry. entry.name) catalog.now.records) (start_values catalog.now) (order journal.now)) }
 {
-    let catalog = world.catalog();
     let history = History {
         names: catalog.names()?,
         start: Map::from_vec(catalog.start_values()?),
-        commits: order(alloc, world.journal().as_slice())?,
+        commits: order(alloc, journal.as_slice())?,
     };
     print_history(&history, out)
 }

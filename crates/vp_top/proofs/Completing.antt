@@ -3,6 +3,7 @@ use Rattle.std.proofs.Common.{◌≡◌, ◌≢◌, ◌∙◌, ap, sym, subst, r
 use Rattle.std.specs.Prelude.{Option, Some, None, Ok, Err}
 use Rattle.std.proofs.Math.ListN.{length-append}
 use Rattle.std.specs.Io.KnownBytes.{Appends, Consumes, IsAtEnd}
+use Rattle.vp_model.specs.Types.{Counted}
 use Rattle.vp_model.specs.World.{Schedule}
 use Rattle.vp_model.specs.Limits.{world_limits, limit_reached}
 use Rattle.vp_model.specs.Texts.Trace.{trace_text}
@@ -19,11 +20,12 @@ use Rattle.vp_onecopy.specs.declared.map.History.{History}
 use Rattle.vp_onecopy.specs.declared.fault.HistoryFault.{HistoryFault}
 use Rattle.vp_onecopy.specs.declared.fault.HistoryFault.TheVariants as history_faults
 use Rattle.vp_replay.specs.Checked.{IsVerdict, IsChecked, IsMisspelled, Finds}
-use Rattle.vp_replay.specs.Replayed.{IsReplayed, IsRefused, Tells}
+use Rattle.vp_replay.specs.Replayed.{Gives, IsPlayAnswer, IsPlayed, IsRefused, Tells}
+use Rattle.vp_replay.specs.Logged.{IsLogged, Leaves}
 use Rattle.vp_words.specs.Commands.{command_of}
 use Rattle.vp_top.specs.Complete.{IsGiven}
 use Rattle.vp_top.specs.Ends.{EndsInText}
-use Rattle.vp_top.specs.Program.{HasRead, IsAnswer, IsAnswered, IsTooLong}
+use Rattle.vp_top.specs.Program.{HasRead, IsAnswer, IsAnswered, IsTooLong, most_bytes}
 use Rattle.vp_status.specs.declared.status.Status.{Status}
 use Rattle.vp_status.specs.declared.status.Status.TheVariants as status
 use Rattle.vp_words.specs.declared.words.Command.{Command}
@@ -65,7 +67,7 @@ module _ (words : List (List ℕ)) (source source' : SourceState) (link link' : 
       let more = long.1 in
       omega (arith, few, fits, more)
 
-  module _ (schedule : Schedule) (spelled : IsScheduleText schedule bytes) (none : limit_reached world_limits schedule ≡ None) (w : command_of words ≡ Some commands.Replay) where
+  module _ (schedule : Schedule) (spelled : IsScheduleText schedule bytes) (none : limit_reached world_limits schedule ≡ None) where
     only_fault : (d : List ℕ) (f : ScheduleFault) → d ≡ bytes → IsOnlySchedule d (Err f) → f ≢ schedule_faults.NoMemory → ⊥
     only_fault d f e only some =
         let same = only (Ok schedule) (subst (λ t. IsScheduleText schedule t) (sym e) spelled) (λ bad. some (let q : Err f ≡ Err schedule_faults.NoMemory = bad in cc)) (λ bad. cc) in cc
@@ -87,56 +89,63 @@ module _ (words : List (List ℕ)) (source source' : SourceState) (link link' : 
     same_schedule : (d : List ℕ) (t : Schedule) → d ≡ bytes → IsOnlySchedule d (Ok t) → t ≡ schedule
     same_schedule d t e only = let same = only (Ok schedule) (subst (λ x. IsScheduleText schedule x) (sym e) spelled) (λ bad. cc) (λ bad. cc) in cc
 
-    unlimited : (text d : List ℕ) → d ≡ bytes → IsReplayed d status.Limit text → ⊥
-    unlimited text d e r =
-        let reached = r.gives.reached in
-        let is = same_schedule d r.schedule e r.only in
-        let bad : None ≡ Some r.gives.counted = sym none ∙ ap (limit_reached world_limits) (sym is) ∙ reached in
-        cc
+    no_limit : (counted : Counted) → limit_reached world_limits schedule ≡ Some counted → ⊥
+    no_limit counted reached = let bad : None ≡ Some counted = sym none ∙ reached in cc
 
-    pub replay_ends : (end : Status) → EndsInText words source source' link link' sink sink' end → ((end ≡ status.Done) × Appends sink.held sink'.held (trace_text schedule ++ history_text schedule)) ⊎ (end ≡ status.NoMemory)
-    replay_ends status.NoMemory e = inr refl
-    replay_ends status.SourceFault e = absurd (given.no_source_fault e.1)
-    replay_ends status.SinkFault e = absurd (given.no_sink_fault e.0)
-    replay_ends status.Usage e =
-        let d = e.defines in
-        absurd (⊎_elim (λ none. no_usage commands.Replay w none.0.0) (λ answered. (command_answers words d.bytes (IsEnded source') link link' status.Usage e.text commands.Replay answered w).1) d.defined)
-    replay_ends status.LinkFault e =
-        let d = e.defines in
-        absurd (command_answers words d.bytes (IsEnded source') link link' status.LinkFault e.text commands.Replay d.defined w).1
-    replay_ends status.DiskFault e =
-        let d = e.defines in
-        absurd (command_answers words d.bytes (IsEnded source') link link' status.DiskFault e.text commands.Replay d.defined w).1
-    replay_ends status.BadLog e =
-        let d = e.defines in
-        absurd (command_answers words d.bytes (IsEnded source') link link' status.BadLog e.text commands.Replay d.defined w).1
-    replay_ends status.NoAnswer e =
-        let d = e.defines in
-        absurd (command_answers words d.bytes (IsEnded source') link link' status.NoAnswer e.text commands.Replay d.defined w).1
-    replay_ends status.LivesSpent e =
-        let d = e.defines in
-        absurd (command_answers words d.bytes (IsEnded source') link link' status.LivesSpent e.text commands.Replay d.defined w).1
-    replay_ends status.Done e =
-        let d = e.defines in
-        let a = command_answers words d.bytes (IsEnded source') link link' status.Done e.text commands.Replay d.defined w in
-        let all = taken_all source.left source'.left bytes d.bytes given.left d.took.bytes_gone a.0.1.1 in
-        let is = same_schedule d.bytes a.1.schedule all a.1.only in
-        inl (refl, subst (Appends sink.held sink'.held) (a.1.gives.printed ∙ ap (λ (s : Schedule). trace_text s ++ history_text s) is) e.appended)
-    replay_ends status.BadLine e =
-        let d = e.defines in
-        let a = command_answers words d.bytes (IsEnded source') link link' status.BadLine e.text commands.Replay d.defined w in
-        absurd (refused status.BadLine e.text d.bytes (taken_all source.left source'.left bytes d.bytes given.left d.took.bytes_gone a.0.1.1) a.1)
-    replay_ends status.Limit e =
-        let d = e.defines in
-        absurd (⊎_elim (λ long. not_long e.text d.bytes d.took.bytes_gone long.0)
-        (λ answered.
-        let a = command_answers words d.bytes (IsEnded source') link link' status.Limit e.text commands.Replay answered w in
-        let all = taken_all source.left source'.left bytes d.bytes given.left d.took.bytes_gone a.0.1.1 in
-        ⊎_elim (unlimited e.text d.bytes all) (refused status.Limit e.text d.bytes all) a.1)
-        d.defined)
-    replay_ends status.Differs e =
-        let d = e.defines in
-        absurd (command_answers words d.bytes (IsEnded source') link link' status.Differs e.text commands.Replay d.defined w).1
+    -- a command that plays the schedule
+    module _ (c : Command) (w : command_of words ≡ Some c) (gives : Schedule → Status → List ℕ → Type 0)
+        (reads : (d : List ℕ) (ended : Type 0) → HasRead c d ended → (length d ≤ most_bytes) × ended)
+        (plays : (d : List ℕ) (end : Status) (text : List ℕ) → IsAnswer c d link link' end text → IsPlayAnswer gives d end text)
+        (unlimited : (text : List ℕ) → gives schedule status.Limit text → ⊥) where
+      given_by : (end : Status) (text d : List ℕ) → d ≡ bytes → IsPlayed gives d end text → gives schedule end text
+      given_by end text d e p = subst (λ (s : Schedule). gives s end text) (same_schedule d p.schedule e p.only) p.gives
+
+      answers : (end : Status) (text d : List ℕ) → IsAnswered words d (IsEnded source') link link' end text → IsPlayAnswer gives d end text
+      answers end text d a = plays d end text (command_answers words d (IsEnded source') link link' end text c a w).1
+
+      all_taken : (end : Status) (text d : List ℕ) → Consumes source.left source'.left d → IsAnswered words d (IsEnded source') link link' end text → d ≡ bytes
+      all_taken end text d gone a =
+          taken_all source.left source'.left bytes d given.left gone (reads d (IsEnded source') (command_answers words d (IsEnded source') link link' end text c a w).0).1.1
+
+      pub play_ends : (end : Status) → EndsInText words source source' link link' sink sink' end
+          → ((end ≡ status.Done) × ((text : List ℕ) × gives schedule status.Done text × Appends sink.held sink'.held text)) ⊎ (end ≡ status.NoMemory)
+      play_ends status.NoMemory e = inr refl
+      play_ends status.SourceFault e = absurd (given.no_source_fault e.1)
+      play_ends status.SinkFault e = absurd (given.no_sink_fault e.0)
+      play_ends status.Usage e =
+          let d = e.defines in
+          absurd (⊎_elim (λ none. no_usage c w none.0.0) (λ answered. answers status.Usage e.text d.bytes answered) d.defined)
+      play_ends status.LinkFault e = let d = e.defines in absurd (answers status.LinkFault e.text d.bytes d.defined)
+      play_ends status.DiskFault e = let d = e.defines in absurd (answers status.DiskFault e.text d.bytes d.defined)
+      play_ends status.BadLog e = let d = e.defines in absurd (answers status.BadLog e.text d.bytes d.defined)
+      play_ends status.NoAnswer e = let d = e.defines in absurd (answers status.NoAnswer e.text d.bytes d.defined)
+      play_ends status.LivesSpent e = let d = e.defines in absurd (answers status.LivesSpent e.text d.bytes d.defined)
+      play_ends status.Differs e = let d = e.defines in absurd (answers status.Differs e.text d.bytes d.defined)
+      play_ends status.Done e =
+          let d = e.defines in
+          let all = all_taken status.Done e.text d.bytes d.took.bytes_gone d.defined in
+          inl (refl, (e.text, given_by status.Done e.text d.bytes all (answers status.Done e.text d.bytes d.defined), e.appended))
+      play_ends status.BadLine e =
+          let d = e.defines in
+          absurd (refused status.BadLine e.text d.bytes (all_taken status.BadLine e.text d.bytes d.took.bytes_gone d.defined) (answers status.BadLine e.text d.bytes d.defined))
+      play_ends status.Limit e =
+          let d = e.defines in
+          absurd (⊎_elim (λ long. not_long e.text d.bytes d.took.bytes_gone long.0)
+          (λ answered.
+          let all = all_taken status.Limit e.text d.bytes d.took.bytes_gone answered in
+          ⊎_elim (λ played. unlimited e.text (given_by status.Limit e.text d.bytes all played)) (refused status.Limit e.text d.bytes all)
+          (answers status.Limit e.text d.bytes answered))
+          d.defined)
+
+    pub replay_ends : command_of words ≡ Some commands.Replay → (end : Status) → EndsInText words source source' link link' sink sink' end
+        → ((end ≡ status.Done) × Appends sink.held sink'.held (trace_text schedule ++ history_text schedule)) ⊎ (end ≡ status.NoMemory)
+    replay_ends w end e =
+        ⊎_elim (λ done. inl (done.0, subst (Appends sink.held sink'.held) done.1.1.printed done.1.2)) (λ memory. inr memory)
+        (play_ends commands.Replay w Gives (λ d ended read. read) (λ d end text a. a) (λ text limited. no_limit limited.counted limited.reached) end e)
+
+    pub logs_ends : command_of words ≡ Some commands.Logs → (end : Status) → EndsInText words source source' link link' sink sink' end
+        → ((end ≡ status.Done) × ((text : List ℕ) × IsLogged schedule text × Appends sink.held sink'.held text)) ⊎ (end ≡ status.NoMemory)
+    logs_ends w = play_ends commands.Logs w Leaves (λ d ended read. read) (λ d end text a. a) (λ text limited. no_limit limited.counted limited.reached)
 
   module _ (history : History) (spelled : AnsweredAll bytes (Ok history)) (w : command_of words ≡ Some commands.Check) where
     finds_none : (end : Status) (text : List ℕ) → Finds history_faults.NoMemory end text → ⊥

@@ -91,6 +91,9 @@ module _ (bytes text : List ℕ) (link link' : LinkState) where
   answer_has (commands.Soak seed count) status.NoMemory a = a
   answer_has (commands.Soak seed count) status.SourceFault a = a
   answer_has (commands.Soak seed count) status.SinkFault a = a
+  answer_has commands.Logs status.NoMemory a = a
+  answer_has commands.Logs status.SourceFault a = a
+  answer_has commands.Logs status.SinkFault a = a
   answer_has (commands.Node site log turns) end a = ⊎_elim (λ nowhere. nowhere_has bytes site end text nowhere.0) (λ told. absurd told.is) a
   answer_has (commands.Client own turns site words) end a = ⊎_elim (λ nowhere. nowhere_has bytes site end text nowhere.0) (λ told. client_has own turns told.port site end words told.is) a
   answer_has (commands.Signal site given) end a = ⊎_elim (λ nowhere. nowhere_has bytes site end text nowhere.0) (λ told. signal_has told.port site end given told.is) a
@@ -116,6 +119,7 @@ module _ (words : List (List ℕ)) (source source' : SourceState) (link link' : 
   unread (commands.Soak seed count) none = refl
   unread commands.Replay none = absurd (none tt)
   unread commands.Check none = absurd (none tt)
+  unread commands.Logs none = absurd (none tt)
   unread (commands.Node site log turns) none = absurd (none tt)
   unread (commands.Client own turns site call) none = absurd (none tt)
   unread (commands.Signal site given) none = absurd (none tt)

@@ -13,6 +13,7 @@ use Rattle.vp_schedule.specs.Document.{IsScheduleText}
 use Rattle.vp_onecopy.specs.Passing.{AnsweredAll}
 use Rattle.vp_onecopy.specs.declared.map.History.{History}
 use Rattle.vp_replay.specs.Checked.{IsVerdict}
+use Rattle.vp_replay.specs.Logged.{IsLogged}
 use Rattle.vp_words.specs.Commands.{command_of}
 use Rattle.vp_top.specs.Ends.{EndsInText}
 use Rattle.vp_top.specs.Program.{most_bytes}
@@ -34,6 +35,14 @@ SchedulesAreReplayed =
     EndsInText words source source' link link' sink sink' end → command_of words ≡ Some commands.Replay → IsGiven source source' sink sink' bytes
     → IsScheduleText schedule bytes → limit_reached world_limits schedule ≡ None →
     ((end ≡ status.Done) × Appends sink.held sink'.held (trace_text schedule ++ history_text schedule)) ⊎ (end ≡ status.NoMemory)
+
+-- The logs that a schedule within the limits leaves are told, or there was no memory.
+abbrev pub LogsAreTold : Type 0
+LogsAreTold =
+    (words : List (List ℕ)) (source source' : SourceState) (link link' : LinkState) (sink sink' : SinkState) (end : Status) (bytes : List ℕ) (schedule : Schedule) →
+    EndsInText words source source' link link' sink sink' end → command_of words ≡ Some commands.Logs → IsGiven source source' sink sink' bytes
+    → IsScheduleText schedule bytes → limit_reached world_limits schedule ≡ None
+    → ((end ≡ status.Done) × ((text : List ℕ) × IsLogged schedule text × Appends sink.held sink'.held text)) ⊎ (end ≡ status.NoMemory)
 
 -- A history gets its verdict, or there was no memory.
 abbrev pub HistoriesAreChecked : Type 0

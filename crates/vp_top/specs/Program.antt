@@ -14,6 +14,7 @@ use Rattle.vp_words.specs.declared.words.Command.{Command}
 use Rattle.vp_words.specs.declared.words.Command.TheVariants as commands
 use Rattle.vp_replay.specs.Checked.{IsCheckAnswer}
 use Rattle.vp_replay.specs.Generated.{IsGenerated, IsSoaked}
+use Rattle.vp_replay.specs.Logged.{IsLogsAnswer}
 use Rattle.vp_replay.specs.Replayed.{IsReplayAnswer}
 use Rattle.vp_commands.specs.Asked.{ClientGives, ClientLeaves, SignalGives, SignalLeaves}
 
@@ -22,7 +23,7 @@ abbrev pub most_bytes : ℕ
 most_bytes = 16777216
 
 abbrev pub usage_text : List ℕ
-usage_text = codes "usage: vpdb replay|check|node|client|tick|probe|stop|generate|soak\n"
+usage_text = codes "usage: vpdb replay|check|node|client|tick|probe|stop|generate|soak|logs\n"
 
 -- ---- at a site of a catalogue
 
@@ -77,6 +78,7 @@ IsAnswer commands.Replay bytes link link' end text = IsReplayAnswer bytes end te
 IsAnswer commands.Check bytes link link' end text = IsCheckAnswer bytes end text
 IsAnswer (commands.Generate seed count) bytes link link' end text = IsGenerated seed count end text
 IsAnswer (commands.Soak seed count) bytes link link' end text = IsSoaked seed count end text
+IsAnswer commands.Logs bytes link link' end text = IsLogsAnswer bytes end text
 IsAnswer (commands.Node site log turns) bytes link link' end text = AtSite bytes site link link' (λ port end text. ⊥) end text
 IsAnswer (commands.Client own turns site call) bytes link link' end text = AtSite bytes site link link' (λ port. ClientGives own turns port site call link link') end text
 IsAnswer (commands.Signal site given) bytes link link' end text = AtSite bytes site link link' (λ port. SignalGives port site given link link') end text

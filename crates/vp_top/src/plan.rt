@@ -11,7 +11,7 @@ use vp_base::{NoMemory, SiteId, Word};
 use vp_catalog::{Catalog, CatalogFault};
 use vp_commands::{call_site, signal_site};
 use vp_outside::Link;
-use vp_replay::{checked, generated, replayed, soaked};
+use vp_replay::{checked, generated, logged, replayed, soaked};
 use vp_status::{Defined, Status, print_bad_line, print_limit, print_twice};
 use vp_words::Command;
 
@@ -56,6 +56,7 @@ pub fn plan_of<L: Link>(
         Command::Check => Ok(Plan::Print(checked(alloc, input)?)),
         Command::Generate { seed, count } => Ok(Plan::Print(generated(alloc, seed, count)?)),
         Command::Soak { seed, count } => Ok(Plan::Print(soaked(alloc, seed, count)?)),
+        Command::Logs => Ok(Plan::Print(logged(alloc, input)?)),
         Command::Node { site, log, turns } => match find(alloc, input, site)? {
             Found::At { catalog, .. } => Ok(Plan::Serve {
                 catalog,
@@ -129,7 +130,7 @@ pub fn usage(alloc: Global) -> Result<Defined, NoMemory>
     Defined::new(
         alloc,
         Status::Usage,
-        b"usage: vpdb replay|check|node|client|tick|probe|stop|generate|soak\n",
+        b"usage: vpdb replay|check|node|client|tick|probe|stop|generate|soak|logs\n",
     )
 }
 

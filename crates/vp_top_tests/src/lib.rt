@@ -3,6 +3,8 @@
 
 #[cfg(test)]
 mod generated;
+#[cfg(test)]
+mod logs;
 mod running;
 #[cfg(test)]
 mod runs;

@@ -96,6 +96,10 @@ soak_met : Meets (codes "soak") draws_ids
 unfolding clap_on_literals level level_kinds
 soak_met words = rw (stopped_fault top names (codes "soak") [] words, stopped_walk top.rules names (codes "soak") [] words) (below (level_kinds (operand_shape (codes "soak") draws_ids) (at nothing 1 false) words) (codes "soak") _)
 
+logs_met : Meets (codes "logs") alone_ids
+unfolding clap_on_literals level level_kinds
+logs_met words = rw (stopped_fault top names (codes "logs") [] words, stopped_walk top.rules names (codes "logs") [] words) (below (level_kinds (operand_shape (codes "logs") alone_ids) (at nothing 1 false) words) (codes "logs") _)
+
 -- ---- a command's operands
 
 pub each : {X Y : Type 0} (f g : X → Option Y) (o : Option X) → ((x : X) → f x ≡ g x) → option_and_then f o ≡ option_and_then g o
@@ -175,6 +179,11 @@ soak_says (seed ∷ []) = refl
 soak_says (seed ∷ count ∷ []) = refl
 soak_says (seed ∷ count ∷ more ∷ words) = refl
 
+logs_says : Says (codes "logs") alone_ids
+unfolding operand_rows
+logs_says [] = refl
+logs_says (more ∷ words) = refl
+
 -- ---- a first word that is no command's name
 
 record IsOther (name : Text) : Type 0 where
@@ -252,7 +261,11 @@ named_parsed name words v u same =
                                                     elim (test name (codes "soak")) [
                                                       | inl e ↦ known (codes "soak") draws_ids e soak_met (draws_found (codes "soak") words u) soak_says
                                                       | inr s ↦
-                                                          other_parsed name words v (record { named = λ rest. rw (r.0, c.0, n.0, l.0, t.0, p.0, k.0, g.0, s.0) refl; met = rw (r.1, c.1, n.1, l.1, t.1, p.1, k.1, g.1, s.1) refl })
+                                                          elim (test name (codes "logs")) [
+                                                            | inl e ↦ known (codes "logs") alone_ids e logs_met (alone_found (codes "logs") words u) logs_says
+                                                            | inr o ↦
+                                                                other_parsed name words v (record { named = λ rest. rw (r.0, c.0, n.0, l.0, t.0, p.0, k.0, g.0, s.0, o.0) refl; met = rw (r.1, c.1, n.1, l.1, t.1, p.1, k.1, g.1, s.1, o.1) refl })
+                                                          ]
                                                     ]
                                               ]
                                         ]

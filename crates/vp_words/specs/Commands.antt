@@ -92,7 +92,8 @@ named name words =
     else (if bytes_eq name (codes "stop") then signalling signals.Stop words
     else (if bytes_eq name (codes "generate") then drawing (λ d. commands.Generate d.0 d.1) words
     else (if bytes_eq name (codes "soak") then drawing (λ d. commands.Soak d.0 d.1) words
-    else None))))))))
+    else (if bytes_eq name (codes "logs") then alone commands.Logs words
+    else None)))))))))
 
 -- a command's name, and its operands
 abbrev pub spelled : List (List ℕ) → Option Command

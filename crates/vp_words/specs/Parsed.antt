@@ -47,7 +47,7 @@ with_command app command = with_subcommand app command.top
 abbrev pub program_app : App
 program_app = fold with_command bare_app (
     new_app (codes "replay") ∷ new_app (codes "check") ∷ node_app ∷ client_app ∷ signal_app (codes "tick")
-    ∷ signal_app (codes "probe") ∷ signal_app (codes "stop") ∷ drawing_app (codes "generate") ∷ drawing_app (codes "soak") ∷ [])
+    ∷ signal_app (codes "probe") ∷ signal_app (codes "stop") ∷ drawing_app (codes "generate") ∷ drawing_app (codes "soak") ∷ new_app (codes "logs") ∷ [])
 
 -- ---- what the rows of the operands say
 
@@ -87,4 +87,5 @@ meant name rows =
     else (if bytes_eq name (codes "stop") then signalled signals.Stop rows
     else (if bytes_eq name (codes "generate") then option_map (λ d. commands.Generate d.0 d.1) (drawn rows)
     else (if bytes_eq name (codes "soak") then option_map (λ d. commands.Soak d.0 d.1) (drawn rows)
-    else None))))))))
+    else (if bytes_eq name (codes "logs") then Some commands.Logs
+    else None)))))))))

@@ -57,6 +57,8 @@ pub enum Command {
         seed: u32,
         count: u32,
     },
+    /// Replays a schedule, and tells what it leaves in the log of each site.
+    Logs,
 }
 
 /// What a node is told to do.
@@ -134,7 +136,8 @@ fn program<'a>(alloc: Global) -> Result<clap::Command<'a>, AllocError>
     let program = with_command(alloc, program, "probe", &["SITE"])?;
     let program = with_command(alloc, program, "stop", &["SITE"])?;
     let program = with_command(alloc, program, "generate", &["SEED", "COUNT"])?;
-    with_command(alloc, program, "soak", &["SEED", "COUNT"])
+    let program = with_command(alloc, program, "soak", &["SEED", "COUNT"])?;
+    with_command(alloc, program, "logs", &[])
 }
 
 /// The program without its commands. There are no options, and so none that asks for help.
@@ -193,6 +196,7 @@ fn meant(alloc: Global, matches: &ArgMatches) -> Result<Option<Command>, NoMemor
         "stop" => Ok(signalled(matches, Signal::Stop)),
         "generate" => Ok(drawn(matches).map(|(seed, count)| Command::Generate { seed, count })),
         "soak" => Ok(drawn(matches).map(|(seed, count)| Command::Soak { seed, count })),
+        "logs" => Ok(Some(Command::Logs)),
         _ => Ok(None),
     }
 }

@@ -52,6 +52,7 @@ fn tell(alloc: Global, command: &Command, out: &mut Vec<u8>) -> Result<(), NoMem
         Command::Soak { seed, count } => {
             out.extend_from_slice(format!(in alloc; "soak {seed} {count}")?.as_bytes())?;
         }
+        Command::Logs => out.extend_from_slice(b"logs")?,
     }
     Ok(())
 }
@@ -81,6 +82,8 @@ soak -- 1 2=soak 1 2
 soak 1 -- 2=soak 1 2
 soak 1 2 --=soak 1 2
 soak 0 0=soak 0 0
+logs=logs
+logs --=logs
 ";
 
 #[test]
@@ -153,6 +156,23 @@ soak 1
 soak 1 2 3
 soak 1 2401
 soak 1 2 --version
+Logs
+log
+logss
+\x20logs
+logs\x20
+logs x
+logs logs
+logs 1
+logs 1 2
+logs -
+logs -- x
+logs -- --
+logs --help
+logs -h
+logs -- --help
+-- logs
+replay logs
 ";
 
 #[test]
@@ -175,5 +195,6 @@ fn words_are_text(rt: HostRuntime) -> Result<(), NoMemory> {
     assert!(rt; told(alloc, &[b"generate", b"1", b"2\x80"])?.is_empty());
     assert!(rt; told(alloc, &[b"soak", b"1", b"-\xc3"])?.is_empty());
     assert!(rt; told(alloc, &[b"node", b"1", b"log\xff", b"5"])?.is_empty());
+    assert!(rt; told(alloc, &[b"logs", b"--", b"\xc3"])?.is_empty());
     Ok(())
 }

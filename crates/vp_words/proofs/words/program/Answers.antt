@@ -18,4 +18,5 @@ returns c =
     let probe = c.in_ok-program-6.ensures ∙ onto (codes "probe") signal_ids _ _ tick in
     let stop = c.in_ok-program-7.ensures ∙ onto (codes "stop") signal_ids _ _ probe in
     let generate = c.in_ok-program-8.ensures ∙ onto (codes "generate") draws_ids _ _ stop in
-    IfOk-weaker c.with_command-9.result _ _ (λ r h. h ∙ onto (codes "soak") draws_ids _ _ generate) c.with_command-9.ensures
+    let soak = c.in_ok-program-9.ensures ∙ onto (codes "soak") draws_ids _ _ generate in
+    IfOk-weaker c.with_command-10.result _ _ (λ r h. h ∙ onto (codes "logs") alone_ids _ _ soak) c.with_command-10.ensures

@@ -1,0 +1,86 @@
+//! What a schedule leaves in the logs of its sites.
+
+ghost use Rattle.std.specs.Prelude.{◌≡◌, ◌++◌, IfOk, OnOk};
+ghost use Rattle.std.specs.List.{flat_map};
+ghost use Rattle.vp_schedule.specs.Document.{IsSchedule};
+ghost use Rattle.vp_replay.specs.Logged.{IsLogsAnswer, Leaves, half_text, log_line};
+
+use crate::replay::refuse;
+use std::alloc::Global;
+use vp_base::{NoMemory, SiteId, Word};
+use vp_cluster::run;
+use vp_schedule::{Schedule, read};
+use vp_status::{Defined, Status, print_limit};
+use vp_world::WorldEnd;
+
+/// The status and the text that are defined for an input of `logs`.
+pub fn logged(alloc: Global, input: &[u8]) -> Result<Defined, NoMemory>
+    ensures { IfOk result (λ defined. IsLogsAnswer input.now defined.status defined.text.items) }
+{
+    match read(alloc, input) {
+        Ok(schedule) => tell(alloc, &schedule),
+        Err(fault) => refuse(alloc, fault),
+    }
+}
+
+/// What a schedule leaves: the line of each log, or the limit of the world that ends the run.
+fn tell(alloc: Global, schedule: &Schedule) -> Result<Defined, NoMemory>
+    requires { IsSchedule schedule.now }
+    ensures { IfOk result (λ defined. Leaves schedule.now defined.status defined.text.items) }
+{
+    let mut trace = Vec::new(alloc);
+    let mut text = Vec::new(alloc);
+    match run(schedule, &mut trace) {
+        Ok(ran) => {
+            print_logs(ran.logs.as_slice(), &mut text)?;
+            Ok(Defined {
+                status: Status::Done,
+                text,
+            })
+        }
+        Err(WorldEnd::Limit { limit, .. }) => {
+            print_limit(limit, &mut text)?;
+            Ok(Defined {
+                status: Status::Limit,
+                text,
+            })
+        }
+        Err(WorldEnd::NoMemory) => Err(NoMemory),
+    }
+}
+
+/// Appends the line of each log.
+fn print_logs(logs: &[(SiteId, Word, Word)], out: &mut Vec<u8>) -> Result<(), NoMemory>
+    ensures { OnOk result (out.new.items ≡ out.old.items ++ flat_map log_line logs.now) }
+{
+    for log in logs {
+        print_log(log, out)?;
+    }
+    Ok(())
+}
+
+fn print_log(log: &(SiteId, Word, Word), out: &mut Vec<u8>) -> Result<(), NoMemory>
+    ensures { OnOk result (out.new.items ≡ out.old.items ++ log_line log.now) }
+{
+    out.extend_from_slice(b"log ")?;
+    log.0.print(out)?;
+    out.push(b' ')?;
+    print_half(log.1.as_slice(), out)?;
+    out.push(b' ')?;
+    print_half(log.2.as_slice(), out)?;
+    out.push(b'\n')?;
+    Ok(())
+}
+
+/// Appends a half in lower-case hexadecimal, and `-` for an empty one.
+fn print_half(half: &[u8], out: &mut Vec<u8>) -> Result<(), NoMemory>
+    ensures { OnOk result (out.new.items ≡ out.old.items ++ half_text half.now) }
+{
+    if half.is_empty() {
+        out.push(b'-')?;
+        return Ok(());
+    }
+    let text = hex::encode(*out.allocator(), half)?;
+    out.extend_from_slice(text.as_bytes())?;
+    Ok(())
+}

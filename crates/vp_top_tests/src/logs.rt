@@ -1,0 +1,98 @@
+//! What schedules leave in the logs of their sites.
+
+use crate::{answers, run_alone, words};
+use std::test::Fail;
+use vp_outside::{SureSink, SureSource};
+use vp_status::Status;
+
+const HEAD: &str = "site 1 7001\nrecord x 10 1:1\nevents\n";
+
+const COMMIT: &str = "\
+site 1 7001
+record x 10 1:1
+events
+call 1 begin
+call 1 1.1.1 1 write x 11
+call 1 1.1.1 2 commit
+";
+
+const VIEW: &str = "\
+site 1 7001
+site 2 7002
+record x 10 1:1 2:1
+events
+call 1 regroup
+deliver 1
+";
+
+#[test]
+fn logs_are_told(rt: HostRuntime) -> Result<(), Fail> {
+    let alloc = rt.alloc();
+    for (input, lines) in [
+        (HEAD, "log 1 010000000000000005010000000100 -\n"),
+        (
+            "site 1 7001\nevents\ncrash 1\nrestart 1\n",
+            "log 1 0100000000000000050100000001010000000000000005010000000200 -\n",
+        ),
+        (
+            COMMIT,
+            "log 1 01000000000000000501000000010100000000000000190501000000010000000100000000000000000001000231310000 -\n",
+        ),
+        (
+            VIEW,
+            "log 1 010000000000000005010000000101000000000000000a0200000000000000010100 -\n\
+             log 2 010000000000000005010000000101000000000000000a0200000000000000010100 -\n",
+        ),
+    ] {
+        assert!(rt;
+            answers(alloc, "logs", input, Status::Done, lines)?,
+            "{input}"
+        );
+    }
+    Ok(())
+}
+
+#[test]
+fn other_texts_leave_no_logs(rt: HostRuntime) -> Result<(), Fail> {
+    let alloc = rt.alloc();
+    assert!(rt; answers(alloc, "logs", "", Status::BadLine, "bad line 1 at 1\n")?);
+    assert!(rt;
+        answers(
+            alloc,
+            "logs",
+            "site 1 7001\n",
+            Status::BadLine,
+            "bad line 2 at 1\n"
+        )?
+    );
+    assert!(rt;
+        answers(
+            alloc,
+            "logs",
+            "site 1 7001\nrecord x 10 1:1\nrecord x 1 1:1\nevents\n",
+            Status::BadLine,
+            "twice line 3\n"
+        )?
+    );
+    Ok(())
+}
+
+#[test]
+fn a_long_log_gets_a_checkpoint(rt: HostRuntime) -> Result<(), Fail> {
+    let alloc = rt.alloc();
+    let mut text = Vec::from_slice(alloc, HEAD.as_bytes())?;
+    for _ in 0..5000 {
+        text.extend_from_slice(b"crash 1\nrestart 1\n")?;
+    }
+    text.extend_from_slice(b"call 1 regroup\n")?;
+    let words = words(alloc, &["logs"])?;
+    let mut source = SureSource::new(text);
+    let mut sink = SureSink::new(alloc);
+    assert!(rt; run_alone(alloc, &words, &mut source, &mut sink) == Status::Done);
+    assert!(rt;
+        sink.bytes().ends_with(
+            b" 010000000000000035080000000000000001000013890000000000000001010001000231300000000000000000000000000000000000000000000000000000\n"
+        )
+    );
+    Ok(())
+}
