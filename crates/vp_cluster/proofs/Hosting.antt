@@ -154,7 +154,7 @@ module _ (catalogue : Catalogue) (id port : ℕ) (old new : List Change) where
         let same : starts.batches ≡ batches = one starts.batches batches (log_in at_rest) starts.had had in
         let there = subst (λ bs. StandsAt node.at (start_node catalogue id bs).batches (content_of (changes_of (asked_of old) new))) same starts.has in
         let stands : StandsAt node.at (start_node catalogue id batches).batches (log_in (begun node)) =
-            subst (λ name. StandsAt node.at (start_node catalogue id batches).batches (content_of (changes_of name new))) (sym asked) there in
+        subst (λ name. StandsAt node.at (start_node catalogue id batches).batches (content_of (changes_of name new))) (sym asked) there in
         record {
           has = have stands;
           site_is = ap (λ (s : SiteState). Some s) (starts.site ∙ ap (λ bs. (start_node catalogue id bs).site) same);

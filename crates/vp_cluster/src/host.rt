@@ -88,7 +88,8 @@ impl Host {
         let Some(node) = self.node.take() else {
             return Ok(Datagrams::new(catalog.sites().allocator()));
         };
-        let Ok((node, turned)) = node.turn(catalog, &mut self.disk, letter.from, &letter.bytes) else {
+        let Ok((node, turned)) = node.turn(catalog, &mut self.disk, letter.from, &letter.bytes)
+        else {
             return Err(NoMemory);
         };
         self.node = Some(node);

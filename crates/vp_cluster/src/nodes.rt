@@ -70,7 +70,11 @@ impl Nodes {
         ensures { IfOk result (λ letter. letter ≡ letter_of self.now.catalogue self.now.letters event.now) }
     {
         match event {
-            Event::Call { site, call } => to_site(&self.catalog, *site, Body::Call(call.copy_of()?)),
+            Event::Call { site, call } => to_site(
+                &self.catalog,
+                *site,
+                Body::Call(call.copy_of()?),
+            ),
             Event::Deliver { k } => match letter_in(&self.letters, *k) {
                 None => Ok(None),
                 Some(letter) => Ok(Some(letter.copy_of()?)),
