@@ -1,16 +1,14 @@
 -- The hosts of a catalogue: each is found by its port.
-use Rattle.std.proofs.Common.{◌≡◌, ◌≢◌, ◌∙◌, ap, sym, subst, ℕ, ◌≤◌, ◌<◌, suc, zero, Bool, true, false, cond, List, [], ◌∷◌, ◌++◌, ◌+◌, length, take, get_or, Some, None, refl, arith, map, nat_eq, find, ◌==◌}
-use Rattle.std.specs.Prelude.{Option, option_map}
+use Rattle.std.proofs.Common.{◌≡◌, ◌∙◌, ap, sym, subst, ℕ, ◌<◌, suc, zero, Bool, true, false, cond, List, [], ◌∷◌, ◌++◌, ◌+◌, length, take, get_or, Some, refl, arith, map, nat_eq, find, ◌==◌}
+use Rattle.std.specs.Prelude.{option_map}
 use Rattle.std.specs.List.{AllByRecursion, IsDistinct}
 use Rattle.std.proofs.lemmas.Bool.Decides.{nat_tests}
 use Rattle.std.proofs.lemmas.List.{map-append}
 use Rattle.std.proofs.Math.Seq.{take-suc, take-length}
 use Rattle.vp_text.proofs.Items.{all_push}
-use Rattle.vp_model.specs.Types.{LogRecord}
 use Rattle.vp_model.specs.Words.{value_at}
-use Rattle.vp_model.specs.Catalogue.{Catalogue, sites_of}
+use Rattle.vp_model.specs.Catalogue.{Catalogue}
 use Rattle.vp_catalog.specs.Document.{AreSites, IsCatalogueSoFar}
-use Rattle.vp_outside.specs.Disk.{Halves}
 use Rattle.vp_cluster.specs.Hosts.{HostValue, place_of, IsHost, Begins}
 use Rattle.vp_cluster.specs.Nodes.{NodesValue, AreHosts, AreBegun, Begin, host_at}
 

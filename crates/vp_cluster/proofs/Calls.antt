@@ -1,5 +1,5 @@
 -- The call of an event.
-use Rattle.std.proofs.Common.{◌≡◌, ◌∙◌, ℕ, sym, subst}
+use Rattle.std.proofs.Common.{◌≡◌, ℕ, sym, subst}
 use Rattle.vp_base.specs.Calls.{IsCall}
 use Rattle.vp_model.specs.Types.{Event, Call}
 use Rattle.vp_model.specs.Types.event

@@ -1,7 +1,7 @@
 -- What the change of one host is to all of them.
-use Rattle.std.proofs.Common.{◌≡◌, ◌≢◌, ◌∙◌, ap, sym, subst, ℕ, ◌<◌, Bool, true, false, List, ◌++◌, length, take, get_or, set, Some, None, refl, arith, map, ◌==◌}
+use Rattle.std.proofs.Common.{◌≡◌, ◌∙◌, ap, sym, subst, ℕ, ◌<◌, Bool, List, ◌++◌, length, take, get_or, set, Some, None, refl, arith, map, ◌==◌}
 use Rattle.std.specs.Prelude.{Result, Ok, Err, OnOk, IfOk}
-use Rattle.std.specs.List.{AllByRecursion, position}
+use Rattle.std.specs.List.{position}
 use Rattle.vp_model.specs.Words.{value_at}
 use Rattle.std.proofs.lemmas.Bool.Decides.{nat_tests}
 use Rattle.std.proofs.lemmas.List.Quantifiers.{position-Some}
@@ -9,7 +9,7 @@ use Rattle.vp_lists.proofs.Found.{find_none, find_some}
 use Rattle.vp_model.specs.Catalogue.{Catalogue}
 use Rattle.vp_cluster.specs.Hosts.{HostValue, place_of, IsHost, Stays, Takes}
 use Rattle.vp_cluster.specs.Letters.{as_received, sent_from}
-use Rattle.vp_cluster.specs.Nodes.{NodesValue, AreHosts, ChangesAt, ChangesOf, Comes, host_at}
+use Rattle.vp_cluster.specs.Nodes.{NodesValue, AreHosts, ChangesAt, ChangesOf, Comes}
 use Rattle.vp_cluster.specs.declared.letter.Letter.{Letter}
 use Rattle.vp_outside.specs.declared.datagram.Datagram.{Datagram}
 use Rattle.vp_cluster.proofs.Replaced.{finds_new, finds_others, maps_same, all_set}

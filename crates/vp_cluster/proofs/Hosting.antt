@@ -1,5 +1,5 @@
 -- What a start, a turn and a crash make of a host.
-use Rattle.std.proofs.Common.{◌≡◌, ◌∙◌, inr, inl, ℕ, ◌+◌, ◌-◌, ◌<◌, ◌^◌, List, [], ◌∷◌, true, false, refl, sym, ap, subst, arith}
+use Rattle.std.proofs.Common.{◌≡◌, ◌∙◌, inr, inl, ℕ, ◌<◌, ◌^◌, List, [], true, false, refl, sym, ap, subst, arith}
 use Rattle.std.specs.declared.option.Option.{Option}
 use Rattle.std.specs.declared.option.Option.TheVariants.{Some, None}
 use Rattle.std.specs.Prelude.{is_some, IfSome}
@@ -9,25 +9,24 @@ use Rattle.vp_model.specs.Types.{LogRecord}
 use Rattle.vp_model.specs.Words.{has, value_at, keys}
 use Rattle.vp_model.specs.Catalogue.{Catalogue, sites_of}
 use Rattle.vp_model.specs.Site.{SiteState}
-use Rattle.vp_model.specs.Step.{start, durable_of}
+use Rattle.vp_model.specs.Step.{start}
 use Rattle.vp_laws.specs.Shapes.{IsShaped}
 use Rattle.vp_laws.proofs.ShapeSteps.{step_forms}
-use Rattle.vp_outside.specs.Disk.{Halves, DiskState, log_of, Steps}
+use Rattle.vp_outside.specs.Disk.{Steps}
 use Rattle.vp_outside.specs.Changes.{asked_of, changes_of, content_of, state_after}
 use Rattle.vp_outside.specs.declared.changes.Change.{Change}
 use Rattle.vp_outside.specs.declared.datagram.Datagram.{Datagram}
-use Rattle.vp_stable.specs.Halves.{Standing, StandsAt, HaveBatches, HasGeneration, ReadAlike, HalvesAreOneLog}
+use Rattle.vp_stable.specs.Halves.{StandsAt, HaveBatches, HasGeneration, ReadAlike, HalvesAreOneLog}
 use Rattle.vp_runs.specs.declared.arrival.Arrival.{Arrival}
 use Rattle.vp_runs.specs.declared.arrival.Arrival.TheVariants.{Bad, Stray, Stops, Gives}
 use Rattle.vp_runs.specs.Arrivals.{arrival, IsArrival}
-use Rattle.vp_runs.specs.Keeping.{durable_in, kept_with}
 use Rattle.vp_runs.specs.Runs.{start_node, after_turn}
-use Rattle.vp_runs.specs.Turns.{Turn, turn_on}
+use Rattle.vp_runs.specs.Turns.{turn_on}
 use Rattle.vp_runs.proofs.Shaped.{arrives}
 use Rattle.vp_node.specs.Nodes.{NodeValue, IsNode, IsKept, Starts, IsSpent, Turns, Saves, turn_of}
 use Rattle.vp_turns.specs.declared.turned.Turned.{Turned}
 use Rattle.vp_node.proofs.Kept.{has as have}
-use Rattle.vp_cluster.specs.Hosts.{HostValue, IsHost, IsAt, Stays, Takes, Crashes, Restarts, Begins, is_spent, log_in, told, node_at, turn_at}
+use Rattle.vp_cluster.specs.Hosts.{HostValue, IsHost, IsAt, Takes, Crashes, Restarts, Begins, is_spent, log_in, told, node_at, turn_at}
 
 -- a site with a port is a site
 pub listed : (id port : ℕ) (sites : List (ℕ × ℕ)) → value_at id sites ≡ Some port → has (keys sites) id ≡ true

@@ -23,7 +23,7 @@ use Rattle.vp_stable.specs.Halves.{HaveBatches}
 use Rattle.vp_kept.specs.Kept.{kept, kept_in}
 use Rattle.vp_cluster.specs.Hosts.{HostValue, place_of, site_log, log_in, IsHost}
 use Rattle.vp_cluster.specs.Nodes.{NodesValue, AreHosts, Begin, Follows, host_at}
-use Rattle.vp_cluster.specs.Clusters.{HasSite, AreTied}
+use Rattle.vp_cluster.specs.Clusters.{AreTied}
 use Rattle.vp_cluster.specs.Ran.{AreLogs, Runs}
 use Rattle.vp_cluster.specs.declared.cluster.Ran.{Ran}
 use Rattle.vp_cluster.specs.declared.cluster.Cluster.{Cluster}

@@ -1,5 +1,5 @@
 -- A host: a node in memory, with the disk that keeps its log.
-use Rattle.std.specs.Prelude.{◌≡◌, ℕ, ◌-◌, ◌^◌, true, List, [], ◌++◌, Option, Some, None, IfSome, option_map}
+use Rattle.std.specs.Prelude.{◌≡◌, ℕ, ◌-◌, ◌^◌, true, List, [], Option, Some, None, IfSome, option_map}
 use Rattle.vp_model.specs.Types.{LogRecord}
 use Rattle.vp_model.specs.Words.{value_at}
 use Rattle.vp_model.specs.Catalogue.{Catalogue}

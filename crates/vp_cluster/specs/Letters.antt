@@ -1,5 +1,5 @@
 -- Datagrams between the ports of a cluster, and which one an event brings to a site.
-use Rattle.std.specs.Prelude.{◌≡◌, ℕ, ◌-◌, ◌==◌, if◌then◌else◌, List, map, slice_get, Option, Some, None, option_map}
+use Rattle.std.specs.Prelude.{ℕ, ◌-◌, ◌==◌, if◌then◌else◌, List, slice_get, Option, None, option_map}
 use Rattle.std.specs.Option.{option_map_or}
 use Rattle.vp_model.specs.Types.{Event, Sent}
 use Rattle.vp_model.specs.Types.event

@@ -1,11 +1,11 @@
 -- The nodes of a cluster: what they do of each line of a trace.
 use Rattle.std.specs.Prelude.{◌≡◌, ◌≢◌, ℕ, ◌==◌, List, [], ◌++◌, map, find, length, take, Option, Some, None}
 use Rattle.std.specs.List.{AllByRecursion}
-use Rattle.vp_model.specs.Types.{Event, Shown, Line, Sent}
+use Rattle.vp_model.specs.Types.{Event, Shown, Line}
 use Rattle.vp_model.specs.Types.event
 use Rattle.vp_model.specs.Types.shown
 use Rattle.vp_model.specs.Words.{value_at}
-use Rattle.vp_model.specs.Catalogue.{Catalogue, sites_of}
+use Rattle.vp_model.specs.Catalogue.{Catalogue}
 use Rattle.vp_outside.specs.declared.datagram.Datagram.{Datagram}
 use Rattle.vp_cluster.specs.declared.letter.Letter.{Letter}
 use Rattle.vp_cluster.specs.Hosts.{HostValue, place_of, IsHost, Takes, Crashes, Restarts, Begins}

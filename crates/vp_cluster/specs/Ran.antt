@@ -1,5 +1,5 @@
 -- What the run of a schedule through nodes leaves.
-use Rattle.std.specs.Prelude.{◌≡◌, ℕ, List, ◌++◌, map, Option, Some, None, Result, Ok, Err}
+use Rattle.std.specs.Prelude.{◌≡◌, ℕ, List, ◌++◌, map, Some, None, Result, Ok, Err}
 use Rattle.std.specs.List.{AllByRecursion}
 use Rattle.vp_model.specs.Catalogue.{sites_of}
 use Rattle.vp_model.specs.Limits.{world_limits, limit_reached, trace_text_within}

@@ -1,6 +1,6 @@
-use Rattle.std.proofs.Common.{◌≡◌, ◌∙◌, sym}
-use Rattle.vp_cluster.specs.Hosts.{HostValue, Crashes}
-use Rattle.vp_cluster.proofs.Changing.{none_changes, one_changes, hosts_still, at_own_port, at_no_port, stays_placed}
+use Rattle.std.proofs.Common.{◌∙◌, sym}
+use Rattle.vp_cluster.specs.Hosts.{Crashes}
+use Rattle.vp_cluster.proofs.Changing.{none_changes, one_changes, hosts_still, at_own_port, stays_placed}
 use Rattle.vp_cluster.proofs.hosts.crash_at.Goals as goal
 
 -- src/hosts.rt:52:1

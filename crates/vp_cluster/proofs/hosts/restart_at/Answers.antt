@@ -1,6 +1,6 @@
-use Rattle.std.proofs.Common.{◌≡◌, ◌∙◌, sym}
-use Rattle.vp_cluster.specs.Hosts.{HostValue, Restarts}
-use Rattle.vp_cluster.proofs.Changing.{none_changes, one_changes, hosts_still, at_own_port, at_no_port, done_so}
+use Rattle.std.proofs.Common.{◌∙◌, sym}
+use Rattle.vp_cluster.specs.Hosts.{Restarts}
+use Rattle.vp_cluster.proofs.Changing.{none_changes, one_changes, hosts_still, at_own_port, done_so}
 use Rattle.vp_cluster.proofs.hosts.restart_at.Goals as goal
 
 -- src/hosts.rt:66:1

@@ -1,8 +1,7 @@
-use Rattle.std.proofs.Common.{◌≡◌, ◌∙◌, sym, refl}
-use Rattle.vp_cluster.specs.Hosts.{HostValue, Takes, Crashes, Restarts, IsHost}
+use Rattle.std.proofs.Common.{◌∙◌, sym}
+use Rattle.vp_cluster.specs.Hosts.{Takes}
 use Rattle.vp_cluster.specs.Letters.{as_received}
-use Rattle.vp_cluster.specs.Nodes.{ChangesAt}
-use Rattle.vp_cluster.proofs.Changing.{none_changes, one_changes, hosts_still, answered_so, done_so, at_own_port, at_no_port}
+use Rattle.vp_cluster.proofs.Changing.{none_changes, one_changes, hosts_still, answered_so}
 use Rattle.vp_cluster.proofs.hosts.take_at.Goals as goal
 
 -- src/hosts.rt:36:1
