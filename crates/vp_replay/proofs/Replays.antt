@@ -1,7 +1,7 @@
 -- What a replay comes to.
 use Rattle.std.proofs.Common.{◌≡◌, ◌∙◌, ap, ℕ, List, [], ◌++◌, map}
-use Rattle.std.specs.Prelude.{Ok, Err}
-use Rattle.vp_model.specs.Types.{Commit, Counted}
+use Rattle.std.specs.Prelude.{Ok}
+use Rattle.vp_model.specs.Types.{Commit}
 use Rattle.vp_model.specs.Catalogue.{Catalogue, start_values}
 use Rattle.vp_model.specs.OneCopy.{order}
 use Rattle.vp_model.specs.World.{Schedule, run_of}
@@ -10,11 +10,9 @@ use Rattle.vp_model.specs.Texts.History.{history_lines}
 use Rattle.vp_schedule.specs.Document.{IsSchedule}
 use Rattle.vp_laws.proofs.ToldRuns.{one_copy_told}
 use Rattle.vp_laws.proofs.Catalogues.{catalogue_apart}
-use Rattle.vp_status.specs.Refused.{limit_text}
-use Rattle.vp_world.specs.declared.end.WorldEnd.TheVariants as end
 use Rattle.vp_cluster.specs.Ran.{Runs}
 use Rattle.vp_cluster.specs.declared.cluster.Ran.{Ran}
-use Rattle.vp_replay.specs.Replayed.{IsDone, IsLimited}
+use Rattle.vp_replay.specs.Replayed.{IsDone}
 
 -- the history of a journal
 abbrev pub ended : Catalogue → List Commit → List ℕ
@@ -25,11 +23,4 @@ replay_is_done s ran mid text schedule runs e = record {
   whole = runs.0;
   printed = e ∙ ap (λ t. t ++ ended s.catalogue ran.commits) runs.1 ∙ ap (λ journal. trace_text s ++ ended s.catalogue journal) runs.2;
   one_copy = one_copy_told s (catalogue_apart s.catalogue schedule.catalogue_is.so_far);
-}
-
-pub replay_is_limited : (s : Schedule) (what : Counted) (limit : ℕ) (mid text : List ℕ) → Runs s (Err (end.Limit what limit)) [] mid → text ≡ mid ++ limit_text limit → IsLimited s text
-replay_is_limited s what limit mid text runs e = record {
-  counted = what;
-  reached = runs.0;
-  printed = e ∙ ap (λ n. mid ++ limit_text n) runs.1 ∙ ap (λ t. t ++ limit_text _) runs.2;
 }
