@@ -3,5 +3,3 @@
 
 #[cfg(test)]
 mod fields;
-#[cfg(test)]
-mod ranges;

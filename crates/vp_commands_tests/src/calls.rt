@@ -2,7 +2,8 @@
 
 ghost use Rattle.std.specs.Prelude.{◌≡◌, None};
 
-use crate::fixtures::{BEGIN, BEGUN, PORT, datagram, is_all, is_defined};
+use crate::outcomes::{is_all, is_defined};
+use crate::{BEGIN, BEGUN, PORT, datagram};
 use std::alloc::Global;
 use std::test::Fail;
 use vp_base::{Call, NoMemory, SiteId};

@@ -3,7 +3,6 @@
 use bytes::Bytes;
 use std::alloc::{AllocError, Global};
 use vp_outside::Datagram;
-use vp_status::{Defined, Status};
 
 /// The port of site 1.
 pub const PORT: u16 = 7001;
@@ -24,22 +23,10 @@ pub const COMMIT: &[u8] = b"\x56\x01\x20\0\x01\x05\x01\0\0\0\x01\0\0\0\x01\0\0\0
 /// The stop, to site 1.
 pub const STOP: &[u8] = b"\x56\x01\x24\0\x01";
 
+/// The datagram with these bytes, from or to this port.
 pub fn datagram(alloc: Global, port: u16, bytes: &[u8]) -> Result<Datagram, AllocError> {
     Ok(Datagram {
         port,
         bytes: Bytes::copy_from_slice(alloc, bytes)?,
     })
-}
-
-/// Whether these bytes were handed over to the port of site 1, and nothing else.
-pub fn is_all(handed: &[Datagram], bytes: &[u8]) -> bool {
-    match handed {
-        [it] => it.port == PORT && it.bytes.as_slice() == bytes,
-        _ => false,
-    }
-}
-
-/// Whether this status and this text are defined.
-pub fn is_defined(defined: &Defined, status: Status, text: &[u8]) -> bool {
-    defined.status == status && defined.text.as_slice() == text
 }

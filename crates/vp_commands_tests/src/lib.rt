@@ -3,17 +3,16 @@
 
 #[cfg(test)]
 mod calls;
-#[cfg(test)]
-mod clusters;
-#[cfg(test)]
-mod faults;
-#[cfg(test)]
 mod fixtures;
 #[cfg(test)]
 mod long_logs;
 #[cfg(test)]
 mod nodes;
 #[cfg(test)]
+mod outcomes;
 mod running;
 #[cfg(test)]
 mod signals;
+
+pub use fixtures::{BEGIN, BEGUN, COMMIT, PORT, STOP, WRITE, datagram};
+pub use running::{Ended, Failing, NONE, Setup, said};

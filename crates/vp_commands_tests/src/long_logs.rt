@@ -1,7 +1,6 @@
 //! A node whose log becomes long.
 
-use crate::fixtures::STOP;
-use crate::running::{Setup, said};
+use crate::{STOP, Setup, said};
 use std::alloc::{AllocError, Global};
 use std::test::Fail;
 use vp_status::Status;

@@ -1,7 +1,6 @@
 //! A node's command: the logs on which it doesn't start, and the datagrams that are no inputs.
 
-use crate::fixtures::{BEGIN, BEGUN, PORT, datagram};
-use crate::running::{Setup, said};
+use crate::{BEGIN, BEGUN, PORT, Setup, datagram, said};
 use std::test::Fail;
 use vp_status::Status;
 

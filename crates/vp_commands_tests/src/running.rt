@@ -1,6 +1,6 @@
 //! Running a node over a link, a disk and a sink in memory.
 
-use crate::fixtures::datagram;
+use crate::datagram;
 use std::alloc::{AllocError, Global};
 use std::test::Fail;
 use vp_base::{SiteId, Word};
@@ -23,6 +23,7 @@ pub struct Failing {
     pub sink: u64,
 }
 
+/// No call fails.
 pub const NONE: Failing = Failing {
     link: 0,
     disk: 0,

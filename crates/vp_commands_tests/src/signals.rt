@@ -1,6 +1,7 @@
 //! Signals over a link in memory.
 
-use crate::fixtures::{PORT, STOP, is_all, is_defined};
+use crate::outcomes::{is_all, is_defined};
+use crate::{PORT, STOP};
 use std::test::Fail;
 use vp_base::SiteId;
 use vp_commands::signal_site;

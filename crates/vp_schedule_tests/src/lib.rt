@@ -1,7 +1,5 @@
-//! The tests of the text of schedules and traces, outside the crate that has it: a crate with tests is proved twice.
+//! The tests of the text of schedules, outside the crate that has it: a crate with tests is proved twice.
 #![tactic(auto)]
 
 #[cfg(test)]
 mod schedules;
-#[cfg(test)]
-mod traces;

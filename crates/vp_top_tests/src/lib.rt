@@ -1,10 +1,6 @@
 //! The tests of the program as one call, outside the crate that has it: a crate with tests is proved twice.
 #![tactic(auto)]
 
-#[cfg(test)]
-mod generated;
-#[cfg(test)]
-mod logs;
 mod running;
 #[cfg(test)]
 mod runs;

@@ -1,10 +1,9 @@
 //! Three nodes over links in memory: the test passes on what they hand over.
 
-use crate::fixtures::{BEGIN, BEGUN, COMMIT, PORT, WRITE, datagram};
-use crate::running::{Ended, NONE, Setup};
 use std::alloc::{AllocError, Global};
 use std::test::Fail;
 use vp_base::SiteId;
+use vp_commands_tests::{BEGIN, BEGUN, COMMIT, Ended, NONE, PORT, Setup, WRITE, datagram};
 use vp_outside::Datagram;
 
 const THREE: &[u8] = b"site 1 7001\nsite 2 7002\nsite 3 7003\nrecord x 10 1:1 2:1 3:1\n";

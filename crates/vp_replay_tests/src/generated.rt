@@ -1,12 +1,12 @@
 //! Schedules of the generator, and soaks: each takes nothing of the source.
 
-use crate::run_alone;
 use std::alloc::{AllocError, Global};
 use std::test::Fail;
 use vp_base::Word;
 use vp_outside::{SureSink, SureSource};
 use vp_replay::generate;
 use vp_status::Status;
+use vp_top_tests::run_alone;
 
 /// What the program prints for the words, where it is done.
 fn printed(alloc: Global, command: &str, seed: &str, count: &str) -> Result<SureSink, AllocError> {

@@ -1,9 +1,9 @@
 //! What schedules leave in the logs of their sites.
 
-use crate::{answers, run_alone, words};
 use std::test::Fail;
 use vp_outside::{SureSink, SureSource};
 use vp_status::Status;
+use vp_top_tests::{answers, run_alone, words};
 
 const HEAD: &str = "site 1 7001\nrecord x 10 1:1\nevents\n";
 

@@ -1,9 +1,8 @@
 //! A node that serves one transaction and is stopped: each call of its link, its disk and its sink fails in turn.
 
-use crate::fixtures::{BEGIN, COMMIT, STOP, WRITE};
-use crate::running::{Ended, Failing, NONE, Setup, said};
 use std::alloc::Global;
 use std::test::Fail;
+use vp_commands_tests::{BEGIN, COMMIT, Ended, Failing, NONE, STOP, Setup, WRITE, said};
 use vp_status::Status;
 
 /// What it prints where no call fails.
