@@ -12,11 +12,14 @@ use vp_outside::Datagram;
 use vp_runs::Arrival;
 use vp_text::print_number;
 
+/// Room for the line of a frame of most kinds, in bytes.
+const ROOM: usize = 128;
+
 /// The line of a word and the bytes in lower-case hexadecimal.
 fn hex_line(alloc: Global, word: &[u8], bytes: &[u8]) -> Result<Seq<u8>, NoMemory>
     ensures { IfOk result (λ line. line ≡ worded word.now (encode_lower bytes.now)) }
 {
-    let mut line = Vec::new(alloc);
+    let mut line = Vec::with_capacity(alloc, ROOM)?;
     line.extend_from_slice(word)?;
     line.extend_from_slice(hex::encode(alloc, bytes)?.as_bytes())?;
     line.push(b'\n')?;

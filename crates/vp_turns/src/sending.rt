@@ -13,12 +13,15 @@ use vp_catalog::Catalog;
 use vp_outside::{Datagram, Datagrams};
 use vp_wire::{Body, Frame, encode};
 
+/// Room for a frame of most kinds, in bytes.
+const ROOM: usize = 64;
+
 /// The frame as a datagram to the port.
 fn datagram_to(alloc: Global, port: u16, frame: &Frame) -> Result<Datagram, NoMemory>
     requires { IsFrame frame.now }
     ensures { IfOk result (λ datagram. datagram ≡ datagram_to port frame.now) }
 {
-    let mut bytes = BytesMut::new(alloc);
+    let mut bytes = BytesMut::with_capacity(alloc, ROOM)?;
     encode(frame, &mut bytes)?;
     Ok(Datagram {
         port,
