@@ -4,8 +4,9 @@ use Rattle.std.proofs.lemmas.Bool.Decides.{nat_tests}
 use Rattle.vp_model.specs.Types.{Sent}
 use Rattle.vp_model.specs.Words.{has, first}
 use Rattle.vp_model.specs.World.{WorldState, is_flowing, flowing_from, flowing}
-use Rattle.vp_world.specs.Queues.{pair_of, waiting, AreSites, AreSited, is_open, head_of, lesser, least_below}
-use Rattle.vp_world.proofs.Waiting.{first_from}
+use Rattle.vp_mail.specs.Queues.{pair_of, waiting, AreSites, AreSited}
+use Rattle.vp_mail.proofs.Waiting.{first_from}
+use Rattle.vp_world.specs.Heads.{is_open, head_of, lesser, least_below}
 
 least_same : (f g : ℕ → Option ℕ) (n : ℕ) → ((p : ℕ) → p < n → f p ≡ g p) → least_below f n ≡ least_below g n
 least_same f g zero h = refl

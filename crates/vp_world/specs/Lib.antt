@@ -1,4 +1,4 @@
 pub mod Limits
 pub mod Known
 pub mod Steps
-pub mod Queues
+pub mod Heads

@@ -1,8 +1,11 @@
 -- The limits of a world, and which answers they give.
-use Rattle.std.specs.Prelude.{◌≡◌, ℕ, nat_lt, if◌then◌else◌, List, length, Option, Some, None, Result, Ok, Err}
+use Rattle.std.specs.Prelude.{◌≡◌, ℕ, nat_lt, if◌then◌else◌, List, Option, Some, None, Result, Ok, Err}
 use Rattle.vp_model.specs.Types.{Counted, Sent, Shown}
 use Rattle.vp_model.specs.Types.counted
 use Rattle.vp_model.specs.World.{WorldState, Moved, shows}
+use Rattle.vp_mail.specs.declared.fault.SendFault.{SendFault}
+use Rattle.vp_mail.specs.declared.fault.SendFault.TheVariants as fault
+use Rattle.vp_mail.specs.Posted.{are_too_many}
 use Rattle.vp_world.specs.declared.end.WorldEnd.{WorldEnd}
 use Rattle.vp_world.specs.declared.end.WorldEnd.TheVariants as end
 
@@ -22,7 +25,12 @@ abbrev pub too_many_steps : ℕ → Option Counted
 too_many_steps steps = if nat_lt 100000 steps then Some counted.Steps else None
 
 abbrev pub too_many : List Sent → Option Counted
-too_many sent = if nat_lt 2000000 (length sent) then Some counted.Messages else None
+too_many sent = if are_too_many sent then Some counted.Messages else None
+
+-- where messages are refused
+abbrev pub end_of : SendFault → WorldEnd
+end_of fault.TooMany = end.Limit counted.Messages (limit_of counted.Messages)
+end_of fault.NoMemory = end.NoMemory
 
 -- a move is done exactly so, or it would send too many messages
 abbrev pub Does : Moved → WorldState → Result Shown WorldEnd → Type 0

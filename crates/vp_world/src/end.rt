@@ -5,12 +5,10 @@ ghost use Rattle.vp_base.specs.declared.event.Counted.TheVariants as counted;
 ghost use Rattle.vp_world.specs.Limits.{limit_of};
 
 use vp_base::{Counted, NoMemory};
+use vp_mail::{MESSAGES, SendFault};
 
 /// How many steps a world may have.
 pub const STEPS: u32 = 100_000;
-
-/// How many messages a world may have.
-pub const MESSAGES: u32 = 2_000_000;
 
 /// Why an event is not done. The world is then gone.
 #[derive(Clone, Copy, Debug, Drop, PartialEq, Eq)]
@@ -27,5 +25,21 @@ impl From<NoMemory> for WorldEnd {
 
     fn from(_e: NoMemory) -> WorldEnd {
         WorldEnd::NoMemory
+    }
+}
+
+impl From<SendFault> for WorldEnd {
+    ghost use Rattle.vp_world.specs.Limits.{end_of};
+
+    ghost from_gives = { λ fault e. e ≡ end_of fault };
+
+    fn from(fault: SendFault) -> WorldEnd {
+        match fault {
+            SendFault::TooMany => WorldEnd::Limit {
+                what: Counted::Messages,
+                limit: MESSAGES,
+            },
+            SendFault::NoMemory => WorldEnd::NoMemory,
+        }
     }
 }

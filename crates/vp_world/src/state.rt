@@ -9,13 +9,13 @@ ghost use Rattle.vp_model.specs.Generated.{newest};
 ghost use Rattle.vp_model.specs.World.{start_world, site_of, flowing, message_at, is_cut, shows, at_site, deliver, crash, cut, heal, restart, happens, next};
 ghost use Rattle.vp_model.specs.Limits.{world_limits, refused};
 ghost use Rattle.vp_world.specs.Limits.{Ends, Does, too_many, too_many_steps};
-ghost use Rattle.vp_world.specs.Known.{message_in, IsWithinLimits};
+ghost use Rattle.vp_mail.specs.Posted.{message_in, posted, are_too_many, Refuses};
+ghost use Rattle.vp_mail.specs.Queues.{AreSited};
+ghost use Rattle.vp_world.specs.Known.{IsWithinLimits};
 ghost use Rattle.vp_world.specs.Steps.{takes_in};
-ghost use Rattle.vp_world.specs.Queues.{is_open, head_of, lesser, AreSited};
+ghost use Rattle.vp_world.specs.Heads.{is_open, head_of, lesser};
 
-use crate::cuts::Cuts;
 use crate::end::{STEPS, WorldEnd};
-use crate::mail::{Mail, PAIRS};
 use crate::place::Taken;
 use crate::places::Places;
 use std::alloc::Global;
@@ -25,6 +25,7 @@ use vp_base::{
     SiteId, View, ViewId,
 };
 use vp_catalog::Catalog;
+use vp_mail::{Cuts, Mail, PAIRS};
 
 /// The opening view.
 const OPENING: ViewId = ViewId { number: 0, site: 0 };

@@ -1,5 +1,5 @@
 use Rattle.std.proofs.Common.{◌≡◌, ◌∙◌, add-one, ap, refl, arith}
-use Rattle.vp_world.specs.Queues.{head_of, least_below}
+use Rattle.vp_world.specs.Heads.{head_of, least_below}
 use Rattle.vp_world.proofs.Least.{least_flows}
 use Rattle.vp_world.proofs.state.State.flowing.Goals as goal
 

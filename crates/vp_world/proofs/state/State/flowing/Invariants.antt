@@ -1,5 +1,5 @@
 use Rattle.std.proofs.Common.{◌≡◌}
-use Rattle.vp_world.specs.Queues.{head_of, least_below}
+use Rattle.vp_world.specs.Heads.{head_of, least_below}
 use Rattle.vp_world.proofs.state.State.flowing.Given as goal
 
 abbrev pub invariant-loop-pair : goal.invariant-loop-pair

@@ -1,0 +1,177 @@
+//! The messages between the sites.
+
+ghost use Rattle.std.specs.Prelude.{◌≡◌, ◌≤◌, ◌<◌, ◌+◌, ◌++◌, ◌∷◌, ℕ, [], OnOk, OnErr, IfOk, Err, Some, slice_index_or, nat_lt, length, if◌then◌else◌, option_copied};
+ghost use Rattle.vp_model.specs.Words.{first};
+ghost use Rattle.vp_mail.specs.declared.fault.SendFault.TheVariants as fault;
+ghost use Rattle.vp_mail.specs.Queues.{pair_of, waiting, AreBelow, AreSites, AreSited};
+ghost use Rattle.vp_mail.specs.Posted.{message_in, posted, are_too_many, Refuses};
+
+use crate::fault::SendFault;
+use crate::queue::Queue;
+use std::alloc::Global;
+use std::marker::Model;
+use vp_base::{CopyOf, NoMemory, Sent, SiteId};
+
+/// How many messages there may be.
+pub const MESSAGES: u32 = 2_000_000;
+
+/// There are 16 sites at most.
+const SITES: usize = 16;
+
+/// How many pairs of a sender and a receiver there are.
+pub const PAIRS: usize = SITES * SITES;
+
+/// All messages that were sent, numbered from 1, and the numbers of those that were delivered. For each pair of a sender and a
+/// receiver there is a queue of its messages that were never delivered.
+#[derive(Drop)]
+pub struct Mail {
+    sent: Vec<Sent>,
+    delivered: Vec<u32>,
+    queues: Vec<Queue>,
+}
+
+impl Model for Mail {
+    ghost use Rattle.vp_mail.specs.Posted.{Posted};
+    ghost use Rattle.vp_mail.specs.Queues.{IsQueued};
+
+    ghost Value = { Posted };
+
+    ghost view = { λ m. record { sent = m.sent.items; delivered = m.delivered.items } };
+
+    ghost invariant = { λ m. IsQueued m.queues.items m.sent.items m.delivered.items };
+}
+
+/// The place of the pair's queue.
+fn pair_of(from: SiteId, to: SiteId) -> usize
+    ensures pair { result ≡ pair_of from to }
+    ensures within { result < 256 }
+    ensures sites { AreSites from to }
+{
+    (usize::from(from.get()) - 1) * SITES + (usize::from(to.get()) - 1)
+}
+
+fn empty_queues(alloc: Global) -> Result<Vec<Queue>, NoMemory>
+    ensures count { IfOk result (λ queues. length queues.items ≡ 256) }
+    ensures each { IfOk result (λ queues. (pair : ℕ) → slice_index_or queues.items pair [] ≡ []) }
+{
+    let mut queues = Vec::new(alloc);
+    for _ in 0..PAIRS {
+        queues.push(Queue::none(alloc))?;
+    }
+    Ok(queues)
+}
+
+/// The message gets the next number, which joins the queue. Without memory both stay as they are.
+fn post(sent: &mut Vec<Sent>, queue: &mut Queue, message: Sent) -> Result<(), NoMemory>
+    requires room { length sent.old.items < 2000000 }
+    requires last { AreBelow (length sent.old.items + 1) queue.old }
+    ensures sent { OnOk result (sent.new.items ≡ sent.old.items ++ message ∷ []) }
+    ensures queue { OnOk result (queue.new ≡ queue.old ++ (length sent.old.items + 1) ∷ []) }
+    ensures err { OnErr result ((sent.new.items ≡ sent.old.items) × (queue.new ≡ queue.old)) }
+{
+    let number = sent.len() as u32 + 1;
+    sent.push(message)?;
+    if let Err(e) = queue.push(number) {
+        let _ = sent.pop();
+        return Err(e);
+    }
+    Ok(())
+}
+
+impl Mail {
+    /// Nothing was sent yet.
+    pub fn none(alloc: Global) -> Result<Mail, NoMemory>
+        ensures { IfOk result (λ mail. mail ≡ record { sent = []; delivered = [] }) }
+    {
+        Ok(Mail {
+            sent: Vec::new(alloc),
+            delivered: Vec::new(alloc),
+            queues: empty_queues(alloc)?,
+        })
+    }
+
+    /// How many messages were sent.
+    pub fn count(&self) -> usize
+        ensures { result ≡ length self.now.sent }
+    {
+        self.sent.len()
+    }
+
+    /// The lowest message of the pair that was never delivered. The pair of a sender and a receiver has the place
+    /// `16 * (sender - 1) + receiver - 1`.
+    pub fn first_waiting(&self, pair: usize) -> Option<u32>
+        requires { pair < 256 }
+        ensures first { result ≡ first (waiting pair self.now.delivered 1 self.now.sent) }
+        ensures sited { AreSited self.now.sent }
+    {
+        let queue = &self.queues[pair];
+        queue.first()
+    }
+
+    /// The message of this number.
+    pub fn message(&self, k: u32) -> Result<Option<Sent>, NoMemory>
+        ensures { IfOk result (λ sent. sent ≡ message_in k self.now.sent) }
+    {
+        match message_in(&self.sent, k) {
+            None => Ok(None),
+            Some(sent) => Ok(Some(sent.copy_of()?)),
+        }
+    }
+
+    /// The message of this number is delivered, which is this one. It may be delivered again. Without memory the mail stays as it
+    /// is.
+    pub fn deliver(&mut self, k: u32, sent: &Sent) -> Result<(), NoMemory>
+        requires { message_in k self.old.sent ≡ Some sent.now }
+        ensures delivered { OnOk result (self.new ≡ record self.old { delivered = self.old.delivered ++ k ∷ [] }) }
+        ensures err { OnErr result (self.new ≡ self.old) }
+    {
+        self.delivered.push(k)?;
+        let queue = &mut self.queues[pair_of(sent.from, sent.to)];
+        queue.take(k);
+        Ok(())
+    }
+
+    /// Sends the messages, and answers the number of the first one. None is sent where they are too many; without memory the
+    /// mail may only be dropped.
+    pub fn send_all(&mut self, messages: &[Sent]) -> Result<u32, SendFault>
+        ensures first { IfOk result (λ first. first ≡ length self.old.sent + 1) }
+        ensures sent { OnOk result (self.new ≡ posted messages.now self.old) }
+        ensures unsent { result ≡ Err fault.TooMany → self.new ≡ self.old }
+        ensures refused { Refuses (are_too_many (self.old.sent ++ messages.now)) result }
+    {
+        let count = self.sent.len();
+        if messages.len() > MESSAGES as usize - count {
+            return Err(SendFault::TooMany);
+        }
+        self.post_all(messages)?;
+        Ok(count as u32 + 1)
+    }
+
+    fn post_all(&mut self, messages: &[Sent]) -> Result<(), NoMemory>
+        requires { length self.old.sent + length messages.now ≤ 2000000 }
+        ensures { OnOk result (self.new ≡ posted messages.now self.old) }
+    {
+        for sent in messages {
+            self.post(sent.copy_of()?)?;
+        }
+        Ok(())
+    }
+
+    fn post(&mut self, sent: Sent) -> Result<(), NoMemory>
+        requires { length self.old.sent < 2000000 }
+        ensures { OnOk result (self.new ≡ posted (sent ∷ []) self.old) }
+    {
+        let pair = pair_of(sent.from, sent.to);
+        let queue = &mut self.queues[pair];
+        post(&mut self.sent, queue, sent)
+    }
+}
+
+fn message_in(sent: &[Sent], k: u32) -> Option<&Sent>
+    ensures { option_copied result ≡ message_in k sent.now }
+{
+    if k == 0 {
+        return None;
+    }
+    sent.get(k as usize - 1)
+}

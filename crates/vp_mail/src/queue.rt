@@ -1,0 +1,89 @@
+//! The messages of a pair of sites that were never delivered.
+
+ghost use Rattle.std.specs.Prelude.{◌≡◌, ◌++◌, ◌∷◌, [], OnOk, OnErr, map};
+ghost use Rattle.vp_model.specs.Words.{first};
+ghost use Rattle.vp_mail.specs.Queues.{without, undelivered, Rises, AreBelow, IsTrimmed};
+
+use std::alloc::Global;
+use std::collections::VecDeque;
+use std::marker::Model;
+use vp_base::NoMemory;
+
+/// A message of the pair.
+#[derive(Clone, Copy)]
+struct Numbered {
+    number: u32,
+    delivered: bool,
+}
+
+/// The messages in the order of their numbers. One that is delivered is marked, and leaves with those before it or behind it.
+#[derive(Drop)]
+pub struct Queue {
+    messages: VecDeque<Numbered>,
+}
+
+impl Model for Queue {
+    ghost use Rattle.std.specs.Prelude.{ℕ, List};
+    ghost use Rattle.vp_mail.specs.Queues.{undelivered, IsTrimmed};
+
+    ghost Value = { List ℕ };
+
+    ghost view = { λ q. undelivered q.messages.items };
+
+    ghost invariant = { λ q. IsTrimmed q.messages.items };
+}
+
+impl Queue {
+    /// No message waits.
+    pub fn none(alloc: Global) -> Queue
+        ensures { result ≡ [] }
+    {
+        Queue {
+            messages: VecDeque::new(alloc),
+        }
+    }
+
+    /// The lowest number that waits.
+    pub fn first(&self) -> Option<u32>
+        ensures { result ≡ first self.now }
+    {
+        self.messages.front().map(|m| m.number)
+    }
+
+    /// The message is sent, the last one so far. Without memory the queue stays as it is.
+    pub fn push(&mut self, number: u32) -> Result<(), NoMemory>
+        requires { AreBelow number self.old }
+        ensures ok { OnOk result (self.new ≡ self.old ++ number ∷ []) }
+        ensures err { OnErr result (self.new ≡ self.old) }
+    {
+        self.messages.push_back(Numbered {
+            number,
+            delivered: false,
+        })?;
+        Ok(())
+    }
+
+    /// The message is delivered, for the first time or again: it waits no more.
+    pub fn take(&mut self, number: u32)
+        ensures { self.new ≡ without number self.old }
+    {
+        if let Ok(place) = self.messages.binary_search_by_key(&number, |m| m.number) {
+            self.messages[place].delivered = true;
+            trim(&mut self.messages);
+        }
+    }
+}
+
+/// Those that were delivered leave, up to the first and from the last one that was not.
+fn trim(messages: &mut VecDeque<Numbered>)
+    requires { Rises 0 (map (λ m. m.number) messages.old.items) }
+    ensures trimmed { IsTrimmed messages.new.items }
+    ensures undelivered { undelivered messages.new.items ≡ undelivered messages.old.items }
+{
+    while messages.front().is_some_and(|m| m.delivered) {
+        messages.pop_front();
+    }
+    while messages.back().is_some_and(|m| m.delivered) {
+        messages.pop_back();
+    }
+}

@@ -1,6 +1,0 @@
-use Rattle.std.proofs.Common.{◌≡◌, length}
-use Rattle.vp_world.specs.Queues.{AreEmpty}
-use Rattle.vp_world.proofs.mail.empty_queues.Given as goal
-
-abbrev pub invariant-loop : goal.invariant-loop
-invariant-loop l = (length l.queues.items ≡ l.counter) × AreEmpty l.queues.items
