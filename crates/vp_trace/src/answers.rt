@@ -7,23 +7,11 @@ ghost use Rattle.vp_model.specs.Texts.Answers.{answer_text, numbered_text};
 ghost use Rattle.vp_model.specs.Texts.Fields.{view_text, held_text, txn_text, owner_text};
 
 use crate::fields::{
-    print_call_name, print_count, print_held, print_owner, print_value, print_word,
+    print_count, print_held, print_numbered, print_owner, print_txn, print_value, print_view,
+    print_word,
 };
 use vp_base::{Answer, CallNo, Name, NoMemory, Owner, SiteId, TxnId, Value, ViewId};
 use vp_text::print_number;
-
-#[tactic(auto, using(vp_text::proofs::Printing::printing))]
-fn print_numbered(
-    out: &mut Vec<u8>,
-    word: &[u8],
-    txn: &TxnId,
-    number: CallNo,
-) -> Result<(), NoMemory>
-    ensures { Appends result out.old.items (numbered_text word.now txn.now number) out.new.items }
-{
-    print_word(out, word)?;
-    print_call_name(out, txn, number)
-}
 
 #[tactic(auto, using(vp_text::proofs::Printing::printing))]
 fn print_begun(out: &mut Vec<u8>, txn: &TxnId, view: &ViewId) -> Result<(), NoMemory>
@@ -32,14 +20,6 @@ fn print_begun(out: &mut Vec<u8>, txn: &TxnId, view: &ViewId) -> Result<(), NoMe
     print_word(out, b"begun ")?;
     txn.print(out)?;
     out.push(b' ')?;
-    view.print(out)
-}
-
-#[tactic(auto, using(vp_text::proofs::Printing::printing))]
-fn print_view(out: &mut Vec<u8>, word: &[u8], view: &ViewId) -> Result<(), NoMemory>
-    ensures { Appends result out.old.items (word.now ++ view_text view.now) out.new.items }
-{
-    print_word(out, word)?;
     view.print(out)
 }
 
@@ -148,14 +128,6 @@ fn print_read(out: &mut Vec<u8>, txn: &TxnId, number: CallNo, value: &Value) -> 
 }
 
 #[tactic(auto, using(vp_text::proofs::Printing::printing))]
-fn print_unknown(out: &mut Vec<u8>, txn: &TxnId) -> Result<(), NoMemory>
-    ensures { Appends result out.old.items (codes "unknown " ++ txn_text txn.now) out.new.items }
-{
-    print_word(out, b"unknown ")?;
-    txn.print(out)
-}
-
-#[tactic(auto, using(vp_text::proofs::Printing::printing))]
 fn print_spent(out: &mut Vec<u8>, number: u64) -> Result<(), NoMemory>
     ensures { Appends result out.old.items (codes "spent " ++ decimal number) out.new.items }
 {
@@ -187,7 +159,7 @@ pub fn print_answer(answer: &Answer, out: &mut Vec<u8>) -> Result<(), NoMemory>
         Answer::Aborted { txn, number } => print_numbered(out, b"aborted ", txn, *number),
         Answer::Inviting { view } => print_view(out, b"inviting ", view),
         Answer::NoView { promise } => print_view(out, b"noview ", promise),
-        Answer::Unknown { txn } => print_unknown(out, txn),
+        Answer::Unknown { txn } => print_txn(out, b"unknown ", txn),
         Answer::Skipped { txn, expected } => print_skipped(out, txn, *expected),
         Answer::Busy { txn, number } => print_numbered(out, b"busy ", txn, *number),
         Answer::NoRecord { txn, number } => print_numbered(out, b"norecord ", txn, *number),

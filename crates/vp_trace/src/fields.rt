@@ -4,7 +4,7 @@ ghost use Rattle.std.specs.Prelude.{◌≡◌, ◌++◌, ◌∷◌, [], OnOk, On
 ghost use Rattle.vp_text.specs.Printing.{Appends};
 ghost use Rattle.std.specs.Fmt.{decimal};
 ghost use Rattle.vp_model.specs.Catalogue.{name_of};
-ghost use Rattle.vp_model.specs.Texts.Fields.{held_text, owner_text, call_name_text, sites_text, later_site_text};
+ghost use Rattle.vp_model.specs.Texts.Fields.{view_text, held_text, txn_text, owner_text, call_name_text, sites_text, later_site_text};
 
 use vp_base::{CallNo, NoMemory, Owner, RecId, SiteId, TxnId, Value, ViewId};
 use vp_catalog::Catalog;
@@ -57,6 +57,38 @@ pub fn print_call_name(out: &mut Vec<u8>, txn: &TxnId, number: CallNo) -> Result
     txn.print(out)?;
     out.push(b' ')?;
     print_count(out, number.get())
+}
+
+/// Appends given bytes and a view.
+#[tactic(auto, using(vp_text::proofs::Printing::printing))]
+pub fn print_view(out: &mut Vec<u8>, word: &[u8], view: &ViewId) -> Result<(), NoMemory>
+    ensures { Appends result out.old.items (word.now ++ view_text view.now) out.new.items }
+{
+    print_word(out, word)?;
+    view.print(out)
+}
+
+/// Appends given bytes and a transaction.
+#[tactic(auto, using(vp_text::proofs::Printing::printing))]
+pub fn print_txn(out: &mut Vec<u8>, word: &[u8], txn: &TxnId) -> Result<(), NoMemory>
+    ensures { Appends result out.old.items (word.now ++ txn_text txn.now) out.new.items }
+{
+    print_word(out, word)?;
+    txn.print(out)
+}
+
+/// Appends given bytes, a transaction and the number of one of its calls.
+#[tactic(auto, using(vp_text::proofs::Printing::printing))]
+pub fn print_numbered(
+    out: &mut Vec<u8>,
+    word: &[u8],
+    txn: &TxnId,
+    number: CallNo,
+) -> Result<(), NoMemory>
+    ensures { Appends result out.old.items (word.now ++ call_name_text txn.now number) out.new.items }
+{
+    print_word(out, word)?;
+    print_call_name(out, txn, number)
 }
 
 /// Appends the sites with commas between them.

@@ -8,19 +8,11 @@ ghost use Rattle.vp_model.specs.Texts.Fields.{view_text, txn_text, call_name_tex
 ghost use Rattle.vp_model.specs.Texts.Messages.{message_text, request_text, read_text, write_text, obstacle_text, outcome_text};
 
 use crate::fields::{
-    print_call_name, print_count, print_held, print_owner, print_record, print_record_behind,
-    print_sites, print_value, print_word,
+    print_count, print_held, print_numbered, print_owner, print_record, print_record_behind,
+    print_sites, print_txn, print_value, print_view, print_word,
 };
 use vp_base::{CallNo, Message, NoMemory, Obstacle, RecId, SiteId, Stored, TxnId, Value, ViewId};
 use vp_catalog::Catalog;
-
-#[tactic(auto, using(vp_text::proofs::Printing::printing))]
-fn print_view(out: &mut Vec<u8>, word: &[u8], view: &ViewId) -> Result<(), NoMemory>
-    ensures { Appends result out.old.items (word.now ++ view_text view.now) out.new.items }
-{
-    print_word(out, word)?;
-    view.print(out)
-}
 
 #[tactic(auto, using(vp_text::proofs::Printing::printing))]
 fn print_two_views(out: &mut Vec<u8>, word: &[u8], a: &ViewId, b: &ViewId) -> Result<(), NoMemory>
@@ -41,27 +33,6 @@ fn print_members(out: &mut Vec<u8>, id: &ViewId, members: &[SiteId]) -> Result<(
 }
 
 #[tactic(auto, using(vp_text::proofs::Printing::printing))]
-fn print_txn(out: &mut Vec<u8>, word: &[u8], txn: &TxnId) -> Result<(), NoMemory>
-    ensures { Appends result out.old.items (word.now ++ txn_text txn.now) out.new.items }
-{
-    print_word(out, word)?;
-    txn.print(out)
-}
-
-#[tactic(auto, using(vp_text::proofs::Printing::printing))]
-fn print_numbered(
-    out: &mut Vec<u8>,
-    word: &[u8],
-    txn: &TxnId,
-    number: CallNo,
-) -> Result<(), NoMemory>
-    ensures { Appends result out.old.items (word.now ++ call_name_text txn.now number) out.new.items }
-{
-    print_word(out, word)?;
-    print_call_name(out, txn, number)
-}
-
-#[tactic(auto, using(vp_text::proofs::Printing::printing))]
 fn print_request(
     out: &mut Vec<u8>,
     word: &[u8],
@@ -77,34 +48,6 @@ fn print_request(
     view.print(out)?;
     out.push(b' ')?;
     print_count(out, number.get())
-}
-
-#[tactic(auto, using(vp_text::proofs::Printing::printing))]
-fn print_read_request(
-    out: &mut Vec<u8>,
-    catalog: &Catalog,
-    txn: &TxnId,
-    view: &ViewId,
-    number: CallNo,
-    rec: RecId,
-) -> Result<(), NoMemory>
-    ensures { Appends result out.old.items (request_text (codes "read-request ") txn.now view.now number ++ 32 ∷ name_of catalog.now rec) out.new.items }
-{
-    print_lock_request(out, catalog, b"read-request ", txn, view, number, rec)
-}
-
-#[tactic(auto, using(vp_text::proofs::Printing::printing))]
-fn print_write_request(
-    out: &mut Vec<u8>,
-    catalog: &Catalog,
-    txn: &TxnId,
-    view: &ViewId,
-    number: CallNo,
-    rec: RecId,
-) -> Result<(), NoMemory>
-    ensures { Appends result out.old.items (request_text (codes "write-request ") txn.now view.now number ++ 32 ∷ name_of catalog.now rec) out.new.items }
-{
-    print_lock_request(out, catalog, b"write-request ", txn, view, number, rec)
 }
 
 #[tactic(auto, using(vp_text::proofs::Printing::printing))]
@@ -213,13 +156,6 @@ fn print_decided(out: &mut Vec<u8>, commit: bool) -> Result<(), NoMemory>
 }
 
 #[tactic(auto, using(vp_text::proofs::Printing::printing))]
-fn print_refresh_key(out: &mut Vec<u8>) -> Result<(), NoMemory>
-    ensures { Appends result out.old.items (codes "refresh-request ") out.new.items }
-{
-    print_word(out, b"refresh-request ")
-}
-
-#[tactic(auto, using(vp_text::proofs::Printing::printing))]
 fn print_refresh_request(
     out: &mut Vec<u8>,
     catalog: &Catalog,
@@ -228,8 +164,7 @@ fn print_refresh_request(
 ) -> Result<(), NoMemory>
     ensures { Appends result out.old.items (codes "refresh-request " ++ (view_text view.now ++ 32 ∷ name_of catalog.now rec)) out.new.items }
 {
-    print_refresh_key(out)?;
-    view.print(out)?;
+    print_view(out, b"refresh-request ", view)?;
     print_record_behind(out, catalog, rec)
 }
 
@@ -298,14 +233,14 @@ pub fn print_message(
             view,
             number,
             rec,
-        } => print_read_request(out, catalog, txn, view, *number, *rec),
+        } => print_lock_request(out, catalog, b"read-request ", txn, view, *number, *rec),
         Message::ReadAnswer { txn, number, value } => print_read_answer(out, txn, *number, value),
         Message::WriteRequest {
             txn,
             view,
             number,
             rec,
-        } => print_write_request(out, catalog, txn, view, *number, *rec),
+        } => print_lock_request(out, catalog, b"write-request ", txn, view, *number, *rec),
         Message::WriteAnswer { txn, number } => print_numbered(out, b"write-answer ", txn, *number),
         Message::Refuse { txn, number, why } => print_refuse(out, txn, *number, why),
         Message::Prepare {
