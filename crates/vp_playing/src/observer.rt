@@ -6,7 +6,7 @@ ghost use Rattle.vp_base.specs.declared.event.Event.TheVariants as event;
 use std::marker::Model;
 use vp_base::{CopyOf, Line, NoMemory, Replies, Shown};
 use vp_catalog::Catalog;
-use vp_schedule::print_line;
+use vp_trace::print_line;
 
 /// What is done with each line of a run. A delivery and a flow may be shown to every observer.
 pub trait Observer {

@@ -1,7 +1,6 @@
 pub mod Exact
 mod KindWords
 mod OtherSites
-mod Printed
 mod EventTexts
 mod Newlines
 mod LineTexts

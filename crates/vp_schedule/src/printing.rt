@@ -4,10 +4,9 @@ ghost use Rattle.std.specs.Prelude.{◌++◌, flat_map};
 ghost use Rattle.vp_text.specs.Printing.{Appends};
 ghost use Rattle.vp_model.specs.Texts.Schedule.{event_line, schedule_text};
 
-use crate::calls::print_event;
-use crate::fields::print_word;
 use crate::schedule::Schedule;
 use vp_base::{Event, NoMemory};
+use vp_trace::print_event;
 
 #[tactic(auto, using(vp_text::proofs::Printing::printing))]
 fn print_event_line(event: &Event, out: &mut Vec<u8>) -> Result<(), NoMemory>
@@ -34,6 +33,6 @@ pub fn print(schedule: &Schedule, out: &mut Vec<u8>) -> Result<(), NoMemory>
     ensures { Appends result out.old.items (schedule_text schedule.now) out.new.items }
 {
     schedule.catalog.print(out)?;
-    print_word(out, b"events\n")?;
+    out.extend_from_slice(b"events\n")?;
     print_event_lines(schedule.events.as_slice(), out)
 }

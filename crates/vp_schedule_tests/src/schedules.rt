@@ -2,7 +2,8 @@
 
 use std::alloc::Global;
 use vp_base::{Call, NameFault, NoMemory};
-use vp_schedule::{ScheduleFault, print, print_call, read, read_call};
+use vp_schedule::{ScheduleFault, print, read, read_call};
+use vp_trace::print_call;
 
 /// The place of the fault, where there is one. Want of memory is no case of these tests.
 fn place_of(read: Result<Call, NameFault>) -> Option<usize> {

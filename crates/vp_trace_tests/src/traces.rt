@@ -7,7 +7,7 @@ use vp_base::{
     Recs, Replies, Reply, Sent, Shown, SiteId, Sites, Stored, TxnId, Value, ViewId, Writes,
 };
 use vp_catalog::Catalog;
-use vp_schedule::{print_line, print_message};
+use vp_trace::{print_line, print_message};
 
 const OPENING: ViewId = ViewId { number: 0, site: 0 };
 

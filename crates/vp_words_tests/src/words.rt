@@ -2,7 +2,7 @@
 
 use std::alloc::Global;
 use vp_base::{NoMemory, Word};
-use vp_schedule::print_call;
+use vp_trace::print_call;
 use vp_words::{Command, Signal};
 
 /// The text of the command of the words, which is empty where they are none.

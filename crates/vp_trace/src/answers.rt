@@ -1,0 +1,192 @@
+//! What a client is told.
+
+ghost use Rattle.std.specs.Prelude.{◌++◌, ◌∷◌, [], codes};
+ghost use Rattle.vp_text.specs.Printing.{Appends};
+ghost use Rattle.std.specs.Fmt.{decimal};
+ghost use Rattle.vp_model.specs.Texts.Answers.{answer_text, numbered_text};
+ghost use Rattle.vp_model.specs.Texts.Fields.{view_text, held_text, txn_text, owner_text};
+
+use crate::fields::{
+    print_count, print_held, print_numbered, print_owner, print_txn, print_value, print_view,
+    print_word,
+};
+use vp_base::{Answer, CallNo, Name, NoMemory, Owner, SiteId, TxnId, Value, ViewId};
+use vp_text::print_number;
+
+#[tactic(auto, using(vp_text::proofs::Printing::printing))]
+fn print_begun(out: &mut Vec<u8>, txn: &TxnId, view: &ViewId) -> Result<(), NoMemory>
+    ensures { Appends result out.old.items (codes "begun " ++ (txn_text txn.now ++ 32 ∷ view_text view.now)) out.new.items }
+{
+    print_word(out, b"begun ")?;
+    txn.print(out)?;
+    out.push(b' ')?;
+    view.print(out)
+}
+
+#[tactic(auto, using(vp_text::proofs::Printing::printing))]
+fn print_weights(out: &mut Vec<u8>, name: &Name, inside: u32, total: u32) -> Result<(), NoMemory>
+    ensures { Appends result out.old.items (32 ∷ (name.now ++ 32 ∷ (decimal inside ++ (codes " of " ++ decimal total)))) out.new.items }
+{
+    out.push(b' ')?;
+    name.print(out)?;
+    out.push(b' ')?;
+    print_count(out, inside)?;
+    print_word(out, b" of ")?;
+    print_count(out, total)
+}
+
+/// Appends the weights of a record that may not be used.
+#[tactic(auto, using(vp_text::proofs::Printing::printing))]
+fn print_inaccessible(
+    out: &mut Vec<u8>,
+    txn: &TxnId,
+    number: CallNo,
+    name: &Name,
+    inside: u32,
+    total: u32,
+) -> Result<(), NoMemory>
+    ensures { Appends result out.old.items (numbered_text (codes "inaccessible ") txn.now number ++ 32 ∷ (name.now ++ 32 ∷ (decimal inside ++ (codes " of " ++ decimal total)))) out.new.items }
+{
+    print_numbered(out, b"inaccessible ", txn, number)?;
+    print_weights(out, name, inside, total)
+}
+
+/// Appends who has the lock, and where.
+#[tactic(auto, using(vp_text::proofs::Printing::printing))]
+fn print_lock_held(
+    out: &mut Vec<u8>,
+    txn: &TxnId,
+    number: CallNo,
+    name: &Name,
+    at: SiteId,
+    owner: &Owner,
+) -> Result<(), NoMemory>
+    ensures { Appends result out.old.items (numbered_text (codes "lockheld ") txn.now number ++ 32 ∷ (name.now ++ (codes " at " ++ (decimal at ++ (codes " by " ++ owner_text owner.now))))) out.new.items }
+{
+    print_numbered(out, b"lockheld ", txn, number)?;
+    out.push(b' ')?;
+    name.print(out)?;
+    print_word(out, b" at ")?;
+    at.print(out)?;
+    print_word(out, b" by ")?;
+    print_owner(out, owner)
+}
+
+#[tactic(auto, using(vp_text::proofs::Printing::printing))]
+fn print_change(
+    out: &mut Vec<u8>,
+    at: SiteId,
+    held: &ViewId,
+    now: &Option<ViewId>,
+) -> Result<(), NoMemory>
+    ensures { Appends result out.old.items (codes " at " ++ (decimal at ++ (codes " held " ++ (view_text held.now ++ (codes " now " ++ held_text now.now))))) out.new.items }
+{
+    print_word(out, b" at ")?;
+    at.print(out)?;
+    print_word(out, b" held ")?;
+    held.print(out)?;
+    print_word(out, b" now ")?;
+    print_held(out, now)
+}
+
+/// Appends which view a site held in place of the transaction's.
+#[tactic(auto, using(vp_text::proofs::Printing::printing))]
+fn print_view_changed(
+    out: &mut Vec<u8>,
+    txn: &TxnId,
+    number: CallNo,
+    at: SiteId,
+    held: &ViewId,
+    now: &Option<ViewId>,
+) -> Result<(), NoMemory>
+    ensures { Appends result out.old.items (numbered_text (codes "viewchanged ") txn.now number ++ (codes " at " ++ (decimal at ++ (codes " held " ++ (view_text held.now ++ (codes " now " ++ held_text now.now)))))) out.new.items }
+{
+    print_numbered(out, b"viewchanged ", txn, number)?;
+    print_change(out, at, held, now)
+}
+
+#[tactic(auto, using(vp_text::proofs::Printing::printing))]
+fn print_timed_out(
+    out: &mut Vec<u8>,
+    txn: &TxnId,
+    number: CallNo,
+    at: SiteId,
+) -> Result<(), NoMemory>
+    ensures { Appends result out.old.items (numbered_text (codes "timedout ") txn.now number ++ (codes " at " ++ decimal at)) out.new.items }
+{
+    print_numbered(out, b"timedout ", txn, number)?;
+    print_word(out, b" at ")?;
+    at.print(out)
+}
+
+#[tactic(auto, using(vp_text::proofs::Printing::printing))]
+fn print_read(out: &mut Vec<u8>, txn: &TxnId, number: CallNo, value: &Value) -> Result<(), NoMemory>
+    ensures { Appends result out.old.items (numbered_text (codes "value ") txn.now number ++ 32 ∷ value.now) out.new.items }
+{
+    print_numbered(out, b"value ", txn, number)?;
+    print_value(out, value)
+}
+
+#[tactic(auto, using(vp_text::proofs::Printing::printing))]
+fn print_spent(out: &mut Vec<u8>, number: u64) -> Result<(), NoMemory>
+    ensures { Appends result out.old.items (codes "spent " ++ decimal number) out.new.items }
+{
+    print_word(out, b"spent ")?;
+    print_number(out, number)?;
+    Ok(())
+}
+
+#[tactic(auto, using(vp_text::proofs::Printing::printing))]
+fn print_skipped(out: &mut Vec<u8>, txn: &TxnId, expected: CallNo) -> Result<(), NoMemory>
+    ensures { Appends result out.old.items (codes "skipped " ++ (txn_text txn.now ++ (codes " expected " ++ decimal expected))) out.new.items }
+{
+    print_word(out, b"skipped ")?;
+    txn.print(out)?;
+    print_word(out, b" expected ")?;
+    print_count(out, expected.get())
+}
+
+/// Appends an answer's text. Without memory only a beginning of it may stand there.
+#[tactic(auto, using(vp_text::proofs::Printing::printing))]
+pub fn print_answer(answer: &Answer, out: &mut Vec<u8>) -> Result<(), NoMemory>
+    ensures { Appends result out.old.items (answer_text answer.now) out.new.items }
+{
+    match answer {
+        Answer::Begun { txn, view } => print_begun(out, txn, view),
+        Answer::Value { txn, number, value } => print_read(out, txn, *number, value),
+        Answer::Written { txn, number } => print_numbered(out, b"written ", txn, *number),
+        Answer::Committed { txn, number } => print_numbered(out, b"committed ", txn, *number),
+        Answer::Aborted { txn, number } => print_numbered(out, b"aborted ", txn, *number),
+        Answer::Inviting { view } => print_view(out, b"inviting ", view),
+        Answer::NoView { promise } => print_view(out, b"noview ", promise),
+        Answer::Unknown { txn } => print_txn(out, b"unknown ", txn),
+        Answer::Skipped { txn, expected } => print_skipped(out, txn, *expected),
+        Answer::Busy { txn, number } => print_numbered(out, b"busy ", txn, *number),
+        Answer::NoRecord { txn, number } => print_numbered(out, b"norecord ", txn, *number),
+        Answer::TooManyOps { txn, number } => print_numbered(out, b"toomanyops ", txn, *number),
+        Answer::Inaccessible {
+            txn,
+            number,
+            name,
+            inside,
+            total,
+        } => print_inaccessible(out, txn, *number, name, *inside, *total),
+        Answer::LockHeld {
+            txn,
+            number,
+            name,
+            at,
+            owner,
+        } => print_lock_held(out, txn, *number, name, *at, owner),
+        Answer::ViewChanged {
+            txn,
+            number,
+            at,
+            held,
+            now,
+        } => print_view_changed(out, txn, *number, *at, held, now),
+        Answer::TimedOut { txn, number, at } => print_timed_out(out, txn, *number, *at),
+        Answer::Spent { number } => print_spent(out, *number),
+        Answer::TooManyLive => print_word(out, b"toomanylive 1024"),
+    }
+}

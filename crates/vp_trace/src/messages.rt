@@ -1,0 +1,271 @@
+//! Messages, as a trace shows them.
+
+ghost use Rattle.std.specs.Prelude.{◌++◌, ◌∷◌, [], codes, flat_map};
+ghost use Rattle.vp_text.specs.Printing.{Appends};
+ghost use Rattle.std.specs.Fmt.{decimal};
+ghost use Rattle.vp_model.specs.Catalogue.{name_of};
+ghost use Rattle.vp_model.specs.Texts.Fields.{view_text, txn_text, call_name_text, sites_text};
+ghost use Rattle.vp_model.specs.Texts.Messages.{message_text, request_text, read_text, write_text, obstacle_text, outcome_text};
+
+use crate::fields::{
+    print_count, print_held, print_numbered, print_owner, print_record, print_record_behind,
+    print_sites, print_txn, print_value, print_view, print_word,
+};
+use vp_base::{CallNo, Message, NoMemory, Obstacle, RecId, SiteId, Stored, TxnId, Value, ViewId};
+use vp_catalog::Catalog;
+
+#[tactic(auto, using(vp_text::proofs::Printing::printing))]
+fn print_two_views(out: &mut Vec<u8>, word: &[u8], a: &ViewId, b: &ViewId) -> Result<(), NoMemory>
+    ensures { Appends result out.old.items (word.now ++ (view_text a.now ++ 32 ∷ view_text b.now)) out.new.items }
+{
+    print_view(out, word, a)?;
+    out.push(b' ')?;
+    b.print(out)
+}
+
+#[tactic(auto, using(vp_text::proofs::Printing::printing))]
+fn print_members(out: &mut Vec<u8>, id: &ViewId, members: &[SiteId]) -> Result<(), NoMemory>
+    ensures { Appends result out.old.items (codes "view " ++ (view_text id.now ++ 32 ∷ sites_text members.now)) out.new.items }
+{
+    print_view(out, b"view ", id)?;
+    out.push(b' ')?;
+    print_sites(out, members)
+}
+
+#[tactic(auto, using(vp_text::proofs::Printing::printing))]
+fn print_request(
+    out: &mut Vec<u8>,
+    word: &[u8],
+    txn: &TxnId,
+    view: &ViewId,
+    number: CallNo,
+) -> Result<(), NoMemory>
+    ensures { Appends result out.old.items (request_text word.now txn.now view.now number) out.new.items }
+{
+    print_word(out, word)?;
+    txn.print(out)?;
+    out.push(b' ')?;
+    view.print(out)?;
+    out.push(b' ')?;
+    print_count(out, number.get())
+}
+
+#[tactic(auto, using(vp_text::proofs::Printing::printing))]
+fn print_lock_request(
+    out: &mut Vec<u8>,
+    catalog: &Catalog,
+    word: &[u8],
+    txn: &TxnId,
+    view: &ViewId,
+    number: CallNo,
+    rec: RecId,
+) -> Result<(), NoMemory>
+    ensures { Appends result out.old.items (request_text word.now txn.now view.now number ++ 32 ∷ name_of catalog.now rec) out.new.items }
+{
+    print_request(out, word, txn, view, number)?;
+    print_record_behind(out, catalog, rec)
+}
+
+#[tactic(auto, using(vp_text::proofs::Printing::printing))]
+fn print_read_answer(
+    out: &mut Vec<u8>,
+    txn: &TxnId,
+    number: CallNo,
+    value: &Value,
+) -> Result<(), NoMemory>
+    ensures { Appends result out.old.items (codes "read-answer " ++ (call_name_text txn.now number ++ 32 ∷ value.now)) out.new.items }
+{
+    print_numbered(out, b"read-answer ", txn, number)?;
+    print_value(out, value)
+}
+
+#[tactic(auto, using(vp_text::proofs::Printing::printing))]
+fn print_obstacle(out: &mut Vec<u8>, why: &Obstacle) -> Result<(), NoMemory>
+    ensures { Appends result out.old.items (obstacle_text why.now) out.new.items }
+{
+    match why {
+        Obstacle::Held { owner } => {
+            print_word(out, b"held ")?;
+            print_owner(out, owner)
+        }
+        Obstacle::OtherView { now } => {
+            print_word(out, b"view ")?;
+            print_held(out, now)
+        }
+    }
+}
+
+#[tactic(auto, using(vp_text::proofs::Printing::printing))]
+fn print_refuse(
+    out: &mut Vec<u8>,
+    txn: &TxnId,
+    number: CallNo,
+    why: &Obstacle,
+) -> Result<(), NoMemory>
+    ensures { Appends result out.old.items (codes "refuse " ++ (call_name_text txn.now number ++ 32 ∷ obstacle_text why.now)) out.new.items }
+{
+    print_numbered(out, b"refuse ", txn, number)?;
+    out.push(b' ')?;
+    print_obstacle(out, why)
+}
+
+#[tactic(auto, using(vp_text::proofs::Printing::printing))]
+fn print_reads(out: &mut Vec<u8>, catalog: &Catalog, reads: &[RecId]) -> Result<(), NoMemory>
+    ensures { Appends result out.old.items (flat_map (read_text catalog.now) reads.now) out.new.items }
+{
+    for rec in reads {
+        print_word(out, b" r ")?;
+        print_record(out, catalog, *rec)?;
+    }
+    Ok(())
+}
+
+#[tactic(auto, using(vp_text::proofs::Printing::printing))]
+fn print_writes(
+    out: &mut Vec<u8>,
+    catalog: &Catalog,
+    writes: &[(RecId, Value)],
+) -> Result<(), NoMemory>
+    ensures { Appends result out.old.items (flat_map (write_text catalog.now) writes.now) out.new.items }
+{
+    for write in writes {
+        print_word(out, b" w ")?;
+        print_record(out, catalog, write.0)?;
+        print_value(out, &write.1)?;
+    }
+    Ok(())
+}
+
+#[tactic(auto, using(vp_text::proofs::Printing::printing))]
+fn print_outcome(out: &mut Vec<u8>, txn: &TxnId, commit: bool) -> Result<(), NoMemory>
+    ensures { Appends result out.old.items (codes "outcome " ++ (txn_text txn.now ++ outcome_text commit)) out.new.items }
+{
+    print_txn(out, b"outcome ", txn)?;
+    print_decided(out, commit)
+}
+
+#[tactic(auto, using(vp_text::proofs::Printing::printing))]
+fn print_decided(out: &mut Vec<u8>, commit: bool) -> Result<(), NoMemory>
+    ensures { Appends result out.old.items (outcome_text commit) out.new.items }
+{
+    if commit {
+        print_word(out, b" commit")
+    } else {
+        print_word(out, b" abort")
+    }
+}
+
+#[tactic(auto, using(vp_text::proofs::Printing::printing))]
+fn print_refresh_request(
+    out: &mut Vec<u8>,
+    catalog: &Catalog,
+    view: &ViewId,
+    rec: RecId,
+) -> Result<(), NoMemory>
+    ensures { Appends result out.old.items (codes "refresh-request " ++ (view_text view.now ++ 32 ∷ name_of catalog.now rec)) out.new.items }
+{
+    print_view(out, b"refresh-request ", view)?;
+    print_record_behind(out, catalog, rec)
+}
+
+#[tactic(auto, using(vp_text::proofs::Printing::printing))]
+fn print_copy(
+    out: &mut Vec<u8>,
+    catalog: &Catalog,
+    rec: RecId,
+    stored: &Stored,
+) -> Result<(), NoMemory>
+    ensures { Appends result out.old.items (32 ∷ (name_of catalog.now rec ++ 32 ∷ (stored.now.value ++ 32 ∷ view_text stored.now.date))) out.new.items }
+{
+    print_record_behind(out, catalog, rec)?;
+    print_value(out, &stored.value)?;
+    out.push(b' ')?;
+    stored.date.print(out)
+}
+
+#[tactic(auto, using(vp_text::proofs::Printing::printing))]
+fn print_refresh_answer(
+    out: &mut Vec<u8>,
+    catalog: &Catalog,
+    view: &ViewId,
+    rec: RecId,
+    stored: &Stored,
+) -> Result<(), NoMemory>
+    ensures { Appends result out.old.items (codes "refresh-answer " ++ (view_text view.now ++ 32 ∷ (name_of catalog.now rec ++ 32 ∷ (stored.now.value ++ 32 ∷ view_text stored.now.date)))) out.new.items }
+{
+    print_view(out, b"refresh-answer ", view)?;
+    print_copy(out, catalog, rec, stored)
+}
+
+#[tactic(auto, using(vp_text::proofs::Printing::printing))]
+fn print_prepare(
+    out: &mut Vec<u8>,
+    catalog: &Catalog,
+    txn: &TxnId,
+    view: &ViewId,
+    number: CallNo,
+    reads: &[RecId],
+    writes: &[(RecId, Value)],
+) -> Result<(), NoMemory>
+    ensures { Appends result out.old.items (request_text (codes "prepare ") txn.now view.now number ++ (flat_map (read_text catalog.now) reads.now ++ flat_map (write_text catalog.now) writes.now)) out.new.items }
+{
+    print_request(out, b"prepare ", txn, view, number)?;
+    print_reads(out, catalog, reads)?;
+    print_writes(out, catalog, writes)
+}
+
+/// Appends a message as a trace shows it, with its records by name. Without memory only a beginning of it may stand there.
+#[tactic(auto, using(vp_text::proofs::Printing::printing))]
+pub fn print_message(
+    catalog: &Catalog,
+    message: &Message,
+    out: &mut Vec<u8>,
+) -> Result<(), NoMemory>
+    ensures { Appends result out.old.items (message_text catalog.now message.now) out.new.items }
+{
+    match message {
+        Message::Invite { id } => print_view(out, b"invite ", id),
+        Message::Accept { id } => print_view(out, b"accept ", id),
+        Message::Stale { id, promise } => print_two_views(out, b"stale ", id, promise),
+        Message::ViewCommit { id, members } => print_members(out, id, members.as_slice()),
+        Message::ReadRequest {
+            txn,
+            view,
+            number,
+            rec,
+        } => print_lock_request(out, catalog, b"read-request ", txn, view, *number, *rec),
+        Message::ReadAnswer { txn, number, value } => print_read_answer(out, txn, *number, value),
+        Message::WriteRequest {
+            txn,
+            view,
+            number,
+            rec,
+        } => print_lock_request(out, catalog, b"write-request ", txn, view, *number, *rec),
+        Message::WriteAnswer { txn, number } => print_numbered(out, b"write-answer ", txn, *number),
+        Message::Refuse { txn, number, why } => print_refuse(out, txn, *number, why),
+        Message::Prepare {
+            txn,
+            view,
+            number,
+            reads,
+            writes,
+        } => print_prepare(
+            out,
+            catalog,
+            txn,
+            view,
+            *number,
+            reads.as_slice(),
+            writes.as_slice(),
+        ),
+        Message::Vote { txn } => print_txn(out, b"vote ", txn),
+        Message::Outcome { txn, commit } => print_outcome(out, txn, *commit),
+        Message::Ack { txn } => print_txn(out, b"ack ", txn),
+        Message::Inquire { txn } => print_txn(out, b"inquire ", txn),
+        Message::RefreshRequest { view, rec } => print_refresh_request(out, catalog, view, *rec),
+        Message::RefreshAnswer { view, rec, stored } => {
+            print_refresh_answer(out, catalog, view, *rec, stored)
+        }
+        Message::Probe { view } => print_view(out, b"probe ", view),
+    }
+}
