@@ -1,11 +1,13 @@
-//! Nodes and clients as processes: a test starts its own program again, in which another test does what the words say.
+//! A test starts its own program again, in which another test does what the words say.
 
-use crate::{read_words, run_words};
 use std::io::{BufRead, BufReader, Read, Write};
 use std::net::{Ipv4Addr, UdpSocket};
 use std::process::{Child, ChildStdout, Command, ExitCode, Stdio};
 use std::test::Fail;
 use std::{env, fs, io};
+use vp_adapters::{LogFiles, Socket, words_behind};
+use vp_outside::{Reading, Writing};
+use vp_top::run;
 
 /// The test that does what the words behind its name say.
 const BY_WORDS: &str = "processes::does_what_the_words_behind_its_name_say";
@@ -18,12 +20,19 @@ const SITES: [&str; 3] = ["1", "2", "3"];
 /// With no words it does nothing. What runs a test prints a line of its own behind all that the words print.
 #[test]
 fn does_what_the_words_behind_its_name_say(rt: HostRuntime) -> Result<ExitCode, Fail> {
-    let mut words = Vec::new(rt.alloc());
-    read_words(&rt, &mut words)?;
-    Ok(match words.as_slice() {
-        [_, words @ ..] if !words.is_empty() => ExitCode::from(run_words(&rt, words).code()),
-        _ => ExitCode::SUCCESS,
-    })
+    let words = words_behind(&rt, 2)?;
+    if words.is_empty() {
+        return Ok(ExitCode::SUCCESS);
+    }
+    let status = run(
+        rt.alloc(),
+        &words,
+        &mut Reading::new(rt.stdin()),
+        &mut Writing::new(rt.stdout()),
+        &mut Socket::new(&rt),
+        &mut LogFiles::new(&rt),
+    );
+    Ok(ExitCode::from(status.code()))
 }
 
 fn free_socket(rt: &HostRuntime) -> io::Result<UdpSocket> {

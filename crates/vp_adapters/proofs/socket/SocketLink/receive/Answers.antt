@@ -1,6 +1,6 @@
 use Rattle.std.proofs.Common.{rules, refl, arith, drop, length-append}
 use Rattle.std.proofs.lemmas.List.{length-take-le, length-drop}
-use Rattle.vpdb.proofs.socket.SocketLink.receive.Goals as goal
+use Rattle.vp_adapters.proofs.socket.SocketLink.receive.Goals as goal
 
 pub returns-in-Ok : goal.returns-in-Ok
 returns-in-Ok g c =

@@ -5,7 +5,7 @@ use Rattle.vp_outside.specs.Disk.{Halves, InHalf, Torn, MaybeCut, Untouched}
 use Rattle.vp_outside.specs.DiskCalls.{GoesOn, Changes}
 use Rattle.vp_outside.specs.Output.{HasOutCause}
 use Rattle.vp_outside.specs.declared.sink.OutFault.{OutFault}
-use Rattle.vpdb.specs.Files.{of_files}
+use Rattle.vp_adapters.specs.Files.{of_files}
 
 pub Torn-same : (at n : ℕ) (bytes : List ℕ) → Torn at n bytes bytes
 Torn-same at n bytes = record { before = take_min at bytes; after = refl; no_shorter = omega arith; no_longer = omega arith }

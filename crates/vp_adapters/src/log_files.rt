@@ -5,7 +5,7 @@ ghost use Rattle.vp_outside.specs.Causes.{HasCause};
 ghost use Rattle.vp_outside.specs.Disk.{CutTo, MaybeCut, Torn, Written};
 ghost use Rattle.vp_outside.specs.DiskCalls.{Changes, Syncs};
 ghost use Rattle.vp_outside.specs.declared.sink.OutFault.TheVariants.{NoMemory as OutOfMemory};
-ghost use Rattle.vpdb.specs.Files.{of_files, IsDisk-of_files};
+ghost use Rattle.vp_adapters.specs.Files.{of_files, IsDisk-of_files};
 
 use std::fs::{File, Files, OpenOptions};
 use std::io::ErrorKind;

@@ -1,0 +1,65 @@
+//! The two files of a log, in the folder where the tests run.
+
+ghost use Rattle.std.specs.Prelude.{◌≤◌};
+
+use std::alloc::{AllocError, Global};
+use std::fs;
+use std::test::Fail;
+use vp_adapters::LogFiles;
+use vp_base::Word;
+use vp_outside::{Disk, OutFault};
+
+fn word(alloc: Global, text: &[u8]) -> Result<Word, AllocError> {
+    Ok(Word::from_vec(text.to_vec(alloc)?))
+}
+
+/// Writes, cuts and syncs the log of that name, whose halves are empty before.
+fn change<D: Disk>(disk: &mut D, name: &Word) -> Result<(), OutFault> {
+    disk.attach(name)?;
+    disk.cut(0, 0)?;
+    disk.cut(1, 0)?;
+    disk.write_at(0, 0, b"abcdefgh")?;
+    disk.write_at(0, 2, b"XY")?;
+    disk.cut(0, 6)?;
+    disk.cut(0, 100)?;
+    disk.write_at(1, 2, b"z")?;
+    disk.sync()
+}
+
+/// The length of a half of the log of that name, and what a read from its second byte on leaves in eight bytes.
+fn content<D: Disk>(disk: &mut D, name: &Word, half: u8) -> Result<(u64, usize, [u8; 8]), OutFault>
+    requires { half ≤ 1 }
+{
+    let mut buf = [b'-'; 8];
+    disk.attach(name)?;
+    let length = disk.length(half)?;
+    let count = disk.read(half, 1, &mut buf)?;
+    Ok((length, count, buf))
+}
+
+#[test]
+fn files_are_written_and_cut_and_synced_and_read(rt: HostRuntime) -> Result<(), Fail> {
+    let name = word(rt.alloc(), b"written")?;
+    change(&mut LogFiles::new(&rt), &name)?;
+    let mut again = LogFiles::new(&rt);
+    assert!(rt; content(&mut again, &name, 0) == Ok((6, 5, *b"bXYef---")));
+    assert!(rt; content(&mut again, &name, 1) == Ok((3, 2, *b"\0z------")));
+    assert!(rt; again.faults() == 0);
+    fs::remove_file(&rt, "written.0")?;
+    fs::remove_file(&rt, "written.1")?;
+    Ok(())
+}
+
+#[test]
+fn a_log_that_can_not_be_opened_is_counted(rt: HostRuntime) -> Result<(), Fail> {
+    let mut disk = LogFiles::new(&rt);
+    for (count, name) in [b"no_folder/log".as_slice(), b"\xFF", b"a\0b"]
+        .iter()
+        .enumerate()
+    {
+        let name = word(rt.alloc(), name)?;
+        assert!(rt; disk.attach(&name) == Err(OutFault::Failed));
+        assert!(rt; disk.faults() == count as u64 + 1);
+    }
+    Ok(())
+}

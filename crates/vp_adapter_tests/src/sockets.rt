@@ -1,0 +1,55 @@
+//! A UDP socket of 127.0.0.1, which gets what it hands to its own port.
+
+ghost use Rattle.std.specs.Prelude.{◌≡◌, None};
+
+use std::io;
+use std::net::{Ipv4Addr, UdpSocket};
+use std::test::Fail;
+use vp_adapters::Socket;
+use vp_outside::{Failed, Link, MOST_GIVEN, OutFault};
+
+/// A port that no socket has.
+fn free_port(rt: &HostRuntime) -> io::Result<u16> {
+    let socket = UdpSocket::bind(rt, (Ipv4Addr::LOCALHOST, 0))?;
+    Ok(socket.local_addr()?.port())
+}
+
+/// What comes back of a piece that the link hands to its own port: the sender's port, the count, and the buffer's first and last byte.
+fn echoed<L: Link>(link: &mut L, port: u16, piece: &[u8]) -> Result<(u16, usize, u8, u8), OutFault>
+    requires { (L.state link.old).asked ≡ None }
+{
+    let mut buf = [b'-'; MOST_GIVEN];
+    link.bind(port)?;
+    link.send(port, piece)?;
+    let (sender, count) = link.receive(&mut buf)?;
+    Ok((sender, count, buf[0], buf[MOST_GIVEN - 1]))
+}
+
+#[test]
+fn a_socket_gets_what_it_hands_to_its_own_port(rt: HostRuntime) -> Result<(), Fail> {
+    let port = free_port(&rt)?;
+    let short = echoed(&mut Socket::new(&rt), port, b"ab");
+    assert!(rt; short == Ok((port, 2, b'a', b'-')));
+    let empty = echoed(&mut Socket::new(&rt), port, b"");
+    assert!(rt; empty == Ok((port, 0, b'-', b'-')));
+    let piece = vec![in rt.alloc(); b'x'; MOST_GIVEN + 1]?;
+    let mut link = Socket::new(&rt);
+    let long = echoed(&mut link, port, &piece);
+    assert!(rt; long == Ok((port, MOST_GIVEN, b'x', b'x')));
+    assert!(rt; link.faults() == 0 && link.losses() == 0);
+    Ok(())
+}
+
+#[test]
+fn what_a_socket_can_not_do_is_counted(rt: HostRuntime) -> Result<(), Fail> {
+    let port = free_port(&rt)?;
+    let longest = vec![in rt.alloc(); b'x'; 70_000]?;
+    let mut link = Socket::new(&rt);
+    link.bind(port)?;
+    let mut other = Socket::new(&rt);
+    assert!(rt; other.bind(port) == Err(Failed), "the port is taken");
+    assert!(rt; other.faults() == 1 && other.losses() == 0);
+    assert!(rt; link.send(port, &longest) == Err(OutFault::Failed));
+    assert!(rt; link.faults() == 0 && link.losses() == 1);
+    Ok(())
+}
