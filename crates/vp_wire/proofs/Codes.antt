@@ -1,8 +1,8 @@
 -- The codes of kinds: which kind each one is found by.
-use Rattle.std.proofs.Common.{◌≡◌, ℕ, ◌==◌, Bool, true, false, cond, List, [], ◌∷◌, Option, Some, None, refl, subst}
+use Rattle.std.proofs.Common.{◌≡◌, ℕ, ◌==◌, Bool, true, false, cond, List, [], ◌∷◌, Option, Some, None, refl, ap, subst}
 use Rattle.std.proofs.lemmas.Bool.{eqb-true}
 use Rattle.vp_bytes.proofs.Codes.{Codes}
-use Rattle.vp_wire.specs.Kinds.{coded, message_code, message_kind, message_kinds, call_code, call_kind, call_kinds, answer_code, answer_kind, answer_kinds, frame_code, frame_kind, other_kinds}
+use Rattle.vp_wire.specs.Kinds.{coded, message_code, message_kind, message_kinds, call_code, call_kind, call_kinds, answer_code, answer_kind, answer_kinds, frame_code, frame_kind, other_kinds, or_other}
 use Rattle.vp_wire.specs.declared.kind.MessageKind.{MessageKind}
 use Rattle.vp_wire.specs.declared.kind.MessageKind.TheVariants as messages
 use Rattle.vp_wire.specs.declared.kind.CallKind.{CallKind}
@@ -79,19 +79,16 @@ pub answer_codes : Codes answer_code answer_kind
 answer_codes = record { found = answer_found; only = coded_only answer_code answer_kinds; some = answers.Begun }
 
 frame_found : (kind : Kind) → frame_kind (frame_code kind) ≡ Some kind
-frame_found (frames.Message kind) = rw (message_found kind) refl
+frame_found (frames.Message kind) = ap (λ (found : Option MessageKind). or_other found (coded frame_code other_kinds (message_code kind))) (message_found kind)
 frame_found frames.Call = refl
 frame_found frames.Reply = refl
 frame_found frames.Tick = refl
 frame_found frames.ProbeNow = refl
 frame_found frames.Stop = refl
 
-frame_only : (c : ℕ) (kind : Kind) → frame_kind c ≡ Some kind → frame_code kind ≡ c
-frame_only c kind e = at (message_kind c) refl e
-  where
-    at : (found : Option MessageKind) → message_kind c ≡ found → elim found [ Some kind ↦ Some (frames.Message kind) | None ↦ coded frame_code other_kinds c ] ≡ Some kind → frame_code kind ≡ c
-    at (Some message) same e = let is : frames.Message message ≡ kind = cc in subst (λ (k : Kind). frame_code k ≡ c) is (coded_only message_code message_kinds c message same)
-    at None same e = coded_only frame_code other_kinds c kind e
+frame_only : (c : ℕ) (kind : Kind) (found : Option MessageKind) → message_kind c ≡ found → or_other found (coded frame_code other_kinds c) ≡ Some kind → frame_code kind ≡ c
+frame_only c kind (Some message) same e = let is : frames.Message message ≡ kind = cc in subst (λ (k : Kind). frame_code k ≡ c) is (coded_only message_code message_kinds c message same)
+frame_only c kind None same e = coded_only frame_code other_kinds c kind e
 
 pub frame_codes : Codes frame_code frame_kind
-frame_codes = record { found = frame_found; only = frame_only; some = frames.Tick }
+frame_codes = record { found = frame_found; only = λ c kind e. frame_only c kind (message_kind c) refl e; some = frames.Tick }

@@ -153,8 +153,13 @@ frame_code frames.Stop = 36
 abbrev pub other_kinds : List Kind
 other_kinds = frames.Call ∷ frames.Reply ∷ frames.Tick ∷ frames.ProbeNow ∷ frames.Stop ∷ []
 
+-- the message of this kind, or what else it is
+abbrev pub or_other : Option MessageKind → Option Kind → Option Kind
+or_other (Some kind) other = Some (frames.Message kind)
+or_other None other = other
+
 abbrev pub frame_kind : ℕ → Option Kind
-frame_kind c = elim (message_kind c) [ Some kind ↦ Some (frames.Message kind) | None ↦ coded frame_code other_kinds c ]
+frame_kind c = or_other (message_kind c) (coded frame_code other_kinds c)
 
 abbrev pub kind_of_body : Body → Kind
 kind_of_body (body.Message message) = frames.Message (kind_of_message message)

@@ -1,7 +1,7 @@
 //! Which message, call or answer stands in a frame, and the byte that stands for each.
 
 ghost use Rattle.std.specs.Prelude.{◌≡◌};
-ghost use Rattle.vp_wire.specs.Kinds.{answer_code, answer_kind, call_code, call_kind, frame_code, frame_kind, kind_of_answer, kind_of_body, kind_of_call, kind_of_message, message_code, message_kind};
+ghost use Rattle.vp_wire.specs.Kinds.{answer_code, answer_kind, call_code, call_kind, coded, frame_code, frame_kind, kind_of_answer, kind_of_body, kind_of_call, kind_of_message, message_code, message_kind, other_kinds};
 
 use crate::frame::Body;
 use vp_base::{Answer, Call, Message};
@@ -87,7 +87,10 @@ impl Coded for MessageKind {
     ghost kind = { message_kind };
 
     fn of(code: u8) -> Option<MessageKind> {
-        MessageKind::ALL.iter().copied().find(|kind| kind.code() == code)
+        MessageKind::ALL
+            .iter()
+            .copied()
+            .find(|kind| kind.code() == code)
     }
 }
 
@@ -138,7 +141,10 @@ impl Coded for CallKind {
     ghost kind = { call_kind };
 
     fn of(code: u8) -> Option<CallKind> {
-        CallKind::ALL.iter().copied().find(|kind| kind.code() == code)
+        CallKind::ALL
+            .iter()
+            .copied()
+            .find(|kind| kind.code() == code)
     }
 }
 
@@ -225,7 +231,10 @@ impl Coded for AnswerKind {
     ghost kind = { answer_kind };
 
     fn of(code: u8) -> Option<AnswerKind> {
-        AnswerKind::ALL.iter().copied().find(|kind| kind.code() == code)
+        AnswerKind::ALL
+            .iter()
+            .copied()
+            .find(|kind| kind.code() == code)
     }
 }
 
@@ -277,6 +286,16 @@ impl Kind {
             Kind::Stop => 36,
         }
     }
+
+    /// The kind of this code that is no message.
+    fn other_of(code: u8) -> Option<Kind>
+        ensures { result ≡ coded frame_code other_kinds code }
+    {
+        Kind::OTHERS
+            .iter()
+            .copied()
+            .find(|kind| kind.code() == code)
+    }
 }
 
 impl Coded for Kind {
@@ -285,10 +304,7 @@ impl Coded for Kind {
     fn of(code: u8) -> Option<Kind> {
         match MessageKind::of(code) {
             Some(kind) => Some(Kind::Message(kind)),
-            None => Kind::OTHERS
-                .iter()
-                .copied()
-                .find(|kind| kind.code() == code),
+            None => Kind::other_of(code),
         }
     }
 }

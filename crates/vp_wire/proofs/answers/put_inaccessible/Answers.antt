@@ -1,4 +1,4 @@
-use Rattle.std.proofs.Common.{◌∷◌, ◌++◌, append_assoc}
+use Rattle.std.proofs.Common.{◌++◌, append_assoc}
 use Rattle.vp_bytes.specs.Fields.{number_bytes, counted_bytes, numbered_bytes}
 use Rattle.vp_bytes.proofs.Writing.{begun_err, begun_as}
 use Rattle.vp_wire.proofs.answers.put_inaccessible.Goals as goal

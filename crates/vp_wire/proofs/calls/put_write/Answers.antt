@@ -1,4 +1,4 @@
-use Rattle.std.proofs.Common.{◌∷◌, refl}
+use Rattle.std.proofs.Common.{refl}
 use Rattle.vp_bytes.specs.Fields.{counted_bytes, numbered_bytes}
 use Rattle.vp_bytes.proofs.Writing.{begun_err, begun_part}
 use Rattle.vp_wire.proofs.calls.put_write.Goals as goal
