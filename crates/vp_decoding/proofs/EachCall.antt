@@ -1,5 +1,5 @@
 -- The fields of a call are read exactly, by its kind.
-use Rattle.std.proofs.Common.{◌≡◌, ℕ, List, ◌∷◌, drop, refl, sym, ap, subst}
+use Rattle.std.proofs.Common.{◌≡◌, ℕ, List, refl, sym, subst}
 use Rattle.vp_text.proofs.Exact.{Exact, Made, made_exact}
 use Rattle.vp_base.specs.Words.{IsName, IsValue}
 use Rattle.vp_base.specs.declared.ids.TxnId.{TxnId}
