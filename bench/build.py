@@ -17,8 +17,8 @@ PROGRAMS = TOP / "bench/programs"
 
 # what each program stands on, and the texts beside its own that are its modules
 BELOW = {
-    "answer_frames": "vp_wire vp_trace vp_catalog vp_base bytes",
-    "time_frames": "vp_wire vp_base bytes",
+    "answer_frames": "vp_decoding vp_wire vp_trace vp_catalog vp_base bytes",
+    "time_frames": "vp_decoding vp_wire vp_base bytes",
     "answer_batches": "vp_records vp_base",
     "answer_logs": "vp_stable vp_records vp_outside vp_base",
     "time_logs": "vp_stable vp_records vp_outside vp_base",

@@ -6,11 +6,11 @@ use Rattle.vp_text.specs.Meaning.{Answers}
 use Rattle.vp_model.specs.Types.{Call}
 use Rattle.vp_runs.specs.Asking.{answer_in, answer_of}
 use Rattle.vp_wire.specs.declared.frame.Frame.{Frame}
-use Rattle.vp_wire.specs.declared.fault.WireFault.TheVariants as faults
-use Rattle.vp_wire.specs.Decoded.{read_frame}
-use Rattle.vp_wire.specs.Faults.{wire_place}
+use Rattle.vp_decoding.specs.declared.fault.WireFault.TheVariants as faults
+use Rattle.vp_decoding.specs.Decoded.{read_frame}
+use Rattle.vp_decoding.specs.Faults.{wire_place}
 use Rattle.vp_wire.specs.Grammar.{IsSpelling}
-use Rattle.vp_wire.proofs.Decoded.{answers_are_read}
+use Rattle.vp_decoding.proofs.Decoded.{answers_are_read}
 
 same_number : (n : ℕ) → (n == n) ≡ true
 same_number n = grind (arith, nat_tests)

@@ -19,8 +19,7 @@ use Rattle.vp_laws.proofs.ShapeLists.{all_at}
 use Rattle.vp_outside.specs.declared.datagram.Datagram.{Datagram}
 use Rattle.vp_wire.specs.declared.frame.Frame.{Frame}
 use Rattle.vp_wire.specs.declared.frame.Body.TheVariants as body
-use Rattle.vp_wire.specs.Frames.{frame_of}
-use Rattle.vp_wire.specs.Grammar.{IsFrame, frame_bytes}
+use Rattle.vp_wire.specs.Grammar.{IsFrame, frame_of, frame_bytes}
 use Rattle.vp_runs.specs.declared.arrival.Arrival.TheVariants as arrives
 use Rattle.vp_runs.specs.Arrivals.{arrival}
 use Rattle.vp_runs.specs.Asking.{call_frame}

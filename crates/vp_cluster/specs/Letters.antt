@@ -9,8 +9,7 @@ use Rattle.vp_laws.specs.ShapeLaws.{message_frame}
 use Rattle.vp_outside.specs.declared.datagram.Datagram.{Datagram}
 use Rattle.vp_wire.specs.declared.frame.Frame.{Frame}
 use Rattle.vp_wire.specs.declared.frame.Body.TheVariants as body
-use Rattle.vp_wire.specs.Frames.{frame_of}
-use Rattle.vp_wire.specs.Grammar.{frame_bytes}
+use Rattle.vp_wire.specs.Grammar.{frame_of, frame_bytes}
 use Rattle.vp_runs.specs.Asking.{call_frame}
 use Rattle.vp_cluster.specs.declared.letter.Letter.{Letter}
 

@@ -3,8 +3,7 @@
 ghost use Rattle.std.specs.Prelude.{◌≡◌, ◌++◌, ℕ, IfOk, OnOk, map, take};
 ghost use Rattle.vp_bytes.specs.Fields.{IsSite};
 ghost use Rattle.vp_cluster.specs.Letters.{letter_to, sent_from};
-ghost use Rattle.vp_wire.specs.Frames.{frame_of};
-ghost use Rattle.vp_wire.specs.Grammar.{IsFrame};
+ghost use Rattle.vp_wire.specs.Grammar.{IsFrame, frame_of};
 
 use bytes::{Bytes, BytesMut};
 use vp_base::{CopyOf, NoMemory, SiteId};

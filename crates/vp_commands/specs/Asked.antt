@@ -7,7 +7,7 @@ use Rattle.vp_outside.specs.Links.{LinkState, Hands, GivesNone, HandsNone}
 use Rattle.vp_outside.specs.declared.datagram.Datagram.{Datagram}
 use Rattle.vp_wire.specs.declared.frame.Body.{Body}
 use Rattle.vp_wire.specs.declared.frame.Body.TheVariants as body
-use Rattle.vp_wire.specs.Frames.{frame_of}
+use Rattle.vp_wire.specs.Grammar.{frame_of}
 use Rattle.vp_runs.specs.Turns.{datagram_to}
 use Rattle.vp_client.specs.Asked.{Asks, Came, MaySent}
 use Rattle.vp_client.specs.declared.asking.AskFault.{AskFault}

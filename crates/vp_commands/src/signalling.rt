@@ -2,8 +2,7 @@
 
 ghost use Rattle.std.specs.Prelude.{◌≡◌, None, IfOk, OnErr, IsTrue};
 ghost use Rattle.vp_outside.specs.Links.{GivesNone, Sends};
-ghost use Rattle.vp_wire.specs.Frames.{frame_of};
-ghost use Rattle.vp_wire.specs.Grammar.{frame_bytes};
+ghost use Rattle.vp_wire.specs.Grammar.{frame_of, frame_bytes};
 ghost use Rattle.vp_commands.specs.Asked.{SignalGives, SignalLeaves, signal_body};
 
 use bytes::BytesMut;

@@ -3,7 +3,8 @@
 use bytes::BytesMut;
 use std::alloc::Global;
 use vp_base::{Answer, Call, CopyOf, Message, NoMemory, RecId, Stored, Value, ViewId};
-use vp_wire::{Body, Frame, WireFault, decode, encode};
+use vp_decoding::{WireFault, decode};
+use vp_wire::{Body, Frame, encode};
 
 #[test]
 fn a_tick_has_its_bytes(rt: HostRuntime) -> Result<(), NoMemory> {

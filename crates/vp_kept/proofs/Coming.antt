@@ -16,8 +16,7 @@ use Rattle.vp_laws.proofs.Occurs.{Gives}
 use Rattle.vp_laws.proofs.Scenes.{message_at-has}
 use Rattle.vp_outside.specs.declared.datagram.Datagram.{Datagram}
 use Rattle.vp_wire.specs.declared.frame.Body.TheVariants as body
-use Rattle.vp_wire.specs.Frames.{frame_of}
-use Rattle.vp_wire.specs.Grammar.{IsFrame}
+use Rattle.vp_wire.specs.Grammar.{IsFrame, frame_of}
 use Rattle.vp_runs.specs.declared.arrival.Arrival.TheVariants as arrives
 use Rattle.vp_runs.specs.Arrivals.{arrival, site_at}
 use Rattle.vp_runs.specs.Asking.{call_frame}

@@ -8,10 +8,10 @@ use Rattle.vp_text.specs.Meaning.{Answers}
 use Rattle.vp_model.specs.Words.{value_at}
 use Rattle.vp_laws.specs.ShapeLaws.{message_frame, reply_frame}
 use Rattle.vp_wire.specs.declared.frame.Frame.{Frame}
-use Rattle.vp_wire.specs.Decoded.{read_frame}
+use Rattle.vp_decoding.specs.Decoded.{read_frame}
 use Rattle.vp_wire.specs.Grammar.{IsFrame, IsSpelling, frame_bytes}
-use Rattle.vp_wire.proofs.Decoded.{bytes_are_read}
-use Rattle.vp_wire.proofs.Told.{one_frame}
+use Rattle.vp_decoding.proofs.Decoded.{bytes_are_read}
+use Rattle.vp_decoding.proofs.Told.{one_frame}
 use Rattle.vp_runs.specs.Arrivals.{arrival}
 use Rattle.vp_runs.specs.Asking.{answer_of, call_frame}
 use Rattle.vp_runs.specs.Laws.{MessagesArrive, CallsArrive, RepliesArrive}

@@ -9,7 +9,7 @@ use Rattle.vp_model.specs.Catalogue.{Catalogue, RecordEntry}
 use Rattle.vp_model.specs.Words.{opening}
 use Rattle.vp_outside.specs.declared.datagram.Datagram.{Datagram}
 use Rattle.vp_wire.specs.declared.frame.Body.TheVariants as body
-use Rattle.vp_wire.specs.Frames.{frame_of}
+use Rattle.vp_wire.specs.Grammar.{frame_of}
 use Rattle.vp_runs.specs.Turns.{datagram_to}
 use Rattle.vp_runs.specs.Asking.{call_frame}
 

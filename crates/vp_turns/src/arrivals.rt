@@ -8,7 +8,8 @@ use std::alloc::Global;
 use vp_base::{Input, NoMemory, SiteId};
 use vp_catalog::Catalog;
 use vp_runs::Arrival;
-use vp_wire::{Body, Frame, WireFault, decode, frames_are_read};
+use vp_decoding::{WireFault, decode, frames_are_read};
+use vp_wire::{Body, Frame};
 
 /// The site whose port it is.
 fn owner_of(catalog: &Catalog, port: u16) -> Option<SiteId>

@@ -16,96 +16,81 @@ use Rattle.vp_bytes.specs.Copies.{copy_bytes, IsCopy}
 use Rattle.vp_wire.specs.declared.frame.Frame.{Frame}
 use Rattle.vp_wire.specs.declared.frame.Body.{Body}
 use Rattle.vp_wire.specs.declared.frame.Body.TheVariants as body
+use Rattle.vp_wire.specs.Kinds.{call_code, kind_of_call, answer_code, kind_of_answer, frame_code, kind_of_body}
 
 abbrev pub obstacle_bytes : Obstacle → List ℕ
 obstacle_bytes (obstacle.Held owner) = 1 ∷ owner_bytes owner
 obstacle_bytes (obstacle.OtherView now) = 2 ∷ maybe_view_bytes now
 
-abbrev pub message_kind : Message → ℕ
-message_kind (message.Invite id) = 1
-message_kind (message.Accept id) = 2
-message_kind (message.Stale id promise) = 3
-message_kind (message.ViewCommit id members) = 4
-message_kind (message.ReadRequest txn view number rec) = 5
-message_kind (message.ReadAnswer txn number value) = 6
-message_kind (message.WriteRequest txn view number rec) = 7
-message_kind (message.WriteAnswer txn number) = 8
-message_kind (message.Refuse txn number why) = 9
-message_kind (message.Prepare txn view number reads writes) = 10
-message_kind (message.Vote txn) = 11
-message_kind (message.Outcome txn commit) = 12
-message_kind (message.Ack txn) = 13
-message_kind (message.Inquire txn) = 14
-message_kind (message.RefreshRequest view rec) = 15
-message_kind (message.RefreshAnswer view rec stored) = 16
-message_kind (message.Probe view) = 17
+abbrev pub message_fields : Message → List ℕ
+message_fields (message.Invite id) = view_bytes id
+message_fields (message.Accept id) = view_bytes id
+message_fields (message.Stale id promise) = view_bytes id ++ view_bytes promise
+message_fields (message.ViewCommit id members) = view_bytes id ++ counted_bytes members
+message_fields (message.ReadRequest txn view number rec) = request_bytes txn view number ++ rec ∷ []
+message_fields (message.ReadAnswer txn number value) = numbered_bytes txn number ++ counted_bytes value
+message_fields (message.WriteRequest txn view number rec) = request_bytes txn view number ++ rec ∷ []
+message_fields (message.WriteAnswer txn number) = numbered_bytes txn number
+message_fields (message.Refuse txn number why) = numbered_bytes txn number ++ obstacle_bytes why
+message_fields (message.Prepare txn view number reads writes) = request_bytes txn view number ++ (counted_bytes reads ++ writes_bytes writes)
+message_fields (message.Vote txn) = txn_bytes txn
+message_fields (message.Outcome txn commit) = txn_bytes txn ++ outcome_byte commit ∷ []
+message_fields (message.Ack txn) = txn_bytes txn
+message_fields (message.Inquire txn) = txn_bytes txn
+message_fields (message.RefreshRequest view rec) = view_bytes view ++ rec ∷ []
+message_fields (message.RefreshAnswer view rec stored) = view_bytes view ++ copy_bytes (rec, stored)
+message_fields (message.Probe view) = view_bytes view
 
-abbrev pub message_bytes : Message → List ℕ
-message_bytes (message.Invite id) = view_bytes id
-message_bytes (message.Accept id) = view_bytes id
-message_bytes (message.Stale id promise) = view_bytes id ++ view_bytes promise
-message_bytes (message.ViewCommit id members) = view_bytes id ++ counted_bytes members
-message_bytes (message.ReadRequest txn view number rec) = request_bytes txn view number ++ rec ∷ []
-message_bytes (message.ReadAnswer txn number value) = numbered_bytes txn number ++ counted_bytes value
-message_bytes (message.WriteRequest txn view number rec) = request_bytes txn view number ++ rec ∷ []
-message_bytes (message.WriteAnswer txn number) = numbered_bytes txn number
-message_bytes (message.Refuse txn number why) = numbered_bytes txn number ++ obstacle_bytes why
-message_bytes (message.Prepare txn view number reads writes) = request_bytes txn view number ++ (counted_bytes reads ++ writes_bytes writes)
-message_bytes (message.Vote txn) = txn_bytes txn
-message_bytes (message.Outcome txn commit) = txn_bytes txn ++ outcome_byte commit ∷ []
-message_bytes (message.Ack txn) = txn_bytes txn
-message_bytes (message.Inquire txn) = txn_bytes txn
-message_bytes (message.RefreshRequest view rec) = view_bytes view ++ rec ∷ []
-message_bytes (message.RefreshAnswer view rec stored) = view_bytes view ++ copy_bytes (rec, stored)
-message_bytes (message.Probe view) = view_bytes view
+abbrev pub call_fields : Call → List ℕ
+call_fields call.Begin = []
+call_fields call.Regroup = []
+call_fields (call.Read txn number name) = numbered_bytes txn number ++ counted_bytes name
+call_fields (call.Write txn number name value) = numbered_bytes txn number ++ (counted_bytes name ++ counted_bytes value)
+call_fields (call.Commit txn number) = numbered_bytes txn number
+call_fields (call.Abort txn number) = numbered_bytes txn number
 
+-- a call: its code, and its fields
 abbrev pub call_bytes : Call → List ℕ
-call_bytes call.Begin = 1 ∷ []
-call_bytes call.Regroup = 2 ∷ []
-call_bytes (call.Read txn number name) = 3 ∷ (numbered_bytes txn number ++ counted_bytes name)
-call_bytes (call.Write txn number name value) = 4 ∷ (numbered_bytes txn number ++ (counted_bytes name ++ counted_bytes value))
-call_bytes (call.Commit txn number) = 5 ∷ numbered_bytes txn number
-call_bytes (call.Abort txn number) = 6 ∷ numbered_bytes txn number
+call_bytes call = call_code (kind_of_call call) ∷ call_fields call
 
+abbrev pub answer_fields : Answer → List ℕ
+answer_fields (answer.Begun txn view) = txn_bytes txn ++ view_bytes view
+answer_fields (answer.Value txn number value) = numbered_bytes txn number ++ counted_bytes value
+answer_fields (answer.Written txn number) = numbered_bytes txn number
+answer_fields (answer.Committed txn number) = numbered_bytes txn number
+answer_fields (answer.Aborted txn number) = numbered_bytes txn number
+answer_fields (answer.Inviting view) = view_bytes view
+answer_fields (answer.NoView promise) = view_bytes promise
+answer_fields (answer.Unknown txn) = txn_bytes txn
+answer_fields (answer.Skipped txn expected) = numbered_bytes txn expected
+answer_fields (answer.Busy txn number) = numbered_bytes txn number
+answer_fields (answer.NoRecord txn number) = numbered_bytes txn number
+answer_fields (answer.TooManyOps txn number) = numbered_bytes txn number
+answer_fields (answer.Inaccessible txn number name inside total) =
+    numbered_bytes txn number ++ (counted_bytes name ++ (number_bytes 4 inside ++ number_bytes 4 total))
+answer_fields (answer.LockHeld txn number name at owner) = numbered_bytes txn number ++ (counted_bytes name ++ at ∷ owner_bytes owner)
+answer_fields (answer.ViewChanged txn number at held now) = numbered_bytes txn number ++ at ∷ (view_bytes held ++ maybe_view_bytes now)
+answer_fields (answer.TimedOut txn number at) = numbered_bytes txn number ++ at ∷ []
+answer_fields (answer.Spent number) = number_bytes 8 number
+answer_fields answer.TooManyLive = []
+
+-- an answer: its code, and its fields
 abbrev pub answer_bytes : Answer → List ℕ
-answer_bytes (answer.Begun txn view) = 1 ∷ (txn_bytes txn ++ view_bytes view)
-answer_bytes (answer.Value txn number value) = 2 ∷ (numbered_bytes txn number ++ counted_bytes value)
-answer_bytes (answer.Written txn number) = 3 ∷ numbered_bytes txn number
-answer_bytes (answer.Committed txn number) = 4 ∷ numbered_bytes txn number
-answer_bytes (answer.Aborted txn number) = 5 ∷ numbered_bytes txn number
-answer_bytes (answer.Inviting view) = 6 ∷ view_bytes view
-answer_bytes (answer.NoView promise) = 7 ∷ view_bytes promise
-answer_bytes (answer.Unknown txn) = 8 ∷ txn_bytes txn
-answer_bytes (answer.Skipped txn expected) = 9 ∷ numbered_bytes txn expected
-answer_bytes (answer.Busy txn number) = 10 ∷ numbered_bytes txn number
-answer_bytes (answer.NoRecord txn number) = 11 ∷ numbered_bytes txn number
-answer_bytes (answer.TooManyOps txn number) = 12 ∷ numbered_bytes txn number
-answer_bytes (answer.Inaccessible txn number name inside total) =
-    13 ∷ (numbered_bytes txn number ++ (counted_bytes name ++ (number_bytes 4 inside ++ number_bytes 4 total)))
-answer_bytes (answer.LockHeld txn number name at owner) = 14 ∷ (numbered_bytes txn number ++ (counted_bytes name ++ at ∷ owner_bytes owner))
-answer_bytes (answer.ViewChanged txn number at held now) = 15 ∷ (numbered_bytes txn number ++ at ∷ (view_bytes held ++ maybe_view_bytes now))
-answer_bytes (answer.TimedOut txn number at) = 16 ∷ (numbered_bytes txn number ++ at ∷ [])
-answer_bytes (answer.Spent number) = 17 ∷ number_bytes 8 number
-answer_bytes answer.TooManyLive = 18 ∷ []
-
-abbrev pub kind : Body → ℕ
-kind (body.Message message) = message_kind message
-kind (body.Call call) = 32
-kind (body.Reply answer) = 33
-kind body.Tick = 34
-kind body.ProbeNow = 35
-kind body.Stop = 36
+answer_bytes answer = answer_code (kind_of_answer answer) ∷ answer_fields answer
 
 abbrev pub fields : Body → List ℕ
-fields (body.Message message) = message_bytes message
+fields (body.Message message) = message_fields message
 fields (body.Call call) = call_bytes call
 fields (body.Reply answer) = answer_bytes answer
 fields body.Tick = []
 fields body.ProbeNow = []
 fields body.Stop = []
 
+abbrev pub frame_of : ℕ → ℕ → Body → Frame
+frame_of from to body = record { from = from; to = to; body = body }
+
 abbrev pub frame_bytes : Frame → List ℕ
-frame_bytes frame = 86 ∷ 1 ∷ kind frame.body ∷ frame.from ∷ frame.to ∷ fields frame.body
+frame_bytes frame = 86 ∷ 1 ∷ frame_code (kind_of_body frame.body) ∷ frame.from ∷ frame.to ∷ fields frame.body
 
 -- ---- what values frames have
 

@@ -1,6 +1,14 @@
--- Which message, call or answer stands in a frame, by its byte.
-use Rattle.std.specs.Prelude.{ℕ, List, [], ◌∷◌, ◌++◌, map, Option}
-use Rattle.vp_bytes.specs.Codes.{find_code}
+-- Which message, call or answer stands in a frame, and the byte that stands for each.
+use Rattle.std.specs.Prelude.{ℕ, List, [], ◌∷◌, ◌==◌, Option, Some, None}
+use Rattle.std.specs.List.{find}
+use Rattle.vp_base.specs.declared.message.Message.{Message}
+use Rattle.vp_base.specs.declared.message.Message.TheVariants as message
+use Rattle.vp_base.specs.declared.event.Call.{Call}
+use Rattle.vp_base.specs.declared.event.Call.TheVariants as call
+use Rattle.vp_base.specs.declared.answer.Answer.{Answer}
+use Rattle.vp_base.specs.declared.answer.Answer.TheVariants as answer
+use Rattle.vp_wire.specs.declared.frame.Body.{Body}
+use Rattle.vp_wire.specs.declared.frame.Body.TheVariants as body
 use Rattle.vp_wire.specs.declared.kind.MessageKind.{MessageKind}
 use Rattle.vp_wire.specs.declared.kind.MessageKind.TheVariants as messages
 use Rattle.vp_wire.specs.declared.kind.CallKind.{CallKind}
@@ -10,27 +18,153 @@ use Rattle.vp_wire.specs.declared.kind.AnswerKind.TheVariants as answers
 use Rattle.vp_wire.specs.declared.kind.Kind.{Kind}
 use Rattle.vp_wire.specs.declared.kind.Kind.TheVariants as frames
 
-abbrev pub message_kinds : List (ℕ × MessageKind)
-message_kinds = (1, messages.Invite) ∷ (2, messages.Accept) ∷ (3, messages.Stale) ∷ (4, messages.ViewCommit) ∷ (5, messages.ReadRequest) ∷ (6, messages.ReadAnswer) ∷ (7, messages.WriteRequest) ∷ (8, messages.WriteAnswer) ∷ (9, messages.Refuse) ∷ (10, messages.Prepare) ∷ (11, messages.Vote) ∷ (12, messages.Outcome) ∷ (13, messages.Ack) ∷ (14, messages.Inquire) ∷ (15, messages.RefreshRequest) ∷ (16, messages.RefreshAnswer) ∷ (17, messages.Probe) ∷ []
+-- the first of these kinds that has this code
+abbrev pub coded : {K : Type 0} → (K → ℕ) → List K → ℕ → Option K
+coded code kinds c = find (λ kind. code kind == c) kinds
+
+-- ---- messages
+
+abbrev pub message_code : MessageKind → ℕ
+message_code messages.Invite = 1
+message_code messages.Accept = 2
+message_code messages.Stale = 3
+message_code messages.ViewCommit = 4
+message_code messages.ReadRequest = 5
+message_code messages.ReadAnswer = 6
+message_code messages.WriteRequest = 7
+message_code messages.WriteAnswer = 8
+message_code messages.Refuse = 9
+message_code messages.Prepare = 10
+message_code messages.Vote = 11
+message_code messages.Outcome = 12
+message_code messages.Ack = 13
+message_code messages.Inquire = 14
+message_code messages.RefreshRequest = 15
+message_code messages.RefreshAnswer = 16
+message_code messages.Probe = 17
+
+abbrev pub message_kinds : List MessageKind
+message_kinds = messages.Invite ∷ messages.Accept ∷ messages.Stale ∷ messages.ViewCommit ∷ messages.ReadRequest ∷ messages.ReadAnswer ∷ messages.WriteRequest ∷ messages.WriteAnswer ∷ messages.Refuse ∷ messages.Prepare ∷ messages.Vote ∷ messages.Outcome ∷ messages.Ack ∷ messages.Inquire ∷ messages.RefreshRequest ∷ messages.RefreshAnswer ∷ messages.Probe ∷ []
 
 abbrev pub message_kind : ℕ → Option MessageKind
-message_kind c = find_code message_kinds c
+message_kind c = coded message_code message_kinds c
 
-abbrev pub call_kinds : List (ℕ × CallKind)
-call_kinds = (1, calls.Begin) ∷ (2, calls.Regroup) ∷ (3, calls.Read) ∷ (4, calls.Write) ∷ (5, calls.Commit) ∷ (6, calls.Abort) ∷ []
+abbrev pub kind_of_message : Message → MessageKind
+kind_of_message (message.Invite id) = messages.Invite
+kind_of_message (message.Accept id) = messages.Accept
+kind_of_message (message.Stale id promise) = messages.Stale
+kind_of_message (message.ViewCommit id members) = messages.ViewCommit
+kind_of_message (message.ReadRequest txn view number rec) = messages.ReadRequest
+kind_of_message (message.ReadAnswer txn number value) = messages.ReadAnswer
+kind_of_message (message.WriteRequest txn view number rec) = messages.WriteRequest
+kind_of_message (message.WriteAnswer txn number) = messages.WriteAnswer
+kind_of_message (message.Refuse txn number why) = messages.Refuse
+kind_of_message (message.Prepare txn view number reads writes) = messages.Prepare
+kind_of_message (message.Vote txn) = messages.Vote
+kind_of_message (message.Outcome txn commit) = messages.Outcome
+kind_of_message (message.Ack txn) = messages.Ack
+kind_of_message (message.Inquire txn) = messages.Inquire
+kind_of_message (message.RefreshRequest view rec) = messages.RefreshRequest
+kind_of_message (message.RefreshAnswer view rec stored) = messages.RefreshAnswer
+kind_of_message (message.Probe view) = messages.Probe
+
+-- ---- calls
+
+abbrev pub call_code : CallKind → ℕ
+call_code calls.Begin = 1
+call_code calls.Regroup = 2
+call_code calls.Read = 3
+call_code calls.Write = 4
+call_code calls.Commit = 5
+call_code calls.Abort = 6
+
+abbrev pub call_kinds : List CallKind
+call_kinds = calls.Begin ∷ calls.Regroup ∷ calls.Read ∷ calls.Write ∷ calls.Commit ∷ calls.Abort ∷ []
 
 abbrev pub call_kind : ℕ → Option CallKind
-call_kind c = find_code call_kinds c
+call_kind c = coded call_code call_kinds c
 
-abbrev pub answer_kinds : List (ℕ × AnswerKind)
-answer_kinds = (1, answers.Begun) ∷ (2, answers.Value) ∷ (3, answers.Written) ∷ (4, answers.Committed) ∷ (5, answers.Aborted) ∷ (6, answers.Inviting) ∷ (7, answers.NoView) ∷ (8, answers.Unknown) ∷ (9, answers.Skipped) ∷ (10, answers.Busy) ∷ (11, answers.NoRecord) ∷ (12, answers.TooManyOps) ∷ (13, answers.Inaccessible) ∷ (14, answers.LockHeld) ∷ (15, answers.ViewChanged) ∷ (16, answers.TimedOut) ∷ (17, answers.Spent) ∷ (18, answers.TooManyLive) ∷ []
+abbrev pub kind_of_call : Call → CallKind
+kind_of_call call.Begin = calls.Begin
+kind_of_call call.Regroup = calls.Regroup
+kind_of_call (call.Read txn number name) = calls.Read
+kind_of_call (call.Write txn number name value) = calls.Write
+kind_of_call (call.Commit txn number) = calls.Commit
+kind_of_call (call.Abort txn number) = calls.Abort
+
+-- ---- answers
+
+abbrev pub answer_code : AnswerKind → ℕ
+answer_code answers.Begun = 1
+answer_code answers.Value = 2
+answer_code answers.Written = 3
+answer_code answers.Committed = 4
+answer_code answers.Aborted = 5
+answer_code answers.Inviting = 6
+answer_code answers.NoView = 7
+answer_code answers.Unknown = 8
+answer_code answers.Skipped = 9
+answer_code answers.Busy = 10
+answer_code answers.NoRecord = 11
+answer_code answers.TooManyOps = 12
+answer_code answers.Inaccessible = 13
+answer_code answers.LockHeld = 14
+answer_code answers.ViewChanged = 15
+answer_code answers.TimedOut = 16
+answer_code answers.Spent = 17
+answer_code answers.TooManyLive = 18
+
+abbrev pub answer_kinds : List AnswerKind
+answer_kinds = answers.Begun ∷ answers.Value ∷ answers.Written ∷ answers.Committed ∷ answers.Aborted ∷ answers.Inviting ∷ answers.NoView ∷ answers.Unknown ∷ answers.Skipped ∷ answers.Busy ∷ answers.NoRecord ∷ answers.TooManyOps ∷ answers.Inaccessible ∷ answers.LockHeld ∷ answers.ViewChanged ∷ answers.TimedOut ∷ answers.Spent ∷ answers.TooManyLive ∷ []
 
 abbrev pub answer_kind : ℕ → Option AnswerKind
-answer_kind c = find_code answer_kinds c
+answer_kind c = coded answer_code answer_kinds c
 
--- messages, and what else is a frame
-abbrev pub frame_kinds : List (ℕ × Kind)
-frame_kinds = map (λ pair. (pair.0, frames.Message pair.1)) message_kinds ++ (32, frames.Call) ∷ (33, frames.Reply) ∷ (34, frames.Tick) ∷ (35, frames.ProbeNow) ∷ (36, frames.Stop) ∷ []
+abbrev pub kind_of_answer : Answer → AnswerKind
+kind_of_answer (answer.Begun txn view) = answers.Begun
+kind_of_answer (answer.Value txn number value) = answers.Value
+kind_of_answer (answer.Written txn number) = answers.Written
+kind_of_answer (answer.Committed txn number) = answers.Committed
+kind_of_answer (answer.Aborted txn number) = answers.Aborted
+kind_of_answer (answer.Inviting view) = answers.Inviting
+kind_of_answer (answer.NoView promise) = answers.NoView
+kind_of_answer (answer.Unknown txn) = answers.Unknown
+kind_of_answer (answer.Skipped txn expected) = answers.Skipped
+kind_of_answer (answer.Busy txn number) = answers.Busy
+kind_of_answer (answer.NoRecord txn number) = answers.NoRecord
+kind_of_answer (answer.TooManyOps txn number) = answers.TooManyOps
+kind_of_answer (answer.Inaccessible txn number name inside total) = answers.Inaccessible
+kind_of_answer (answer.LockHeld txn number name at owner) = answers.LockHeld
+kind_of_answer (answer.ViewChanged txn number at held now) = answers.ViewChanged
+kind_of_answer (answer.TimedOut txn number at) = answers.TimedOut
+kind_of_answer (answer.Spent number) = answers.Spent
+kind_of_answer answer.TooManyLive = answers.TooManyLive
+
+-- ---- frames: messages by their codes, and what else is a frame
+
+abbrev pub frame_code : Kind → ℕ
+frame_code (frames.Message kind) = message_code kind
+frame_code frames.Call = 32
+frame_code frames.Reply = 33
+frame_code frames.Tick = 34
+frame_code frames.ProbeNow = 35
+frame_code frames.Stop = 36
+
+abbrev pub other_kinds : List Kind
+other_kinds = frames.Call ∷ frames.Reply ∷ frames.Tick ∷ frames.ProbeNow ∷ frames.Stop ∷ []
+
+-- the message of this kind, or what else it is
+abbrev pub or_other : Option MessageKind → Option Kind → Option Kind
+or_other (Some kind) other = Some (frames.Message kind)
+or_other None other = other
 
 abbrev pub frame_kind : ℕ → Option Kind
-frame_kind c = find_code frame_kinds c
+frame_kind c = or_other (message_kind c) (coded frame_code other_kinds c)
+
+abbrev pub kind_of_body : Body → Kind
+kind_of_body (body.Message message) = frames.Message (kind_of_message message)
+kind_of_body (body.Call call) = frames.Call
+kind_of_body (body.Reply answer) = frames.Reply
+kind_of_body body.Tick = frames.Tick
+kind_of_body body.ProbeNow = frames.ProbeNow
+kind_of_body body.Stop = frames.Stop

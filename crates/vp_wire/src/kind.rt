@@ -1,133 +1,240 @@
-//! Which message, call or answer stands in a frame.
+//! Which message, call or answer stands in a frame, and the byte that stands for each.
 
-ghost use Rattle.vp_wire.specs.Kinds.{answer_kind, call_kind, frame_kind, message_kind};
+ghost use Rattle.std.specs.Prelude.{◌≡◌};
+ghost use Rattle.vp_wire.specs.Kinds.{answer_code, answer_kind, call_code, call_kind, coded, frame_code, frame_kind, kind_of_answer, kind_of_body, kind_of_call, kind_of_message, message_code, message_kind, other_kinds};
 
+use crate::frame::Body;
+use vp_base::{Answer, Call, Message};
 use vp_bytes::Coded;
 
-/// Which message.
+/// Which message. The number of each is its byte in a frame.
 #[derive(Clone, Copy, Drop)]
 pub enum MessageKind {
-    Invite,
-    Accept,
-    Stale,
-    ViewCommit,
-    ReadRequest,
-    ReadAnswer,
-    WriteRequest,
-    WriteAnswer,
-    Refuse,
-    Prepare,
-    Vote,
-    Outcome,
-    Ack,
-    Inquire,
-    RefreshRequest,
-    RefreshAnswer,
-    Probe,
+    Invite = 1,
+    Accept = 2,
+    Stale = 3,
+    ViewCommit = 4,
+    ReadRequest = 5,
+    ReadAnswer = 6,
+    WriteRequest = 7,
+    WriteAnswer = 8,
+    Refuse = 9,
+    Prepare = 10,
+    Vote = 11,
+    Outcome = 12,
+    Ack = 13,
+    Inquire = 14,
+    RefreshRequest = 15,
+    RefreshAnswer = 16,
+    Probe = 17,
+}
+
+impl MessageKind {
+    const ALL: [MessageKind; 17] = [
+        MessageKind::Invite,
+        MessageKind::Accept,
+        MessageKind::Stale,
+        MessageKind::ViewCommit,
+        MessageKind::ReadRequest,
+        MessageKind::ReadAnswer,
+        MessageKind::WriteRequest,
+        MessageKind::WriteAnswer,
+        MessageKind::Refuse,
+        MessageKind::Prepare,
+        MessageKind::Vote,
+        MessageKind::Outcome,
+        MessageKind::Ack,
+        MessageKind::Inquire,
+        MessageKind::RefreshRequest,
+        MessageKind::RefreshAnswer,
+        MessageKind::Probe,
+    ];
+
+    /// The kind of a message.
+    pub fn of_message(message: &Message) -> MessageKind
+        ensures { result ≡ kind_of_message message.now }
+    {
+        match message {
+            Message::Invite { .. } => MessageKind::Invite,
+            Message::Accept { .. } => MessageKind::Accept,
+            Message::Stale { .. } => MessageKind::Stale,
+            Message::ViewCommit { .. } => MessageKind::ViewCommit,
+            Message::ReadRequest { .. } => MessageKind::ReadRequest,
+            Message::ReadAnswer { .. } => MessageKind::ReadAnswer,
+            Message::WriteRequest { .. } => MessageKind::WriteRequest,
+            Message::WriteAnswer { .. } => MessageKind::WriteAnswer,
+            Message::Refuse { .. } => MessageKind::Refuse,
+            Message::Prepare { .. } => MessageKind::Prepare,
+            Message::Vote { .. } => MessageKind::Vote,
+            Message::Outcome { .. } => MessageKind::Outcome,
+            Message::Ack { .. } => MessageKind::Ack,
+            Message::Inquire { .. } => MessageKind::Inquire,
+            Message::RefreshRequest { .. } => MessageKind::RefreshRequest,
+            Message::RefreshAnswer { .. } => MessageKind::RefreshAnswer,
+            Message::Probe { .. } => MessageKind::Probe,
+        }
+    }
+
+    /// Its byte in a frame.
+    pub fn code(self) -> u8
+        ensures { result ≡ message_code self }
+    {
+        self as u8
+    }
 }
 
 impl Coded for MessageKind {
     ghost kind = { message_kind };
 
     fn of(code: u8) -> Option<MessageKind> {
-        match code {
-            1 => Some(MessageKind::Invite),
-            2 => Some(MessageKind::Accept),
-            3 => Some(MessageKind::Stale),
-            4 => Some(MessageKind::ViewCommit),
-            5 => Some(MessageKind::ReadRequest),
-            6 => Some(MessageKind::ReadAnswer),
-            7 => Some(MessageKind::WriteRequest),
-            8 => Some(MessageKind::WriteAnswer),
-            9 => Some(MessageKind::Refuse),
-            10 => Some(MessageKind::Prepare),
-            11 => Some(MessageKind::Vote),
-            12 => Some(MessageKind::Outcome),
-            13 => Some(MessageKind::Ack),
-            14 => Some(MessageKind::Inquire),
-            15 => Some(MessageKind::RefreshRequest),
-            16 => Some(MessageKind::RefreshAnswer),
-            17 => Some(MessageKind::Probe),
-            _ => None,
-        }
+        MessageKind::ALL
+            .iter()
+            .copied()
+            .find(|kind| kind.code() == code)
     }
 }
 
-/// Which call.
+/// Which call. The number of each is its byte in a frame.
 #[derive(Clone, Copy, Drop)]
 pub enum CallKind {
-    Begin,
-    Regroup,
-    Read,
-    Write,
-    Commit,
-    Abort,
+    Begin = 1,
+    Regroup = 2,
+    Read = 3,
+    Write = 4,
+    Commit = 5,
+    Abort = 6,
+}
+
+impl CallKind {
+    const ALL: [CallKind; 6] = [
+        CallKind::Begin,
+        CallKind::Regroup,
+        CallKind::Read,
+        CallKind::Write,
+        CallKind::Commit,
+        CallKind::Abort,
+    ];
+
+    /// The kind of a call.
+    pub fn of_call(call: &Call) -> CallKind
+        ensures { result ≡ kind_of_call call.now }
+    {
+        match call {
+            Call::Begin => CallKind::Begin,
+            Call::Regroup => CallKind::Regroup,
+            Call::Read { .. } => CallKind::Read,
+            Call::Write { .. } => CallKind::Write,
+            Call::Commit { .. } => CallKind::Commit,
+            Call::Abort { .. } => CallKind::Abort,
+        }
+    }
+
+    /// Its byte in a frame.
+    pub fn code(self) -> u8
+        ensures { result ≡ call_code self }
+    {
+        self as u8
+    }
 }
 
 impl Coded for CallKind {
     ghost kind = { call_kind };
 
     fn of(code: u8) -> Option<CallKind> {
-        match code {
-            1 => Some(CallKind::Begin),
-            2 => Some(CallKind::Regroup),
-            3 => Some(CallKind::Read),
-            4 => Some(CallKind::Write),
-            5 => Some(CallKind::Commit),
-            6 => Some(CallKind::Abort),
-            _ => None,
-        }
+        CallKind::ALL
+            .iter()
+            .copied()
+            .find(|kind| kind.code() == code)
     }
 }
 
-/// Which answer.
+/// Which answer. The number of each is its byte in a frame.
 #[derive(Clone, Copy, Drop)]
 pub enum AnswerKind {
-    Begun,
-    Value,
-    Written,
-    Committed,
-    Aborted,
-    Inviting,
-    NoView,
-    Unknown,
-    Skipped,
-    Busy,
-    NoRecord,
-    TooManyOps,
-    Inaccessible,
-    LockHeld,
-    ViewChanged,
-    TimedOut,
-    Spent,
-    TooManyLive,
+    Begun = 1,
+    Value = 2,
+    Written = 3,
+    Committed = 4,
+    Aborted = 5,
+    Inviting = 6,
+    NoView = 7,
+    Unknown = 8,
+    Skipped = 9,
+    Busy = 10,
+    NoRecord = 11,
+    TooManyOps = 12,
+    Inaccessible = 13,
+    LockHeld = 14,
+    ViewChanged = 15,
+    TimedOut = 16,
+    Spent = 17,
+    TooManyLive = 18,
+}
+
+impl AnswerKind {
+    const ALL: [AnswerKind; 18] = [
+        AnswerKind::Begun,
+        AnswerKind::Value,
+        AnswerKind::Written,
+        AnswerKind::Committed,
+        AnswerKind::Aborted,
+        AnswerKind::Inviting,
+        AnswerKind::NoView,
+        AnswerKind::Unknown,
+        AnswerKind::Skipped,
+        AnswerKind::Busy,
+        AnswerKind::NoRecord,
+        AnswerKind::TooManyOps,
+        AnswerKind::Inaccessible,
+        AnswerKind::LockHeld,
+        AnswerKind::ViewChanged,
+        AnswerKind::TimedOut,
+        AnswerKind::Spent,
+        AnswerKind::TooManyLive,
+    ];
+
+    /// The kind of an answer.
+    pub fn of_answer(answer: &Answer) -> AnswerKind
+        ensures { result ≡ kind_of_answer answer.now }
+    {
+        match answer {
+            Answer::Begun { .. } => AnswerKind::Begun,
+            Answer::Value { .. } => AnswerKind::Value,
+            Answer::Written { .. } => AnswerKind::Written,
+            Answer::Committed { .. } => AnswerKind::Committed,
+            Answer::Aborted { .. } => AnswerKind::Aborted,
+            Answer::Inviting { .. } => AnswerKind::Inviting,
+            Answer::NoView { .. } => AnswerKind::NoView,
+            Answer::Unknown { .. } => AnswerKind::Unknown,
+            Answer::Skipped { .. } => AnswerKind::Skipped,
+            Answer::Busy { .. } => AnswerKind::Busy,
+            Answer::NoRecord { .. } => AnswerKind::NoRecord,
+            Answer::TooManyOps { .. } => AnswerKind::TooManyOps,
+            Answer::Inaccessible { .. } => AnswerKind::Inaccessible,
+            Answer::LockHeld { .. } => AnswerKind::LockHeld,
+            Answer::ViewChanged { .. } => AnswerKind::ViewChanged,
+            Answer::TimedOut { .. } => AnswerKind::TimedOut,
+            Answer::Spent { .. } => AnswerKind::Spent,
+            Answer::TooManyLive => AnswerKind::TooManyLive,
+        }
+    }
+
+    /// Its byte in a frame.
+    pub fn code(self) -> u8
+        ensures { result ≡ answer_code self }
+    {
+        self as u8
+    }
 }
 
 impl Coded for AnswerKind {
     ghost kind = { answer_kind };
 
     fn of(code: u8) -> Option<AnswerKind> {
-        match code {
-            1 => Some(AnswerKind::Begun),
-            2 => Some(AnswerKind::Value),
-            3 => Some(AnswerKind::Written),
-            4 => Some(AnswerKind::Committed),
-            5 => Some(AnswerKind::Aborted),
-            6 => Some(AnswerKind::Inviting),
-            7 => Some(AnswerKind::NoView),
-            8 => Some(AnswerKind::Unknown),
-            9 => Some(AnswerKind::Skipped),
-            10 => Some(AnswerKind::Busy),
-            11 => Some(AnswerKind::NoRecord),
-            12 => Some(AnswerKind::TooManyOps),
-            13 => Some(AnswerKind::Inaccessible),
-            14 => Some(AnswerKind::LockHeld),
-            15 => Some(AnswerKind::ViewChanged),
-            16 => Some(AnswerKind::TimedOut),
-            17 => Some(AnswerKind::Spent),
-            18 => Some(AnswerKind::TooManyLive),
-            _ => None,
-        }
+        AnswerKind::ALL
+            .iter()
+            .copied()
+            .find(|kind| kind.code() == code)
     }
 }
 
@@ -142,21 +249,62 @@ pub enum Kind {
     Stop,
 }
 
+impl Kind {
+    /// Those that are no messages.
+    const OTHERS: [Kind; 5] = [
+        Kind::Call,
+        Kind::Reply,
+        Kind::Tick,
+        Kind::ProbeNow,
+        Kind::Stop,
+    ];
+
+    /// The kind of a frame with this body.
+    pub fn of_body(body: &Body) -> Kind
+        ensures { result ≡ kind_of_body body.now }
+    {
+        match body {
+            Body::Message(message) => Kind::Message(MessageKind::of_message(message)),
+            Body::Call(_) => Kind::Call,
+            Body::Reply(_) => Kind::Reply,
+            Body::Tick => Kind::Tick,
+            Body::ProbeNow => Kind::ProbeNow,
+            Body::Stop => Kind::Stop,
+        }
+    }
+
+    /// Its byte in a frame.
+    pub fn code(self) -> u8
+        ensures { result ≡ frame_code self }
+    {
+        match self {
+            Kind::Message(kind) => kind.code(),
+            Kind::Call => 32,
+            Kind::Reply => 33,
+            Kind::Tick => 34,
+            Kind::ProbeNow => 35,
+            Kind::Stop => 36,
+        }
+    }
+
+    /// The kind of this code that is no message.
+    fn other_of(code: u8) -> Option<Kind>
+        ensures { result ≡ coded frame_code other_kinds code }
+    {
+        Kind::OTHERS
+            .iter()
+            .copied()
+            .find(|kind| kind.code() == code)
+    }
+}
+
 impl Coded for Kind {
     ghost kind = { frame_kind };
 
-    #[tactic(auto, using(vp_bytes::proofs::Codes::found_among))]
     fn of(code: u8) -> Option<Kind> {
-        if let Some(kind) = MessageKind::of(code) {
-            return Some(Kind::Message(kind));
-        }
-        match code {
-            32 => Some(Kind::Call),
-            33 => Some(Kind::Reply),
-            34 => Some(Kind::Tick),
-            35 => Some(Kind::ProbeNow),
-            36 => Some(Kind::Stop),
-            _ => None,
+        match MessageKind::of(code) {
+            Some(kind) => Some(Kind::Message(kind)),
+            None => Kind::other_of(code),
         }
     }
 }

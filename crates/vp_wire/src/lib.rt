@@ -1,20 +1,12 @@
-//! Frames, which are the datagrams of sites and clients: each one has one spelling in bytes.
+//! Frames, which are the datagrams of sites and clients: each one has one spelling in bytes, and here it is written.
 #![tactic(auto)]
 
 mod answers;
 mod calls;
-mod decoding;
-mod fault;
 mod frame;
 mod kind;
-mod laws;
-mod read_answers;
-mod read_calls;
-mod read_messages;
 mod writing;
 
-pub use decoding::decode;
-pub use fault::WireFault;
 pub use frame::{Body, Frame};
-pub use laws::{encoded_is_decoded, frames_are_read, spellings_are_of_one_frame};
+pub use kind::{AnswerKind, CallKind, Kind, MessageKind};
 pub use writing::encode;

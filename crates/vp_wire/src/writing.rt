@@ -4,16 +4,18 @@ ghost use Rattle.std.specs.Prelude.{◌≡◌, ◌++◌, ◌∷◌, []};
 ghost use Rattle.vp_text.specs.Printing.{Appends};
 ghost use Rattle.vp_bytes.specs.Fields.{IsSites, IsRecs, IsWrites, view_bytes, txn_bytes, counted_bytes, writes_bytes, numbered_bytes, request_bytes};
 ghost use Rattle.vp_bytes.specs.Copies.{copy_bytes};
-ghost use Rattle.vp_wire.specs.Grammar.{IsMessage, IsFrame, message_kind, message_bytes, kind, fields, frame_bytes, obstacle_bytes};
+ghost use Rattle.vp_wire.specs.Grammar.{IsMessage, IsFrame, message_fields, fields, frame_bytes, obstacle_bytes};
+ghost use Rattle.vp_wire.specs.Kinds.{frame_code, kind_of_body};
 
-use crate::answers::put_answer;
+use crate::answers::{put_answer, put_numbered_value};
 use crate::calls::put_call;
 use crate::frame::{Body, Frame};
+use crate::kind::Kind;
 use bytes::BytesMut;
 use vp_base::{CallNo, Message, NoMemory, Obstacle, RecId, SiteId, Stored, TxnId, Value, ViewId};
 use vp_bytes::{
     put_byte, put_copy, put_maybe_view, put_numbered, put_outcome, put_owner, put_recs,
-    put_request, put_sites, put_txn, put_value, put_view, put_writes,
+    put_request, put_sites, put_txn, put_view, put_writes,
 };
 
 /// Appends the one spelling of the frame. Without memory it has appended a beginning of it, and changed nothing else.
@@ -28,50 +30,13 @@ pub fn encode(frame: &Frame, out: &mut BytesMut) -> Result<(), NoMemory>
 
 #[tactic(auto, using(vp_bytes::proofs::Writing::writing))]
 fn put_head(out: &mut BytesMut, frame: &Frame) -> Result<(), NoMemory>
-    ensures { Appends result out.old.items (86 ∷ 1 ∷ kind frame.now.body ∷ frame.now.from ∷ frame.now.to ∷ []) out.new.items }
+    ensures { Appends result out.old.items (86 ∷ 1 ∷ frame_code (kind_of_body frame.now.body) ∷ frame.now.from ∷ frame.now.to ∷ []) out.new.items }
 {
     put_byte(out, 0x56)?;
     put_byte(out, 1)?;
-    put_byte(out, body_kind(&frame.body))?;
+    put_byte(out, Kind::of_body(&frame.body).code())?;
     put_byte(out, frame.from)?;
     put_byte(out, frame.to)
-}
-
-fn body_kind(body: &Body) -> u8
-    ensures { result ≡ kind body.now }
-{
-    match body {
-        Body::Message(message) => kind_of(message),
-        Body::Call(_) => 32,
-        Body::Reply(_) => 33,
-        Body::Tick => 34,
-        Body::ProbeNow => 35,
-        Body::Stop => 36,
-    }
-}
-
-fn kind_of(message: &Message) -> u8
-    ensures { result ≡ message_kind message.now }
-{
-    match message {
-        Message::Invite { .. } => 1,
-        Message::Accept { .. } => 2,
-        Message::Stale { .. } => 3,
-        Message::ViewCommit { .. } => 4,
-        Message::ReadRequest { .. } => 5,
-        Message::ReadAnswer { .. } => 6,
-        Message::WriteRequest { .. } => 7,
-        Message::WriteAnswer { .. } => 8,
-        Message::Refuse { .. } => 9,
-        Message::Prepare { .. } => 10,
-        Message::Vote { .. } => 11,
-        Message::Outcome { .. } => 12,
-        Message::Ack { .. } => 13,
-        Message::Inquire { .. } => 14,
-        Message::RefreshRequest { .. } => 15,
-        Message::RefreshAnswer { .. } => 16,
-        Message::Probe { .. } => 17,
-    }
 }
 
 #[tactic(auto, using(vp_bytes::proofs::Writing::writing))]
@@ -90,7 +55,7 @@ fn put_fields(out: &mut BytesMut, frame: &Frame) -> Result<(), NoMemory>
 #[tactic(auto, using(vp_bytes::proofs::Writing::writing))]
 fn put_message(out: &mut BytesMut, message: &Message) -> Result<(), NoMemory>
     requires { IsMessage message.now }
-    ensures { Appends result out.old.items (message_bytes message.now) out.new.items }
+    ensures { Appends result out.old.items (message_fields message.now) out.new.items }
 {
     match message {
         Message::Invite { id } => put_view(out, id),
@@ -103,7 +68,7 @@ fn put_message(out: &mut BytesMut, message: &Message) -> Result<(), NoMemory>
             number,
             rec,
         } => put_lock_request(out, txn, view, *number, *rec),
-        Message::ReadAnswer { txn, number, value } => put_read_answer(out, txn, *number, value),
+        Message::ReadAnswer { txn, number, value } => put_numbered_value(out, txn, *number, value),
         Message::WriteRequest {
             txn,
             view,
@@ -158,19 +123,6 @@ fn put_lock_request(
 {
     put_request(out, txn, view, number)?;
     put_byte(out, rec.get())
-}
-
-#[tactic(auto, using(vp_bytes::proofs::Writing::writing))]
-fn put_read_answer(
-    out: &mut BytesMut,
-    txn: &TxnId,
-    number: CallNo,
-    value: &Value,
-) -> Result<(), NoMemory>
-    ensures { Appends result out.old.items (numbered_bytes txn.now number ++ counted_bytes value.now) out.new.items }
-{
-    put_numbered(out, txn, number)?;
-    put_value(out, value)
 }
 
 #[tactic(auto, using(vp_bytes::proofs::Writing::writing))]

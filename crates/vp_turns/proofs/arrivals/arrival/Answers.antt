@@ -1,6 +1,6 @@
 use Rattle.std.proofs.Common.{◌≡◌, ◌∙◌, sym, ap, subst, Ok, Err}
 use Rattle.vp_runs.specs.Arrivals.{arrival_of, arrival}
-use Rattle.vp_wire.specs.Decoded.{IsReadAs, read_frame}
+use Rattle.vp_decoding.specs.Decoded.{IsReadAs, read_frame}
 use Rattle.vp_turns.proofs.arrivals.arrival.Goals as goal
 
 pub returns-in-Ok : goal.returns-in-Ok

@@ -1,8 +1,8 @@
-use Rattle.std.proofs.Common.{◌∷◌, ◌++◌, append_assoc}
+use Rattle.std.proofs.Common.{◌++◌, append_assoc}
 use Rattle.vp_bytes.specs.Fields.{number_bytes, counted_bytes, numbered_bytes}
 use Rattle.vp_bytes.proofs.Writing.{begun_err, begun_as}
 use Rattle.vp_wire.proofs.answers.put_inaccessible.Goals as goal
 
-pub returns-in_err-put_coded_name : goal.returns-in_err-put_coded_name
-returns-in_err-put_coded_name c =
-    begun_err _ _ _ _ c.from_residual.ensures.0 (begun_as c.args.out.now.items (13 ∷ (numbered_bytes c.args.txn.now c.args.number ++ counted_bytes c.args.name.now)) (number_bytes 4 c.args.inside ++ number_bytes 4 c.args.total) _ _ (simp append_assoc) c.put_coded_name.ensures.begun)
+pub returns-in_err-put_numbered_name : goal.returns-in_err-put_numbered_name
+returns-in_err-put_numbered_name c =
+    begun_err _ _ _ _ c.from_residual.ensures.0 (begun_as c.args.out.now.items (numbered_bytes c.args.txn.now c.args.number ++ counted_bytes c.args.name.now) (number_bytes 4 c.args.inside ++ number_bytes 4 c.args.total) _ _ (simp append_assoc) c.put_numbered_name.ensures.begun)

@@ -3,6 +3,6 @@ use Rattle.vp_bytes.specs.Fields.{numbered_bytes, view_bytes, maybe_view_bytes}
 use Rattle.vp_bytes.proofs.Writing.{begun_err, begun_as}
 use Rattle.vp_wire.proofs.answers.put_view_changed.Goals as goal
 
-pub returns-in_err-put_coded_site : goal.returns-in_err-put_coded_site
-returns-in_err-put_coded_site c =
-    begun_err _ _ _ _ c.from_residual.ensures.0 (begun_as c.args.out.now.items (15 ∷ (numbered_bytes c.args.txn.now c.args.number ++ c.args.at ∷ [])) (view_bytes c.args.held.now ++ maybe_view_bytes c.args.now.now) _ _ (simp append_assoc) c.put_coded_site.ensures.begun)
+pub returns-in_err-put_numbered_site : goal.returns-in_err-put_numbered_site
+returns-in_err-put_numbered_site c =
+    begun_err _ _ _ _ c.from_residual.ensures.0 (begun_as c.args.out.now.items (numbered_bytes c.args.txn.now c.args.number ++ c.args.at ∷ []) (view_bytes c.args.held.now ++ maybe_view_bytes c.args.now.now) _ _ (simp append_assoc) c.put_numbered_site.ensures.begun)

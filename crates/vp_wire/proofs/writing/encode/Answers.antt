@@ -1,8 +1,9 @@
 use Rattle.std.proofs.Common.{[], ◌∷◌, refl}
 use Rattle.vp_bytes.proofs.Writing.{begun_err, begun_as}
-use Rattle.vp_wire.specs.Grammar.{kind, fields}
+use Rattle.vp_wire.specs.Grammar.{fields}
+use Rattle.vp_wire.specs.Kinds.{frame_code, kind_of_body}
 use Rattle.vp_wire.proofs.writing.encode.Goals as goal
 
 pub returns-in_err-put_head : goal.returns-in_err-put_head
 returns-in_err-put_head c =
-    begun_err _ _ _ _ c.from_residual.ensures.0 (begun_as c.args.out.now.items (86 ∷ 1 ∷ kind c.args.frame.now.body ∷ c.args.frame.now.from ∷ c.args.frame.now.to ∷ []) (fields c.args.frame.now.body) _ _ (refl) c.put_head.ensures.begun)
+    begun_err _ _ _ _ c.from_residual.ensures.0 (begun_as c.args.out.now.items (86 ∷ 1 ∷ frame_code (kind_of_body c.args.frame.now.body) ∷ c.args.frame.now.from ∷ c.args.frame.now.to ∷ []) (fields c.args.frame.now.body) _ _ (refl) c.put_head.ensures.begun)

@@ -1,0 +1,111 @@
+//! Reading frames.
+
+ghost use Rattle.vp_text.specs.Meaning.{Answers};
+ghost use Rattle.vp_text.specs.Reading.{Reads, Tries, whole};
+ghost use Rattle.vp_base.specs.Faults.{line_left};
+ghost use Rattle.vp_decoding.specs.Faults.{wire_place};
+ghost use Rattle.vp_decoding.specs.Frames.{body_at, coded_answer_at, coded_call_at, frame_at, least_from, least_to, most_from, most_to};
+ghost use Rattle.vp_wire.specs.Grammar.{IsSpelling};
+ghost use Rattle.vp_bytes.specs.Reading.{byte_at, within};
+
+use crate::fault::WireFault;
+use crate::read_answers::take_answer;
+use crate::read_calls::take_call;
+use crate::read_messages::take_message;
+use std::alloc::Global;
+use vp_base::LineFault;
+use vp_bytes::{take_byte, take_coded};
+use vp_text::{Cursor, Unexpected};
+use vp_wire::{AnswerKind, Body, CallKind, Frame, Kind};
+
+/// The frame that the bytes are the spelling of. `BadFrame` says how many of them begin one.
+pub fn decode(alloc: Global, bytes: &[u8]) -> Result<Frame, WireFault>
+    ensures { Answers IsSpelling (λ f. f) wire_place bytes.now result }
+{
+    let mut cursor = Cursor::new(bytes);
+    match take_whole(alloc, &mut cursor) {
+        Ok(frame) => Ok(frame),
+        Err(LineFault::NoMemory) => Err(WireFault::NoMemory),
+        Err(LineFault::Unexpected(e)) => Err(WireFault::BadFrame {
+            at: bytes.len() - e.left,
+        }),
+    }
+}
+
+fn take_whole(alloc: Global, cursor: &mut Cursor) -> Result<Frame, LineFault>
+    ensures { Tries (λ f. f) line_left result cursor.new (whole frame_at cursor.old) }
+{
+    let frame = take_frame(alloc, cursor)?;
+    cursor.end()?;
+    Ok(frame)
+}
+
+#[tactic(auto, unfolding(crate::specs::Frames::frame_at))]
+fn take_frame(alloc: Global, cursor: &mut Cursor) -> Result<Frame, LineFault>
+    ensures { Tries (λ f. f) line_left result cursor.new (frame_at cursor.old) }
+{
+    take_byte(cursor, 0x56, 0x56)?;
+    take_byte(cursor, 1, 1)?;
+    let kind: Kind = take_coded(cursor)?;
+    let from = take_from(cursor, kind)?;
+    let to = take_to(cursor, kind)?;
+    let body = take_body(alloc, cursor, kind)?;
+    Ok(Frame { from, to, body })
+}
+
+/// Takes the number from which a frame of the kind comes.
+fn take_from(cursor: &mut Cursor, kind: Kind) -> Result<u8, Unexpected>
+    ensures { Reads (λ x. x) (λ e. e.left) result cursor.new (byte_at (within (least_from kind) (most_from kind)) cursor.old) }
+{
+    match kind {
+        Kind::Message(_) | Kind::Reply => take_byte(cursor, 1, 16),
+        Kind::Call | Kind::Tick | Kind::ProbeNow | Kind::Stop => take_byte(cursor, 0, 0),
+    }
+}
+
+/// Takes the number to which a frame of the kind goes.
+fn take_to(cursor: &mut Cursor, kind: Kind) -> Result<u8, Unexpected>
+    ensures { Reads (λ x. x) (λ e. e.left) result cursor.new (byte_at (within (least_to kind) (most_to kind)) cursor.old) }
+{
+    match kind {
+        Kind::Reply => take_byte(cursor, 0, 0),
+        Kind::Message(_) | Kind::Call | Kind::Tick | Kind::ProbeNow | Kind::Stop => {
+            take_byte(cursor, 1, 16)
+        }
+    }
+}
+
+#[tactic(auto, unfolding(crate::specs::Frames::body_at))]
+fn take_body(alloc: Global, cursor: &mut Cursor, kind: Kind) -> Result<Body, LineFault>
+    ensures { Tries (λ b. b) line_left result cursor.new (body_at kind cursor.old) }
+{
+    match kind {
+        Kind::Message(kind) => {
+            let message = take_message(alloc, cursor, kind)?;
+            Ok(Body::Message(message))
+        }
+        Kind::Call => take_coded_call(alloc, cursor),
+        Kind::Reply => take_coded_answer(alloc, cursor),
+        Kind::Tick => Ok(Body::Tick),
+        Kind::ProbeNow => Ok(Body::ProbeNow),
+        Kind::Stop => Ok(Body::Stop),
+    }
+}
+
+#[tactic(auto, unfolding(crate::specs::Frames::coded_call_at))]
+fn take_coded_call(alloc: Global, cursor: &mut Cursor) -> Result<Body, LineFault>
+    ensures { Tries (λ b. b) line_left result cursor.new (coded_call_at cursor.old) }
+{
+    let kind: CallKind = take_coded(cursor)?;
+    let call = take_call(alloc, cursor, kind)?;
+    Ok(Body::Call(call))
+}
+
+#[tactic(auto, unfolding(crate::specs::Frames::coded_answer_at))]
+fn take_coded_answer(alloc: Global, cursor: &mut Cursor) -> Result<Body, LineFault>
+    ensures { Tries (λ b. b) line_left result cursor.new (coded_answer_at cursor.old) }
+{
+    let kind: AnswerKind = take_coded(cursor)?;
+    let answer = take_answer(alloc, cursor, kind)?;
+    Ok(Body::Reply(answer))
+}
