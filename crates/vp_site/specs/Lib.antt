@@ -1,4 +1,2 @@
 pub mod Starting
 pub mod Lifted
-pub mod Requests
-pub mod Ballots

@@ -12,5 +12,5 @@ with_viewed o v = record { site = record o.site { views = v.at.views }; effects 
 abbrev pub by_views : (Viewed → Viewed) → Stepped → Stepped
 by_views row o = with_viewed o (row (viewed (viewing o.site) o.effects))
 
-abbrev pub stepped : SiteState → Effects → Stepped
-stepped site effects = record { site = site; effects = effects }
+abbrev pub in_step : SiteState → Effects → Stepped
+in_step site effects = record { site = site; effects = effects }

@@ -6,7 +6,7 @@ ghost use Rattle.vp_model.specs.Step.{start, step, durable_of};
 ghost use Rattle.vp_site.specs.Starting.{Starts};
 
 use crate::fault::StartFault;
-use crate::stepped::Stepped;
+use crate::messages::on_input;
 use std::marker::Model;
 use vp_base::{CopyOf, Effects, Input, LogRecord, Newest, NoMemory, SiteId, View, ViewId};
 use vp_catalog::Catalog;
@@ -16,6 +16,7 @@ use vp_locks::Locks;
 use vp_participant::Participant;
 use vp_records::Durable;
 use vp_refresh::Refresh;
+use vp_stepped::{SiteState, Stepped};
 use vp_views::Views;
 
 /// The identifier of the view that all sites begin in.
@@ -24,30 +25,15 @@ const OPENING: ViewId = ViewId { number: 0, site: 0 };
 /// A site that is up.
 #[derive(Drop)]
 pub struct Site {
-    pub(crate) views: Views,
-    pub(crate) here: Here,
-    pub(crate) participant: Participant,
-    pub(crate) refresh: Refresh,
-    pub(crate) coordinator: Coordinator,
+    state: SiteState,
 }
 
 impl Model for Site {
-    ghost use Rattle.std.specs.Prelude.{◌≡◌};
-    ghost use Rattle.vp_model.specs.Site.{SiteState};
+    ghost use Rattle.vp_model.specs.Site.{SiteState as State};
 
-    ghost Value = { SiteState };
+    ghost Value = { State };
 
-    ghost view = { λ s. record {
-      id = s.coordinator.id;
-      life = s.coordinator.life;
-      views = s.views.views;
-      here = s.here;
-      participant = s.participant;
-      refresh = s.refresh;
-      coordinator = s.coordinator.coordinator;
-    } };
-
-    ghost invariant = { λ s. s.views.id ≡ s.coordinator.id };
+    ghost view = { λ s. s.state };
 }
 
 impl Site {
@@ -64,29 +50,8 @@ impl Site {
             return Err(StartFault::LivesSpent { life: u32::MAX });
         }
         let life = durable.life() + 1;
-        let site = Site::live(catalog, id, durable)?;
-        Ok((site, LogRecord::Start { life }))
-    }
-
-    /// The site as it is in its next life.
-    #[tactic(auto, unfolding(vp_model::specs::Step::start))]
-    fn live(catalog: &Catalog, id: SiteId, durable: Durable) -> Result<Site, NoMemory>
-        requires { durable.life < 2 ^ 32 - 1 }
-        ensures { IfOk result (λ site. site ≡ start catalog.now id durable) }
-    {
-        let alloc = catalog.sites().allocator();
-        let is_opening = durable.life() == 0 && durable.promise() == OPENING;
-        let mut locks = Locks::new(alloc);
-        Ok(Site {
-            views: Views::start(catalog, id, durable.promise(), is_opening)?,
-            participant: Participant::restore(alloc, &durable, &mut locks)?,
-            refresh: Refresh::none(alloc),
-            coordinator: Coordinator::restore(alloc, id, durable.life() + 1, &durable)?,
-            here: Here {
-                locks,
-                copies: durable.into_copies(),
-            },
-        })
+        let state = live(catalog, id, durable)?;
+        Ok((Site { state }, LogRecord::Start { life }))
     }
 
     /// What the input does to the site. Without memory the site is gone, as in a crash.
@@ -94,9 +59,10 @@ impl Site {
     pub fn step(self, catalog: &Catalog, input: &Input) -> Result<(Site, Effects), NoMemory>
         ensures { IfOk result (λ r. record { site = r.0; effects = r.1 } ≡ step catalog.now self input.now) }
     {
-        let mut stepped = Stepped::begin(catalog.sites().allocator(), self);
-        stepped.on_input(catalog, input)?;
-        Ok((stepped.site, stepped.effects))
+        let mut stepped = Stepped::begin(catalog.sites().allocator(), self.state);
+        on_input(&mut stepped, catalog, input)?;
+        let Stepped { site, effects } = stepped;
+        Ok((Site { state: site }, effects))
     }
 
     /// What the site has after a crash at this moment, once its records are forced.
@@ -104,45 +70,66 @@ impl Site {
         ensures { IfOk result (λ d. d ≡ durable_of self.now) }
     {
         Ok(Durable::new(
-            self.views.promise(),
-            self.coordinator.life(),
-            self.here.copies.copy_of()?,
-            self.participant.in_doubt()?,
-            self.coordinator.decisions()?,
+            self.state.views.promise(),
+            self.state.coordinator.life(),
+            self.state.here.copies.copy_of()?,
+            self.state.participant.in_doubt()?,
+            self.state.coordinator.decisions()?,
         ))
     }
 
     pub fn id(&self) -> SiteId
         ensures { result ≡ self.now.id }
     {
-        self.coordinator.id()
+        self.state.coordinator.id()
     }
 
     /// The number of its life, which its start forces to the log.
     pub fn life(&self) -> u32
         ensures { result ≡ self.now.life }
     {
-        self.coordinator.life()
+        self.state.coordinator.life()
     }
 
     /// The view that the site holds.
     pub fn held(&self) -> Option<&View>
         ensures { option_copied result ≡ self.now.held }
     {
-        self.views.held()
+        self.state.views.held()
     }
 
     /// The identifier that the site invites to.
     pub fn inviting(&self) -> Option<ViewId>
         ensures { result ≡ option_map (λ inviting. inviting.0) self.now.inviting }
     {
-        self.views.inviting()
+        self.state.views.inviting()
     }
 
     /// The newest live transaction, where there is one.
     pub fn newest(&self) -> Option<Newest>
         ensures { result ≡ newest self.now.live }
     {
-        self.coordinator.newest()
+        self.state.coordinator.newest()
     }
+}
+
+/// What a site keeps as it begins its next life.
+#[tactic(auto, unfolding(vp_model::specs::Step::start))]
+fn live(catalog: &Catalog, id: SiteId, durable: Durable) -> Result<SiteState, NoMemory>
+    requires { durable.life < 2 ^ 32 - 1 }
+    ensures { IfOk result (λ site. site ≡ start catalog.now id durable) }
+{
+    let alloc = catalog.sites().allocator();
+    let is_opening = durable.life() == 0 && durable.promise() == OPENING;
+    let mut locks = Locks::new(alloc);
+    Ok(SiteState {
+        views: Views::start(catalog, id, durable.promise(), is_opening)?,
+        participant: Participant::restore(alloc, &durable, &mut locks)?,
+        refresh: Refresh::none(alloc),
+        coordinator: Coordinator::restore(alloc, id, durable.life() + 1, &durable)?,
+        here: Here {
+            locks,
+            copies: durable.into_copies(),
+        },
+    })
 }

@@ -1,155 +1,142 @@
 //! What time does: invitations end, calls and refreshes are seen to, and outcomes are told and asked for again.
 
-ghost use Rattle.std.specs.Prelude.{◌≡◌, OnOk, IfOk};
+ghost use Rattle.std.specs.Prelude.{◌≡◌, OnOk};
 ghost use Rattle.std.specs.Option.{option_map_or};
 ghost use Rattle.vp_model.specs.Site.{by_coordinator};
-ghost use Rattle.vp_site.specs.Lifted.{stepped};
+ghost use Rattle.vp_site.specs.Lifted.{in_step};
 ghost use Rattle.vp_model.specs.Step.{fix_view, time_out_calls, ask_again, ask_again_all, time_out, tick_view, resend_decisions, inquire, inquire_all, on_tick, on_probe};
 
-use crate::site::Site;
-use crate::stepped::Stepped;
-use vp_base::{CopyOf, Effects, Message, NoMemory, TxnId, View, ViewId};
+use crate::views::invite;
+use vp_base::{Effects, Message, NoMemory, TxnId, View, ViewId};
 use vp_catalog::Catalog;
 use vp_refresh::Asked;
+use vp_stepped::{SiteState, Stepped};
 
-impl Stepped {
-    /// The invitation ends with those that have accepted as the members of the view, which is then held.
-    #[tactic(auto, unfolding(vp_model::specs::Step::fix_view, vp_model::specs::Step::fix, vp_model::specs::Views::hold))]
-    fn fix_view(&mut self, catalog: &Catalog) -> Result<(), NoMemory>
-        ensures { OnOk result (self.new ≡ option_map_or (λ inviting. fix_view catalog.now inviting self.old) self.old.site.inviting self.old) }
-    {
-        if !self.site.views.fix(&mut self.effects)? {
-            return Ok(());
-        }
-        match self.held_view()? {
-            None => Ok(()),
-            Some(view) => self.refresh_here(catalog, &view),
-        }
+/// The invitation ends with those that have accepted as the members of the view, which is then held.
+#[tactic(auto, unfolding(vp_model::specs::Step::fix_view, vp_model::specs::Step::fix, vp_model::specs::Views::hold))]
+fn fix_view(stepped: &mut Stepped, catalog: &Catalog) -> Result<(), NoMemory>
+    ensures { OnOk result (stepped.new ≡ option_map_or (λ inviting. fix_view catalog.now inviting stepped.old) stepped.old.site.inviting stepped.old) }
+{
+    if !stepped.site.views.fix(&mut stepped.effects)? {
+        return Ok(());
     }
-
-    fn held_view(&self) -> Result<Option<View>, NoMemory>
-        ensures { IfOk result (λ held. held ≡ self.now.site.held) }
-    {
-        match self.site.views.held() {
-            None => Ok(None),
-            Some(view) => Ok(Some(view.copy_of()?)),
-        }
-    }
-
-    /// Calls that were pending at the tick before are closed, and other pending calls are marked.
-    fn time_out_calls(&mut self) -> Result<(), NoMemory>
-        ensures { OnOk result (self.new ≡ by_coordinator (λ at. time_out_calls at.id) self.old) }
-    {
-        let site = &mut self.site;
-        site.coordinator.tick(&mut site.here, &mut self.effects)
-    }
-
-    #[tactic(auto, unfolding(vp_model::specs::Step::time_out))]
-    fn time_out(&mut self, catalog: &Catalog, view: &View) -> Result<(), NoMemory>
-        ensures { OnOk result (self.new ≡ time_out catalog.now view.now self.old) }
-    {
-        self.time_out_calls()?;
-        self.site.ask_again_all(catalog, view.id, &mut self.effects)
-    }
-
-    /// The part of a tick that depends on where the site stands among views.
-    #[tactic(auto, unfolding(vp_model::specs::Step::tick_view))]
-    fn tick_view(&mut self, catalog: &Catalog) -> Result<(), NoMemory>
-        ensures { OnOk result (self.new ≡ tick_view catalog.now self.old) }
-    {
-        if self.site.views.inviting().is_some() {
-            return self.fix_view(catalog);
-        }
-        if self.site.views.waiting().is_some() {
-            self.site.views.stop_waiting();
-            return Ok(());
-        }
-        match self.held_view()? {
-            None => self.invite(catalog),
-            Some(view) => self.time_out(catalog, &view),
-        }
-    }
-
-    /// Each decision goes again to the sites that have not acknowledged it.
-    fn resend_decisions(&mut self) -> Result<(), NoMemory>
-        ensures { OnOk result (self.new ≡ resend_decisions self.old) }
-    {
-        self.site.coordinator.resend(&mut self.effects)
-    }
-
-    /// The coordinators of the transactions with a part here or in doubt here are asked how they ended.
-    fn inquire_all(&mut self) -> Result<(), NoMemory>
-        ensures { OnOk result (self.new ≡ inquire_all self.old) }
-    {
-        let txns = self.site.participant.known()?;
-        self.inquire(txns.as_slice())
-    }
-
-    #[tactic(auto, unfolding(vp_model::specs::Step::inquire))]
-    fn inquire(&mut self, txns: &[TxnId]) -> Result<(), NoMemory>
-        ensures { OnOk result (self.new ≡ inquire txns.now self.old) }
-    {
-        for txn in txns {
-            self.send(txn.site, Message::Inquire { txn: *txn })?;
-        }
-        Ok(())
-    }
-
-    #[tactic(auto, unfolding(vp_model::specs::Step::on_tick))]
-    pub fn on_tick(&mut self, catalog: &Catalog) -> Result<(), NoMemory>
-        ensures { OnOk result (self.new ≡ on_tick catalog.now self.old) }
-    {
-        self.tick_view(catalog)?;
-        self.resend_decisions()?;
-        self.inquire_all()
-    }
-
-    /// The other sites are probed; where too few or others than the members were heard since the last probes, a new view is
-    /// invited to.
-    #[tactic(auto, unfolding(vp_model::specs::Step::on_probe, vp_model::specs::Step::probe_in))]
-    pub fn on_probe(&mut self, catalog: &Catalog) -> Result<(), NoMemory>
-        ensures { OnOk result (self.new ≡ on_probe catalog.now self.old) }
-    {
-        if self.site.views.wants_view() {
-            self.invite(catalog)
-        } else {
-            self.site.views.probe(catalog, &mut self.effects)
-        }
+    match stepped.held_view()? {
+        None => Ok(()),
+        Some(view) => stepped.refresh_here(catalog, &view),
     }
 }
 
-impl Site {
-    /// The other holders that have not answered are asked again for their copies.
-    fn ask_again_all(
-        &self,
-        catalog: &Catalog,
-        view: ViewId,
-        effects: &mut Effects,
-    ) -> Result<(), NoMemory>
-        ensures { OnOk result (stepped self.now effects.new ≡ ask_again_all catalog.now view self.now.refresh (stepped self.now effects.old)) }
-    {
-        for asked in self.refresh.as_slice() {
-            self.ask_again(catalog, view, asked, effects)?;
-        }
-        Ok(())
-    }
+/// Calls that were pending at the tick before are closed, and other pending calls are marked.
+fn time_out_calls(stepped: &mut Stepped) -> Result<(), NoMemory>
+    ensures { OnOk result (stepped.new ≡ by_coordinator (λ at. time_out_calls at.id) stepped.old) }
+{
+    let site = &mut stepped.site;
+    site.coordinator.tick(&mut site.here, &mut stepped.effects)
+}
 
-    #[tactic(auto, unfolding(vp_model::specs::Step::ask_again))]
-    fn ask_again(
-        &self,
-        catalog: &Catalog,
-        view: ViewId,
-        asked: &Asked,
-        effects: &mut Effects,
-    ) -> Result<(), NoMemory>
-        ensures { OnOk result (stepped self.now effects.new ≡ ask_again catalog.now view asked.now (stepped self.now effects.old)) }
-    {
-        let id = self.coordinator.id();
-        let missing = asked.missing(catalog, id, self.views.held())?;
-        let request = Message::RefreshRequest {
-            view,
-            rec: asked.rec(),
-        };
-        effects.send_all(id, missing.as_slice(), &request)
+#[tactic(auto, unfolding(vp_model::specs::Step::time_out))]
+fn time_out(stepped: &mut Stepped, catalog: &Catalog, view: &View) -> Result<(), NoMemory>
+    ensures { OnOk result (stepped.new ≡ time_out catalog.now view.now stepped.old) }
+{
+    time_out_calls(stepped)?;
+    ask_again_all(&stepped.site, catalog, view.id, &mut stepped.effects)
+}
+
+/// The part of a tick that depends on where the site stands among views.
+#[tactic(auto, unfolding(vp_model::specs::Step::tick_view))]
+fn tick_view(stepped: &mut Stepped, catalog: &Catalog) -> Result<(), NoMemory>
+    ensures { OnOk result (stepped.new ≡ tick_view catalog.now stepped.old) }
+{
+    if stepped.site.views.inviting().is_some() {
+        return fix_view(stepped, catalog);
     }
+    if stepped.site.views.waiting().is_some() {
+        stepped.site.views.stop_waiting();
+        return Ok(());
+    }
+    match stepped.held_view()? {
+        None => invite(stepped, catalog),
+        Some(view) => time_out(stepped, catalog, &view),
+    }
+}
+
+/// Each decision goes again to the sites that have not acknowledged it.
+fn resend_decisions(stepped: &mut Stepped) -> Result<(), NoMemory>
+    ensures { OnOk result (stepped.new ≡ resend_decisions stepped.old) }
+{
+    stepped.site.coordinator.resend(&mut stepped.effects)
+}
+
+/// The coordinators of the transactions with a part here or in doubt here are asked how they ended.
+fn inquire_all(stepped: &mut Stepped) -> Result<(), NoMemory>
+    ensures { OnOk result (stepped.new ≡ inquire_all stepped.old) }
+{
+    let txns = stepped.site.participant.known()?;
+    inquire(stepped, txns.as_slice())
+}
+
+#[tactic(auto, unfolding(vp_model::specs::Step::inquire))]
+fn inquire(stepped: &mut Stepped, txns: &[TxnId]) -> Result<(), NoMemory>
+    ensures { OnOk result (stepped.new ≡ inquire txns.now stepped.old) }
+{
+    for txn in txns {
+        stepped.send(txn.site, Message::Inquire { txn: *txn })?;
+    }
+    Ok(())
+}
+
+#[tactic(auto, unfolding(vp_model::specs::Step::on_tick))]
+pub fn on_tick(stepped: &mut Stepped, catalog: &Catalog) -> Result<(), NoMemory>
+    ensures { OnOk result (stepped.new ≡ on_tick catalog.now stepped.old) }
+{
+    tick_view(stepped, catalog)?;
+    resend_decisions(stepped)?;
+    inquire_all(stepped)
+}
+
+/// The other sites are probed; where too few or others than the members were heard since the last probes, a new view is
+/// invited to.
+#[tactic(auto, unfolding(vp_model::specs::Step::on_probe, vp_model::specs::Step::probe_in))]
+pub fn on_probe(stepped: &mut Stepped, catalog: &Catalog) -> Result<(), NoMemory>
+    ensures { OnOk result (stepped.new ≡ on_probe catalog.now stepped.old) }
+{
+    if stepped.site.views.wants_view() {
+        invite(stepped, catalog)
+    } else {
+        stepped.site.views.probe(catalog, &mut stepped.effects)
+    }
+}
+
+/// The other holders that have not answered are asked again for their copies.
+fn ask_again_all(
+    site: &SiteState,
+    catalog: &Catalog,
+    view: ViewId,
+    effects: &mut Effects,
+) -> Result<(), NoMemory>
+    ensures { OnOk result (in_step site.now effects.new ≡ ask_again_all catalog.now view site.now.refresh (in_step site.now effects.old)) }
+{
+    for asked in site.refresh.as_slice() {
+        ask_again(site, catalog, view, asked, effects)?;
+    }
+    Ok(())
+}
+
+#[tactic(auto, unfolding(vp_model::specs::Step::ask_again))]
+fn ask_again(
+    site: &SiteState,
+    catalog: &Catalog,
+    view: ViewId,
+    asked: &Asked,
+    effects: &mut Effects,
+) -> Result<(), NoMemory>
+    ensures { OnOk result (in_step site.now effects.new ≡ ask_again catalog.now view asked.now (in_step site.now effects.old)) }
+{
+    let id = site.coordinator.id();
+    let missing = asked.missing(catalog, id, site.views.held())?;
+    let request = Message::RefreshRequest {
+        view,
+        rec: asked.rec(),
+    };
+    effects.send_all(id, missing.as_slice(), &request)
 }

@@ -10,8 +10,8 @@ ghost use Rattle.vp_model.specs.Site.{send, change_locks, change_participant};
 ghost use Rattle.vp_model.specs.Messages.{holds_view, with_part, refuse_view, on_read_request, on_write_request, on_prepare, end_doubt, with_ended, acknowledge, on_outcome};
 ghost use Rattle.vp_participant.specs.Doubts.{doubt_ended};
 ghost use Rattle.vp_participant.specs.Refusals.{lock_refusal, lock_refused};
-ghost use Rattle.vp_site.specs.Requests.{asked};
-ghost use Rattle.vp_site.specs.Ballots.{told};
+ghost use Rattle.vp_stepped.specs.Requests.{asked};
+ghost use Rattle.vp_stepped.specs.Ballots.{told};
 
 use crate::stepped::Stepped;
 use vp_base::{

@@ -5,18 +5,18 @@ ghost use Rattle.vp_model.specs.Site.{begin_step, force, send, reply};
 ghost use Rattle.vp_model.specs.Messages.{holds_view, held_id};
 ghost use Rattle.vp_model.specs.Words.{value_at};
 
-use crate::site::Site;
+use crate::state::SiteState;
 use std::alloc::Global;
 use std::marker::Model;
 use vp_base::{
-    Answer, CopyOf, Effects, LogRecord, Message, NoMemory, RecId, SiteId, Stored, ViewId,
+    Answer, CopyOf, Effects, LogRecord, Message, NoMemory, RecId, SiteId, Stored, View, ViewId,
 };
 use vp_lists::value_at;
 
 /// A site with what its step has given so far. After want of memory both may only be dropped.
 #[derive(Drop)]
 pub struct Stepped {
-    pub site: Site,
+    pub site: SiteState,
     pub effects: Effects,
 }
 
@@ -29,7 +29,7 @@ impl Model for Stepped {
 }
 
 impl Stepped {
-    pub fn begin(alloc: Global, site: Site) -> Stepped
+    pub fn begin(alloc: Global, site: SiteState) -> Stepped
         ensures { result ≡ begin_step site }
     {
         Stepped {
@@ -70,6 +70,16 @@ impl Stepped {
         ensures { result ≡ held_id self.now.site }
     {
         self.site.views.held().map(|view| view.id)
+    }
+
+    /// The held view.
+    pub fn held_view(&self) -> Result<Option<View>, NoMemory>
+        ensures { IfOk result (λ held. held ≡ self.now.site.held) }
+    {
+        match self.site.views.held() {
+            None => Ok(None),
+            Some(view) => Ok(Some(view.copy_of()?)),
+        }
     }
 
     pub fn holds_view(&self, id: ViewId) -> bool

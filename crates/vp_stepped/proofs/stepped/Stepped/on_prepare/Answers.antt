@@ -1,7 +1,7 @@
 use Rattle.std.proofs.Common.{rules, ◌≡◌, OnOk, subst}
 use Rattle.vp_model.specs.Site.{Stepped}
-use Rattle.vp_site.proofs.Voting.{prepare_row}
-use Rattle.vp_site.proofs.stepped.Stepped.on_prepare.Goals as goal
+use Rattle.vp_stepped.proofs.Voting.{prepare_row}
+use Rattle.vp_stepped.proofs.stepped.Stepped.on_prepare.Goals as goal
 
 pub returns-in-Ok : goal.returns-in-Ok
 returns-in-Ok c =

@@ -15,7 +15,7 @@ use Rattle.vp_participant.specs.Refusals.{id_of, vote_refusal}
 use Rattle.vp_participant.specs.declared.participant.Voted.{Voted}
 use Rattle.vp_participant.specs.declared.participant.Voted.TheVariants as voted
 use Rattle.vp_participant.specs.declared.fault.PrepareFault.TheVariants as vote_fault
-use Rattle.vp_site.specs.Ballots.{told, cast}
+use Rattle.vp_stepped.specs.Ballots.{told, cast}
 
 -- a part is found under its transaction
 part_is : (txn : TxnId) (parts : List Part) (part : Part) → part_of txn parts ≡ Some part → part.txn ≡ txn

@@ -1,0 +1,37 @@
+//! What a site keeps while it is up.
+
+use std::marker::Model;
+use vp_coordinator::Coordinator;
+use vp_endings::Here;
+use vp_participant::Participant;
+use vp_refresh::Refresh;
+use vp_views::Views;
+
+/// What a site keeps while it is up: each part by its own crate.
+#[derive(Drop)]
+pub struct SiteState {
+    pub views: Views,
+    pub here: Here,
+    pub participant: Participant,
+    pub refresh: Refresh,
+    pub coordinator: Coordinator,
+}
+
+impl Model for SiteState {
+    ghost use Rattle.std.specs.Prelude.{◌≡◌};
+    ghost use Rattle.vp_model.specs.Site.{SiteState as State};
+
+    ghost Value = { State };
+
+    ghost view = { λ s. record {
+      id = s.coordinator.id;
+      life = s.coordinator.life;
+      views = s.views.views;
+      here = s.here;
+      participant = s.participant;
+      refresh = s.refresh;
+      coordinator = s.coordinator.coordinator;
+    } };
+
+    ghost invariant = { λ s. s.views.id ≡ s.coordinator.id };
+}
