@@ -21,7 +21,7 @@ use Rattle.vp_playing.specs.Played.{SeesAll, Plays}
 use Rattle.vp_playing.proofs.Seen.{sees_appended}
 use Rattle.vp_stable.specs.Halves.{HaveBatches}
 use Rattle.vp_kept.specs.Kept.{kept, kept_in}
-use Rattle.vp_cluster.specs.Hosts.{HostValue, place_of, site_log, log_in, IsHost}
+use Rattle.vp_cluster.specs.Hosts.{HostValue, address_of, site_log, log_in, IsHost}
 use Rattle.vp_cluster.specs.Nodes.{NodesValue, AreHosts, Begin, Follows, host_at}
 use Rattle.vp_cluster.specs.Clusters.{AreTied}
 use Rattle.vp_cluster.specs.Ran.{AreLogs, Runs}
@@ -29,7 +29,7 @@ use Rattle.vp_cluster.specs.declared.cluster.Ran.{Ran}
 use Rattle.vp_cluster.specs.declared.cluster.Cluster.{Cluster}
 use Rattle.vp_cluster.proofs.TiedLines.{FollowAll}
 use Rattle.vp_cluster.proofs.Tied.{traces_tie}
-use Rattle.vp_cluster.proofs.Begun.{ports_differ, each_found}
+use Rattle.vp_cluster.proofs.Begun.{hosts_differ, each_found}
 
 -- two that see the same lines
 pub sees_both : {A B S : Type 0} (f : S → A) (g : S → B) (one : ℕ × Line → A → A → Type 0) (two : ℕ × Line → B → B → Type 0) (lines : List (ℕ × Line)) (old new : S)
@@ -51,14 +51,14 @@ module _ (s : Schedule) (k : IsCatalogue s.catalogue) (nodes : NodesValue) (are 
   logs_of [] h f = tt
   logs_of (host ∷ hosts) h f = (log_of host h.0 f.0, logs_of hosts h.1 f.1)
 
-  sites_in : (hosts : List HostValue) → map (λ (log : ℕ × List ℕ × List ℕ). log.0) (map site_log hosts) ≡ map (λ (site : ℕ × ℕ). site.0) (map place_of hosts)
+  sites_in : (hosts : List HostValue) → map (λ (log : ℕ × List ℕ × List ℕ). log.0) (map site_log hosts) ≡ map (λ (site : ℕ × ℕ). site.0) (map address_of hosts)
   sites_in [] = refl
   sites_in (host ∷ hosts) = ap (λ rest. host.id ∷ rest) (sites_in hosts)
 
   pub are_logs : AreLogs s (map site_log nodes.hosts)
   are_logs = record {
     sites_are = sites_in nodes.hosts ∙ ap (map (λ (site : ℕ × ℕ). site.0)) are.sites_are;
-    kept = logs_of nodes.hosts are.each (each_found nodes.hosts (ports_differ s.catalogue nodes.hosts k.so_far are.sites_are));
+    kept = logs_of nodes.hosts are.each (each_found nodes.hosts (hosts_differ s.catalogue nodes.hosts k.so_far are.sites_are));
   }
 
 -- ---- what is played before the nodes
@@ -82,11 +82,6 @@ events_formed sites (e ∷ events) h = (event_formed sites e h.0, events_formed 
 -- what the nodes and the trace make of a line
 abbrev pub SeesLine : Catalogue → ℕ × Line → Cluster → Cluster → Type 0
 SeesLine catalogue line old new = Follows line.1 old.nodes new.nodes × (new.trace ≡ old.trace ++ line_text catalogue line)
-
--- an error that is handed on
-pub handed_on : {T E : Type 0} (r : Result T E) (why : E) → IsErrAnd r (λ e. e ≡ why) → r ≡ Err why
-handed_on (Ok x) why h = absurd h
-handed_on (Err e) why h = ap Err h
 
 -- the same of a schedule that is equal
 pub same_plays : (s t : Schedule) (result : Result Known WorldEnd) (old new : Cluster) → s ≡ t → Plays SeesLine s result old new → Plays SeesLine t result old new

@@ -26,8 +26,8 @@ abbrev pub SeesAll : {S : Type 0} → (ℕ × Line → S → S → Type 0) → L
 SeesAll sees [] old new = new ≡ old
 SeesAll {S} sees (line ∷ lines) old new = (mid : S) × sees line old mid × SeesAll sees lines mid new
 
--- The steps of the run are done, and the observer has seen the event's own lines and then theirs; or a limit ends them, and it has seen its
--- own lines and those of the steps before.
+-- The steps of the run are done, and the observer has seen the event's own lines and then theirs; or a limit ends them, and it has seen the
+-- event's own lines and those of the steps before.
 abbrev pub Sees : {S : Type 0} → (Catalogue → ℕ × Line → S → S → Type 0) → Catalogue → List (ℕ × Line) → Run → Result Known WorldEnd → S → S → Type 0
 Sees sees catalogue own run (Ok known) old new =
     (list_any (is_over world_limits) run.moments ≡ false)
