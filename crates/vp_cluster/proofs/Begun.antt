@@ -9,7 +9,7 @@ use Rattle.vp_text.proofs.Items.{all_push}
 use Rattle.vp_model.specs.Words.{value_at}
 use Rattle.vp_model.specs.Catalogue.{Catalogue}
 use Rattle.vp_catalog.specs.Document.{AreSites, IsCatalogueSoFar}
-use Rattle.vp_cluster.specs.Hosts.{HostValue, place_of, IsHost, Begins}
+use Rattle.vp_cluster.specs.Hosts.{HostValue, address_of, IsHost, Begins}
 use Rattle.vp_cluster.specs.Nodes.{NodesValue, AreHosts, AreBegun, Begin, host_at}
 
 -- ---- the sites of a catalogue
@@ -42,15 +42,15 @@ abbrev at_port : ℕ → HostValue → Bool
 at_port port host = host.port == port
 
 -- the ports of hosts with these sites differ
-ports_of : (hosts : List HostValue) → map (λ (s : ℕ × ℕ). s.1) (map place_of hosts) ≡ map (λ (host : HostValue). host.port) hosts
+ports_of : (hosts : List HostValue) → map (λ (s : ℕ × ℕ). s.1) (map address_of hosts) ≡ map (λ (host : HostValue). host.port) hosts
 ports_of [] = refl
 ports_of (host ∷ hosts) = ap (λ rest. host.port ∷ rest) (ports_of hosts)
 
 abbrev Differ : List HostValue → Type 0
 Differ hosts = IsDistinct nat_eq (map (λ (host : HostValue). host.port) hosts)
 
-pub ports_differ : (catalogue : Catalogue) (hosts : List HostValue) → IsCatalogueSoFar catalogue → map place_of hosts ≡ catalogue.sites → Differ hosts
-ports_differ catalogue hosts k e =
+pub hosts_differ : (catalogue : Catalogue) (hosts : List HostValue) → IsCatalogueSoFar catalogue → map address_of hosts ≡ catalogue.sites → Differ hosts
+hosts_differ catalogue hosts k e =
     subst (IsDistinct nat_eq) (ports_of hosts) (subst (λ sites. IsDistinct nat_eq (map (λ (s : ℕ × ℕ). s.1) sites)) (sym e) k.ports_differ)
 
 -- a host behind another one is found as if that were not there
@@ -87,7 +87,7 @@ abbrev HasBegun : Catalogue → List HostValue → ℕ → ℕ → Type 0
 HasBegun catalogue hosts id port = (it : HostValue) × (host_at port hosts ≡ Some it) × Begins catalogue id port it
 
 -- the host of a site is found by the site's port
-begun_in : (catalogue : Catalogue) (hosts : List HostValue) → Differ hosts → AllByRecursion (λ (host : HostValue). Begins catalogue host.id host.port host) hosts → (id port : ℕ) → value_at id (map place_of hosts) ≡ Some port → HasBegun catalogue hosts id port
+begun_in : (catalogue : Catalogue) (hosts : List HostValue) → Differ hosts → AllByRecursion (λ (host : HostValue). Begins catalogue host.id host.port host) hosts → (id port : ℕ) → value_at id (map address_of hosts) ≡ Some port → HasBegun catalogue hosts id port
 unfolding IsDistinct
 begun_in catalogue [] d h id port e = absurd cc
 begun_in catalogue (host ∷ hosts) d h id port e = go (host.id == id) refl e (begun_in catalogue hosts d.1 h.1 id port)
@@ -98,8 +98,8 @@ begun_in catalogue (host ∷ hosts) d h id port e = go (host.id == id) refl e (b
     there : HasBegun catalogue hosts id port → HasBegun catalogue (host ∷ hosts) id port
     there (it, found, begins) = (it, found_behind host it hosts port (other_than host.port hosts port it d.0 found) found, begins)
 
-    go : (b : Bool) → (host.id == id) ≡ b → option_map (λ (s : ℕ × ℕ). s.1) (cond b (Some (place_of host)) (find (λ (s : ℕ × ℕ). s.0 == id) (map place_of hosts))) ≡ Some port
-        → (value_at id (map place_of hosts) ≡ Some port → HasBegun catalogue hosts id port) → HasBegun catalogue (host ∷ hosts) id port
+    go : (b : Bool) → (host.id == id) ≡ b → option_map (λ (s : ℕ × ℕ). s.1) (cond b (Some (address_of host)) (find (λ (s : ℕ × ℕ). s.0 == id) (map address_of hosts))) ≡ Some port
+        → (value_at id (map address_of hosts) ≡ Some port → HasBegun catalogue hosts id port) → HasBegun catalogue (host ∷ hosts) id port
     go true same e rest = here (grind (arith, nat_tests, same)) cc
     go false other e rest = there (rest e)
 
@@ -107,23 +107,15 @@ pub nodes_begin : (catalogue : Catalogue) (nodes : NodesValue) → IsCatalogueSo
 nodes_begin catalogue nodes k same begun none =
     record {
       catalogue_is = same;
-      hosts_are = λ id port e. begun_in catalogue nodes.hosts (ports_differ catalogue nodes.hosts k begun.sites_are) begun.each id port (subst (λ sites. value_at id sites ≡ Some port) (sym begun.sites_are) e);
+      hosts_are = λ id port e. begun_in catalogue nodes.hosts (hosts_differ catalogue nodes.hosts k begun.sites_are) begun.each id port (subst (λ sites. value_at id sites ≡ Some port) (sym begun.sites_are) e);
       letters_are = none;
     }
-
--- each has its form
-pub begun_hosts : (catalogue : Catalogue) (hosts : List HostValue) → AreBegun catalogue hosts → AreHosts catalogue hosts
-begun_hosts catalogue hosts begun = record { sites_are = begun.sites_are; each = go hosts begun.each }
-  where
-    go : (hosts : List HostValue) → AllByRecursion (λ (host : HostValue). Begins catalogue host.id host.port host) hosts → AllByRecursion (IsHost catalogue) hosts
-    go [] h = tt
-    go (host ∷ hosts) h = (h.0.is_host, go hosts h.1)
 
 -- ---- one after the other
 
 -- the first so many sites have their hosts
 pub record AreBegunTo (catalogue : Catalogue) (sites : List (ℕ × ℕ)) (i : ℕ) (hosts : List HostValue) : Type 0 where
-  pub sites_are : map place_of hosts ≡ take i sites
+  pub sites_are : map address_of hosts ≡ take i sites
   pub each : AllByRecursion (λ (host : HostValue). Begins catalogue host.id host.port host) hosts
 
 pub begun_none : (catalogue : Catalogue) (sites : List (ℕ × ℕ)) (hosts : List HostValue) → hosts ≡ [] → AreBegunTo catalogue sites 0 hosts
@@ -137,7 +129,7 @@ begun_more catalogue sites i hosts more host d l h begins is =
     let next : suc i ≡ i + 1 = omega arith in
     rw is (record {
       sites_are =
-          map-append place_of hosts (host ∷ []) ∙ ap (λ front. front ++ place_of host ∷ []) h.sites_are
+          map-append address_of hosts (host ∷ []) ∙ ap (λ front. front ++ address_of host ∷ []) h.sites_are
           ∙ ap (λ (site : ℕ × ℕ). take i sites ++ site ∷ []) (ap (λ id. (id, host.port)) id ∙ ap (λ port. ((get_or sites i d).0, port)) port)
           ∙ sym (take-suc sites i d l) ∙ ap (λ n. take n sites) next;
       each = all_push (λ (host : HostValue). Begins catalogue host.id host.port host) hosts host h.each

@@ -7,7 +7,7 @@ use Rattle.std.proofs.lemmas.Bool.Decides.{nat_tests}
 use Rattle.std.proofs.lemmas.List.Quantifiers.{position-Some}
 use Rattle.vp_lists.proofs.Found.{find_none, find_some}
 use Rattle.vp_model.specs.Catalogue.{Catalogue}
-use Rattle.vp_cluster.specs.Hosts.{HostValue, place_of, IsHost, Stays, Takes}
+use Rattle.vp_cluster.specs.Hosts.{HostValue, address_of, IsHost, Stays, Takes}
 use Rattle.vp_cluster.specs.Letters.{as_received, sent_from}
 use Rattle.vp_cluster.specs.Nodes.{NodesValue, AreHosts, ChangesAt, ChangesOf, Comes}
 use Rattle.vp_cluster.specs.declared.letter.Letter.{Letter}
@@ -26,7 +26,7 @@ module _ (port : ℕ) (does : HostValue → HostValue → Type 0) (hosts : List 
   }
 
   -- the host at the port is this one
-  module _ (d after : HostValue) (i : ℕ) (some : position at hosts ≡ Some i) (same : place_of after ≡ place_of (get_or hosts i d)) where
+  module _ (d after : HostValue) (i : ℕ) (some : position at hosts ≡ Some i) (same : address_of after ≡ address_of (get_or hosts i d)) where
     within : i < length hosts
     within = (position-Some at hosts i d some).0
 
@@ -43,10 +43,10 @@ module _ (port : ℕ) (does : HostValue → HostValue → Type 0) (hosts : List 
     }
 
     pub hosts_still : (catalogue : Catalogue) → AreHosts catalogue hosts → IsHost catalogue after → AreHosts catalogue (set hosts i after)
-    hosts_still catalogue h is = record { sites_are = maps_same d place_of after hosts i within same ∙ h.sites_are; each = all_set d (IsHost catalogue) after hosts i is h.each }
+    hosts_still catalogue h is = record { sites_are = maps_same d address_of after hosts i within same ∙ h.sites_are; each = all_set d (IsHost catalogue) after hosts i is h.each }
 
 -- a host that stays is at its place
-pub stays_placed : (catalogue : Catalogue) (old new : HostValue) → Stays catalogue old new → place_of new ≡ place_of old
+pub stays_placed : (catalogue : Catalogue) (old new : HostValue) → Stays catalogue old new → address_of new ≡ address_of old
 stays_placed catalogue old new h = ap (λ id. (id, new.port)) h.same_id ∙ ap (λ port. (old.id, port)) h.same_port
 
 -- the same of what is answered

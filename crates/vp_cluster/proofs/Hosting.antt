@@ -3,7 +3,7 @@ use Rattle.std.proofs.Common.{◌≡◌, ◌∙◌, inr, inl, ℕ, ◌<◌, ◌^
 use Rattle.std.specs.declared.option.Option.{Option}
 use Rattle.std.specs.declared.option.Option.TheVariants.{Some, None}
 use Rattle.std.specs.Prelude.{is_some, IfSome}
-use Rattle.vp_records.proofs.Held.{is_there}
+use Rattle.vp_records.proofs.Held.{listed}
 use Rattle.vp_catalog.specs.Document.{IsCatalogue}
 use Rattle.vp_model.specs.Types.{LogRecord}
 use Rattle.vp_model.specs.Words.{has, value_at, keys}
@@ -11,7 +11,6 @@ use Rattle.vp_model.specs.Catalogue.{Catalogue, sites_of}
 use Rattle.vp_model.specs.Site.{SiteState}
 use Rattle.vp_model.specs.Step.{start}
 use Rattle.vp_laws.specs.Shapes.{IsShaped}
-use Rattle.vp_laws.proofs.ShapeSteps.{step_forms}
 use Rattle.vp_outside.specs.Disk.{Steps}
 use Rattle.vp_outside.specs.Changes.{asked_of, changes_of, content_of, state_after}
 use Rattle.vp_outside.specs.declared.changes.Change.{Change}
@@ -26,11 +25,8 @@ use Rattle.vp_runs.proofs.Shaped.{arrives}
 use Rattle.vp_node.specs.Nodes.{NodeValue, IsNode, IsKept, Starts, IsSpent, Turns, Saves, turn_of}
 use Rattle.vp_turns.specs.declared.turned.Turned.{Turned}
 use Rattle.vp_node.proofs.Kept.{has as have}
+use Rattle.vp_node.proofs.Turning.{same_id}
 use Rattle.vp_cluster.specs.Hosts.{HostValue, IsHost, IsAt, Takes, Crashes, Restarts, Begins, is_spent, log_in, told, node_at, turn_at}
-
--- a site with a port is a site
-pub listed : (id port : ℕ) (sites : List (ℕ × ℕ)) → value_at id sites ≡ Some port → has (keys sites) id ≡ true
-listed id port sites is = sym (is_there id sites) ∙ ap is_some is
 
 -- an empty log has no batches
 pub no_batches : HaveBatches [] ([], [])
@@ -44,15 +40,8 @@ pub start_id : (catalogue : Catalogue) (id : ℕ) (batches : List (List LogRecor
 unfolding start
 start_id catalogue id batches = refl
 
-keeps_id : (catalogue : Catalogue) (site : SiteState) (what : Arrival) → IsCatalogue catalogue → IsShaped catalogue site → IsArrival what → (turn_on catalogue site what).site.id ≡ site.id
-unfolding turn_on
-keeps_id catalogue site (Bad at) k shaped is = refl
-keeps_id catalogue site Stray k shaped is = refl
-keeps_id catalogue site Stops k shaped is = refl
-keeps_id catalogue site (Gives given) k shaped is = (step_forms catalogue site given k shaped is).same
-
 pub turn_id : (catalogue : Catalogue) (node : NodeValue) (d : Datagram) → IsNode catalogue node → d.port < 2 ^ 16 → (turn_of catalogue node d).site.id ≡ node.site.id
-turn_id catalogue node d is fits = keeps_id catalogue node.site (arrival catalogue node.site.id d) is.catalogue_is is.site_is (arrives catalogue node.site.id d fits)
+turn_id catalogue node d is fits = same_id catalogue node.site d is.catalogue_is is.site_is fits
 
 -- the life of a site that starts behind the last one would be none
 pub last_life : (catalogue : Catalogue) (id : ℕ) (batches : List (List LogRecord)) → is_spent catalogue id batches → (start_node catalogue id batches).site.life < 2 ^ 32 → ⊥

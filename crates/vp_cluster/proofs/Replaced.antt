@@ -28,27 +28,7 @@ module _ {A : Type 0} (d : A) where
   maps_same f y (x ∷ xs) zero l e = ap (λ z. z ∷ map f xs) e
   maps_same f y (x ∷ xs) (suc i) l e = ap (λ rest. f x ∷ rest) (maps_same f y xs i (omega arith) e)
 
-  pub all_at : (P : A → Type 0) (xs : List A) (i : ℕ) → i < length xs → AllByRecursion P xs → P (get_or xs i d)
-  all_at P [] i l h = absurd (omega arith)
-  all_at P (x ∷ xs) zero l h = h.0
-  all_at P (x ∷ xs) (suc i) l h = all_at P xs i (omega arith) h.1
-
   pub all_set : (P : A → Type 0) (y : A) (xs : List A) (i : ℕ) → P y → AllByRecursion P xs → AllByRecursion P (set xs i y)
   all_set P y [] i p h = tt
   all_set P y (x ∷ xs) zero p h = (p, h.1)
   all_set P y (x ∷ xs) (suc i) p h = (h.0, all_set P y xs i p h.1)
-
--- ---- a list that is made item by item
-
-module _ {A B : Type 0} (f : A → B) (xs : List A) where
-  pub made_none : (ys : List B) → ys ≡ [] → ys ≡ map f (take 0 xs)
-  made_none ys e = e
-
-  pub made_more : (i : ℕ) (ys more : List B) (x : A) (y : B) → i < length xs → ys ≡ map f (take i xs) → x ≡ get_or xs i x → y ≡ f x → more ≡ ys ++ y ∷ [] → more ≡ map f (take (i + 1) xs)
-  made_more i ys more x y l so_far is made e =
-      let next : suc i ≡ i + 1 = omega arith in
-      e ∙ ap (λ front. front ++ y ∷ []) so_far ∙ ap (λ z. map f (take i xs) ++ z ∷ []) (made ∙ ap f is)
-      ∙ sym (map-append f (take i xs) (get_or xs i x ∷ [])) ∙ ap (map f) (sym (take-suc xs i x l)) ∙ ap (λ n. map f (take n xs)) next
-
-  pub made_all : (i : ℕ) (ys : List B) → i ≤ length xs → length xs ≤ i → ys ≡ map f (take i xs) → ys ≡ map f xs
-  made_all i ys most least so_far = let all : i ≡ length xs = omega (arith, most, least) in so_far ∙ ap (λ n. map f (take n xs)) all ∙ ap (map f) (take-length xs)

@@ -1,8 +1,10 @@
 -- What the run of a schedule comes to.
-use Rattle.std.proofs.Common.{◌≡◌, ◌∙◌, ap, sym, subst, ℕ, List, [], ◌∷◌, ◌++◌, map, Some, None, refl}
+use Rattle.std.proofs.Common.{◌≡◌, ◌∙◌, inl, inr, ap, sym, subst, ℕ, true, List, [], ◌∷◌, ◌++◌, map, Some, None, refl}
 use Rattle.std.specs.Prelude.{Result, Ok, Err}
 use Rattle.std.specs.Result.{IsErrAnd}
 use Rattle.std.specs.List.{AllByRecursion, flat_map}
+use Rattle.vp_text.specs.Printing.{is_begun}
+use Rattle.vp_text.proofs.Printing.{begun_none, begun_first, begun_then}
 use Rattle.vp_catalog.specs.Document.{IsCatalogue}
 use Rattle.vp_model.specs.Catalogue.{Catalogue, sites_of}
 use Rattle.vp_model.specs.Types.{Event, Line}
@@ -17,11 +19,11 @@ use Rattle.vp_world.specs.Known.{Known}
 use Rattle.vp_world.specs.declared.end.WorldEnd.{WorldEnd}
 use Rattle.vp_world.specs.declared.end.WorldEnd.TheVariants as end
 use Rattle.vp_model.specs.World.{Schedule, run_of, moments_of}
-use Rattle.vp_playing.specs.Played.{SeesAll, Plays}
+use Rattle.vp_playing.specs.Played.{SeesAll, SeesSome, Plays}
 use Rattle.vp_playing.proofs.Seen.{sees_appended}
 use Rattle.vp_stable.specs.Halves.{HaveBatches}
 use Rattle.vp_kept.specs.Kept.{kept, kept_in}
-use Rattle.vp_cluster.specs.Hosts.{HostValue, place_of, site_log, log_in, IsHost}
+use Rattle.vp_cluster.specs.Hosts.{HostValue, address_of, site_log, log_in, IsHost}
 use Rattle.vp_cluster.specs.Nodes.{NodesValue, AreHosts, Begin, Follows, host_at}
 use Rattle.vp_cluster.specs.Clusters.{AreTied}
 use Rattle.vp_cluster.specs.Ran.{AreLogs, Runs}
@@ -29,7 +31,7 @@ use Rattle.vp_cluster.specs.declared.cluster.Ran.{Ran}
 use Rattle.vp_cluster.specs.declared.cluster.Cluster.{Cluster}
 use Rattle.vp_cluster.proofs.TiedLines.{FollowAll}
 use Rattle.vp_cluster.proofs.Tied.{traces_tie}
-use Rattle.vp_cluster.proofs.Begun.{ports_differ, each_found}
+use Rattle.vp_cluster.proofs.Begun.{hosts_differ, each_found}
 
 -- two that see the same lines
 pub sees_both : {A B S : Type 0} (f : S → A) (g : S → B) (one : ℕ × Line → A → A → Type 0) (two : ℕ × Line → B → B → Type 0) (lines : List (ℕ × Line)) (old new : S)
@@ -51,14 +53,14 @@ module _ (s : Schedule) (k : IsCatalogue s.catalogue) (nodes : NodesValue) (are 
   logs_of [] h f = tt
   logs_of (host ∷ hosts) h f = (log_of host h.0 f.0, logs_of hosts h.1 f.1)
 
-  sites_in : (hosts : List HostValue) → map (λ (log : ℕ × List ℕ × List ℕ). log.0) (map site_log hosts) ≡ map (λ (site : ℕ × ℕ). site.0) (map place_of hosts)
+  sites_in : (hosts : List HostValue) → map (λ (log : ℕ × List ℕ × List ℕ). log.0) (map site_log hosts) ≡ map (λ (site : ℕ × ℕ). site.0) (map address_of hosts)
   sites_in [] = refl
   sites_in (host ∷ hosts) = ap (λ rest. host.id ∷ rest) (sites_in hosts)
 
   pub are_logs : AreLogs s (map site_log nodes.hosts)
   are_logs = record {
     sites_are = sites_in nodes.hosts ∙ ap (map (λ (site : ℕ × ℕ). site.0)) are.sites_are;
-    kept = logs_of nodes.hosts are.each (each_found nodes.hosts (ports_differ s.catalogue nodes.hosts k.so_far are.sites_are));
+    kept = logs_of nodes.hosts are.each (each_found nodes.hosts (hosts_differ s.catalogue nodes.hosts k.so_far are.sites_are));
   }
 
 -- ---- what is played before the nodes
@@ -83,14 +85,22 @@ events_formed sites (e ∷ events) h = (event_formed sites e h.0, events_formed 
 abbrev pub SeesLine : Catalogue → ℕ × Line → Cluster → Cluster → Type 0
 SeesLine catalogue line old new = Follows line.1 old.nodes new.nodes × (new.trace ≡ old.trace ++ line_text catalogue line)
 
--- an error that is handed on
-pub handed_on : {T E : Type 0} (r : Result T E) (why : E) → IsErrAnd r (λ e. e ≡ why) → r ≡ Err why
-handed_on (Ok x) why h = absurd h
-handed_on (Err e) why h = ap Err h
+-- what they may have made of it without memory
+abbrev pub BeginsLine : Catalogue → ℕ × Line → Cluster → Cluster → Type 0
+BeginsLine catalogue line old new = is_begun old.trace (line_text catalogue line) new.trace ≡ true
+
+-- some of the lines leave a beginning of their text
+some_begun : (catalogue : Catalogue) (lines : List (ℕ × Line)) (old new : Cluster) → SeesSome (SeesLine catalogue) (BeginsLine catalogue) lines old new → is_begun old.trace (flat_map (line_text catalogue) lines) new.trace ≡ true
+some_begun catalogue [] old new e = begun_none old.trace [] new.trace (ap (λ (c : Cluster). c.trace) e)
+some_begun catalogue (line ∷ lines) old new (inl e) = begun_none old.trace (flat_map (line_text catalogue) (line ∷ lines)) new.trace (ap (λ (c : Cluster). c.trace) e)
+some_begun catalogue (line ∷ lines) old new (inr (inl b)) = begun_first old.trace (line_text catalogue line) (flat_map (line_text catalogue) lines) new.trace b
+some_begun catalogue (line ∷ lines) old new (inr (inr (mid, h, rest))) =
+    begun_then old.trace (line_text catalogue line) (flat_map (line_text catalogue) lines) new.trace
+    (subst (λ (front : List ℕ). is_begun front (flat_map (line_text catalogue) lines) new.trace ≡ true) h.1 (some_begun catalogue lines mid new rest))
 
 -- the same of a schedule that is equal
-pub same_plays : (s t : Schedule) (result : Result Known WorldEnd) (old new : Cluster) → s ≡ t → Plays SeesLine s result old new → Plays SeesLine t result old new
-same_plays s t result old new e = subst (λ (s : Schedule). Plays SeesLine s result old new) e
+pub same_plays : (s t : Schedule) (result : Result Known WorldEnd) (old new : Cluster) → s ≡ t → Plays SeesLine BeginsLine s result old new → Plays SeesLine BeginsLine t result old new
+same_plays s t result old new e = subst (λ (s : Schedule). Plays SeesLine BeginsLine s result old new) e
 
 module _ (s : Schedule) (is : IsSchedule s) (old new : Cluster) where
   both : SeesAll (SeesLine s.catalogue) (lines_within world_limits s) old new → FollowAll (lines_within world_limits s) old.nodes new.nodes × (new.trace ≡ old.trace ++ trace_text_within world_limits s)
@@ -99,12 +109,12 @@ module _ (s : Schedule) (is : IsSchedule s) (old new : Cluster) where
       (two.0, sees_appended (line_text s.catalogue) (lines_within world_limits s) old.trace new.trace two.1)
 
   -- a limit ends it
-  pub run_is_cut : (why : WorldEnd) (result : Result Ran WorldEnd) → Plays SeesLine s (Err why) old new → result ≡ Err why → Runs s result old.trace new.trace
+  pub run_is_cut : (why : WorldEnd) (result : Result Ran WorldEnd) → Plays SeesLine BeginsLine s (Err why) old new → result ≡ Err why → Runs s result old.trace new.trace
   run_is_cut (end.Limit what limit) result plays e = rw e (plays.0, plays.1, (both plays.2).1)
-  run_is_cut end.NoMemory result plays e = rw e tt
+  run_is_cut end.NoMemory result plays e = rw e (some_begun s.catalogue (lines_within world_limits s) old new plays)
 
   -- it is done
-  pub run_is_done : (known : Known) → Plays SeesLine s (Ok known) old new → Begin s.catalogue old.nodes → AreHosts new.nodes.catalogue new.nodes.hosts
+  pub run_is_done : (known : Known) → Plays SeesLine BeginsLine s (Ok known) old new → Begin s.catalogue old.nodes → AreHosts new.nodes.catalogue new.nodes.hosts
       → (limit_reached world_limits s ≡ None) × (new.trace ≡ old.trace ++ trace_text s) × (known.world.journal ≡ (run_of s).world.journal) × AreLogs s (map site_log new.nodes.hosts)
   run_is_done known plays begins are =
       let two = both plays.2 in

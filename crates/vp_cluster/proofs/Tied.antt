@@ -17,16 +17,13 @@ use Rattle.vp_laws.proofs.InvVotes.{Fourth}
 use Rattle.vp_laws.proofs.Agreement.{views_last}
 use Rattle.vp_laws.proofs.CutTraces.{limits_cut_traces}
 use Rattle.vp_routes.proofs.InvRoutes.{InvRoutes, routes_last}
-use Rattle.vp_stable.specs.Halves.{HaveBatches}
-use Rattle.vp_kept.specs.Kept.{kept}
 use Rattle.vp_kept.proofs.Happened.{Effect, effect}
 use Rattle.vp_kept.proofs.Through.{Follow, moments_follow, starts_at}
 use Rattle.vp_kept.proofs.Steps.{events_are}
 use Rattle.vp_kept.proofs.Nodes.{sent_are}
 use Rattle.vp_kept.proofs.Folds.{folds_first}
 use Rattle.vp_kept.proofs.Coming.{has_port}
-use Rattle.vp_cluster.specs.Hosts.{HostValue, log_in}
-use Rattle.vp_cluster.specs.Nodes.{NodesValue, host_at, Begin}
+use Rattle.vp_cluster.specs.Nodes.{NodesValue, Begin}
 use Rattle.vp_cluster.specs.Clusters.{HasSite, AreTied}
 use Rattle.vp_cluster.proofs.TiedLetters.{has_site}
 use Rattle.vp_cluster.proofs.TiedMoments.{Facts, Folds, folds_now, tied_on}
@@ -88,9 +85,3 @@ module _ (s : Schedule) (k : IsCatalogue s.catalogue) (i : AllByRecursion IsEven
   pub traces_tie : (limits : Limits) → limit_reached limits s ≡ None → (begun ended : NodesValue) → Begin s.catalogue begun → FollowAll (lines_within limits s) begun ended → AreTied s.catalogue (moments_of s) (run_of s).world ended
   traces_tie limits none begun ended begin h =
       nodes_are_tied begun ended begin (follow_moments s begun ended (subst (λ (lines : List (ℕ × Line)). FollowAll lines begun ended) (limits_cut_traces.whole limits s none) h))
-
-  -- the log of each host has what the schedule leaves in that of its site
-  pub hosts_keep : (nodes : NodesValue) → AreTied s.catalogue (moments_of s) (run_of s).world nodes → (id port : ℕ) → value_at id s.catalogue.sites ≡ Some port
-      → (host : HostValue) × (host_at port nodes.hosts ≡ Some host) × (host.id ≡ id) × HaveBatches (kept s id) (log_in host)
-  unfolding kept
-  hosts_keep nodes tied id port at = let h = tied.sites id port at in (h.host, h.host_is, h.id_is, h.at.has)

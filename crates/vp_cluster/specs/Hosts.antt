@@ -34,9 +34,9 @@ log_in host = content_of (changes_of (asked_of host.disk) host.disk)
 abbrev pub site_log : HostValue → ℕ × List ℕ × List ℕ
 site_log host = (host.id, (log_in host).0, (log_in host).1)
 
--- its site with its port
-abbrev pub place_of : HostValue → ℕ × ℕ
-place_of host = (host.id, host.port)
+-- where it stands: its site with its port
+abbrev pub address_of : HostValue → ℕ × ℕ
+address_of host = (host.id, host.port)
 
 -- It is a host over this catalogue: its port is its site's, and where the site is up it is at its node, whose log the disk keeps.
 pub record IsHost (catalogue : Catalogue) (host : HostValue) : Type 0 where

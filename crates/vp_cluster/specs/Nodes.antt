@@ -8,7 +8,7 @@ use Rattle.vp_model.specs.Words.{value_at}
 use Rattle.vp_model.specs.Catalogue.{Catalogue}
 use Rattle.vp_outside.specs.declared.datagram.Datagram.{Datagram}
 use Rattle.vp_cluster.specs.declared.letter.Letter.{Letter}
-use Rattle.vp_cluster.specs.Hosts.{HostValue, place_of, IsHost, Takes, Crashes, Restarts, Begins}
+use Rattle.vp_cluster.specs.Hosts.{HostValue, address_of, IsHost, Takes, Crashes, Restarts, Begins}
 use Rattle.vp_cluster.specs.Letters.{letter_of, as_received, sent_from}
 
 -- what contracts see of the nodes: their catalogue, their hosts, and the letters of the messages that were sent so far, in order
@@ -19,12 +19,12 @@ pub record NodesValue : Type 0 where
 
 -- There is a host for each site of the catalogue, in its order.
 pub record AreHosts (catalogue : Catalogue) (hosts : List HostValue) : Type 0 where
-  pub sites_are : map place_of hosts ≡ catalogue.sites
+  pub sites_are : map address_of hosts ≡ catalogue.sites
   pub each : AllByRecursion (IsHost catalogue) hosts
 
 -- each in the first life of its site
 pub record AreBegun (catalogue : Catalogue) (hosts : List HostValue) : Type 0 where
-  pub sites_are : map place_of hosts ≡ catalogue.sites
+  pub sites_are : map address_of hosts ≡ catalogue.sites
   pub each : AllByRecursion (λ host. Begins catalogue host.id host.port host) hosts
 
 -- the host at this port

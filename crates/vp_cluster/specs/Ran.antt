@@ -1,6 +1,7 @@
 -- What the run of a schedule through nodes leaves.
-use Rattle.std.specs.Prelude.{◌≡◌, ℕ, List, ◌++◌, map, Some, None, Result, Ok, Err}
+use Rattle.std.specs.Prelude.{◌≡◌, ℕ, true, List, ◌++◌, map, Some, None, Result, Ok, Err}
 use Rattle.std.specs.List.{AllByRecursion}
+use Rattle.vp_text.specs.Printing.{is_begun}
 use Rattle.vp_model.specs.Catalogue.{sites_of}
 use Rattle.vp_model.specs.Limits.{world_limits, limit_reached, trace_text_within}
 use Rattle.vp_model.specs.Texts.Trace.{trace_text}
@@ -18,7 +19,7 @@ pub record AreLogs (s : Schedule) (logs : List (ℕ × List ℕ × List ℕ)) : 
   pub kept : AllByRecursion (λ (log : ℕ × List ℕ × List ℕ). HaveBatches (kept s log.0) (log.1, log.2)) logs
 
 -- The schedule is run: its trace is appended, its journal is answered with the logs. Or a limit of the world ends it, and the trace of the
--- steps before is appended.
+-- steps before is appended. Or there is no memory, and a beginning of that is appended.
 abbrev pub Runs : Schedule → Result Ran WorldEnd → List ℕ → List ℕ → Type 0
 Runs s (Ok ran) old new =
     (limit_reached world_limits s ≡ None)
@@ -27,4 +28,4 @@ Runs s (Ok ran) old new =
     × AreLogs s ran.logs
 Runs s (Err (end.Limit what limit)) old new =
     (limit_reached world_limits s ≡ Some what) × (limit ≡ limit_of what) × (new ≡ old ++ trace_text_within world_limits s)
-Runs s (Err end.NoMemory) old new = Unit {0}
+Runs s (Err end.NoMemory) old new = is_begun old (trace_text_within world_limits s) new ≡ true

@@ -27,14 +27,17 @@ struct Cluster {
 }
 
 impl Observer for Cluster {
-    ghost use Rattle.std.specs.Prelude.{◌≡◌, ◌++◌};
+    ghost use Rattle.std.specs.Prelude.{◌≡◌, ◌++◌, true};
     ghost use Rattle.vp_laws.specs.ShapeLaws.{IsEvent};
+    ghost use Rattle.vp_text.specs.Printing.{is_begun};
     ghost use Rattle.vp_model.specs.Texts.Trace.{line_text};
     ghost use Rattle.vp_cluster.specs.Nodes.{Follows};
 
     ghost allows = { IsEvent };
 
     ghost sees = { λ catalogue line old new. Follows line.1 old.nodes new.nodes × (new.trace ≡ old.trace ++ line_text catalogue line) };
+
+    ghost begins = { λ catalogue line old new. is_begun old.trace (line_text catalogue line) new.trace ≡ true };
 
     ghost deliveries = { λ _. tt };
 

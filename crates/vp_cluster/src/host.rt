@@ -1,7 +1,7 @@
 //! A host: a node in memory, with the disk that keeps its log.
 
 ghost use Rattle.std.specs.Prelude.{◌≡◌, OnErr, OnOk, IfOk, Some};
-ghost use Rattle.vp_cluster.specs.Hosts.{IsHost, Begins, Takes, Crashes, Restarts, log_in, site_log, place_of};
+ghost use Rattle.vp_cluster.specs.Hosts.{IsHost, Begins, Takes, Crashes, Restarts, log_in, site_log, address_of};
 ghost use Rattle.vp_cluster.specs.Letters.{as_received};
 ghost use Rattle.vp_model.specs.Words.{value_at};
 ghost use Rattle.vp_outside.specs.Disk.{half_of};
@@ -83,7 +83,7 @@ impl Host {
         requires host { IsHost catalog.now self.old }
         ensures takes { IfOk result (Takes catalog.now (as_received letter.now) self.old self.new) }
         ensures host { IsHost catalog.now self.new }
-        ensures place { place_of self.new ≡ place_of self.old }
+        ensures place { address_of self.new ≡ address_of self.old }
     {
         let Some(node) = self.node.take() else {
             return Ok(Datagrams::new(catalog.sites().allocator()));
@@ -109,7 +109,7 @@ impl Host {
         requires host { IsHost catalog.now self.old }
         ensures restarts { OnOk result (Restarts catalog.now self.old self.new) }
         ensures host { IsHost catalog.now self.new }
-        ensures place { place_of self.new ≡ place_of self.old }
+        ensures place { address_of self.new ≡ address_of self.old }
     {
         if self.node.is_some() {
             return Ok(());

@@ -24,7 +24,7 @@ pub fn begin_all(catalog: &Catalog) -> Result<Vec<Host>, NoMemory>
     Ok(hosts)
 }
 
-fn place_of(hosts: &[Host], port: u16) -> Option<usize>
+fn index_of(hosts: &[Host], port: u16) -> Option<usize>
     ensures place { result ≡ position (λ host. host.port == port) hosts.now }
     ensures within { IfSome result (λ i. i < length hosts.now) }
 {
@@ -52,7 +52,7 @@ pub fn take_at(
     ensures takes { IfOk result (λ given. ChangesAt letter.now.to (λ host after. Takes catalog.now (as_received letter.now) host after given) hosts.old hosts.new) }
     ensures hosts { AreHosts catalog.now hosts.new }
 {
-    match place_of(hosts, letter.to) {
+    match index_of(hosts, letter.to) {
         None => Ok(Datagrams::new(catalog.sites().allocator())),
         Some(i) => hosts[i].take(catalog, letter),
     }
@@ -67,7 +67,7 @@ pub fn crash_at(hosts: &mut [Host], catalog: &Catalog, site: SiteId)
     let Some(port) = catalog.port(site) else {
         return;
     };
-    if let Some(i) = place_of(hosts, port) {
+    if let Some(i) = index_of(hosts, port) {
         hosts[i].crash(catalog);
     }
 }
@@ -81,7 +81,7 @@ pub fn restart_at(hosts: &mut [Host], catalog: &Catalog, site: SiteId) -> Result
     let Some(port) = catalog.port(site) else {
         return Ok(());
     };
-    match place_of(hosts, port) {
+    match index_of(hosts, port) {
         None => Ok(()),
         Some(i) => hosts[i].restart(catalog),
     }

@@ -1,4 +1,4 @@
 pub mod Faults
 pub mod Kept
 mod Revived
-mod Turning
+pub mod Turning

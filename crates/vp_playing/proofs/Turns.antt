@@ -1,6 +1,7 @@
 -- What each event adds to the run of a schedule, and what an observer sees of it.
-use Rattle.std.proofs.Common.{◌≡◌, ◌∙◌, ap, sym, ℕ, zero, suc, ◌+◌, ◌<◌, Bool, true, false, cond, List, [], ◌∷◌, ◌++◌, refl, arith, length, drop, append_assoc, append-nil, subst}
+use Rattle.std.proofs.Common.{◌≡◌, ◌∙◌, inl, inr, ap, sym, ℕ, zero, suc, ◌+◌, ◌<◌, Bool, true, false, cond, List, [], ◌∷◌, ◌++◌, refl, arith, length, drop, append_assoc, append-nil, subst}
 use Rattle.std.proofs.lemmas.Bool.{false≢true}
+use Rattle.std.proofs.lemmas.List.{map-append}
 use Rattle.std.proofs.lemmas.List.Folds.{list_any-append, find-append}
 use Rattle.std.proofs.Math.Seq.{drop-append_seam}
 use Rattle.std.specs.Prelude.{Result, Ok, Err, Option, Some, None, ◌-◌, ◌||◌, find, take, option_and_then, get_or}
@@ -18,8 +19,8 @@ use Rattle.vp_world.specs.Known.{Known}
 use Rattle.vp_world.specs.Limits.{Ends}
 use Rattle.vp_world.specs.declared.end.WorldEnd.{WorldEnd}
 use Rattle.vp_world.specs.declared.end.WorldEnd.TheVariants as end
-use Rattle.vp_playing.specs.Played.{run_in, lines_in, SeesAll, Sees, Plays}
-use Rattle.vp_playing.proofs.Seen.{sees_append, sees_steps}
+use Rattle.vp_playing.specs.Played.{run_in, lines_in, SeesAll, SeesSome, Sees, Plays}
+use Rattle.vp_playing.proofs.Seen.{sees_append, sees_steps, sees_none, some_first, some_then}
 
 abbrev over : Moment → Bool
 over = is_over world_limits
@@ -189,6 +190,25 @@ cut_behind sees xs ys rest counted old mid new none so_far some more = record {
       (sees_steps sees xs (before_first over ys) old mid new so_far more);
 }
 
+-- what stands before the first step over a limit stands there also where more steps come
+before_grows : (ys rest : List Moment) → (more : List Moment) × (before_first over (ys ++ rest) ≡ before_first over ys ++ more)
+before_grows ys rest = go (list_any over ys) refl
+  where
+    go : (b : Bool) → list_any over ys ≡ b → (more : List Moment) × (before_first over (ys ++ rest) ≡ before_first over ys ++ more)
+    go true e = ([], before_front ys rest e ∙ sym (append-nil (before_first over ys)))
+    go false e = (before_first over rest, before_behind_all ys rest e ∙ ap (λ (front : List Moment). front ++ before_first over rest) (sym (none_before ys e)))
+
+-- all lines of some steps, and some of those of the next
+some_behind : {S : Type 0} (sees begins : ℕ × Line → S → S → Type 0) (xs ys rest : List Moment) (old mid new : S) → list_any over xs ≡ false → SeesAll sees (lines_in xs) old mid → SeesSome sees begins (lines_in (before_first over ys)) mid new
+    → SeesSome sees begins (lines_in (before_first over ((xs ++ ys) ++ rest))) old new
+some_behind {S} sees begins xs ys rest old mid new none so_far some =
+    let more = before_grows ys rest in
+    let front = before_first over ys in
+    let is : before_first over ((xs ++ ys) ++ rest) ≡ xs ++ (front ++ more.0) = ap (before_first over) (append_assoc xs ys rest) ∙ before_behind_all xs (ys ++ rest) none ∙ ap (λ (tail : List Moment). xs ++ tail) more.1 in
+    subst (λ (ms : List Moment). SeesSome sees begins (lines_in ms) old new) (sym is)
+    (subst (λ (lines : List (ℕ × Line)). SeesSome sees begins lines old new) (sym (map-append (λ (m : Moment). (m.number, m.line)) xs (front ++ more.0) ∙ ap (λ (tail : List (ℕ × Line)). lines_in xs ++ tail) (map-append (λ (m : Moment). (m.number, m.line)) front more.0)))
+    (some_then sees begins (lines_in xs) (lines_in front ++ lines_in more.0) old mid new so_far (some_first sees begins (lines_in front) (lines_in more.0) mid new some)))
+
 -- ---- a flow, delivery by delivery
 
 -- i deliveries of a flow in the world w were done
@@ -250,6 +270,13 @@ module _ {S : Type 0} (sees : Catalogue → ℕ × Line → S → S → Type 0) 
         let whole = whole_moments in
         subst (λ (ms : List Moment). IsCutShort (sees catalogue) ms counted old after) (sym whole.1)
         (cut_behind (sees catalogue) so_far.run.moments delivered.moments whole.0 counted old new after so_far.within so_far.seen some more)
+
+    pub flow_is_left : (begins : Catalogue → ℕ × Line → S → S → Type 0) (after : S) → SeesSome (sees catalogue) (begins catalogue) (lines_in (before_first over delivered.moments)) new after
+        → SeesSome (sees catalogue) (begins catalogue) (lines_in (before_first over (flow catalogue n count (run_in w)).moments)) old after
+    flow_is_left begins after some =
+        let whole = whole_moments in
+        subst (λ (ms : List Moment). SeesSome (sees catalogue) (begins catalogue) (lines_in (before_first over ms)) old after) (sym whole.1)
+        (some_behind (sees catalogue) (begins catalogue) so_far.run.moments delivered.moments whole.0 old new after so_far.within so_far.seen some)
 
 -- ---- a schedule, event by event
 
@@ -399,6 +426,16 @@ module _ {S : Type 0} (sees : Catalogue → ℕ × Line → S → S → Type 0) 
             (sees_append (sees s.catalogue) p.lines (shown_of front) old new now_seen p.seen more);
       }
 
+  -- some lines of the event
+  pub play_is_left : (begins : Catalogue → ℕ × Line → S → S → Type 0) (now_seen : S) → SeesSome (sees s.catalogue) (begins s.catalogue) (shown_of (before_first over added.moments)) new now_seen
+      → SeesSome (sees s.catalogue) (begins s.catalogue) (lines_within world_limits s) old now_seen
+  play_is_left begins now_seen some =
+      let front = before_first over added.moments in
+      let rest = cond (list_any over added.moments) [] rest_within in
+      subst (λ (lines : List (ℕ × Line)). SeesSome (sees s.catalogue) (begins s.catalogue) lines old now_seen)
+      (ap (λ (lines : List (ℕ × Line)). p.lines ++ lines) (append_assoc (own_line (i + 1) x) (lines_in front) rest) ∙ shown_after)
+      (some_then (sees s.catalogue) (begins s.catalogue) p.lines (shown_of front ++ rest) old new now_seen p.seen (some_first (sees s.catalogue) (begins s.catalogue) (shown_of front) rest new now_seen some))
+
 -- ---- one step
 
 abbrev pub stepped : Catalogue → ℕ → Event → WorldState → Run
@@ -426,12 +463,19 @@ unfolding one_step
 step_is_cut sees catalogue n e w counted s some = record { limit = rw some some; seen = rw some refl }
 
 -- what is answered of a step
-pub step_ends : {S : Type 0} (sees : Catalogue → ℕ × Line → S → S → Type 0) (catalogue : Catalogue) (n : ℕ) (e : Event) (w : WorldState) (why : WorldEnd) (s : S) → Ends {A = Unit {0}} (refused world_limits catalogue e w) (Err why) → Sees sees catalogue [] (stepped catalogue n e w) (Err why) s s
-step_ends sees catalogue n e w (end.Limit what limit) s h = let cut = step_is_cut (sees catalogue) catalogue n e w what s h.0 in (cut.limit, h.1, cut.seen)
-step_ends sees catalogue n e w end.NoMemory s h = tt
+pub step_ends : {S : Type 0} (sees begins : Catalogue → ℕ × Line → S → S → Type 0) (catalogue : Catalogue) (n : ℕ) (e : Event) (w : WorldState) (why : WorldEnd) (s : S) → Ends {A = Unit {0}} (refused world_limits catalogue e w) (Err why) → Sees sees begins catalogue [] (stepped catalogue n e w) (Err why) s s
+step_ends sees begins catalogue n e w (end.Limit what limit) s h = let cut = step_is_cut (sees catalogue) catalogue n e w what s h.0 in (cut.limit, h.1, cut.seen)
+step_ends sees begins catalogue n e w end.NoMemory s h = sees_none (sees catalogue) (begins catalogue) (lines_in (before_first over (stepped catalogue n e w).moments)) s s refl
 
-pub step_shows : {S : Type 0} (sees : Catalogue → ℕ × Line → S → S → Type 0) (catalogue : Catalogue) (n : ℕ) (e : Event) (w : WorldState) (known : Known) (line : Line) (old new : S) → refused world_limits catalogue e w ≡ None → known ≡ record { catalogue = catalogue; world = (next catalogue e w).world } → line ≡ line_of catalogue e w → sees catalogue (n, line) old new → Sees sees catalogue [] (stepped catalogue n e w) (Ok known) old new
-step_shows sees catalogue n e w known line old new none is line_is seen = (
+-- there is no memory for what is seen of it
+pub step_is_left : {S : Type 0} (sees begins : Catalogue → ℕ × Line → S → S → Type 0) (catalogue : Catalogue) (n : ℕ) (e : Event) (w : WorldState) (line : Line) (old new : S) → refused world_limits catalogue e w ≡ None → line ≡ line_of catalogue e w → begins catalogue (n, line) old new → Sees sees begins catalogue [] (stepped catalogue n e w) (Err end.NoMemory) old new
+step_is_left {S} sees begins catalogue n e w line old new none line_is begun =
+    subst (λ (ms : List Moment). SeesSome (sees catalogue) (begins catalogue) (lines_in ms) old new) (sym (none_before (stepped catalogue n e w).moments (step_within catalogue n e w none)))
+    (subst (λ (lines : List (ℕ × Line)). SeesSome (sees catalogue) (begins catalogue) lines old new) (sym (step_lines catalogue n e w))
+    (inr (inl (subst (λ (l : Line). begins catalogue (n, l) old new) line_is begun))))
+
+pub step_shows : {S : Type 0} (sees begins : Catalogue → ℕ × Line → S → S → Type 0) (catalogue : Catalogue) (n : ℕ) (e : Event) (w : WorldState) (known : Known) (line : Line) (old new : S) → refused world_limits catalogue e w ≡ None → known ≡ record { catalogue = catalogue; world = (next catalogue e w).world } → line ≡ line_of catalogue e w → sees catalogue (n, line) old new → Sees sees begins catalogue [] (stepped catalogue n e w) (Ok known) old new
+step_shows sees begins catalogue n e w known line old new none is line_is seen = (
   step_within catalogue n e w none,
   is ∙ ap (λ (after : WorldState). record { catalogue = catalogue; world = after }) (sym (step_world catalogue n e w)),
   subst (λ (lines : List (ℕ × Line)). SeesAll (sees catalogue) lines old new) (sym (step_lines catalogue n e w))
@@ -440,46 +484,48 @@ step_shows sees catalogue n e w known line old new none is line_is seen = (
 
 -- ---- what is answered of a flow
 
-module _ {S : Type 0} (sees : Catalogue → ℕ × Line → S → S → Type 0) (catalogue : Catalogue) (n count : ℕ) (w : WorldState) (i : ℕ) (known : Known) (old new : S) (same : known.catalogue ≡ catalogue) (so_far : Flowing sees catalogue n count w i known.world old new) where
-  pub flow_shows : flow catalogue n count (run_in w) ≡ so_far.run → Sees sees catalogue [] (flow catalogue n count (run_in w)) (Ok known) old new
+module _ {S : Type 0} (sees begins : Catalogue → ℕ × Line → S → S → Type 0) (catalogue : Catalogue) (n count : ℕ) (w : WorldState) (i : ℕ) (known : Known) (old new : S) (same : known.catalogue ≡ catalogue) (so_far : Flowing sees catalogue n count w i known.world old new) where
+  pub flow_shows : flow catalogue n count (run_in w) ≡ so_far.run → Sees sees begins catalogue [] (flow catalogue n count (run_in w)) (Ok known) old new
   flow_shows e =
-      subst (λ (run : Run). Sees sees catalogue [] run (Ok known) old new) (sym e)
+      subst (λ (run : Run). Sees sees begins catalogue [] run (Ok known) old new) (sym e)
       (so_far.within, ap (λ c. record { catalogue = c; world = known.world }) same ∙ ap (λ (after : WorldState). record { catalogue = catalogue; world = after }) so_far.world, so_far.seen)
 
-  pub flow_turns_on : (k : ℕ) (after : Known) (now_seen : S) → i < count → flowing known.world ≡ Some k → Sees sees known.catalogue [] (stepped known.catalogue n (event.Deliver k) known.world) (Ok after) new now_seen → (after.catalogue ≡ catalogue) × Flowing sees catalogue n count w (i + 1) after.world old now_seen
+  pub flow_turns_on : (k : ℕ) (after : Known) (now_seen : S) → i < count → flowing known.world ≡ Some k → Sees sees begins known.catalogue [] (stepped known.catalogue n (event.Deliver k) known.world) (Ok after) new now_seen → (after.catalogue ≡ catalogue) × Flowing sees catalogue n count w (i + 1) after.world old now_seen
   flow_turns_on k after now_seen lt some h =
-      let g = subst (λ c. Sees sees c [] (stepped c n (event.Deliver k) known.world) (Ok after) new now_seen) same h in
+      let g = subst (λ c. Sees sees begins c [] (stepped c n (event.Deliver k) known.world) (Ok after) new now_seen) same h in
       let turn = flow_turns sees catalogue n count w i known.world old new so_far k lt some now_seen g.0 g.2 in
       (ap (λ (a : Known). a.catalogue) g.1, subst (λ (a : WorldState). Flowing sees catalogue n count w (i + 1) a old now_seen) (sym (ap (λ (a : Known). a.world) g.1)) (subst (λ j. Flowing sees catalogue n count w j (stepped catalogue n (event.Deliver k) known.world).world old now_seen) (next_is i) turn))
     where
       next_is : (i : ℕ) → suc i ≡ i + 1
       next_is i = omega arith
 
-  pub flow_ends : (k : ℕ) (why : WorldEnd) (now_seen : S) → i < count → flowing known.world ≡ Some k → Sees sees known.catalogue [] (stepped known.catalogue n (event.Deliver k) known.world) (Err why) new now_seen → Sees sees catalogue [] (flow catalogue n count (run_in w)) (Err why) old now_seen
+  pub flow_ends : (k : ℕ) (why : WorldEnd) (now_seen : S) → i < count → flowing known.world ≡ Some k → Sees sees begins known.catalogue [] (stepped known.catalogue n (event.Deliver k) known.world) (Err why) new now_seen → Sees sees begins catalogue [] (flow catalogue n count (run_in w)) (Err why) old now_seen
   flow_ends k (end.Limit what limit) now_seen lt some h =
-      let g = subst (λ c. Sees sees c [] (stepped c n (event.Deliver k) known.world) (Err (end.Limit what limit)) new now_seen) same h in
+      let g = subst (λ c. Sees sees begins c [] (stepped c n (event.Deliver k) known.world) (Err (end.Limit what limit)) new now_seen) same h in
       let cut = flow_is_cut sees catalogue n count w i known.world old new so_far k lt some what now_seen g.0 g.2 in
       (cut.limit, g.1, cut.seen)
-  flow_ends k end.NoMemory now_seen lt some h = tt
+  flow_ends k end.NoMemory now_seen lt some h =
+      let g = subst (λ c. Sees sees begins c [] (stepped c n (event.Deliver k) known.world) (Err end.NoMemory) new now_seen) same h in
+      flow_is_left sees catalogue n count w i known.world old new so_far k lt some begins now_seen g
 
 -- ---- what is answered of a schedule
 
-pub play_is_over : {S : Type 0} (sees : Catalogue → ℕ × Line → S → S → Type 0) (s : Schedule) (i : ℕ) (known : Known) (old new : S) → known.catalogue ≡ s.catalogue → Played sees s i known.world old new → i ≡ length s.events → Plays sees s (Ok known) old new
-play_is_over sees s i known old new same so_far e =
+pub play_is_over : {S : Type 0} (sees begins : Catalogue → ℕ × Line → S → S → Type 0) (s : Schedule) (i : ℕ) (known : Known) (old new : S) → known.catalogue ≡ s.catalogue → Played sees s i known.world old new → i ≡ length s.events → Plays sees begins s (Ok known) old new
+play_is_over sees begins s i known old new same so_far e =
     let h = play_ends sees s i known.world old new so_far e in (
       h.none,
       ap (λ c. record { catalogue = c; world = known.world }) same ∙ ap (λ (w : WorldState). record { catalogue = s.catalogue; world = w }) h.world,
       h.seen,
     )
 
-module _ {S : Type 0} (sees : Catalogue → ℕ × Line → S → S → Type 0) (s : Schedule) (i number : ℕ) (known : Known) (old new : S) (same : known.catalogue ≡ s.catalogue) (counted : number ≡ i) (so_far : Played sees s i known.world old new) (x : Event) (lt : i < length s.events) (at : x ≡ get_or s.events i x) where
+module _ {S : Type 0} (sees begins : Catalogue → ℕ × Line → S → S → Type 0) (s : Schedule) (i number : ℕ) (known : Known) (old new : S) (same : known.catalogue ≡ s.catalogue) (counted : number ≡ i) (so_far : Played sees s i known.world old new) (x : Event) (lt : i < length s.events) (at : x ≡ get_or s.events i x) where
   abbrev pub Answers : Result Known WorldEnd → S → Type 0
-  Answers result now_seen = Sees sees known.catalogue (own_line (number + 1) x) (one_event known.catalogue (number + 1) x (run_in known.world)) result new now_seen
+  Answers result now_seen = Sees sees begins known.catalogue (own_line (number + 1) x) (one_event known.catalogue (number + 1) x (run_in known.world)) result new now_seen
 
-  answers_so : (result : Result Known WorldEnd) (now_seen : S) → Answers result now_seen → Sees sees s.catalogue (own_line (i + 1) x) (one_event s.catalogue (i + 1) x (run_in known.world)) result new now_seen
+  answers_so : (result : Result Known WorldEnd) (now_seen : S) → Answers result now_seen → Sees sees begins s.catalogue (own_line (i + 1) x) (one_event s.catalogue (i + 1) x (run_in known.world)) result new now_seen
   answers_so result now_seen h =
-      subst (λ j. Sees sees s.catalogue (own_line (j + 1) x) (one_event s.catalogue (j + 1) x (run_in known.world)) result new now_seen) counted
-      (subst (λ c. Sees sees c (own_line (number + 1) x) (one_event c (number + 1) x (run_in known.world)) result new now_seen) same h)
+      subst (λ j. Sees sees begins s.catalogue (own_line (j + 1) x) (one_event s.catalogue (j + 1) x (run_in known.world)) result new now_seen) counted
+      (subst (λ c. Sees sees begins c (own_line (number + 1) x) (one_event c (number + 1) x (run_in known.world)) result new now_seen) same h)
 
   pub play_goes_on : (after : Known) (now_seen : S) → Answers (Ok after) now_seen → (after.catalogue ≡ s.catalogue) × Played sees s (i + 1) after.world old now_seen
   play_goes_on after now_seen h =
@@ -492,9 +538,9 @@ module _ {S : Type 0} (sees : Catalogue → ℕ × Line → S → S → Type 0) 
       next_is : (i : ℕ) → suc i ≡ i + 1
       next_is i = omega arith
 
-  pub play_is_ended : (why : WorldEnd) (now_seen : S) → Answers (Err why) now_seen → Plays sees s (Err why) old now_seen
+  pub play_is_ended : (why : WorldEnd) (now_seen : S) → Answers (Err why) now_seen → Plays sees begins s (Err why) old now_seen
   play_is_ended (end.Limit what limit) now_seen h =
       let g = answers_so (Err (end.Limit what limit)) now_seen h in
       let ended = play_is_cut sees s i known.world old new so_far x lt at what now_seen g.0 g.2 in
       (ended.some, g.1, ended.seen)
-  play_is_ended end.NoMemory now_seen h = tt
+  play_is_ended end.NoMemory now_seen h = play_is_left sees s i known.world old new so_far x lt at begins now_seen (answers_so (Err end.NoMemory) now_seen h)

@@ -1,5 +1,5 @@
 -- What an observer sees as the events of a schedule are played.
-use Rattle.std.specs.Prelude.{◌≡◌, ℕ, false, List, [], ◌∷◌, ◌++◌, map, Some, None, Result, Ok, Err}
+use Rattle.std.specs.Prelude.{◌≡◌, ◌⊎◌, ℕ, false, List, [], ◌∷◌, ◌++◌, map, Some, None, Result, Ok, Err}
 use Rattle.std.specs.List.{list_any, before_first}
 use Rattle.vp_model.specs.Types.{Event, Line}
 use Rattle.vp_model.specs.Catalogue.{Catalogue}
@@ -26,27 +26,34 @@ abbrev pub SeesAll : {S : Type 0} → (ℕ × Line → S → S → Type 0) → L
 SeesAll sees [] old new = new ≡ old
 SeesAll {S} sees (line ∷ lines) old new = (mid : S) × sees line old mid × SeesAll sees lines mid new
 
--- The steps of the run are done, and the observer has seen the event's own lines and then theirs; or a limit ends them, and it has seen its
--- own lines and those of the steps before.
-abbrev pub Sees : {S : Type 0} → (Catalogue → ℕ × Line → S → S → Type 0) → Catalogue → List (ℕ × Line) → Run → Result Known WorldEnd → S → S → Type 0
-Sees sees catalogue own run (Ok known) old new =
+-- an observer who has seen some of these lines, the first ones, and perhaps begins to see the next
+abbrev pub SeesSome : {S : Type 0} → (sees begins : ℕ × Line → S → S → Type 0) → List (ℕ × Line) → S → S → Type 0
+SeesSome sees begins [] old new = new ≡ old
+SeesSome {S} sees begins (line ∷ lines) old new = (new ≡ old) ⊎ (begins line old new ⊎ ((mid : S) × sees line old mid × SeesSome sees begins lines mid new))
+
+-- The steps of the run are done, and the observer has seen the event's own lines and then theirs; or a limit ends them, and it has seen the
+-- event's own lines and those of the steps before; or there is no memory, and it has seen some of these.
+abbrev pub Sees : {S : Type 0} → (sees begins : Catalogue → ℕ × Line → S → S → Type 0) → Catalogue → List (ℕ × Line) → Run → Result Known WorldEnd → S → S → Type 0
+Sees sees begins catalogue own run (Ok known) old new =
     (list_any (is_over world_limits) run.moments ≡ false)
     × (known ≡ record { catalogue = catalogue; world = run.world })
     × SeesAll (sees catalogue) (own ++ lines_in run.moments) old new
-Sees sees catalogue own run (Err (end.Limit what limit)) old new =
+Sees sees begins catalogue own run (Err (end.Limit what limit)) old new =
     (limit_in world_limits run.moments ≡ Some what)
     × (limit ≡ limit_of what)
     × SeesAll (sees catalogue) (own ++ lines_in (before_first (is_over world_limits) run.moments)) old new
-Sees sees catalogue own run (Err end.NoMemory) old new = Unit {0}
+Sees sees begins catalogue own run (Err end.NoMemory) old new =
+    SeesSome (sees catalogue) (begins catalogue) (own ++ lines_in (before_first (is_over world_limits) run.moments)) old new
 
--- the whole schedule is played and the observer has seen its trace, or a limit ends it, and it has seen what that leaves of the trace
-abbrev pub Plays : {S : Type 0} → (Catalogue → ℕ × Line → S → S → Type 0) → Schedule → Result Known WorldEnd → S → S → Type 0
-Plays sees s (Ok known) old new =
+-- The whole schedule is played and the observer has seen its trace; or a limit ends it, and it has seen what that leaves of the trace; or there
+-- is no memory, and it has seen some of that.
+abbrev pub Plays : {S : Type 0} → (sees begins : Catalogue → ℕ × Line → S → S → Type 0) → Schedule → Result Known WorldEnd → S → S → Type 0
+Plays sees begins s (Ok known) old new =
     (limit_reached world_limits s ≡ None)
     × (known ≡ record { catalogue = s.catalogue; world = (run_of s).world })
     × SeesAll (sees s.catalogue) (lines_within world_limits s) old new
-Plays sees s (Err (end.Limit what limit)) old new =
+Plays sees begins s (Err (end.Limit what limit)) old new =
     (limit_reached world_limits s ≡ Some what)
     × (limit ≡ limit_of what)
     × SeesAll (sees s.catalogue) (lines_within world_limits s) old new
-Plays sees s (Err end.NoMemory) old new = Unit {0}
+Plays sees begins s (Err end.NoMemory) old new = SeesSome (sees s.catalogue) (begins s.catalogue) (lines_within world_limits s) old new

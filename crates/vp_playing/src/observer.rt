@@ -1,6 +1,6 @@
 //! Who is shown the lines of a run, step by step.
 
-ghost use Rattle.std.specs.Prelude.{◌≡◌, ◌++◌, ℕ, ⊤, OnOk};
+ghost use Rattle.std.specs.Prelude.{◌≡◌, ◌++◌, ℕ, ⊤, OnErr, OnOk, length, take, true};
 ghost use Rattle.vp_base.specs.declared.event.Event.TheVariants as event;
 
 use std::marker::Model;
@@ -20,10 +20,14 @@ pub trait Observer {
     /// What it makes of a line, under the number of its event: the observer before and after.
     ghost sees: { Catalogue → ℕ × Line → Self → Self → Type 0 };
 
-    /// Shows it the next line. Without memory the observer may only be dropped.
+    /// What it may have made of a line for which there was not memory enough.
+    ghost begins: { Catalogue → ℕ × Line → Self → Self → Type 0 };
+
+    /// Shows it the next line.
     fn see(&mut self, number: u32, line: &Line, catalog: &Catalog) -> Result<(), NoMemory>
         requires { allows line.now.event }
-        ensures { OnOk result (sees catalog.now (number, line.now) self.old self.new) };
+        ensures seen { OnOk result (sees catalog.now (number, line.now) self.old self.new) }
+        ensures begun { OnErr result (begins catalog.now (number, line.now) self.old self.new) };
 
     /// It may be shown each delivery of a flow.
     ghost deliveries: { (k : ℕ) → allows (event.Deliver k) };
@@ -48,10 +52,13 @@ impl Model for TraceText {
 
 impl Observer for TraceText {
     ghost use Rattle.vp_model.specs.Texts.Trace.{line_text};
+    ghost use Rattle.vp_text.specs.Printing.{is_begun};
 
     ghost allows = { λ _. ⊤ };
 
     ghost sees = { λ catalogue line old new. new ≡ old ++ line_text catalogue line };
+
+    ghost begins = { λ catalogue line old new. is_begun old (line_text catalogue line) new ≡ true };
 
     ghost deliveries = { λ _. tt };
 
@@ -68,6 +75,8 @@ impl Observer for Replies {
     ghost allows = { λ _. ⊤ };
 
     ghost sees = { λ catalogue line old new. new ≡ old ++ replies_in line.1.shown };
+
+    ghost begins = { λ catalogue line old new. (count : ℕ) × (new ≡ old ++ take count (replies_in line.1.shown)) };
 
     ghost deliveries = { λ _. tt };
 

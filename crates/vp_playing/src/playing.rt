@@ -1,10 +1,10 @@
 //! Playing the events of a schedule in a world, before an observer.
 
-ghost use Rattle.std.specs.Prelude.{◌≤◌, [], OnOk, length};
+ghost use Rattle.std.specs.Prelude.{◌≤◌, [], OnErr, OnOk, length};
 ghost use Rattle.std.specs.List.{AllByRecursion};
 ghost use Rattle.vp_model.specs.World.{one_step, flow, one_event};
 ghost use Rattle.vp_model.specs.Texts.Trace.{own_line};
-ghost use Rattle.vp_playing.specs.Played.{SeesAll, Sees, Plays, run_in, schedule_of};
+ghost use Rattle.vp_playing.specs.Played.{SeesAll, SeesSome, Sees, Plays, run_in, schedule_of};
 
 use crate::observer::Observer;
 use vp_base::{Event, Line, NoMemory, Shown};
@@ -19,7 +19,7 @@ fn play_step<O: Observer>(
     observer: &mut O,
 ) -> Result<World, WorldEnd>
     requires { O.allows event.now }
-    ensures { Sees O.sees world.catalogue [] (one_step world.catalogue number event.now (run_in world.world)) result observer.old observer.new }
+    ensures { Sees O.sees O.begins world.catalogue [] (one_step world.catalogue number event.now (run_in world.world)) result observer.old observer.new }
 {
     match world.next(event) {
         Err(end) => Err(end),
@@ -37,7 +37,7 @@ fn play_flow<O: Observer>(
     world: World,
     observer: &mut O,
 ) -> Result<World, WorldEnd>
-    ensures { Sees O.sees world.catalogue [] (flow world.catalogue number count (run_in world.world)) result observer.old observer.new }
+    ensures { Sees O.sees O.begins world.catalogue [] (flow world.catalogue number count (run_in world.world)) result observer.old observer.new }
 {
     let mut world = world;
     for _ in 0..count {
@@ -56,7 +56,8 @@ fn show_own_line<O: Observer>(
     catalog: &Catalog,
     observer: &mut O,
 ) -> Result<(), NoMemory>
-    ensures { OnOk result (SeesAll (O.sees catalog.now) (own_line number event.now) observer.old observer.new) }
+    ensures seen { OnOk result (SeesAll (O.sees catalog.now) (own_line number event.now) observer.old observer.new) }
+    ensures begun { OnErr result (SeesSome (O.sees catalog.now) (O.begins catalog.now) (own_line number event.now) observer.old observer.new) }
 {
     let Event::Flow { count } = event else {
         return Ok(());
@@ -77,7 +78,7 @@ pub fn play_event<O: Observer>(
     observer: &mut O,
 ) -> Result<World, WorldEnd>
     requires { O.allows event.now }
-    ensures { Sees O.sees world.catalogue (own_line number event.now) (one_event world.catalogue number event.now (run_in world.world)) result
+    ensures { Sees O.sees O.begins world.catalogue (own_line number event.now) (one_event world.catalogue number event.now (run_in world.world)) result
         observer.old observer.new }
 {
     show_own_line(number, event, world.catalog(), observer)?;
@@ -88,7 +89,7 @@ pub fn play_event<O: Observer>(
 }
 
 /// Plays the events one after the other, from the start of the world on. Where a limit ends them, the observer has seen the lines of
-/// the steps before.
+/// the steps before; without memory, some of these.
 pub fn play<O: Observer>(
     catalog: Catalog,
     events: &[Event],
@@ -96,7 +97,7 @@ pub fn play<O: Observer>(
 ) -> Result<World, WorldEnd>
     requires few { length events.now ≤ 100000 }
     requires allowed { AllByRecursion O.allows events.now }
-    ensures { Plays O.sees (schedule_of catalog events.now) result observer.old observer.new }
+    ensures { Plays O.sees O.begins (schedule_of catalog events.now) result observer.old observer.new }
 {
     let mut world = World::new(catalog)?;
     let mut number = 0;

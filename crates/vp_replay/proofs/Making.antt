@@ -186,6 +186,10 @@ module _ (seed count i : ℕ) (lt : i < count) where
 abbrev pub Collects : Catalogue → ℕ × Line → List Reply → List Reply → Type 0
 Collects catalogue line old new = new ≡ old ++ replies_in line.1.shown
 
+-- some of the replies, without memory
+abbrev pub Begins : Catalogue → ℕ × Line → List Reply → List Reply → Type 0
+Begins catalogue line old new = (count : ℕ) × (new ≡ old ++ take count (replies_in line.1.shown))
+
 -- i events were made and played
 pub record IsMaking (seed count i : ℕ) (known : Known) (state : ℕ) (m : Made) : Type 0 where
   pub world : known.world ≡ (after_rounds seed i).run.world
@@ -208,7 +212,7 @@ module _ (seed count i : ℕ) (known : Known) (source : ℕ) (m : Made) (h : IsM
   pub making_is_over : i ≡ count → Makes seed count (Ok known) m
   making_is_over e =
       let s = made seed count in
-      let plays = play_is_over Collects s i known [] m.replies h.catalogue h.played (e ∙ sym (ap (λ (g : Generating). length g.events) (generating_is seed count) ∙ count_is seed count)) in (
+      let plays = play_is_over Collects Begins s i known [] m.replies h.catalogue h.played (e ∙ sym (ap (λ (g : Generating). length g.events) (generating_is seed count) ∙ count_is seed count)) in (
         ap (λ (r : Run). limit_in world_limits r.moments) (made_run seed count) ∙ plays.0,
         plays.1 ∙ ap (λ (r : Run). record { catalogue = generated_catalogue; world = r.world }) (sym (made_run seed count)),
         h.events ∙ ap (λ k. (after_rounds seed k).events) e ∙ sym (ap (λ (g : Generating). g.events) (generating_is seed count)),
@@ -233,11 +237,11 @@ module _ (seed count i : ℕ) (known : Known) (source : ℕ) (m : Made) (h : IsM
     at = subst (λ (y : Event). y ≡ get_or (made seed count).events i y) (sym x_is) (event_at seed count i lt)
 
     abbrev pub Answers : Result Known WorldEnd → List Reply → Type 0
-    Answers result replies = Sees Collects known.catalogue (own_line (number + 1) x) (one_event known.catalogue (number + 1) x (run_in known.world)) result m.replies replies
+    Answers result replies = Sees Collects Begins known.catalogue (own_line (number + 1) x) (one_event known.catalogue (number + 1) x (run_in known.world)) result m.replies replies
 
     pub making_goes_on : (after : Known) (replies : List Reply) → Answers (Ok after) replies → IsMaking seed count (i + 1) after next (record { events = m.events ++ x ∷ []; replies = replies })
     making_goes_on after replies a =
-        let turn = play_goes_on Collects (made seed count) i number known [] m.replies h.catalogue counted h.played x (within_made seed count i lt) at after replies a in
+        let turn = play_goes_on Collects Begins (made seed count) i number known [] m.replies h.catalogue counted h.played x (within_made seed count i lt) at after replies a in
         record {
           world =
               ap (λ (k : Known). k.world) (a.1)
@@ -257,7 +261,7 @@ module _ (seed count i : ℕ) (known : Known) (source : ℕ) (m : Made) (h : IsM
 
     pub making_is_ended : (why : WorldEnd) (replies : List Reply) → Answers (Err why) replies → Makes seed count (Err why) (record { events = m.events; replies = replies })
     making_is_ended (end.Limit what limit) replies a =
-        let plays = play_is_ended Collects (made seed count) i number known [] m.replies h.catalogue counted h.played x (within_made seed count i lt) at (end.Limit what limit) replies a in
+        let plays = play_is_ended Collects Begins (made seed count) i number known [] m.replies h.catalogue counted h.played x (within_made seed count i lt) at (end.Limit what limit) replies a in
         let here = ap (λ c. limit_in world_limits (one_event c (i + 1) x (run_in known.world)).moments) (sym h.catalogue) ∙ ap (λ n. limit_in world_limits (one_event known.catalogue (n + 1) x (run_in known.world)).moments) (sym counted) ∙ a.0 in
         let cut = cut_here Collects (made seed count) i known.world [] m.replies h.played x (within_made seed count i lt) at what here in
         let first : first_over world_limits (generating seed count).run.moments ≡ Some cut.0 = ap (λ (r : Run). first_over world_limits r.moments) (made_run seed count) ∙ cut.1 in

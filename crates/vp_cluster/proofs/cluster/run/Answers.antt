@@ -5,7 +5,8 @@ use Rattle.vp_playing.specs.Played.{schedule_of}
 use Rattle.vp_cluster.specs.Nodes.{NodesValue, AreHosts, Begin}
 use Rattle.vp_cluster.specs.Ran.{AreLogs, Runs}
 use Rattle.vp_cluster.specs.declared.cluster.Cluster.{Cluster}
-use Rattle.vp_cluster.proofs.Running.{handed_on, run_is_cut, run_is_done, same_plays}
+use Rattle.vp_node.proofs.Faults.{gave_err}
+use Rattle.vp_cluster.proofs.Running.{run_is_cut, run_is_done, same_plays}
 use Rattle.vp_cluster.proofs.cluster.run.Goals as goal
 
 -- src/cluster.rt:66:17
@@ -16,7 +17,7 @@ returns-in_err-world c =
     subst (λ text. Runs c.args.schedule.now c.from_residual-in_err-world.result text c.trace.inside.bytes.items) (ap (λ v. v.items) c.replace.ensures.value)
     (subst (λ text. Runs c.args.schedule.now c.from_residual-in_err-world.result c.replace.result.items text) (sym c.trace.view_is)
     (run_is_cut c.args.schedule.now c.requires old c.play-played.new.observer c.in_err-world.field-0.0 c.from_residual-in_err-world.result
-    (same_plays _ c.args.schedule.now (Err c.in_err-world.field-0.0) old c.play-played.new.observer same c.in_err-world.ensures) (handed_on c.from_residual-in_err-world.result c.in_err-world.field-0.0 c.from_residual-in_err-world.ensures.1)))
+    (same_plays _ c.args.schedule.now (Err c.in_err-world.field-0.0) old c.play-played.new.observer same c.in_err-world.ensures) (gave_err c.from_residual-in_err-world.result c.in_err-world.field-0.0 c.from_residual-in_err-world.ensures.1)))
 
 -- src/cluster.rt:51:8
 pub returns : goal.returns

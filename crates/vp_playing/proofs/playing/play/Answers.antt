@@ -20,19 +20,19 @@ returns-in_err-world-2 g c =
     let h = c.loop-event.invariant in
     let why = c.in_err-world-2.field-0.0 in
     let is : c.from_residual-in_err-world-2.result ≡ Err why = search rules in
-    subst (λ (r : Result Known WorldEnd). Plays g.O.Observer.sees s r c.args.observer.now c.play_event.new.observer)
+    subst (λ (r : Result Known WorldEnd). Plays g.O.Observer.sees g.O.Observer.begins s r c.args.observer.now c.play_event.new.observer)
     (sym is)
-    (play_is_ended g.O.Observer.sees s c.loop-event.event-index c.loop-event.number c.loop-event.world c.args.observer.now c.loop-event.observer h.catalogue h.count h.so_far c.event-item.result (search rules) (search rules) why c.play_event.new.observer (search rules))
+    (play_is_ended g.O.Observer.sees g.O.Observer.begins s c.loop-event.event-index c.loop-event.number c.loop-event.world c.args.observer.now c.loop-event.observer h.catalogue h.count h.so_far c.event-item.result (search rules) (search rules) why c.play_event.new.observer (search rules))
 
 pub loop-event-preserved : goal.loop-event-preserved
 loop-event-preserved g c =
     let s = schedule_of c.args.catalog c.args.events.now in
     let h = c.loop-event.invariant in
     let turn =
-    play_goes_on g.O.Observer.sees s c.loop-event.event-index c.loop-event.number c.loop-event.world c.args.observer.now c.loop-event.observer h.catalogue h.count h.so_far c.event-item.result (search rules) (search rules) c.in_ok-world-2.world c.play_event.new.observer (search rules) in
+    play_goes_on g.O.Observer.sees g.O.Observer.begins s c.loop-event.event-index c.loop-event.number c.loop-event.world c.args.observer.now c.loop-event.observer h.catalogue h.count h.so_far c.event-item.result (search rules) (search rules) c.in_ok-world-2.world c.play_event.new.observer (search rules) in
     record { catalogue = turn.0; count = ap (λ n. n + 1) h.count; so_far = turn.1 }
 
 pub returns : goal.returns
 returns g c =
     let h = c.loop-event.invariant in
-    play_is_over g.O.Observer.sees (schedule_of c.args.catalog c.args.events.now) c.loop-event.event-index c.loop-event.world c.args.observer.now c.loop-event.observer h.catalogue h.so_far (search rules)
+    play_is_over g.O.Observer.sees g.O.Observer.begins (schedule_of c.args.catalog c.args.events.now) c.loop-event.event-index c.loop-event.world c.args.observer.now c.loop-event.observer h.catalogue h.so_far (search rules)
