@@ -17,8 +17,8 @@ use Rattle.vp_laws.proofs.Scenes.{place-id}
 use Rattle.vp_laws.proofs.Events.{in_each, in_last}
 use Rattle.vp_laws.proofs.Worlds.{With}
 use Rattle.vp_laws.proofs.InvViews.{InvViews}
-use Rattle.vp_laws.proofs.InvVotes.{Fourth}
-use Rattle.vp_laws.proofs.Agreement.{views_last}
+use Rattle.vp_laws.proofs.Known.{Known}
+use Rattle.vp_laws.proofs.KeepingViews.{views_last}
 use Rattle.vp_laws.proofs.TableDurable.{step-folds}
 use Rattle.vp_routes.proofs.InvRoutes.{InvRoutes, routes_last}
 use Rattle.vp_laws.proofs.ShapeWorlds.{each_world}
@@ -125,8 +125,8 @@ module _ (s : Schedule) (k : IsCatalogue s.catalogue) (i : AllByRecursion IsEven
   pub sent_are : (m : Moment) → Has (moments_of s) m → (sent : Sent) → Has m.before.sent sent → IsFrame (message_frame sent) × Has (sites_of s.catalogue) sent.from
   sent_are m has sent q =
       let world = (each_world s m k i (contains (moments_of s) m has)).0 in
-      let from = (in_each s.catalogue (With (Fourth s.catalogue) (InvRoutes s.catalogue k)) (routes_last s.catalogue k) s.events m has).0 in
-      (all_at (λ (sent : Sent). IsFrame (message_frame sent)) m.before.sent world.sent_are sent q, (from.upper.sent sent q).0)
+      let from = (in_each s.catalogue (With (Known s.catalogue) (InvRoutes s.catalogue k)) (routes_last s.catalogue k) s.events m has).0 in
+      (all_at (λ (sent : Sent). IsFrame (message_frame sent)) m.before.sent world.sent_are sent q, (from.more.sent sent q).0)
 
 module _ (s : Schedule) (id : ℕ) (k : IsCatalogue s.catalogue) (i : AllByRecursion IsEvent s.events) (listed : Has (sites_of s.catalogue) id) where
   of_node : (m : Moment) → Has (moments_of s) m → (old new : Place) (before after : List (List LogRecord)) → place_of id m.before.places ≡ Some old → Happened s.catalogue id m.line.event m.before old new before after

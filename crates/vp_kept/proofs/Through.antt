@@ -10,7 +10,7 @@ use Rattle.vp_laws.proofs.Members.{Has, has_cons, has_first, has_more, has_none}
 use Rattle.vp_laws.proofs.Events.{in_last}
 use Rattle.vp_laws.proofs.Occurs.{run-keeps}
 use Rattle.vp_laws.proofs.InvViews.{InvViews}
-use Rattle.vp_laws.proofs.Agreement.{views_last}
+use Rattle.vp_laws.proofs.KeepingViews.{views_last}
 use Rattle.vp_kept.specs.Kept.{with_life, kept_after, kept_in}
 use Rattle.vp_kept.proofs.Happened.{Effect, effect, Happened, happened, same_number}
 

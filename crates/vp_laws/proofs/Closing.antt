@@ -14,8 +14,9 @@ use Rattle.vp_laws.proofs.TableShares.{DoubtNow, Shares}
 use Rattle.vp_laws.proofs.TableLeaves.{Uses, Leaves}
 use Rattle.vp_laws.proofs.Scenes.{Scene, plain_at, kept_at, Acted}
 use Rattle.vp_laws.proofs.InvLived.{InvLived}
-use Rattle.vp_laws.proofs.HasLeft.{HasLeft, left_lasts, left_quiet}
+use Rattle.vp_laws.proofs.HasLeft.{HasLeft}
 use Rattle.vp_laws.proofs.Worlds.{KeptIs, kept_is, Quiet, quiet_kept}
+use Rattle.vp_laws.proofs.Leaving.{left_lasts, left_quiet}
 
 -- the site has left all views below, and has no doubt on the record of such a view
 pub record ClosedAt (w : Scene) (q rec : ℕ) (i : ViewId) : Type 0 where

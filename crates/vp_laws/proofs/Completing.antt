@@ -25,19 +25,18 @@ use Rattle.vp_model.specs.Headline.{is_locked}
 use Rattle.vp_model.specs.World.{Schedule, run_of}
 use Rattle.vp_laws.specs.Votes.{is_commit}
 use Rattle.vp_laws.specs.Completeness.{LastVotesCommit, IsNextOperation, ReadableCopiesAreRead}
-use Rattle.vp_laws.proofs.Members.{Has, has_of, contains, has_none, has_first, has_more, has_cons, any_false, either_false, both_true, not_true}
+use Rattle.vp_laws.proofs.Members.{Has, has_of, contains, has_none, has_first, has_more, has_cons, any_false, either_false, both_true, not_true, has_test}
 use Rattle.vp_laws.proofs.Apart.{Apart, same_txn-is, same_txn-self}
 use Rattle.vp_laws.proofs.Lists.{mapped_has}
 use Rattle.vp_laws.proofs.LockTables.{HasLock}
 use Rattle.vp_laws.proofs.Frames.{decided-commits, decide-cases}
 use Rattle.vp_laws.proofs.Table.{lent_at}
-use Rattle.vp_laws.proofs.InvEntered.{has_test}
-use Rattle.vp_laws.proofs.InvOps.{last_written, value_key}
 use Rattle.vp_laws.proofs.TableCopies.{value_pair}
-use Rattle.vp_laws.proofs.InvListed.{Seventeenth, listed_last}
 use Rattle.vp_laws.proofs.Scenes.{scene_of}
 use Rattle.vp_laws.proofs.Events.{in_last}
-use Rattle.vp_laws.proofs.Tower.{Known, known}
+use Rattle.vp_laws.proofs.Known.{Known}
+use Rattle.vp_laws.proofs.Written.{last_written, value_key}
+use Rattle.vp_laws.proofs.KeepingKnown.{known_last}
 
 -- a live transaction is found by its name
 live_found : (live : List Live) → Apart live → (t : Live) → Has live t → live_of t.txn live ≡ Some t
@@ -83,7 +82,7 @@ vote_decides catalogue x from t p live pending commit missing last = let done = 
     go call.Regroup e = cc
 
 known_now : (s : Schedule) → Known s.catalogue (scene_of (run_of s).world)
-known_now s = known s.catalogue _ (in_last s.catalogue (Seventeenth s.catalogue) (listed_last s.catalogue) s.events)
+known_now s = in_last s.catalogue (Known s.catalogue) (known_last s.catalogue) s.events
 
 pub last_votes_commit : (s : Schedule) → LastVotesCommit s.catalogue (run_of s).world
 unfolding step on_input on_message on_answer

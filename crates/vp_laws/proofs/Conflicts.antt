@@ -19,16 +19,18 @@ use Rattle.vp_laws.proofs.Scenes.{Scene, plain_at}
 use Rattle.vp_laws.proofs.InvShares.{HasRequest}
 use Rattle.vp_laws.proofs.InvOps.{written_used, HasUsed, record_of, HasWritten}
 use Rattle.vp_laws.proofs.InvAnswers.{HasRead}
-use Rattle.vp_laws.proofs.InvEntered.{AgreedAs, other_holder}
-use Rattle.vp_laws.proofs.InvGuards.{txn_same}
+use Rattle.vp_laws.proofs.InvEntered.{AgreedAs}
 use Rattle.vp_laws.proofs.HasLeft.{HasLeft}
 use Rattle.vp_laws.proofs.InvUsed.{HasAnswered, LockedAt}
 use Rattle.vp_laws.proofs.InvHeld.{holds_copy, copy_held}
 use Rattle.vp_laws.proofs.Stopping.{in_force_holder}
-use Rattle.vp_laws.proofs.CopyInvariants.{InvCopies, InvRefresh}
 use Rattle.vp_laws.proofs.InvReading.{InvReading}
 use Rattle.vp_laws.proofs.OwnUse.{view_is}
-use Rattle.vp_laws.proofs.Tower.{Known}
+use Rattle.vp_laws.proofs.InvCopies.{InvCopies}
+use Rattle.vp_laws.proofs.InvRefresh.{InvRefresh}
+use Rattle.vp_laws.proofs.KeepingEntered.{other_holder}
+use Rattle.vp_laws.proofs.KeepingGuards.{txn_same}
+use Rattle.vp_laws.proofs.Known.{Known}
 
 -- the transaction has used the record at the site: it is live there and has the lock, or the site has answered for it
 pub data UsedAt (w : Scene) (q : ℕ) (t : Live) (rec : ℕ) (exclusive : Bool) : Type 0 where

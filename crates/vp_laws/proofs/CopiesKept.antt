@@ -20,11 +20,9 @@ use Rattle.vp_laws.proofs.Scenes.{Scene, kept_at}
 use Rattle.vp_laws.proofs.InvShares.{InDoubt}
 use Rattle.vp_laws.proofs.InvEntered.{Wrote, AgreedAs}
 use Rattle.vp_laws.proofs.InvHeld.{has_copy, holds_copy}
-use Rattle.vp_laws.proofs.InvListed.{not_below_itself}
 use Rattle.vp_laws.proofs.Closing.{Closed, Open, closed_lasts}
 use Rattle.vp_laws.proofs.Stopping.{shared_holder}
 use Rattle.vp_laws.proofs.ValuesAfter.{value_after, without_entry}
-use Rattle.vp_laws.proofs.CopyInvariants.{FromView, DoubtOn, InvCopies, InvRefresh}
 use Rattle.vp_laws.proofs.CopyFacts.{still_below, copy_holder}
 use Rattle.vp_laws.proofs.Worlds.{NowIs, now_is}
 use Rattle.vp_laws.proofs.NewEntries.{entering, stops, wrote_in_force, agreed_was}
@@ -33,7 +31,11 @@ use Rattle.vp_laws.proofs.CopyValues.{old_value, old_in_doubt, old_last}
 use Rattle.vp_laws.proofs.CopyWrites.{applied_date, applied_on, applied_sure, applied_value, applied_from, written_date, written_sure, written_value, written_from}
 use Rattle.vp_laws.proofs.CopyBrought.{doubt_on, own_above, brought_sure, brought_value, brought_from, brought_above}
 use Rattle.vp_laws.proofs.Refreshes.{certain_from, answer_listed, answer_in, left_below_now, other_answer, all_closed}
-use Rattle.vp_laws.proofs.Tower.{Known, Does}
+use Rattle.vp_laws.proofs.Does.{Does}
+use Rattle.vp_laws.proofs.InvCopies.{FromView, DoubtOn, InvCopies}
+use Rattle.vp_laws.proofs.InvRefresh.{InvRefresh}
+use Rattle.vp_laws.proofs.KeepingListed.{not_below_itself}
+use Rattle.vp_laws.proofs.Known.{Known}
 
 -- what is not found is not listed, and the other way round
 pub unlisted_from : (rec : ℕ) (refresh : List Refreshing) → refreshing_of rec refresh ≡ None → IsUnlisted refresh rec
@@ -148,7 +150,7 @@ module _ (catalogue : Catalogue) (w new : Scene) (s : ℕ) (x : SiteState) (give
       sure = certain_from (kept_at new s).doubts o.site rec (ap (λ (k : DurableState). k.doubts) (sym d.st.kept_now)) q.certain
 
       ended_closed : Closed catalogue new rec v
-      ended_closed = all_closed catalogue w new s x given o k n d refresh rec v q.r o.site d.here_now.id held q.on q.all answers held_then (λ i below. left_below_now catalogue w new s x given o k n d v i held below) sure
+      ended_closed = all_closed catalogue w new s x given o k n d refresh rec v q.r o.site (n.views.site s o.site d.st.now).id held q.on q.all answers held_then (λ i below. left_below_now catalogue w new s x given o k n d v i held below) sure
 
       ended_between : (e : Commit) → Has new.journal e → Wrote e rec → Precedes c.date e.view → Precedes e.view v.id → ⊥
       ended_between e there wrote later below =
@@ -163,7 +165,7 @@ module _ (catalogue : Catalogue) (w new : Scene) (s : ℕ) (x : SiteState) (give
         where
           missed : (u : View) → AgreedAs new e.view u → (a : ℕ) → Has (holders catalogue rec) a → Has u.members a → Has v.members a → a ≢ s → ⊥
           missed u agreed a its there_too here_too other =
-              let r = other_answer catalogue w new s x given o k n d refresh rec v q.r o.site d.here_now.id held q.on q.all answers held_then a its here_too other in
+              let r = other_answer catalogue w new s x given o k n d refresh rec v q.r o.site (n.views.site s o.site d.st.now).id held q.on q.all answers held_then a its here_too other in
               let then = held_then r.0 r.1 in
               let f = answer_in catalogue w new s x given o k n d rec r.0 v (answers r.0 r.1) then in
               ⊎_elim
@@ -185,7 +187,7 @@ module _ (catalogue : Catalogue) (w new : Scene) (s : ℕ) (x : SiteState) (give
     between_here e there wrote later below = go why
       where
         member : Has v.members s
-        member = subst (Has v.members) d.here_now.id (d.here_now.tidy.held v held).3
+        member = subst (Has v.members) (n.views.site s o.site d.st.now).id ((n.views.site s o.site d.st.now).tidy.held v held).3
 
         still : IsUnlisted x.refresh rec → o.site.held ≡ x.held → Origin catalogue w new s x given o k n d s rec c → Has w.journal e → ⊥
         still none same (Origin.plain (Own.old t)) old =

@@ -15,19 +15,22 @@ use Rattle.vp_laws.proofs.TableCopies.{AnswerNow}
 use Rattle.vp_laws.proofs.TableCopyAt.{Certain}
 use Rattle.vp_laws.proofs.Scenes.{Scene, kept_at, promise_at}
 use Rattle.vp_laws.proofs.InvShares.{InDoubt, InvShares}
-use Rattle.vp_laws.proofs.InvEntered.{Wrote, AgreedAs, written_op}
-use Rattle.vp_laws.proofs.InvListed.{wrote_here}
+use Rattle.vp_laws.proofs.InvEntered.{Wrote, AgreedAs}
 use Rattle.vp_laws.proofs.Stopping.{shared_holder}
 use Rattle.vp_laws.proofs.ValuesAfter.{value_after}
-use Rattle.vp_laws.proofs.CopyInvariants.{FromView, InvCopies, InvRefresh}
 use Rattle.vp_laws.proofs.CopyFacts.{still_below, copy_holder}
 use Rattle.vp_laws.proofs.NewEntries.{doubted, agreed_was}
 use Rattle.vp_laws.proofs.CopyOrigins.{Untouched, Own, Brought, gone_aborted}
 use Rattle.vp_laws.proofs.CopyValues.{value_now}
 use Rattle.vp_laws.proofs.CopyWrites.{applied_above, written_above}
 use Rattle.vp_laws.proofs.Refreshes.{Answer, answer_listed, answer_view, answer_in, answer_unwritten, answer_usable, left_below, other_answer, all_closed}
-use Rattle.vp_laws.proofs.Tower.{Known, Does}
 use Rattle.vp_laws.proofs.InvOps.{written_used}
+use Rattle.vp_laws.proofs.Does.{Does}
+use Rattle.vp_laws.proofs.InvCopies.{FromView, InvCopies}
+use Rattle.vp_laws.proofs.InvRefresh.{InvRefresh}
+use Rattle.vp_laws.proofs.KeepingListed.{wrote_here}
+use Rattle.vp_laws.proofs.Known.{Known}
+use Rattle.vp_laws.proofs.Written.{written_op}
 
 -- a doubt of an entry's transaction writes what the entry wrote there
 pub doubt_on : (catalogue : Catalogue) (w : Scene) → InvShares catalogue w → (e : Commit) (j rec : ℕ) (u : Doubt) → Has w.journal e → Wrote e rec → Has (holders catalogue rec) j → Has (kept_at w j).doubts u → u.txn ≡ e.txn → Has (keys u.writes) rec

@@ -10,13 +10,15 @@ use Rattle.vp_laws.proofs.Order.{AtMost, Precedes, not_both, opening_least}
 use Rattle.vp_laws.proofs.Journal.{Precedes-trans}
 use Rattle.vp_laws.proofs.Scenes.{Scene, kept_at}
 use Rattle.vp_laws.proofs.TableCopies.{value_pair}
-use Rattle.vp_laws.proofs.InvEntered.{Wrote, AgreedAs, written_op}
+use Rattle.vp_laws.proofs.InvEntered.{Wrote, AgreedAs}
 use Rattle.vp_laws.proofs.InvDated.{IsDated}
 use Rattle.vp_laws.proofs.InvHeld.{holder_kept}
 use Rattle.vp_laws.proofs.Closing.{Open}
-use Rattle.vp_laws.proofs.CopyInvariants.{FromView, InvCopies, InvRefresh}
-use Rattle.vp_laws.proofs.Tower.{Known}
 use Rattle.vp_laws.proofs.InvOps.{written_used}
+use Rattle.vp_laws.proofs.InvCopies.{FromView, InvCopies}
+use Rattle.vp_laws.proofs.InvRefresh.{InvRefresh}
+use Rattle.vp_laws.proofs.Known.{Known}
+use Rattle.vp_laws.proofs.Written.{written_op}
 
 pub still_below : (a b c : ViewId) → AtMost a b → Precedes b c → Precedes a c
 still_below a b c p q = omega arith

@@ -14,21 +14,24 @@ use Rattle.vp_laws.proofs.Members.{Has}
 use Rattle.vp_laws.proofs.Order.{AtMost, Precedes, same_is, same_from, same_site}
 use Rattle.vp_laws.proofs.LocalViews.{letter}
 use Rattle.vp_laws.proofs.Table.{Comes}
-use Rattle.vp_laws.proofs.TableCopies.{dated_at, value_pair}
+use Rattle.vp_laws.specs.Decisions.{dated_at}
+use Rattle.vp_laws.proofs.TableCopies.{value_pair}
 use Rattle.vp_laws.proofs.TableCopyAt.{OwnCopy, CopyAt, Refreshed}
 use Rattle.vp_laws.proofs.TableShares.{OutcomeComes}
 use Rattle.vp_laws.proofs.Scenes.{Scene, kept_at}
 use Rattle.vp_laws.proofs.InvEntered.{Wrote}
-use Rattle.vp_laws.proofs.InvGuards.{strictly}
 use Rattle.vp_laws.proofs.InvDated.{IsDated}
 use Rattle.vp_laws.proofs.InvHeld.{copy_value}
-use Rattle.vp_laws.proofs.InvListed.{wrote_here}
 use Rattle.vp_laws.proofs.OneDoubt.{doubt_found}
-use Rattle.vp_laws.proofs.CopyInvariants.{FromView, InvRefresh}
 use Rattle.vp_laws.proofs.CopyFacts.{copy_dated, copy_holder, closed_above}
 use Rattle.vp_laws.proofs.Worlds.{KeptIs, kept_is}
 use Rattle.vp_laws.proofs.NewEntries.{doubted, stops, doubt_stays, Doubted}
-use Rattle.vp_laws.proofs.Tower.{Known, Does}
+use Rattle.vp_laws.proofs.Does.{Does}
+use Rattle.vp_laws.proofs.InvCopies.{FromView}
+use Rattle.vp_laws.proofs.InvRefresh.{InvRefresh}
+use Rattle.vp_laws.proofs.KeepingGuards.{strictly}
+use Rattle.vp_laws.proofs.KeepingListed.{wrote_here}
+use Rattle.vp_laws.proofs.Known.{Known}
 
 module _ (catalogue : Catalogue) (w new : Scene) (s : ℕ) (x : SiteState) (given : Input) (o : Stepped) (k : Known catalogue w) (n : Known catalogue new) (d : Does catalogue w new s x given o) where
   -- the copy was there, and nothing of this step has written it

@@ -15,10 +15,12 @@ use Rattle.vp_laws.proofs.InvEntered.{Wrote}
 use Rattle.vp_laws.proofs.JournalPlaces.{last_split, stands, once_later}
 use Rattle.vp_laws.proofs.ValuesAfter.{value_after, without_entry, without_more, without_same, without_none}
 use Rattle.vp_laws.proofs.ValuesGrow.{after_more, doubt_or_none}
-use Rattle.vp_laws.proofs.CopyInvariants.{DoubtOn, InvCopies, InvRefresh}
 use Rattle.vp_laws.proofs.NewEntries.{JournalNow, journal_now, doubt_says, doubt_stays, Fresh, doubt_from, fresh_name, fresh_same, fresh_no_outcome, fresh_not_entered}
 use Rattle.vp_laws.proofs.CopyOrigins.{Untouched, gone_aborted, meets}
-use Rattle.vp_laws.proofs.Tower.{Known, Does}
+use Rattle.vp_laws.proofs.Does.{Does}
+use Rattle.vp_laws.proofs.InvCopies.{DoubtOn, InvCopies}
+use Rattle.vp_laws.proofs.InvRefresh.{InvRefresh}
+use Rattle.vp_laws.proofs.Known.{Known}
 
 module _ (catalogue : Catalogue) (w new : Scene) (s : ℕ) (x : SiteState) (given : Input) (o : Stepped) (k : Known catalogue w) (n : Known catalogue new) (d : Does catalogue w new s x given o) (copies : InvCopies catalogue w) (refresh : InvRefresh catalogue w) where
   -- the value as the journal grows

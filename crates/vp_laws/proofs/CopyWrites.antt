@@ -19,16 +19,18 @@ use Rattle.vp_laws.proofs.InvEndings.{Once}
 use Rattle.vp_laws.proofs.InvShares.{InDoubt}
 use Rattle.vp_laws.proofs.InvEntered.{Wrote, AgreedAs}
 use Rattle.vp_laws.proofs.InvHeld.{has_copy}
-use Rattle.vp_laws.proofs.InvListed.{wrote_here, not_below_itself}
 use Rattle.vp_laws.proofs.JournalPlaces.{has_split, stands_behind, once_later, last_value}
 use Rattle.vp_laws.proofs.ValuesAfter.{value_after, value_up_to, value_written, value_of_last}
 use Rattle.vp_laws.proofs.ValuesGrow.{after_is}
-use Rattle.vp_laws.proofs.CopyInvariants.{FromView, InvCopies, InvRefresh}
 use Rattle.vp_laws.proofs.CopyFacts.{no_doubt_below}
 use Rattle.vp_laws.proofs.NewEntries.{none_entered, journal_same, journal_with, one_entry, Entering, entering, entering_agreed, certain_now, doubt_says, agreed_was, doubt_from, fresh_no_outcome}
 use Rattle.vp_laws.proofs.CopyOrigins.{Applied, Written}
 use Rattle.vp_laws.proofs.CopyValues.{value_now}
-use Rattle.vp_laws.proofs.Tower.{Known, Does}
+use Rattle.vp_laws.proofs.Does.{Does}
+use Rattle.vp_laws.proofs.InvCopies.{FromView, InvCopies}
+use Rattle.vp_laws.proofs.InvRefresh.{InvRefresh}
+use Rattle.vp_laws.proofs.KeepingListed.{wrote_here, not_below_itself}
+use Rattle.vp_laws.proofs.Known.{Known}
 
 pair_at : (ws : List (ℕ × Change)) (p : ℕ × List ℕ) (rec : ℕ) (value : List ℕ) → p.0 ≡ rec → p.1 ≡ value → value_at p.0 ws ≡ Some p.1 → value_at rec ws ≡ Some value
 pair_at ws p rec value e f h = rw (sym e, sym f) h

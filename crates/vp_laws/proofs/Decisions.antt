@@ -19,9 +19,10 @@ use Rattle.vp_laws.proofs.TableOutcomes.{IsForced, doubts-step, outcomes-step}
 use Rattle.vp_laws.proofs.Scenes.{scene_of, kept_at}
 use Rattle.vp_laws.proofs.Events.{in_each}
 use Rattle.vp_laws.proofs.Moments.{moment_of, later_on}
-use Rattle.vp_laws.proofs.InvKept.{TwentyFirst, kept_last}
-use Rattle.vp_laws.proofs.Tower.{Known, known}
 use Rattle.vp_laws.proofs.EndsTrue.{entry_found, entry_none, EndedAt, ended_keeps}
+use Rattle.vp_laws.proofs.Known.{Known}
+use Rattle.vp_laws.proofs.Invariant.{Invariant}
+use Rattle.vp_laws.proofs.KeepingInvariant.{invariant_last}
 
 sent_to : (w : WorldState) (s : ℕ) (given : Input) (from : ℕ) (m : Message) → MayCome w s given → Comes given from m → Has w.sent (letter from s m)
 sent_to w s given from m may c = has_of w.sent (letter from s m) (subst (MayCome w s) c may)
@@ -53,14 +54,14 @@ doubts_end catalogue x given d h = ⊎_elim
 pub decisions_agreed : (s : Schedule) (m : Moment) → Contains (moments_of s) m → DecisionsAgree s.catalogue (journal_of s) m.before
 decisions_agreed s m there site x given up may =
     let h = has_of (moments_of s) m there in
-    let good = in_each s.catalogue (TwentyFirst s.catalogue) (kept_last s.catalogue) s.events m h in
-    let k = known s.catalogue (scene_of m.before) good.0.lower.lower.lower.lower in
+    let good = in_each s.catalogue (Invariant s.catalogue) (invariant_last s.catalogue) s.events m h in
+    let k = good.0.known in
     record {
       ends = doubts_end s.catalogue x given;
       copies = copies_come s.catalogue x given (k.views.site site x up).tidy (λ r here. let q = (k.guards.site site x up).lower r here in (q.0, q.1));
       commits = λ txn forced. commit_entered s.catalogue m.before k site x given txn up may forced;
       aborts = λ txn forced.
-          let is = moment_of s.catalogue (TwentyFirst s.catalogue) (kept_last s.catalogue) (λ w. EndedAt w txn) (ended_keeps s.catalogue txn) s.events m h in
+          let is = moment_of s.catalogue (Invariant s.catalogue) (invariant_last s.catalogue) (λ w. EndedAt w txn) (ended_keeps s.catalogue txn) s.events m h in
           let ended = ended_keeps s.catalogue txn (scene_of m.before) m.line.shown (scene_of m.after) is good.0 good.1 (abort_ended s.catalogue m.before k site x given txn up may forced) in
-          entry_none (journal_of s) txn (later_on s.catalogue (TwentyFirst s.catalogue) (kept_last s.catalogue) (λ w. EndedAt w txn) (ended_keeps s.catalogue txn) s.events m h ended).none;
+          entry_none (journal_of s) txn (later_on s.catalogue (Invariant s.catalogue) (invariant_last s.catalogue) (λ w. EndedAt w txn) (ended_keeps s.catalogue txn) s.events m h ended).none;
     }

@@ -1,5 +1,5 @@
 -- The ends that are replied are true: committed of transactions with an entry, and another end of none that ever has one.
-use Rattle.std.proofs.Common.{◌≡◌, ◌≢◌, ◌∙◌, ◌≤◌, ◌<◌, ap, sym, subst, ℕ, Bool, true, false, List, [], map, refl, arith, inr, ⊎_elim}
+use Rattle.std.proofs.Common.{◌≡◌, ◌≢◌, ◌∙◌, ◌≤◌, ap, sym, subst, ℕ, Bool, true, false, List, [], map, refl, arith, ⊎_elim}
 use Rattle.std.specs.Prelude.{Some, None, ◌&&◌}
 use Rattle.std.specs.List.{list_any, list_all}
 use Rattle.std.proofs.lemmas.Bool.Decides.{nat_tests}
@@ -26,12 +26,16 @@ use Rattle.vp_laws.proofs.TableReplies.{Said}
 use Rattle.vp_laws.proofs.Scenes.{Scene, scene_of, kept_at, acted}
 use Rattle.vp_laws.proofs.Events.{in_each}
 use Rattle.vp_laws.proofs.Worlds.{now_is, Quiet, QuietIs, quiet_is, no_live}
-use Rattle.vp_laws.proofs.InvNames.{UsedTxn, Grows, used_lasts, own_used, start_life}
+use Rattle.vp_laws.proofs.InvNames.{UsedTxn}
 use Rattle.vp_laws.proofs.InvEndings.{HasEntry, Over}
-use Rattle.vp_laws.proofs.InvKept.{InvKept, TwentyFirst, kept_last}
 use Rattle.vp_laws.proofs.NewEntries.{entering}
 use Rattle.vp_laws.proofs.Moments.{MomentOf, moment_of, later_on}
-use Rattle.vp_laws.proofs.Tower.{Known, known, Does, does}
+use Rattle.vp_laws.proofs.Does.{Does, does}
+use Rattle.vp_laws.proofs.InvOwnEnds.{InvOwnEnds}
+use Rattle.vp_laws.proofs.KeepingNames.{used_lasts, own_used, quiet_grows}
+use Rattle.vp_laws.proofs.Known.{Known}
+use Rattle.vp_laws.proofs.Invariant.{Invariant}
+use Rattle.vp_laws.proofs.KeepingInvariant.{invariant_last}
 
 -- tests of the journal
 
@@ -81,10 +85,7 @@ pub record EndedAt (w : Scene) (txn : TxnId) : Type 0 where
 
 module _ (catalogue : Catalogue) where
   abbrev I : Scene → Type 0
-  I = TwentyFirst catalogue
-
-  pub known_of : (w : Scene) → I w → Known catalogue w
-  known_of w inv = known catalogue w inv.lower.lower.lower.lower
+  I = Invariant catalogue
 
   pub ended_step : (w new : Scene) (s : ℕ) (x : SiteState) (given : Input) (o : Stepped) (k : Known catalogue w) (n : Known catalogue new) (d : Does catalogue w new s x given o) (txn : TxnId) → EndedAt w txn → EndedAt new txn
   ended_step w new s x given o k n d txn h = record {
@@ -100,17 +101,11 @@ module _ (catalogue : Catalogue) where
 
   pub ended_quiet : (w new : Scene) (s : ℕ) → Quiet catalogue w new s → (txn : TxnId) → EndedAt w txn → EndedAt new txn
   ended_quiet w new s q txn h = record {
-    used = used_lasts w new s q.moved grows txn h.used;
+    used = used_lasts w new s q.moved (quiet_grows catalogue w new s q) txn h.used;
     over = λ y up. over_at y (quiet_is catalogue w new s q txn.site y up);
     none = λ e there. h.none e (rw q.journal at there);
   }
     where
-      grows : Grows w new s
-      grows = record {
-        life = q.life;
-        seq = λ y up. inr (subst (λ (y : SiteState). (kept_at w s).life < y.life) (q.now y up) (start_life catalogue s (kept_at w s)));
-      }
-
       over_at : (y : SiteState) → QuietIs catalogue w s txn.site y → NotLive y.live txn
       over_at y (QuietIs.other m old) t live same = h.over y old t live same
       over_at y (QuietIs.here z is) t live same = no_live catalogue s (kept_at w s) t (subst (λ (y : SiteState). Has y.live t) (sym is) live)
@@ -120,12 +115,12 @@ module _ (catalogue : Catalogue) where
   ended_keeps txn w what new (MomentOf.quiet s q rs cs) inv now h = ended_quiet w new s q txn h
   ended_keeps txn w what new (MomentOf.steps s x given first up r is e) inv now h =
       let o = step catalogue x given in
-      let k = known_of w inv in
-      let n = known_of (acted w s x o) (subst I e now) in
-      subst (λ (w : Scene). EndedAt w txn) (sym e) (ended_step w (acted w s x o) s x given o k n (does catalogue w s x given up r k n) txn h)
+      let k = inv.known in
+      let n = (subst I e now).known in
+      subst (λ (w : Scene). EndedAt w txn) (sym e) (ended_step w (acted w s x o) s x given o k n (does catalogue w s x given up r k) txn h)
 
   -- what one step replies
-  module _ (w new : Scene) (s : ℕ) (x : SiteState) (given : Input) (o : Stepped) (k : Known catalogue w) (n : Known catalogue new) (d : Does catalogue w new s x given o) (kept : InvKept w) where
+  module _ (w new : Scene) (s : ℕ) (x : SiteState) (given : Input) (o : Stepped) (k : Known catalogue w) (n : Known catalogue new) (d : Does catalogue w new s x given o) (kept : InvOwnEnds w) where
     finished_ended : (f : Finished) → Has x.finished f → ((e : Commit) → Has w.journal e → e.txn ≢ f.txn) → EndedAt w f.txn
     finished_ended f h none =
         let names = (k.ends.settled s x d.up).names f h in
@@ -222,9 +217,9 @@ module _ (catalogue : Catalogue) where
       let w = scene_of m.before in
       let o = step catalogue x given in
       let new = acted w s x o in
-      let k = known_of w inv in
-      let n = known_of new (subst I e now) in
-      let d = does catalogue w s x given up r k n in
+      let k = inv.known in
+      let n = (subst I e now).known in
+      let d = does catalogue w s x given up r k in
       let later_new = λ (txn : TxnId) (h : EndedAt new txn). later txn (subst (λ (w : Scene). EndedAt w txn) (sym e) h) in
       let journal : m.after.journal ≡ new.journal = ap (λ (w : Scene). w.journal) e in
       let rs : replies_in m.line.shown ≡ o.effects.replies = ap replies_in is in
@@ -232,16 +227,16 @@ module _ (catalogue : Catalogue) where
       both (list_all (agrees_with m.after.journal last) (answers_in m.line)) _
       (ap (λ (by : List Commit). list_all (agrees_with by last) (answers_in m.line)) journal
       ∙ ap (λ (rs : List Reply). list_all (agrees_with new.journal last) (map (λ (r : Reply). r.answer) rs)) rs
-      ∙ all_from (agrees_with new.journal last) (map (λ (r : Reply). r.answer) o.effects.replies) (λ a h. let q = map_has (λ (r : Reply). r.answer) o.effects.replies a h in subst (λ (a : Answer). agrees_with new.journal last a ≡ true) q.2 (said_agrees w new s x given o k n d inv.upper last later_new q.0.answer (d.replying.said q.0 q.1))))
+      ∙ all_from (agrees_with new.journal last) (map (λ (r : Reply). r.answer) o.effects.replies) (λ a h. let q = map_has (λ (r : Reply). r.answer) o.effects.replies a h in subst (λ (a : Answer). agrees_with new.journal last a ≡ true) q.2 (said_agrees w new s x given o k n d inv.own_ends last later_new q.0.answer (d.replying.said q.0 q.1))))
       (ap (λ (cs : List Commit). list_all (λ (commit : Commit). list_any (is_committed commit.txn) (answers_in m.line)) cs) cs
       ∙ ap (λ (rs : List Reply). list_all (λ (commit : Commit). list_any (is_committed commit.txn) (map (λ (r : Reply). r.answer) rs)) o.effects.commits) rs
-      ∙ all_from (λ (commit : Commit). list_any (is_committed commit.txn) (map (λ (r : Reply). r.answer) o.effects.replies)) o.effects.commits (λ c h. replied w new s x given o k n d inv.upper c h))
+      ∙ all_from (λ (commit : Commit). list_any (is_committed commit.txn) (map (λ (r : Reply). r.answer) o.effects.replies)) o.effects.commits (λ c h. replied w new s x given o k n d inv.own_ends c h))
     where
       both : (a b : Bool) → a ≡ true → b ≡ true → (a && b) ≡ true
       both a b p q = rw (p, q) refl
 
 pub ends_told : (s : Schedule) → EndsAreTrue s
 ends_told s = all_from (ends_true_at (journal_of s)) (moments_of s) (λ m h.
-    let good = in_each s.catalogue (TwentyFirst s.catalogue) (kept_last s.catalogue) s.events m h in
-    ends_true s.catalogue (journal_of s) m (moment_of s.catalogue (TwentyFirst s.catalogue) (kept_last s.catalogue) (λ w. Unit {0}) (λ w what new is a b u. tt) s.events m h) good.0 good.1
-    (λ txn ended. entry_none (journal_of s) txn (later_on s.catalogue (TwentyFirst s.catalogue) (kept_last s.catalogue) (λ w. EndedAt w txn) (ended_keeps s.catalogue txn) s.events m h ended).none))
+    let good = in_each s.catalogue (Invariant s.catalogue) (invariant_last s.catalogue) s.events m h in
+    ends_true s.catalogue (journal_of s) m (moment_of s.catalogue (Invariant s.catalogue) (invariant_last s.catalogue) (λ w. Unit {0}) (λ w what new is a b u. tt) s.events m h) good.0 good.1
+    (λ txn ended. entry_none (journal_of s) txn (later_on s.catalogue (Invariant s.catalogue) (invariant_last s.catalogue) (λ w. EndedAt w txn) (ended_keeps s.catalogue txn) s.events m h ended).none))

@@ -14,12 +14,12 @@ use Rattle.vp_laws.specs.Entries.{IsOnce, doubts_in, VotesLeaveDoubts, record_in
 use Rattle.vp_laws.proofs.Members.{has_of, contains, all_of}
 use Rattle.vp_laws.proofs.Scenes.{kept_in}
 use Rattle.vp_laws.proofs.InvEndings.{Once}
-use Rattle.vp_laws.proofs.InvShares.{Sixth, shares_last}
 use Rattle.vp_laws.proofs.InvOps.{op_used, record_of}
 use Rattle.vp_laws.proofs.Events.{in_last}
-use Rattle.vp_laws.proofs.InvCopies.{Eighteenth, copied_last}
-use Rattle.vp_laws.proofs.Tower.{known}
-use Rattle.vp_laws.proofs.Scenes.{scene_of}
+use Rattle.vp_laws.proofs.Invariant.{Invariant}
+use Rattle.vp_laws.proofs.Known.{Known}
+use Rattle.vp_laws.proofs.KeepingInvariant.{invariant_last}
+use Rattle.vp_laws.proofs.KeepingKnown.{known_last}
 
 differ : (a b : TxnId) → b ≢ a → same_txn a b ≡ false
 differ a b n = grind (arith, nat_tests, n)
@@ -31,7 +31,7 @@ once_pairs (c ∷ journal) h =
     (All-from_recursion (λ (b : Commit). same_txn c.txn b.txn ≡ false) journal (all_of (λ (b : Commit). same_txn c.txn b.txn ≡ false) journal (λ b k. differ c.txn b.txn (h.0 b k)))) (once_pairs journal h.1)
 
 pub committed_once : (s : Schedule) → IsOnce (journal_of s)
-committed_once s = once_pairs (journal_of s) (in_last s.catalogue (Sixth s.catalogue) (shares_last s.catalogue) s.events).lower.upper.once
+committed_once s = once_pairs (journal_of s) (in_last s.catalogue (Known s.catalogue) (known_last s.catalogue) s.events).ends.once
 
 doubts_same : (o : Option Place) → doubts_in o ≡ (kept_in o).doubts
 doubts_same None = refl
@@ -40,10 +40,10 @@ doubts_same (Some p) = refl
 pub doubted : (s : Schedule) → VotesLeaveDoubts s.catalogue (run_of s).world
 doubted s from to txn x t sent up live same some =
     let w = (run_of s).world in
-    let inv = in_last s.catalogue (Sixth s.catalogue) (shares_last s.catalogue) s.events in
-    let d = inv.upper.says _ (has_of w.sent (record { from = from; to = to; message = message.Vote txn }) sent) x t up (has_of x.live t live) same some in
-    let q = inv.upper.doubts from d.0 d.1 in
-    let p = inv.lower.lower.votes.prepared _ q.0.3 x t (rw d.2 up) (has_of x.live t live) (same ∙ sym d.2) in
+    let known = in_last s.catalogue (Known s.catalogue) (known_last s.catalogue) s.events in
+    let d = known.shares.says _ (has_of w.sent (record { from = from; to = to; message = message.Vote txn }) sent) x t up (has_of x.live t live) same some in
+    let q = known.shares.doubts from d.0 d.1 in
+    let p = known.votes.prepared _ q.0.3 x t (rw d.2 up) (has_of x.live t live) (same ∙ sym d.2) in
     let is = doubt_is d.0 txn t.view _ d.2 p.in_view p.has_written in
     contains _ _ (rw (doubts_same (place_of from w.places), ← is) d.1)
   where
@@ -57,13 +57,12 @@ same_record (op.Write rec value) = refl
 pub entered : (s : Schedule) → EntriesAreAccessible s.catalogue (run_of s).world
 entered s e h =
     let w = (run_of s).world in
-    let inv = in_last s.catalogue (Eighteenth s.catalogue) (copied_last s.catalogue) s.events in
-    let led = (known s.catalogue (scene_of w) inv.lower).led in
+    let inv = in_last s.catalogue (Invariant s.catalogue) (invariant_last s.catalogue) s.events in
     let there = has_of w.journal e h in
-    let q = led.entry e there in (
+    let q = inv.known.led.entry e there in (
       q.0,
       contains w.agreed q.0 q.1,
       q.2,
       contains q.0.members e.txn.site q.3,
-      (λ operation k. ap (λ (n : ℕ). accessible s.catalogue n q.0.members) (sym (same_record operation)) ∙ (inv.upper.refresh.entry e q.0 (record_of operation) there (q.1, q.2) (op_used e.ops operation (has_of e.ops operation k))).usable),
+      (λ operation k. ap (λ (n : ℕ). accessible s.catalogue n q.0.members) (sym (same_record operation)) ∙ (inv.refresh.entry e q.0 (record_of operation) there (q.1, q.2) (op_used e.ops operation (has_of e.ops operation k))).usable),
     )

@@ -16,13 +16,11 @@ use Rattle.vp_laws.proofs.Members.{Has, has_left}
 use Rattle.vp_laws.proofs.LocalViews.{letter}
 use Rattle.vp_laws.proofs.Scenes.{Scene, plain_at}
 use Rattle.vp_laws.proofs.InvShares.{HasRequest}
-use Rattle.vp_laws.proofs.InvAnswers.{Eighth}
-use Rattle.vp_laws.proofs.InvRepeated.{Kept}
-use Rattle.vp_laws.proofs.InvKept.{TwentyFirst}
 use Rattle.vp_laws.proofs.EndsTrue.{EndedAt}
 use Rattle.vp_laws.proofs.TableFair.{is_free}
 use Rattle.vp_laws.proofs.Fair.{WasBegun, Once, Fair, fair_more}
 use Rattle.vp_laws.proofs.TableKept.{is_report}
+use Rattle.vp_laws.proofs.Invariant.{Invariant}
 
 -- a site was asked for a part of the transaction, in the view
 pub data IsAsked (w : Scene) (q from : ℕ) (txn : TxnId) (view : ViewId) (number : ℕ) : Type 0 where
@@ -45,9 +43,8 @@ pub record FairEnd (catalogue : Catalogue) (past : List Moment) (f : Finished) :
   pub later : (n : ℕ) → length f.answers ≤ n → Fair catalogue past (answer_of f.txn n f.ending)
 
 pub record FairAt (catalogue : Catalogue) (w : Scene) (past : List Moment) : Type 0 where
-  pub base : TwentyFirst catalogue w
-  pub kept : Kept catalogue w
-  pub eighth : Eighth catalogue w
+  -- the whole invariant
+  pub inv : Invariant catalogue w
   -- each refusal that was sent is justified
   pub sent : (m : Sent) → Has w.sent m → RefuseOk catalogue w past m.from m.message
   -- a transaction that a reply says was refused is over

@@ -27,15 +27,10 @@ use Rattle.vp_laws.proofs.LocalViews.{letter}
 use Rattle.vp_laws.proofs.Scenes.{Scene, scene_of, plain_at, kept_at, acted}
 use Rattle.vp_laws.proofs.Events.{Arrives}
 use Rattle.vp_laws.proofs.InvShares.{HasRequest}
-use Rattle.vp_laws.proofs.InvAnswers.{Current, Eighth, answers_last}
+use Rattle.vp_laws.proofs.InvAnswers.{Current}
 use Rattle.vp_laws.proofs.TableLed.{Led}
-use Rattle.vp_laws.proofs.InvRepeated.{Kept, kept_last, Does, does}
-use Rattle.vp_laws.proofs.InvKept.{TwentyFirst}
-use Rattle.vp_laws.proofs.InvKept.{kept_last as ends_last}
 use Rattle.vp_laws.proofs.Apart.{apart_unique, same_txn-self}
-use Rattle.vp_laws.proofs.Tower.{Known}
-use Rattle.vp_laws.proofs.Tower.{Does as Doing, does as doing}
-use Rattle.vp_laws.proofs.EndsTrue.{EndedAt, known_of, ended_step, ended_quiet, said_refused}
+use Rattle.vp_laws.proofs.EndsTrue.{EndedAt, ended_step, ended_quiet, said_refused}
 use Rattle.vp_laws.proofs.Worlds.{NowIs, now_is, Quiet, QuietIs, quiet_is, no_finished, no_live}
 use Rattle.vp_laws.proofs.Reasons.{Operates, Takes, Awaits, Why, told_to}
 use Rattle.vp_laws.proofs.TableRefusals.{Refused, RefuseSays, refusals-step}
@@ -45,6 +40,10 @@ use Rattle.vp_laws.proofs.FairStep.{IsStep, named_site, tested_x, replied, block
 use Rattle.vp_laws.proofs.FairAt.{IsAsked, RefuseFair, RefuseOk, FairEnd, FairAt, refuse_on, end_more, free_justified, report_fair}
 use Rattle.vp_laws.proofs.TableKept.{is_report}
 use Rattle.vp_laws.proofs.Numbers.{one_above}
+use Rattle.vp_laws.proofs.Does.{Does, does}
+use Rattle.vp_laws.proofs.Known.{Known}
+use Rattle.vp_laws.proofs.Invariant.{Invariant}
+use Rattle.vp_laws.proofs.KeepingInvariant.{invariant_last}
 
 at_most_of : (a b c : ℕ) → a ≡ b + 1 → b + 1 ≤ c → a ≤ c
 at_most_of a b c e h = omega arith
@@ -85,30 +84,24 @@ module _ (catalogue : Catalogue) (world : WorldState) (past : List Moment) (m0 :
   here : Has now m0
   here = has_right past (m0 ∷ []) m0 (has_one m0)
 
-  d : Does catalogue w s x given
-  d = does catalogue w s x given up fair.kept.lower
+  known : Known catalogue w
+  known = fair.inv.known
+
+  inv_now : Invariant catalogue (acted w s x o)
+  inv_now = (invariant_last catalogue).acts w s x given up arrives fair.inv
+
+  d : Does catalogue w (acted w s x o) s x given o
+  d = does catalogue w s x given up arrives known
 
   c : Causes catalogue x given o.site o.site.coordinator o.effects.replies o.effects.commits
-  c = causes-step catalogue x given (fair.kept.upper.site s x up)
-
-  known_here : Known catalogue w
-  known_here = known_of catalogue w fair.base
-
-  base_now : TwentyFirst catalogue (acted w s x o)
-  base_now = (ends_last catalogue).acts w s x given up arrives fair.base
-
-  known_now : Known catalogue (acted w s x o)
-  known_now = known_of catalogue (acted w s x o) base_now
-
-  doing_here : Doing catalogue w (acted w s x o) s x given o
-  doing_here = doing catalogue w s x given up arrives known_here known_now
+  c = causes-step catalogue x given (known.repeated.site s x up)
 
   own_site : (t : Live) → Has x.live t → t.txn.site ≡ s
-  own_site t h = (d.led.names t h).0 ∙ d.id
+  own_site t h = (d.led.names t h).0 ∙ d.here.id
 
   -- the pending call has the next number
   next_number : (t : Live) (p : Pending) → Has x.live t → t.pending ≡ Some p → p.number ≡ length t.answers + 1
-  next_number t p h e = (fair.eighth.lower.upper.live s x t up h).next p e
+  next_number t p h e = (known.ops.live s x t up h).next p e
 
   number_of : (t : Live) (why : Ending) (p : Pending) → Why catalogue x given o.site t why → t.pending ≡ Some p → p.number ≡ length t.answers + 1
   number_of t why p (Why.aborted was q at e) g = let z = ap (λ (t : Live). t.pending) e in let same : q ≡ p = cc in rw (← same, e) at.next.number
@@ -128,7 +121,7 @@ module _ (catalogue : Catalogue) (world : WorldState) (past : List Moment) (m0 :
   finished_other : (t : Live) (f : Finished) (number : ℕ) (n : ℕ) → Handled x t → Has x.finished f → refused_number t.txn (answer_of f.txn number f.ending) ≡ Some n → ⊥
   finished_other t f number n at h e =
       let own : f.txn ≡ t.txn = (refused_of f.txn t.txn number f.ending n e).0 in
-      (known_here.ends.settled s x up).finished f at.was h at.live (ap (λ (t : Live). t.txn) (sym at.same) ∙ sym own)
+      (known.ends.settled s x up).finished f at.was h at.live (ap (λ (t : Live). t.txn) (sym at.same) ∙ sym own)
 
   number_told : (t : Live) → Handled x t → (a : Answer) → ReplyFrom catalogue x given o.site a → (n : ℕ) → refused_number t.txn a ≡ Some n → n ≡ length t.answers + 1
   number_told t at a (ReplyFrom.free b f) n e = absurd (free_unrefused t.txn b n f e)
@@ -136,11 +129,11 @@ module _ (catalogue : Catalogue) (world : WorldState) (past : List Moment) (m0 :
   number_told t at a (ReplyFrom.repeated f b k q) n e = ⊎_elim
       (λ r. absurd (report_unrefused t.txn b n r e))
       (λ (r : (number : ℕ) × (b ≡ answer_of f.txn number f.ending)). absurd (finished_other t f r.0 n at k (ap (refused_number t.txn) (sym r.1) ∙ e)))
-      ((fair.kept.upper.site s x up).finished f k b q)
+      ((known.repeated.site s x up).finished f k b q)
   number_told t at a (ReplyFrom.ended f number k l) n e = absurd (finished_other t f number n at k e)
   number_told t at a (ReplyFrom.closed u why p also w q) n e =
       let own = refused_of u.txn t.txn p.number why n e in
-      let one : also.was ≡ at.was = apart_unique x.live (known_here.votes.site s x up) also.was at.was also.live at.live (ap (λ (t : Live). t.txn) (sym also.same) ∙ own.0 ∙ ap (λ (t : Live). t.txn) at.same) in
+      let one : also.was ≡ at.was = apart_unique x.live (known.votes.site s x up) also.was at.was also.live at.live (ap (λ (t : Live). t.txn) (sym also.same) ∙ own.0 ∙ ap (λ (t : Live). t.txn) at.same) in
       let same : u.answers ≡ t.answers = ap (λ (t : Live). t.answers) also.same ∙ ap (λ (t : Live). t.answers) one ∙ ap (λ (t : Live). t.answers) (sym at.same) in
       sym own.1 ∙ number_of u why p w q ∙ ap (λ (answers : List Answer). length answers + 1) same
 
@@ -176,20 +169,20 @@ module _ (catalogue : Catalogue) (world : WorldState) (past : List Moment) (m0 :
 
   named_there : (t : Live) (p : Pending) (from q : ℕ) (view : ViewId) (rec : ℕ) (flag exclusive : Bool) (name : List ℕ) → Awaits x t p → HasRequest w q from t.txn view p.number rec flag → Operates p.call name exclusive → (find_record catalogue name ≡ Some rec) × (from ≢ t.txn.site)
   named_there t p from q view rec flag exclusive name a (HasRequest.to_read m) op = (
-    uses_reads p name exclusive rec op (current t p (λ p. Reads catalogue p rec) a.live a.pending (fair.eighth.upper.asks _ m x t (up_there t a.live) a.live refl)),
-    (fair.kept.lower.lower.third.second.first.led.asked _ m).5,
+    uses_reads p name exclusive rec op (current t p (λ p. Reads catalogue p rec) a.live a.pending (known.answers.asks _ m x t (up_there t a.live) a.live refl)),
+    (known.led.asked _ m).5,
   )
   named_there t p from q view rec flag exclusive name a (HasRequest.to_write m) op =
-      let r = current t p (λ p. (value : List ℕ) × Writes catalogue p rec value) a.live a.pending (fair.eighth.upper.asks _ m x t (up_there t a.live) a.live refl) in (
+      let r = current t p (λ p. (value : List ℕ) × Writes catalogue p rec value) a.live a.pending (known.answers.asks _ m x t (up_there t a.live) a.live refl) in (
         uses_writes p name exclusive rec r.0 op r.1,
-        (fair.kept.lower.lower.third.second.first.led.asked _ m).5,
+        (known.led.asked _ m).5,
       )
 
   -- the transaction's view is the one that it was asked for in
   view_of : (t : Live) (q from : ℕ) (view : ViewId) (number : ℕ) → Has x.live t → IsAsked w q from t.txn view number → (t.view ≡ view) × (from ≢ t.txn.site)
-  view_of t q from view number h (IsAsked.to_read rec m) = ((fair.eighth.lower.lower.upper.says _ m).live x t (up_there t h) h refl, (fair.kept.lower.lower.third.second.first.led.asked _ m).5)
-  view_of t q from view number h (IsAsked.to_write rec m) = ((fair.eighth.lower.lower.upper.says _ m).live x t (up_there t h) h refl, (fair.kept.lower.lower.third.second.first.led.asked _ m).5)
-  view_of t q from view number h (IsAsked.to_prepare reads writes m) = ((fair.eighth.lower.lower.upper.says _ m).live x t (up_there t h) h refl, (fair.kept.lower.lower.third.second.first.led.asked _ m).5)
+  view_of t q from view number h (IsAsked.to_read rec m) = ((known.shares.says _ m).live x t (up_there t h) h refl, (known.led.asked _ m).5)
+  view_of t q from view number h (IsAsked.to_write rec m) = ((known.shares.says _ m).live x t (up_there t h) h refl, (known.led.asked _ m).5)
+  view_of t q from view number h (IsAsked.to_prepare reads writes m) = ((known.shares.says _ m).live x t (up_there t h) h refl, (known.led.asked _ m).5)
 
   begun_now : (t : Live) → Has x.live t → WasBegun now t.txn t.view
   begun_now t h = begun_more past (m0 ∷ []) t.txn t.view (fair.live s x t up h)
@@ -218,16 +211,16 @@ module _ (catalogue : Catalogue) (world : WorldState) (past : List Moment) (m0 :
   -- a lock here, of a call that comes in this step
   here_fair : (was : Live) (p : Pending) (name : List ℕ) (rec : ℕ) (exclusive : Bool) (holder : Owner) (k : ℕ) → Takes x given was p → Operates p.call name exclusive → find_record catalogue name ≡ Some rec → conflict rec exclusive was.txn x.locks ≡ Some holder → refused_in now was.txn ≡ Some p.number → p.number ≤ k → Has (answers_in m0.line) (answer.LockHeld was.txn p.number name x.id holder) → Fair catalogue now (answer.LockHeld was.txn k name x.id holder)
   here_fair was p name rec exclusive holder k at op f n first up_to told =
-      let told_here : Has (answers_in m0.line) (answer.LockHeld was.txn p.number name s holder) = rw (← d.id) told in
+      let told_here : Has (answers_in m0.line) (answer.LockHeld was.txn p.number name s holder) = rw (← d.here.id) told in
       let blocked = blocked_here catalogue m0 world s x given o is was p name rec exclusive holder at.called op f n (own_site was at.live) told_here in
-      rw d.id (record { refused = p.number; first = first; up_to = up_to; once = any_of (was_blocked catalogue was.txn p.number name s holder) now m0 here blocked })
+      rw d.here.id (record { refused = p.number; first = first; up_to = up_to; once = any_of (was_blocked catalogue was.txn p.number name s holder) now m0 here blocked })
 
   -- where the site holds no view it has no live transaction
   none_left : o.site.held ≡ None → (txn : TxnId) → is_live txn o.site.live ≡ false
   none_left gone txn = go (is_live txn o.site.live) refl
     where
       led_now : Led o.site
-      led_now = known_now.led.site s o.site d.st.now
+      led_now = inv_now.known.led.site s o.site d.st.now
 
       go : (b : Bool) → is_live txn o.site.live ≡ b → b ≡ false
       go false e = refl
@@ -238,7 +231,7 @@ module _ (catalogue : Catalogue) (world : WorldState) (past : List Moment) (m0 :
       let v = d.led.live t h in
       let was : is_live t.txn x.live ≡ true = any_of (λ (u : Live). same_txn u.txn t.txn) x.live t h (same_txn-self t.txn) in
       let left : left_and_closed t.txn t.view m0 ≡ true = rw (← v.2) (left_and_closed_now catalogue m0 world s x given o is t.txn v.0 (own_site t h) v.1 gone was (none_left gone t.txn)) in
-      (begun_now t h, OtherView.left (d.id ∙ sym (own_site t h)) (record { moment = m0; has = here; passes = left }))
+      (begun_now t h, OtherView.left (d.here.id ∙ sym (own_site t h)) (record { moment = m0; has = here; passes = left }))
 
   why_fair : (t : Live) (why : Ending) (k : ℕ) → Handled x t → Why catalogue x given o.site t why → ((p : Pending) → t.pending ≡ Some p → Has (answers_in m0.line) (answer_of t.txn p.number why)) → ((p : Pending) → t.pending ≡ Some p → length t.answers + 1 ≤ k) → Fair catalogue now (answer_of t.txn k why)
   why_fair t why k handled (Why.aborted was p at e) told up_to = tt
@@ -303,7 +296,7 @@ module _ (catalogue : Catalogue) (world : WorldState) (past : List Moment) (m0 :
   }
     where
       reports : (a : Answer) → Has t.answers a → is_report a ≡ true
-      reports a h = (fair.kept.upper.site s x up).live n.was n.live a (rw (ap (λ (t : Live). t.answers) n.same) at h)
+      reports a h = (known.repeated.site s x up).live n.was n.live a (rw (ap (λ (t : Live). t.answers) n.same) at h)
 
       last : (q : Option Pending) → t.pending ≡ q → (a : Answer) → Has (option_to_list (option_map (λ p. answer_of t.txn p.number why) q)) a → Fair catalogue now a
       last None e a k = absurd (has_none a k)
@@ -318,7 +311,7 @@ module _ (catalogue : Catalogue) (world : WorldState) (past : List Moment) (m0 :
     where
       committed : (t : Live) → Handled x t → FairEnd catalogue now (finished_as t Committed)
       committed t n = record {
-        answers = λ a h. ⊎_elim (λ old. report_fair catalogue now a ((fair.kept.upper.site s x up).live n.was n.live a (rw (ap (λ (t : Live). t.answers) n.same) at old))) (λ new. last t.pending a new) (has_cases t.answers _ a h);
+        answers = λ a h. ⊎_elim (λ old. report_fair catalogue now a ((known.repeated.site s x up).live n.was n.live a (rw (ap (λ (t : Live). t.answers) n.same) at old))) (λ new. last t.pending a new) (has_cases t.answers _ a h);
         later = λ k h. tt;
       }
         where
@@ -360,7 +353,7 @@ module _ (catalogue : Catalogue) (world : WorldState) (past : List Moment) (m0 :
 
   sent_ok : (from to : ℕ) (m : Message) → Has o.effects.messages (letter from to m) → RefuseSays x given from to m → RefuseOk catalogue new now from m
   sent_ok from to (message.Refuse txn number why) h r =
-      let at : from ≡ s = r.0 ∙ d.id in
+      let at : from ≡ s = r.0 ∙ d.here.id in
       subst (λ (from : ℕ). RefuseFair catalogue new now from txn number why) (sym at) (refused_now to txn number why (subst (λ (from : ℕ). Has o.effects.messages (letter from to (message.Refuse txn number why))) at h) r.1)
   sent_ok from to m h r = tt
 
@@ -370,14 +363,12 @@ module _ (catalogue : Catalogue) (world : WorldState) (past : List Moment) (m0 :
       told_here : (a : Answer) → Has (answers_in m0.line) a → (txn : TxnId) (n : ℕ) → refused_number txn a ≡ Some n → EndedAt new txn
       told_here a h txn n e =
           let r = map_has (λ (r : Reply). r.answer) o.effects.replies a (rw is.shown at h) in
-          said_refused catalogue w new s x given o known_here known_now doing_here fair.base.upper r.0.answer txn n (doing_here.replying.said r.0 r.1) (ap (refused_number txn) r.2 ∙ e)
+          said_refused catalogue w new s x given o known inv_now.known d fair.inv.own_ends r.0.answer txn n (d.replying.said r.0 r.1) (ap (refused_number txn) r.2 ∙ e)
 
   pub step_fair : FairAt catalogue new now
   step_fair = record {
-    base = base_now;
-    told = λ m h a q txn n e. ⊎_elim (λ old. ended_step catalogue w new s x given o known_here known_now doing_here txn (fair.told m old a q txn n e)) (λ last. told_now m (has_one_is m0 m last) a q txn n e) (has_cases past (m0 ∷ []) m h);
-    kept = (kept_last catalogue).acts w s x given up arrives fair.kept;
-    eighth = (answers_last catalogue).acts w s x given up arrives fair.eighth;
+    inv = inv_now;
+    told = λ m h a q txn n e. ⊎_elim (λ old. ended_step catalogue w new s x given o known inv_now.known d txn (fair.told m old a q txn n e)) (λ last. told_now m (has_one_is m0 m last) a q txn n e) (has_cases past (m0 ∷ []) m h);
     sent = λ m h. ⊎_elim (λ old. refuse_on catalogue w new past (m0 ∷ []) d.st.moved.sent m.from m.message (fair.sent m old))
         (λ more. sent_ok m.from m.to m.message more ((refusals-step catalogue x given).sent m more)) (d.st.sent m h);
     live = λ k y t h g. live_at y t g (now_is w new s x o d.st k y h);
@@ -397,12 +388,10 @@ abbrev pub Silent : List Moment → Type 0
 Silent more = (m : Moment) → Has more m → (a : Answer) → Has (answers_in m.line) a → ⊥
 
 -- an event that is no step
-pub quiet_fair : (catalogue : Catalogue) (w new : Scene) (past more : List Moment) (s : ℕ) → Quiet catalogue w new s → TwentyFirst catalogue new → Kept catalogue new → Eighth catalogue new → Silent more → FairAt catalogue w past → FairAt catalogue new (past ++ more)
-quiet_fair catalogue w new past more s q base kept eighth silent fair = record {
-  base = base;
+pub quiet_fair : (catalogue : Catalogue) (w new : Scene) (past more : List Moment) (s : ℕ) → Quiet catalogue w new s → Invariant catalogue new → Silent more → FairAt catalogue w past → FairAt catalogue new (past ++ more)
+quiet_fair catalogue w new past more s q inv silent fair = record {
+  inv = inv;
   told = λ m h a k txn n e. ⊎_elim (λ old. ended_quiet catalogue w new s q txn (fair.told m old a k txn n e)) (λ last. absurd (silent m last a k)) (has_cases past more m h);
-  kept = kept;
-  eighth = eighth;
   sent = λ m h. refuse_on catalogue w new past more (λ m h. rw q.sent h) m.from m.message (fair.sent m (rw q.sent at h));
   live = λ k y t h g. live_at y t g (quiet_is catalogue w new s q k y h);
   finished = λ k y f h g. finished_at y f g (quiet_is catalogue w new s q k y h);
@@ -419,10 +408,8 @@ quiet_fair catalogue w new past more s q base kept eighth silent fair = record {
 -- nothing but the moments
 pub same_fair : (catalogue : Catalogue) (w : Scene) (past more : List Moment) → Silent more → FairAt catalogue w past → FairAt catalogue w (past ++ more)
 same_fair catalogue w past more silent fair = record {
-  base = fair.base;
+  inv = fair.inv;
   told = λ m h a k txn n e. ⊎_elim (λ old. fair.told m old a k txn n e) (λ last. absurd (silent m last a k)) (has_cases past more m h);
-  kept = fair.kept;
-  eighth = fair.eighth;
   sent = λ m h. refuse_on catalogue w w past more (λ m h. h) m.from m.message (fair.sent m h);
   live = λ k y t h g. begun_more past more t.txn t.view (fair.live k y t h g);
   finished = λ k y f h g. end_more catalogue past more f (fair.finished k y f h g);

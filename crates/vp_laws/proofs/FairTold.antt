@@ -15,15 +15,14 @@ use Rattle.vp_laws.proofs.Lists.{all_from}
 use Rattle.vp_laws.proofs.Scenes.{Scene, scene_of, plain_at, acted}
 use Rattle.vp_laws.proofs.Events.{Arrives, crashed, restarted}
 use Rattle.vp_laws.proofs.Worlds.{crash_quiet, restart_quiet, started, start_sent, no_finished, started_idle}
-use Rattle.vp_laws.proofs.InvAnswers.{answers_last}
-use Rattle.vp_laws.proofs.InvRepeated.{kept_last, Does, does}
-use Rattle.vp_laws.proofs.InvKept.{kept_last as ends_last}
 use Rattle.vp_laws.proofs.Occurs.{no_replies, Gives, Occurs, occurs, run-keeps}
 use Rattle.vp_laws.proofs.FairStep.{IsStep}
 use Rattle.vp_laws.proofs.FairAt.{FairAt}
 use Rattle.vp_laws.proofs.FairMoves.{Silent, step_fair, replies_justified, quiet_fair, same_fair}
 use Rattle.std.proofs.lemmas.Bool.{and_parts}
 use Rattle.std.specs.List.{list_all}
+use Rattle.vp_laws.proofs.Does.{Does, does}
+use Rattle.vp_laws.proofs.KeepingInvariant.{invariant_last}
 
 -- a moment is judged by what came before it
 all_justified-last : (catalogue : Catalogue) (past moments : List Moment) (m : Moment) → all_justified catalogue past moments ≡ true → list_all (justified catalogue (past ++ (moments ++ m ∷ [])) m) (answers_in m.line) ≡ true → all_justified catalogue past (moments ++ m ∷ []) ≡ true
@@ -61,8 +60,8 @@ stepped catalogue past number e w v s x given same up arrives gives fair =
     m0 : Moment
     m0 = moment number w e (site_step catalogue s x given v)
 
-    d : Does catalogue (scene_of w) s x given
-    d = does catalogue (scene_of w) s x given up fair.kept.lower
+    d : Does catalogue (scene_of w) (acted (scene_of w) s x (step catalogue x given)) s x given (step catalogue x given)
+    d = does catalogue (scene_of w) s x given up arrives fair.inv.known
 
     is : IsStep m0 w s x given (step catalogue x given)
     is = record {
@@ -78,9 +77,9 @@ justifies : (catalogue : Catalogue) (past : List Moment) (number : ℕ) (e : Eve
 justifies catalogue past number e w m fair (Occurs.stands same none) =
     silent catalogue past (moment number w e m) (scene_of m.world) none (rw same (same_fair catalogue (scene_of w) past (moment number w e m ∷ []) (none_in (moment number w e m) none) fair))
 justifies catalogue past number e w m fair (Occurs.crashes s same none) =
-    silent catalogue past (moment number w e m) (scene_of m.world) none (rw same (quiet_fair catalogue (scene_of w) (crashed (scene_of w) s) past (moment number w e m ∷ []) s (crash_quiet catalogue (scene_of w) s) ((ends_last catalogue).crashes (scene_of w) s fair.base) ((kept_last catalogue).crashes (scene_of w) s fair.kept) ((answers_last catalogue).crashes (scene_of w) s fair.eighth) (none_in (moment number w e m) none) fair))
+    silent catalogue past (moment number w e m) (scene_of m.world) none (rw same (quiet_fair catalogue (scene_of w) (crashed (scene_of w) s) past (moment number w e m ∷ []) s (crash_quiet catalogue (scene_of w) s) ((invariant_last catalogue).crashes (scene_of w) s fair.inv) (none_in (moment number w e m) none) fair))
 justifies catalogue past number e w m fair (Occurs.restarts s place at down id same none) =
-    silent catalogue past (moment number w e m) (scene_of m.world) none (rw same (quiet_fair catalogue (scene_of w) (restarted catalogue (scene_of w) s) past (moment number w e m ∷ []) s (restart_quiet catalogue (scene_of w) s place at id) ((ends_last catalogue).restarts (scene_of w) s place at down id fair.base) ((kept_last catalogue).restarts (scene_of w) s place at down id fair.kept) ((answers_last catalogue).restarts (scene_of w) s place at down id fair.eighth) (none_in (moment number w e m) none) fair))
+    silent catalogue past (moment number w e m) (scene_of m.world) none (rw same (quiet_fair catalogue (scene_of w) (restarted catalogue (scene_of w) s) past (moment number w e m ∷ []) s (restart_quiet catalogue (scene_of w) s place at id) ((invariant_last catalogue).restarts (scene_of w) s place at down id fair.inv) (none_in (moment number w e m) none) fair))
 justifies catalogue past number e w m fair (Occurs.acts s x given v same up arrives gives is) =
     subst (λ (m : Moved). Justifies catalogue past (moment number w e m) (scene_of m.world)) (sym is) (stepped catalogue past number e w v s x given same up arrives gives fair)
 
@@ -102,10 +101,8 @@ one_step-fair catalogue number e run h =
 
 start_fair : (catalogue : Catalogue) → FairAt catalogue (scene_of (start_world catalogue)) []
 start_fair catalogue = record {
-  base = (ends_last catalogue).starts;
+  inv = (invariant_last catalogue).starts;
   told = λ m h. absurd (has_none m h);
-  kept = (kept_last catalogue).starts;
-  eighth = (answers_last catalogue).starts;
   sent = λ m h. absurd (start_sent catalogue m h);
   live = λ s x t h k. absurd (started_idle catalogue s x t h k);
   finished = λ s x f h k. absurd (no_finished catalogue s (empty_durable (start_copies catalogue s)) f (subst (λ (x : SiteState). Has x.finished f) (sym (started catalogue s x h)) k));

@@ -14,14 +14,14 @@ use Rattle.vp_laws.proofs.Order.{same_from}
 use Rattle.vp_laws.proofs.Scenes.{Scene, scene_of, acted}
 use Rattle.vp_laws.proofs.Events.{Arrives}
 use Rattle.vp_laws.proofs.Worlds.{start_entered}
-use Rattle.vp_laws.proofs.InvListed.{Seventeenth, listed_last}
 use Rattle.vp_laws.proofs.TableLed.{IsOf}
 use Rattle.vp_laws.proofs.TableSteps.{EnteredFor}
-use Rattle.vp_laws.proofs.Tower.{Known, known, Does, does}
 use Rattle.vp_laws.proofs.Occurs.{Occurs, occurs, RunLasts, run-keeps}
 use Rattle.vp_laws.proofs.ToldRuns.{RunTold, start_told, one_step-told, operations_told}
 use Rattle.vp_laws.proofs.EntryWords.{committed_once}
 use Rattle.vp_laws.proofs.Readable.{serial_played}
+use Rattle.vp_laws.proofs.Does.{Does, does}
+use Rattle.vp_laws.proofs.Known.{Known}
 
 abbrev AreOpening : List Commit → Type 0
 AreOpening journal = (e : Commit) → Has journal e → e.view ≡ opening
@@ -55,18 +55,12 @@ abbrev RunOpening : Catalogue → Run → Type 0
 RunOpening catalogue run = RunTold catalogue run × (InOpening run.moments → AreOpening run.world.journal)
 
 -- an entry of a step has the view that its site holds as the step begins
-step_opening : (catalogue : Catalogue) (w : WorldState) (s : ℕ) (x : SiteState) (given : Input) → site_of w s ≡ Some x → Arrives (scene_of w) s given → Seventeenth catalogue (scene_of w) → ((v : View) → x.held ≡ Some v → v.id ≡ opening) → AreOpening (step catalogue x given).effects.commits
-step_opening catalogue w s x given up arrives base held e entered =
+step_opening : (catalogue : Catalogue) (w : WorldState) (s : ℕ) (x : SiteState) (given : Input) → site_of w s ≡ Some x → Arrives (scene_of w) s given → Known catalogue (scene_of w) → ((v : View) → x.held ≡ Some v → v.id ≡ opening) → AreOpening (step catalogue x given).effects.commits
+step_opening catalogue w s x given up arrives k held e entered =
     ap (λ (c : Commit). c.view) (sym q.is) ∙ ap (λ (t : Live). t.view) q.handled.same ∙ sym member.2 ∙ held member.0 member.1
   where
-    k : Known catalogue (scene_of w)
-    k = known catalogue (scene_of w) base
-
-    after : Seventeenth catalogue (acted (scene_of w) s x (step catalogue x given))
-    after = (listed_last catalogue).acts (scene_of w) s x given up arrives base
-
     d : Does catalogue (scene_of w) (acted (scene_of w) s x (step catalogue x given)) s x given (step catalogue x given)
-    d = does catalogue (scene_of w) s x given up arrives k (known catalogue _ after)
+    d = does catalogue (scene_of w) s x given up arrives k
 
     q : EnteredFor catalogue x given e
     q = d.steps.entered e entered
@@ -74,24 +68,24 @@ step_opening catalogue w s x given up arrives base held e entered =
     member : IsOf x q.handled.was
     member = (k.led.site s x up).live q.handled.was q.handled.live
 
-occurred : (catalogue : Catalogue) (e : Event) (w : WorldState) (m : Moved) → Seventeenth catalogue (scene_of w) → ((site : ℕ) (x : SiteState) (v : View) → site_of w site ≡ Some x → x.held ≡ Some v → v.id ≡ opening) → AreOpening w.journal → Occurs catalogue e w m → AreOpening m.world.journal
+occurred : (catalogue : Catalogue) (e : Event) (w : WorldState) (m : Moved) → Known catalogue (scene_of w) → ((site : ℕ) (x : SiteState) (v : View) → site_of w site ≡ Some x → x.held ≡ Some v → v.id ≡ opening) → AreOpening w.journal → Occurs catalogue e w m → AreOpening m.world.journal
 unfolding site_step
-occurred catalogue e w m base held before (Occurs.stands same none) = λ c h. before c (rw (ap (λ (z : Scene). z.journal) same) at h)
-occurred catalogue e w m base held before (Occurs.crashes s same none) = λ c h. before c (rw (ap (λ (z : Scene). z.journal) same) at h)
-occurred catalogue e w m base held before (Occurs.restarts s place at_place down id same none) = λ c h. before c (rw (ap (λ (z : Scene). z.journal) same) at h)
-occurred catalogue e w m base held before (Occurs.acts s x given v same up arrives gives is) = λ c h. stepped c (rw (ap (λ (m : Moved). m.world.journal) is) at h)
+occurred catalogue e w m k held before (Occurs.stands same none) = λ c h. before c (rw (ap (λ (z : Scene). z.journal) same) at h)
+occurred catalogue e w m k held before (Occurs.crashes s same none) = λ c h. before c (rw (ap (λ (z : Scene). z.journal) same) at h)
+occurred catalogue e w m k held before (Occurs.restarts s place at_place down id same none) = λ c h. before c (rw (ap (λ (z : Scene). z.journal) same) at h)
+occurred catalogue e w m k held before (Occurs.acts s x given v same up arrives gives is) = λ c h. stepped c (rw (ap (λ (m : Moved). m.world.journal) is) at h)
   where
     stepped : (c : Commit) → Has (site_step catalogue s x given v).world.journal c → c.view ≡ opening
     stepped c h = ⊎_elim
         (λ old. before c (rw (ap (λ (z : Scene). z.journal) same) at old))
-        (λ new. step_opening catalogue w s x given up arrives base (λ v e. held s x v up e) c new)
+        (λ new. step_opening catalogue w s x given up arrives k (λ v e. held s x v up e) c new)
         (has_cases v.journal (step catalogue x given).effects.commits c h)
 
 entries_on : (catalogue : Catalogue) (number : ℕ) (e : Event) (run : Run) → RunOpening catalogue run → InOpening (one_step catalogue number e run).moments → AreOpening (one_step catalogue number e run).world.journal
 unfolding one_step
 entries_on catalogue number e run h all =
     let m0 = moment number run.world e (next catalogue e run.world) in
-    occurred catalogue e run.world (next catalogue e run.world) h.0.base (all m0 (has_right run.moments (m0 ∷ []) m0 (has_one m0))) (h.1 (λ m k. all m (has_left run.moments (m0 ∷ []) m k))) (occurs catalogue e run.world)
+    occurred catalogue e run.world (next catalogue e run.world) h.0.known (all m0 (has_right run.moments (m0 ∷ []) m0 (has_one m0))) (h.1 (λ m k. all m (has_left run.moments (m0 ∷ []) m k))) (occurs catalogue e run.world)
 
 opening_lasts : (catalogue : Catalogue) → RunLasts catalogue (RunOpening catalogue)
 opening_lasts catalogue = record {

@@ -1,230 +1,40 @@
--- Copies, their refresh and closed records, in every world: a copy has the value after the entries of views up to its date, it has missed no
--- entry that its site could know of, and a record that was used in a view is closed for it.
-use Rattle.std.proofs.Common.{◌≡◌, ◌∙◌, ap, sym, subst, ℕ, ◌+◌, suc, Bool, true, false, cond, List, [], ◌∷◌, map, refl, arith, ⊎_elim}
-use Rattle.std.specs.Prelude.{Option, Some, None, option_map, slice_get, filter}
-use Rattle.std.specs.List.{enumerate_from}
-use Rattle.std.proofs.lemmas.Option.{slice_get-map}
-use Rattle.vp_model.specs.Types.{ViewId, TxnId, View, Commit, Stored, Live, Doubt}
-use Rattle.vp_model.specs.Words.{has, keys, opening, value_at}
-use Rattle.vp_model.specs.Refresh.{is_usable_in}
-use Rattle.vp_model.specs.Catalogue.{Catalogue, RecordEntry, sites_of, start_values, copies_from, start_copies}
-use Rattle.vp_model.specs.Durable.{DurableState, empty_durable, apply}
+-- What holds of the copies of each site.
+use Rattle.std.proofs.Common.{◌≡◌, ◌≢◌, ℕ, true, List, ◌∷◌, ◌++◌}
+use Rattle.std.specs.Prelude.{Some, None}
+use Rattle.vp_model.specs.Types.{ViewId, View, Commit, Stored, Doubt}
+use Rattle.vp_model.specs.Words.{keys, value_at}
+use Rattle.vp_model.specs.Refresh.{is_open, refreshing_of}
+use Rattle.vp_model.specs.Catalogue.{Catalogue}
 use Rattle.vp_model.specs.Site.{SiteState}
-use Rattle.vp_model.specs.Step.{start, start_record, step}
-use Rattle.vp_model.specs.World.{Place, place_of, start_place, start_world}
-use Rattle.vp_laws.proofs.Members.{Has, has_none, has_cons}
-use Rattle.vp_laws.proofs.Order.{Precedes, not_both, opening_least}
-use Rattle.vp_laws.proofs.TableCopies.{value_pair}
-use Rattle.vp_laws.proofs.TableLeaves.{Uses}
-use Rattle.vp_laws.proofs.Scenes.{Scene, scene_of, kept_in, up-place, plain_at, kept_at, acted}
-use Rattle.vp_laws.proofs.Agreement.{start_at, views_last}
-use Rattle.vp_laws.proofs.Events.{Lasts}
-use Rattle.vp_laws.proofs.Worlds.{Quiet, QuietIs, quiet_is, quiet_kept, started, start_kept, start_sent, start_entered, With, Above, with_last, started_idle, live_still}
-use Rattle.vp_laws.proofs.InvShares.{HasRequest}
-use Rattle.vp_laws.proofs.InvEntered.{AgreedAs}
-use Rattle.vp_laws.proofs.InvLived.{InvLived, start_unused}
-use Rattle.vp_laws.proofs.InvUsed.{request_on, answered_on}
-use Rattle.vp_laws.proofs.InvListed.{Seventeenth, listed_last}
-use Rattle.vp_laws.proofs.Closing.{Open, Closed, closed_quiet}
+use Rattle.vp_laws.proofs.Members.{Has}
+use Rattle.vp_laws.proofs.Order.{Precedes}
+use Rattle.vp_laws.proofs.Scenes.{Scene, plain_at, kept_at}
+use Rattle.vp_laws.proofs.InvShares.{InDoubt}
+use Rattle.vp_laws.proofs.InvEntered.{Wrote, AgreedAs}
+use Rattle.vp_laws.proofs.Closing.{Open}
 use Rattle.vp_laws.proofs.ValuesAfter.{value_after, without_entry}
-use Rattle.vp_laws.proofs.CopyInvariants.{FromView, DoubtOn, InvCopies, InvRefresh}
-use Rattle.vp_laws.proofs.CopiesKept.{copies_keep}
-use Rattle.vp_laws.proofs.RefreshKept.{refresh_keep}
-use Rattle.vp_laws.proofs.Tower.{known, does}
 
-pub record Copied (catalogue : Catalogue) (w : Scene) : Type 0 where
-  pub copies : InvCopies catalogue w
-  pub refresh : InvRefresh catalogue w
+-- the site holds the record in the date's view, or the record is closed for a later view of the site
+pub data FromView (catalogue : Catalogue) (w : Scene) (s rec : ℕ) (date : ViewId) : Type 0 where
+  member : (v : View) → AgreedAs w date v → Has v.members s → FromView catalogue w s rec date
+  closed : (v : View) → Has w.agreed v → Precedes date v.id → Has v.members s → Open catalogue w rec v → FromView catalogue w s rec date
 
--- the world as it starts
+-- the transaction in doubt here of the date's view that writes the record
+abbrev pub DoubtOn : Scene → ℕ → ℕ → ViewId → Doubt → Type 0
+DoubtOn w s rec date d = Has (kept_at w s).doubts d × Has (keys d.writes) rec × (d.view ≡ date)
 
--- a copy has the starting value of its record
-placed_value : (n : ℕ) (records : List RecordEntry) (site : ℕ) (a : ℕ × Stored) → Has (copies_from n records site) a → (i : ℕ) × (a.0 ≡ n + i) × (e : RecordEntry) × (slice_get records i ≡ Some e) × (e.start ≡ a.1.value)
-placed_value n [] site a h = absurd (has_none a h)
-placed_value n (r ∷ records) site a h = go (has (keys r.weights) site) h (λ k. placed_value (n + 1) records site a k)
-  where
-    further : (m i : ℕ) → m ≡ n + 1 + i → m ≡ n + suc i
-    further m i e = omega arith
-
-    at_start : (m : ℕ) → n ≡ m → m ≡ n + 0
-    at_start m e = omega arith
-
-    deeper : (i : ℕ) × (a.0 ≡ n + 1 + i) × (e : RecordEntry) × (slice_get records i ≡ Some e) × (e.start ≡ a.1.value) → (i : ℕ) × (a.0 ≡ n + i) × (e : RecordEntry) × (slice_get (r ∷ records) i ≡ Some e) × (e.start ≡ a.1.value)
-    deeper q = (suc q.0, further a.0 q.0 q.1, q.2, q.3, q.4)
-
-    go : (b : Bool) → Has (map (λ (p : ℕ × RecordEntry). (p.0, record { value = p.1.start; date = opening })) (cond b ((n, r) ∷ filter (λ (p : ℕ × RecordEntry). has (keys p.1.weights) site) (enumerate_from (n + 1) records)) (filter (λ (p : ℕ × RecordEntry). has (keys p.1.weights) site) (enumerate_from (n + 1) records)))) a → (Has (copies_from (n + 1) records site) a → (i : ℕ) × (a.0 ≡ n + 1 + i) × (e : RecordEntry) × (slice_get records i ≡ Some e) × (e.start ≡ a.1.value)) → (i : ℕ) × (a.0 ≡ n + i) × (e : RecordEntry) × (slice_get (r ∷ records) i ≡ Some e) × (e.start ≡ a.1.value)
-    go true k rest = ⊎_elim
-        (λ (one : (n, record { value = r.start; date = opening }) ≡ a). (0, at_start a.0 (ap (λ (a : ℕ × Stored). a.0) one), r, refl, ap (λ (a : ℕ × Stored). a.1.value) one))
-        (λ more. deeper (rest more))
-        (has_cons (n, record { value = r.start; date = opening }) (copies_from (n + 1) records site) a k)
-    go false k rest = deeper (rest k)
-
-module _ (catalogue : Catalogue) where
-  abbrev w : Scene
-  w = scene_of (start_world catalogue)
-
-  record StartCopy (s rec : ℕ) (c : Stored) : Type 0 where
-    site : Has (sites_of catalogue) s
-    copy : Has (start_copies catalogue s) (rec, c)
-
-  start_copy : (s rec : ℕ) (c : Stored) → value_at rec (kept_at w s).copies ≡ Some c → StartCopy s rec c
-  unfolding start_world apply
-  start_copy s rec c h = go (place_of s (map (start_place catalogue) (sites_of catalogue))) refl h
-    where
-      go : (o : Option Place) → place_of s (map (start_place catalogue) (sites_of catalogue)) ≡ o → value_at rec (kept_in o).copies ≡ Some c → StartCopy s rec c
-      go None e v = cc
-      go (Some p) e v =
-          let all = start_at catalogue s (sites_of catalogue) p e in
-          let d : p.durable ≡ apply (start_record (empty_durable (start_copies catalogue s))) (empty_durable (start_copies catalogue s)) = ap (λ (p : Place). p.durable) (sym all.1) in
-          record { site = all.0; copy = value_pair rec (start_copies catalogue s) c (subst (λ (k : DurableState). value_at rec k.copies ≡ Some c) d v) }
-
-  pub no_doubt : (s : ℕ) (u : Doubt) → Has (kept_at w s).doubts u → ⊥
-  no_doubt s u h = has_none u (subst (λ (us : List Doubt). Has us u) (start_kept catalogue s).doubts h)
-
-  from_first : (i : ℕ) → 0 + i ≡ i
-  from_first i = omega arith
-
-  no_entries : (date : ViewId) (rec : ℕ) (value : List ℕ) → slice_get (start_values catalogue) rec ≡ Some value → value_after catalogue [] date rec ≡ Some value
-  no_entries date rec value e = ap (option_map (λ (start : List ℕ). start)) e
-
-  start_value : (s rec : ℕ) (c : Stored) → value_at rec (kept_at w s).copies ≡ Some c → value_after catalogue w.journal c.date rec ≡ Some c.value
-  unfolding start_world
-  start_value s rec c h =
-      let q = placed_value 0 catalogue.records s (rec, c) (start_copy s rec c h).copy in
-      let at : rec ≡ q.0 = q.1 ∙ from_first q.0 in
-      no_entries c.date rec c.value (subst (λ (i : ℕ). slice_get (start_values catalogue) i ≡ Some c.value) (sym at) (slice_get-map (λ (r : RecordEntry). r.start) catalogue.records q.0 ∙ ap (option_map (λ (r : RecordEntry). r.start)) q.3 ∙ ap (λ (v : List ℕ). Some v) q.4))
-
-  start_from : (s rec : ℕ) (c : Stored) → value_at rec (kept_at w s).copies ≡ Some c → FromView catalogue w s rec c.date
-  start_from s rec c h = FromView.member (record { id = opening; members = sites_of catalogue }) ((views_last catalogue).starts.opening, sym ((start_kept catalogue s).dated (rec, c) (value_pair rec (kept_at w s).copies c h))) (start_copy s rec c h).site
-
-  start_promise : (s : ℕ) (d : DurableState) → (start catalogue s d).promise ≡ d.promise
-  unfolding start
-  start_promise s d = refl
-
-  start_closed : (s rec : ℕ) (x : SiteState) (v : View) → plain_at w s ≡ Some x → x.held ≡ Some v → Closed catalogue w rec v
-  start_closed s rec x v up held q holder member = record { left = λ j below. absurd (none j below); certain = λ u h on below. no_doubt q u h }
-    where
-      at : v.id ≡ opening
-      at = (((views_last catalogue).starts.site s x up).tidy.held v held).0 ∙ ap (λ (x : SiteState). x.promise) (sym (started catalogue s x up)) ∙ start_promise s (empty_durable (start_copies catalogue s))
-
-      none : (j : ViewId) → Precedes j v.id → ⊥
-      none j below = not_both j opening (subst (Precedes j) at below) (opening_least j)
-
-  no_request : (from to number rec : ℕ) (txn : TxnId) (view : ViewId) (exclusive : Bool) → HasRequest w from to txn view number rec exclusive → ⊥
-  no_request from to number rec txn view false (HasRequest.to_read h) = start_sent catalogue _ h
-  no_request from to number rec txn view true (HasRequest.to_write h) = start_sent catalogue _ h
-
-  copied_starts : Copied catalogue w
-  copied_starts = record {
-    copies = record {
-      value = λ s rec c h none. start_value s rec c h;
-      value_in_doubt = λ s rec c u h on. absurd (no_doubt s u on.0);
-      last = λ s rec c u front back e f h on is named behind wrote. absurd (no_doubt s u on.0);
-      above = λ s rec c e v h there wrote later agreed member. absurd (start_entered catalogue e there);
-      from = start_from;
-      between = λ s rec x v c e up held usable unlisted h there wrote later below. start_entered catalogue e there;
-      open_copy = λ s rec x v c up held usable unlisted h. record { closed = start_closed s rec x v up held; usable = subst (λ (held : Option View). is_usable_in catalogue held rec ≡ true) held usable };
-    };
-    refresh = record {
-      holder = λ p to rec view stored h. absurd (start_sent catalogue _ h);
-      closed = λ p to rec view stored h low. absurd (start_sent catalogue _ h);
-      value = λ p to rec view stored h low. absurd (start_sent catalogue _ h);
-      between = λ p to rec view stored e v h there wrote later below agreed member. start_sent catalogue _ h;
-      from = λ p to rec view stored h low. absurd (start_sent catalogue _ h);
-      live = λ s x t up h. absurd (started_idle catalogue s x t up h);
-      entry = λ e v rec h agreed did. absurd (start_entered catalogue e h);
-      used = λ s q rec exclusive x t v up h has agreed. absurd (started_idle catalogue s x t up h);
-      asked = λ from to number rec txn view exclusive v h agreed. absurd (no_request from to number rec txn view exclusive h);
-    };
-  }
-
--- a site that goes down or starts again
-module _ (catalogue : Catalogue) (w new : Scene) (s : ℕ) (q : Quiet catalogue w new s) (lived : InvLived w) (copies : InvCopies catalogue w) (refresh : InvRefresh catalogue w) where
-  pub copy_was : (j rec : ℕ) (c : Stored) → value_at rec (kept_at new j).copies ≡ Some c → value_at rec (kept_at w j).copies ≡ Some c
-  copy_was j rec c h = subst (λ (cs : List (ℕ × Stored)). value_at rec cs ≡ Some c) (quiet_kept catalogue w new s q (λ (d : DurableState). d.copies) q.copies j) h
-
-  pub doubts_same : (j : ℕ) → (kept_at new j).doubts ≡ (kept_at w j).doubts
-  doubts_same j = quiet_kept catalogue w new s q (λ (d : DurableState). d.doubts) q.doubts j
-
-  on_was : (j rec : ℕ) (date : ViewId) (u : Doubt) → DoubtOn new j rec date u → DoubtOn w j rec date u
-  on_was j rec date u on = (subst (λ (us : List Doubt). Has us u) (doubts_same j) on.0, on.1, on.2)
-
-  on_now : (j rec : ℕ) (date : ViewId) (u : Doubt) → DoubtOn w j rec date u → DoubtOn new j rec date u
-  on_now j rec date u on = (subst (λ (us : List Doubt). Has us u) (sym (doubts_same j)) on.0, on.1, on.2)
-
-  agreed_was : (i : ViewId) (v : View) → AgreedAs new i v → AgreedAs w i v
-  agreed_was i v a = (rw q.agreed at a.0, a.1)
-
-  open_now : (rec : ℕ) (v : View) → Open catalogue w rec v → Open catalogue new rec v
-  open_now rec v h = record { closed = λ a holder member. closed_quiet catalogue w new s q lived a rec v.id (h.closed a holder member); usable = h.usable }
-
-  from_now : (j rec : ℕ) (date : ViewId) → FromView catalogue w j rec date → FromView catalogue new j rec date
-  from_now j rec date (FromView.member v agreed m) = FromView.member v (q.moved.agreed v agreed.0, agreed.1) m
-  from_now j rec date (FromView.closed v agreed later m opened) = FromView.closed v (q.moved.agreed v agreed) later m (open_now rec v opened)
-
-  value_same : (date : ViewId) (rec : ℕ) (value : List ℕ) → value_after catalogue w.journal date rec ≡ Some value → value_after catalogue new.journal date rec ≡ Some value
-  value_same date rec value h = subst (λ (es : List Commit). value_after catalogue es date rec ≡ Some value) (sym q.journal) h
-
-  -- a site that holds a view is another one, as it was
-  still_held : (j : ℕ) (y : SiteState) (v : View) → plain_at new j ≡ Some y → y.held ≡ Some v → plain_at w j ≡ Some y
-  still_held j y v up held = go (quiet_is catalogue w new s q j y up)
-    where
-      go : QuietIs catalogue w s j y → plain_at w j ≡ Some y
-      go (QuietIs.other n old) = old
-      go (QuietIs.here z same) =
-          let p = up-place (place_of s new.places) y (rw z at up) in
-          absurd (start_unused catalogue s (kept_at w s) v.id (lived.lived s (q.moved.there s p.0 p.1)) (Uses.held v (ap (λ (y : SiteState). y.held) same ∙ held) refl))
-
-  pub still_live : (j : ℕ) (y : SiteState) (t : Live) → plain_at new j ≡ Some y → Has y.live t → plain_at w j ≡ Some y
-  still_live j y t up h = live_still catalogue w s j y t h (quiet_is catalogue w new s q j y up)
-
-  pub entry_was : (e : Commit) → Has new.journal e → Has w.journal e
-  entry_was e h = rw q.journal at h
-
-  copied_quiet : Copied catalogue new
-  copied_quiet = record {
-    copies = record {
-      value = λ j rec c h none. value_same c.date rec c.value (copies.value j rec c (copy_was j rec c h) (λ u on. none u (on_now j rec c.date u on)));
-      value_in_doubt = λ j rec c u h on. subst (λ (es : List Commit). value_after catalogue (without_entry u.txn es) c.date rec ≡ Some c.value) (sym q.journal) (copies.value_in_doubt j rec c u (copy_was j rec c h) (on_was j rec c.date u on));
-      last = λ j rec c u front back e f h on is named behind wrote. copies.last j rec c u front back e f (copy_was j rec c h) (on_was j rec c.date u on) (sym q.journal ∙ is) named behind wrote;
-      above = λ j rec c e v h there wrote later agreed member.
-          let u = copies.above j rec c e v (copy_was j rec c h) (entry_was e there) wrote later (agreed_was e.view v agreed) member in
-          (u.0, subst (λ (us : List Doubt). Has us u.0) (sym (doubts_same j)) u.1, u.2);
-      from = λ j rec c h. from_now j rec c.date (copies.from j rec c (copy_was j rec c h));
-      between = λ j rec y v c e up held usable unlisted h there wrote later below. copies.between j rec y v c e (still_held j y v up held) held usable unlisted h (entry_was e there) wrote later below;
-      open_copy = λ j rec y v c up held usable unlisted h. open_now rec v (copies.open_copy j rec y v c (still_held j y v up held) held usable unlisted h);
-    };
-    refresh = record {
-      holder = λ p to rec view stored h. refresh.holder p to rec view stored (rw q.sent at h);
-      closed = λ p to rec view stored h low. closed_quiet catalogue w new s q lived p rec view (refresh.closed p to rec view stored (rw q.sent at h) low);
-      value = λ p to rec view stored h low. value_same stored.date rec stored.value (refresh.value p to rec view stored (rw q.sent at h) low);
-      between = λ p to rec view stored e v h there wrote later below agreed member. refresh.between p to rec view stored e v (rw q.sent at h) (entry_was e there) wrote later below (agreed_was e.view v agreed) member;
-      from = λ p to rec view stored h low. from_now p rec stored.date (refresh.from p to rec view stored (rw q.sent at h) low);
-      live = λ j y t up h. refresh.live j y t (still_live j y t up h) h;
-      entry = λ e v rec h agreed did. open_now rec v (refresh.entry e v rec (entry_was e h) (agreed_was e.view v agreed) did);
-      used = λ j a rec exclusive y t v up h has agreed. open_now rec v (refresh.used j a rec exclusive y t v (still_live j y t up h) h (answered_on w new q.sent a t.txn rec exclusive has) (agreed_was t.view v agreed));
-      asked = λ from to number rec txn view exclusive v h agreed. refresh.asked from to number rec txn view exclusive v (request_on w new q.sent from to txn view number rec exclusive h) (agreed_was view v agreed);
-    };
-  }
-
-abbrev pub Eighteenth : Catalogue → Scene → Type 0
-Eighteenth catalogue w = With (Seventeenth catalogue) (Copied catalogue) w
-
-copied_above : (catalogue : Catalogue) → Above catalogue (Seventeenth catalogue) (Copied catalogue)
-copied_above catalogue = record {
-  starts = copied_starts catalogue;
-  acts = λ w s x given up r low now inv.
-      let o = step catalogue x given in
-      let new = acted w s x o in
-      let k = known catalogue w low in
-      let n = known catalogue new now in
-      let d = does catalogue w s x given up r k n in
-      record {
-        copies = copies_keep catalogue w new s x given o k n d inv.copies inv.refresh;
-        refresh = refresh_keep catalogue w new s x given o k n d inv.copies inv.refresh;
-      };
-  quiet = λ w new s q low now inv. copied_quiet catalogue w new s q (known catalogue w low).lived inv.copies inv.refresh;
-}
-
-pub copied_last : (catalogue : Catalogue) → Lasts catalogue (Eighteenth catalogue)
-copied_last catalogue = with_last catalogue (Seventeenth catalogue) (Copied catalogue) (listed_last catalogue) (copied_above catalogue)
+pub record InvCopies (catalogue : Catalogue) (w : Scene) : Type 0 where
+  -- a copy has the value after the entries of views up to its date, but for the entry of a doubt of that view
+  pub value : (s rec : ℕ) (c : Stored) → value_at rec (kept_at w s).copies ≡ Some c → ((d : Doubt) → DoubtOn w s rec c.date d → ⊥) → value_after catalogue w.journal c.date rec ≡ Some c.value
+  -- with such a doubt it has the value without its entry
+  pub value_in_doubt : (s rec : ℕ) (c : Stored) (d : Doubt) → value_at rec (kept_at w s).copies ≡ Some c → DoubtOn w s rec c.date d → value_after catalogue (without_entry d.txn w.journal) c.date rec ≡ Some c.value
+  -- and no later entry of that view than the doubt's own wrote the record
+  pub last : (s rec : ℕ) (c : Stored) (d : Doubt) (front back : List Commit) (e f : Commit) → value_at rec (kept_at w s).copies ≡ Some c → DoubtOn w s rec c.date d → w.journal ≡ front ++ e ∷ back → e.txn ≡ d.txn → Has back f → Wrote f rec → f.view ≢ e.view
+  -- each entry that wrote the record in a later view of the site is in doubt there
+  pub above : (s rec : ℕ) (c : Stored) (e : Commit) (v : View) → value_at rec (kept_at w s).copies ≡ Some c → Has w.journal e → Wrote e rec → Precedes c.date e.view → AgreedAs w e.view v → Has v.members s → InDoubt w s e.txn
+  -- where a copy is from
+  pub from : (s rec : ℕ) (c : Stored) → value_at rec (kept_at w s).copies ≡ Some c → FromView catalogue w s rec c.date
+  -- a copy that may be used and is not under refresh has missed no entry below the held view
+  pub between : (s rec : ℕ) (x : SiteState) (v : View) (c : Stored) (e : Commit) → plain_at w s ≡ Some x → x.held ≡ Some v → is_open catalogue x rec ≡ true → refreshing_of rec x.refresh ≡ None → value_at rec x.copies ≡ Some c → Has w.journal e → Wrote e rec → Precedes c.date e.view → Precedes e.view v.id → ⊥
+  -- and its record is closed for the held view
+  pub open_copy : (s rec : ℕ) (x : SiteState) (v : View) (c : Stored) → plain_at w s ≡ Some x → x.held ≡ Some v → is_open catalogue x rec ≡ true → refreshing_of rec x.refresh ≡ None → value_at rec x.copies ≡ Some c → Open catalogue w rec v

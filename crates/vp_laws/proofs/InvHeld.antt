@@ -1,28 +1,20 @@
 -- The copies of a site, in every world: they are of the records that it holds, one of each.
-use Rattle.std.proofs.Common.{◌≡◌, ◌≢◌, ◌⊎◌, ◌∙◌, ap, sym, subst, ℕ, ◌+◌, zero, suc, Bool, true, false, cond, List, [], ◌∷◌, refl, arith, inl, inr, ⊎_elim, map}
+use Rattle.std.proofs.Common.{◌≡◌, ◌∙◌, ap, sym, subst, ℕ, ◌+◌, zero, suc, Bool, true, false, cond, List, [], ◌∷◌, refl, arith, ⊎_elim, map}
 use Rattle.std.specs.Prelude.{Option, Some, None, option_map, filter, find, slice_get, ◌==◌}
 use Rattle.std.specs.List.{enumerate_from}
 use Rattle.std.proofs.lemmas.Bool.Decides.{nat_tests}
 use Rattle.std.proofs.lemmas.Bool.{eqb-true}
-use Rattle.vp_model.specs.Types.{Input, Stored}
+use Rattle.vp_model.specs.Types.{Stored}
 use Rattle.vp_model.specs.Words.{has, keys, value_at}
-use Rattle.vp_model.specs.Catalogue.{Catalogue, RecordEntry, weights_in, holders, sites_of, copies_from, start_copies}
-use Rattle.vp_model.specs.Durable.{DurableState, apply}
-use Rattle.vp_model.specs.Site.{SiteState, Stepped}
-use Rattle.vp_model.specs.Step.{step, durable_of}
-use Rattle.vp_model.specs.World.{Place, place_of, start_world}
-use Rattle.vp_laws.proofs.Members.{Has, has_none, has_first, has_more, has_cons, has_from_test}
+use Rattle.vp_model.specs.Catalogue.{Catalogue, RecordEntry, weights_in, holders, copies_from, start_copies}
+use Rattle.vp_model.specs.Durable.{DurableState}
+use Rattle.vp_model.specs.Site.{SiteState}
+use Rattle.vp_model.specs.Step.{durable_of}
+use Rattle.vp_model.specs.World.{Place, place_of}
+use Rattle.vp_laws.proofs.Members.{Has, has_none, has_first, has_more, has_cons, has_from_test, has_test}
 use Rattle.vp_laws.proofs.Lists.{mapped_has}
-use Rattle.vp_laws.proofs.Order.{same_site}
-use Rattle.vp_laws.proofs.Scenes.{Scene, scene_of, kept_in, up-place, plain_at, kept_at, Acted, acted, stepping}
-use Rattle.vp_laws.proofs.TableViews.{local-step}
-use Rattle.vp_laws.proofs.TableLocks.{Guards, guards-step, not_copied}
-use Rattle.vp_laws.proofs.InvEntered.{has_test}
-use Rattle.vp_laws.proofs.InvGuards.{outcomes, awaited, invited}
-use Rattle.vp_laws.proofs.InvReads.{Fifteenth, reads_last}
-use Rattle.vp_laws.proofs.Agreement.{start_at}
-use Rattle.vp_laws.proofs.Events.{Lasts}
-use Rattle.vp_laws.proofs.Worlds.{Quiet, With, Above, with_last}
+use Rattle.vp_laws.proofs.Scenes.{Scene, kept_in, up-place, plain_at, kept_at}
+use Rattle.vp_laws.proofs.TableLocks.{not_copied}
 
 -- no number stands twice
 abbrev pub Differ : List ℕ → Type 0
@@ -49,8 +41,6 @@ pair_value {V} (p ∷ pairs) n v d h = ⊎_elim first (λ more. later (pair_valu
         go : (b : Bool) → (p.0 == n) ≡ b → option_map (λ (q : ℕ × V). q.1) (cond b (Some p) (find (λ (q : ℕ × V). q.0 == n) pairs)) ≡ Some v
         go true e = absurd (d.0 (rw (eqb-true p.0 n e) (there more)))
         go false e = rest
-
--- the copies as they start, the first record at this place
 
 placed : (n : ℕ) (records : List RecordEntry) (site rec : ℕ) → Has (keys (copies_from n records site)) rec → (i : ℕ) × (rec ≡ n + i) × Has (keys (weights_in (slice_get records i))) site
 placed n [] site rec h = absurd (has_none rec h)
@@ -102,8 +92,6 @@ pub record InvHeld (catalogue : Catalogue) (w : Scene) : Type 0 where
 from_first : (i : ℕ) → 0 + i ≡ i
 from_first i = omega arith
 
--- what follows for a site that is up
-
 module _ (catalogue : Catalogue) (w : Scene) (s : ℕ) (x : SiteState) (up : plain_at w s ≡ Some x) (kept : durable_of x ≡ kept_at w s) (inv : InvHeld catalogue w) where
   pub copies_here : keys x.copies ≡ keys (start_copies catalogue s)
   copies_here = let p = up-place (place_of s w.places) x up in ap (λ (d : DurableState). keys d.copies) kept ∙ inv.held s p.0 p.1
@@ -137,48 +125,3 @@ holder_kept catalogue w s rec inv h = go (place_of s w.places) refl
     go (Some p) e =
         let q = placed 0 catalogue.records s rec (subst (λ (ks : List ℕ). Has ks rec) (inv.held s p e) h) in
         subst (λ (n : ℕ). Has (holders catalogue n) s) (sym (q.1 ∙ from_first q.0)) q.2
-
-abbrev pub Sixteenth : Catalogue → Scene → Type 0
-Sixteenth catalogue w = With (Fifteenth catalogue) (InvHeld catalogue) w
-
-first_copies : (catalogue : Catalogue) (s : ℕ) (p : Place) → place_of s (scene_of (start_world catalogue)).places ≡ Some p → keys p.durable.copies ≡ keys (start_copies catalogue s)
-unfolding start_world apply
-first_copies catalogue s p e = let all = start_at catalogue s (sites_of catalogue) p e in ap (λ (p : Place). keys p.durable.copies) (sym all.1)
-
-held_above : (catalogue : Catalogue) → Above catalogue (Fifteenth catalogue) (InvHeld catalogue)
-held_above catalogue = record {
-  starts = record { held = λ s p e. ap (λ o. keys (kept_in o).copies) e ∙ first_copies catalogue s p e };
-  acts = λ w s x given up r low now inv.
-      let twelfth = low.lower.lower.lower in
-      let ninth = twelfth.lower.lower.lower in
-      let sixth = ninth.lower.lower.lower in
-      let fifth = sixth.lower in
-      let fourth = fifth.lower in
-      let second = fourth.third.second in
-      let views = second.first.views in
-      let ok = views.site s x up in
-      let led = second.first.led.site s x up in
-      let below = second.below.site s x up in
-      let apart = fourth.votes.site s x up in
-      held_keep w s x given (step catalogue x given) ok.kept
-      (guards-step catalogue x given ok.tidy led below apart (twelfth.upper.site s x up)
-      (outcomes catalogue w s x given up r views led second.first.led below fifth.upper sixth.upper ninth.upper)
-      (awaited catalogue w s x given up r views led second.first.led below fifth.upper sixth.upper ninth.upper)
-      (invited catalogue w s x given up r views led second.first.led below fifth.upper sixth.upper ninth.upper))
-      (stepping catalogue w s x given up ok.kept (local-step catalogue x given ok.tidy)) inv;
-  quiet = λ w new s q low now inv. record { held = λ k p e. let was = q.moved.there k p e in held_quiet w new s q inv k was.0 was.1 (same_site k s) };
-}
-  where
-    held_keep : (w : Scene) (s : ℕ) (x : SiteState) (given : Input) (o : Stepped) → durable_of x ≡ kept_at w s → Guards catalogue x given o → Acted w (acted w s x o) s x o → InvHeld catalogue w → InvHeld catalogue (acted w s x o)
-    held_keep w s x given o kept g st inv = record { held = λ k p e. let was = st.moved.there k p e in go k was.0 was.1 (same_site k s) }
-      where
-        go : (k : ℕ) (p : Place) → place_of k w.places ≡ Some p → (k ≡ s) ⊎ (k ≢ s) → keys (kept_at (acted w s x o) k).copies ≡ keys (start_copies catalogue k)
-        go k p e (inl z) = subst (λ (k : ℕ). keys (kept_at (acted w s x o) k).copies ≡ keys (start_copies catalogue k)) (sym z) (ap (λ (d : DurableState). keys d.copies) st.kept_now ∙ g.copied ∙ ap (λ (d : DurableState). keys d.copies) kept ∙ inv.held s p (subst (λ (k : ℕ). place_of k w.places ≡ Some p) z e))
-        go k p e (inr n) = ap (λ o. keys (kept_in o).copies) (st.moved.others k n) ∙ inv.held k p e
-
-    held_quiet : (w new : Scene) (s : ℕ) → Quiet catalogue w new s → InvHeld catalogue w → (k : ℕ) (p : Place) → place_of k w.places ≡ Some p → (k ≡ s) ⊎ (k ≢ s) → keys (kept_at new k).copies ≡ keys (start_copies catalogue k)
-    held_quiet w new s q inv k p e (inl z) = subst (λ (k : ℕ). keys (kept_at new k).copies ≡ keys (start_copies catalogue k)) (sym z) (ap (λ (cs : List (ℕ × Stored)). keys cs) q.copies ∙ inv.held s p (subst (λ (k : ℕ). place_of k w.places ≡ Some p) z e))
-    held_quiet w new s q inv k p e (inr n) = ap (λ o. keys (kept_in o).copies) (q.moved.others k n) ∙ inv.held k p e
-
-pub held_last : (catalogue : Catalogue) → Lasts catalogue (Sixteenth catalogue)
-held_last catalogue = with_last catalogue (Fifteenth catalogue) (InvHeld catalogue) (reads_last catalogue) (held_above catalogue)

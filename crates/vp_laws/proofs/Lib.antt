@@ -65,7 +65,6 @@ pub mod Occurs
 pub mod ShapeWorlds
 -- the invariant in every world, each group above the ones before it
 pub mod InvViews
-pub mod Agreement
 pub mod InvLed
 pub mod InvBelow
 pub mod InvNames
@@ -94,7 +93,6 @@ pub mod Stopping
 pub mod TableUnlisted
 pub mod TableCovered
 -- all of this by name, and what is known of a step
-pub mod Tower
 pub mod NewEntries
 pub mod JournalPlaces
 pub mod UpTo
@@ -104,7 +102,6 @@ pub mod ValuesGrow
 pub mod Force
 pub mod ForceAt
 -- copies and their refresh, in one induction
-pub mod CopyInvariants
 pub mod CopyFacts
 pub mod CopyOrigins
 pub mod CopyValues
@@ -123,11 +120,9 @@ pub mod InvReading
 pub mod Conflicts
 pub mod Playing
 pub mod Contents
-pub mod OrderInvariant
 pub mod OrderSteps
 pub mod InvOrder
 -- the answers that transactions keep
-pub mod InvKept
 -- moments of a schedule
 pub mod Moments
 pub mod EndsTrue
@@ -161,3 +156,37 @@ pub mod InOpening
 pub mod TableReports
 pub mod ReportsFit
 pub mod CutTraces
+pub mod Calls
+pub mod Does
+pub mod InvOwnEnds
+pub mod InvRefresh
+pub mod Invariant
+pub mod KeepingAnswers
+pub mod KeepingBase
+pub mod KeepingBelow
+pub mod KeepingCopies
+pub mod KeepingDated
+pub mod KeepingEndings
+pub mod KeepingEntered
+pub mod KeepingGuards
+pub mod KeepingHeld
+pub mod KeepingInvariant
+pub mod KeepingKnown
+pub mod KeepingLed
+pub mod KeepingListed
+pub mod KeepingLived
+pub mod KeepingNames
+pub mod KeepingOps
+pub mod KeepingOrder
+pub mod KeepingOwnEnds
+pub mod KeepingReading
+pub mod KeepingReads
+pub mod KeepingRepeated
+pub mod KeepingSettled
+pub mod KeepingShares
+pub mod KeepingUsed
+pub mod KeepingViews
+pub mod KeepingVotes
+pub mod Known
+pub mod Leaving
+pub mod Written

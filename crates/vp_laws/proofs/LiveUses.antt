@@ -11,7 +11,8 @@ use Rattle.vp_model.specs.Step.{mark}
 use Rattle.vp_laws.proofs.Members.{Has, has_none, has_one_is, has_cases}
 use Rattle.vp_laws.proofs.Table.{Reads, Writes, remaining, Completes}
 use Rattle.vp_laws.proofs.TableSteps.{waiting, done, reading, writing, LiveNow}
-use Rattle.vp_laws.proofs.InvOps.{HasUsed, record_of, read_not_write, reads_same, writes_same, unmarked, no_commit_reads, no_commit_writes}
+use Rattle.vp_laws.proofs.InvOps.{HasUsed, record_of}
+use Rattle.vp_laws.proofs.Calls.{read_not_write, reads_same, writes_same, unmarked, no_commit_reads, no_commit_writes}
 
 pub record LiveUses (catalogue : Catalogue) (held : Option View) (t : Live) : Type 0 where
   pub usable : (rec : ℕ) → HasUsed t.ops rec → is_usable_in catalogue held rec ≡ true

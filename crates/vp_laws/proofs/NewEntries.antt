@@ -5,7 +5,7 @@ use Rattle.std.specs.Prelude.{Some}
 use Rattle.vp_model.specs.Types.{Change, TxnId, View, Message, Commit, Input, Part, Live, Refreshing, Doubt}
 use Rattle.vp_model.specs.Types.message
 use Rattle.vp_model.specs.Words.{is_empty, same_txn, keys}
-use Rattle.vp_model.specs.Catalogue.{Catalogue, holders}
+use Rattle.vp_model.specs.Catalogue.{Catalogue, holders, accessible}
 use Rattle.vp_model.specs.Durable.{DurableState}
 use Rattle.vp_model.specs.Transactions.{last_changes, writes_held}
 use Rattle.vp_model.specs.Site.{SiteState, Stepped}
@@ -19,19 +19,21 @@ use Rattle.vp_laws.proofs.TableLed.{IsOf}
 use Rattle.vp_laws.proofs.TableShares.{Prepared, DoubtNow, OutcomeComes}
 use Rattle.vp_laws.proofs.Scenes.{Scene, kept_in, kept_at}
 use Rattle.vp_laws.proofs.InvShares.{InDoubt}
-use Rattle.vp_laws.proofs.InvEntered.{Wrote, AgreedAs, written_op}
-use Rattle.vp_laws.proofs.InvSettled.{some_not_empty, doubt_was}
-use Rattle.vp_laws.proofs.InvGuards.{txn_same}
+use Rattle.vp_laws.proofs.InvEntered.{Wrote, AgreedAs}
 use Rattle.vp_laws.proofs.InvHeld.{holds_copy}
-use Rattle.vp_laws.proofs.InvListed.{wrote_here, not_below_itself}
 use Rattle.vp_laws.proofs.Closing.{Open}
 use Rattle.vp_laws.proofs.Stopping.{closed_stops}
 use Rattle.vp_laws.proofs.Worlds.{KeptIs, kept_is}
-use Rattle.vp_laws.proofs.Tower.{Known, Does}
-use Rattle.vp_laws.proofs.CopyInvariants.{InvRefresh}
 use Rattle.vp_model.specs.Refresh.{is_usable_in}
-use Rattle.vp_model.specs.Catalogue.{accessible}
 use Rattle.vp_laws.proofs.InvOps.{written_used}
+use Rattle.vp_laws.proofs.Does.{Does}
+use Rattle.vp_laws.proofs.InvRefresh.{InvRefresh}
+use Rattle.vp_laws.proofs.KeepingGuards.{txn_same}
+use Rattle.vp_laws.proofs.KeepingListed.{wrote_here, not_below_itself}
+use Rattle.vp_laws.proofs.KeepingSettled.{doubt_was}
+use Rattle.vp_laws.proofs.Known.{Known}
+use Rattle.vp_laws.proofs.Lists.{some_not_empty}
+use Rattle.vp_laws.proofs.Written.{written_op}
 
 module _ (catalogue : Catalogue) (w new : Scene) (s : ℕ) (x : SiteState) (given : Input) (o : Stepped) (k : Known catalogue w) (n : Known catalogue new) (d : Does catalogue w new s x given o) where
   -- the journal stays, or has one more entry

@@ -26,23 +26,25 @@ use Rattle.vp_laws.proofs.TableShares.{is_reply, ReplyTo, Granted}
 use Rattle.vp_laws.proofs.TableCopies.{value_pair}
 use Rattle.vp_laws.proofs.Scenes.{Scene, plain_at, kept_at}
 use Rattle.vp_laws.proofs.InvShares.{HasRequest}
-use Rattle.vp_laws.proofs.InvOps.{reads_same}
-use Rattle.vp_laws.proofs.InvSettled.{holding}
 use Rattle.vp_laws.proofs.InvHeld.{copy_held}
 use Rattle.vp_laws.proofs.InvReading.{InvReading}
 use Rattle.vp_laws.proofs.Stopping.{in_force_holder}
 use Rattle.vp_laws.proofs.ValuesAfter.{value_after}
 use Rattle.vp_laws.proofs.ValuesGrow.{after_some}
 use Rattle.vp_laws.proofs.Playing.{content_value}
-use Rattle.vp_laws.proofs.CopyInvariants.{InvCopies, InvRefresh}
 use Rattle.vp_laws.proofs.CopiesKept.{unlisted_none}
 use Rattle.vp_laws.proofs.RefreshKept.{free_unlisted}
 use Rattle.vp_laws.proofs.NewEntries.{journal_same}
 use Rattle.vp_laws.proofs.UsableCopies.{usable_value}
 use Rattle.vp_laws.proofs.Contents.{content_there}
-use Rattle.vp_laws.proofs.OrderInvariant.{Plays, InvOrder}
-use Rattle.vp_laws.proofs.Tower.{Known, Does}
-use Rattle.vp_laws.proofs.InvGuards.{txn_same}
+use Rattle.vp_laws.proofs.Calls.{reads_same}
+use Rattle.vp_laws.proofs.Does.{Does}
+use Rattle.vp_laws.proofs.InvCopies.{InvCopies}
+use Rattle.vp_laws.proofs.InvOrder.{Plays, InvOrder}
+use Rattle.vp_laws.proofs.InvRefresh.{InvRefresh}
+use Rattle.vp_laws.proofs.KeepingGuards.{txn_same}
+use Rattle.vp_laws.proofs.KeepingSettled.{holding}
+use Rattle.vp_laws.proofs.Known.{Known}
 
 -- the value of a record after operations: the last one that they wrote, or the one before
 

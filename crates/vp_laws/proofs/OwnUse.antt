@@ -19,14 +19,16 @@ use Rattle.vp_laws.proofs.Scenes.{Scene, plain_at}
 use Rattle.vp_laws.proofs.TableLocks.{not_copied}
 use Rattle.vp_laws.proofs.InvOps.{op_used, written_used, HasUsed, record_of, HasWritten}
 use Rattle.vp_laws.proofs.InvAnswers.{HasRead}
-use Rattle.vp_laws.proofs.InvEntered.{AgreedAs, other_holder}
+use Rattle.vp_laws.proofs.InvEntered.{AgreedAs}
 use Rattle.vp_laws.proofs.InvUsed.{HasAnswered}
 use Rattle.vp_laws.proofs.InvHeld.{holds_copy}
 use Rattle.vp_laws.proofs.Closing.{Open}
 use Rattle.vp_laws.proofs.Stopping.{in_force_holder}
-use Rattle.vp_laws.proofs.CopyInvariants.{InvCopies, InvRefresh}
 use Rattle.vp_laws.proofs.CopiesKept.{unlisted_none}
-use Rattle.vp_laws.proofs.Tower.{Known}
+use Rattle.vp_laws.proofs.InvCopies.{InvCopies}
+use Rattle.vp_laws.proofs.InvRefresh.{InvRefresh}
+use Rattle.vp_laws.proofs.KeepingEntered.{other_holder}
+use Rattle.vp_laws.proofs.Known.{Known}
 
 module _ (catalogue : Catalogue) (w : Scene) (k : Known catalogue w) (copies : InvCopies catalogue w) (s : ℕ) (x : SiteState) (t : Live) (up : plain_at w s ≡ Some x) (live : Has x.live t) where
   -- a record on which it has a lock is not under refresh

@@ -29,23 +29,24 @@ use Rattle.vp_laws.proofs.Playing.{content_value}
 use Rattle.vp_laws.proofs.CopiesKept.{unlisted_none}
 use Rattle.vp_laws.proofs.UsableCopies.{usable_value}
 use Rattle.vp_laws.proofs.Contents.{content_there}
-use Rattle.vp_laws.proofs.InvOrder.{Twentieth, order_last}
-use Rattle.vp_laws.proofs.Tower.{Known, known}
+use Rattle.vp_laws.proofs.Known.{Known}
+use Rattle.vp_laws.proofs.Invariant.{Invariant}
+use Rattle.vp_laws.proofs.KeepingInvariant.{invariant_last}
 
 pub serial_played : (s : Schedule) → IsSerial s
-serial_played s = let q = (in_last s.catalogue (Twentieth s.catalogue) (order_last s.catalogue) s.events).upper.serial in is_there (serial (start_values s.catalogue) (order (run_of s).world.journal)) q.0 q.1
+serial_played s = let q = (in_last s.catalogue (Invariant s.catalogue) (invariant_last s.catalogue) s.events).order.serial in is_there (serial (start_values s.catalogue) (order (run_of s).world.journal)) q.0 q.1
   where
     is_there : (o : Option Values) (m : Values) → o ≡ Some m → IsSome o
     is_there o m e = rw e refl
 
 -- a copy that may be read
 
-module _ (catalogue : Catalogue) (w : WorldState) (inv : Twentieth catalogue (scene_of w)) (s : ℕ) (x : SiteState) (up : plain_at (scene_of w) s ≡ Some x) (v : View) (held : x.held ≡ Some v) where
+module _ (catalogue : Catalogue) (w : WorldState) (inv : Invariant catalogue (scene_of w)) (s : ℕ) (x : SiteState) (up : plain_at (scene_of w) s ≡ Some x) (v : View) (held : x.held ≡ Some v) where
   k : Known catalogue (scene_of w)
-  k = known catalogue (scene_of w) inv.lower.lower.lower
+  k = inv.known
 
   one_copy : (m : Values) × (content (start_values catalogue) w.journal v.id ≡ Some m)
-  one_copy = content_there (start_values catalogue) w.journal v.id inv.upper.serial.0 inv.upper.serial.1
+  one_copy = content_there (start_values catalogue) w.journal v.id inv.order.serial.0 inv.order.serial.1
 
   -- no exclusive lock is on a copy that may be read
   unlocked : (rec : ℕ) (a : Lock) → list_any (is_locked rec) x.locks ≡ false → Has x.locks a → a.rec ≡ rec → a.exclusive ≡ true → ⊥
@@ -57,7 +58,7 @@ module _ (catalogue : Catalogue) (w : WorldState) (inv : Twentieth catalogue (sc
   readable_value : (rec : ℕ) (stored : Stored) → Has x.copies (rec, stored) → is_open catalogue x rec ≡ true → list_any (is_locked rec) x.locks ≡ false → slice_get one_copy.0 rec ≡ Some stored.value
   readable_value rec stored h usable none =
       content_value catalogue w.journal v.id one_copy.0 rec one_copy.1
-      ∙ usable_value catalogue (scene_of w) k.shares inv.lower.lower.upper.copies s rec x v stored up kept held usable (unlisted_none rec x.refresh unlisted)
+      ∙ usable_value catalogue (scene_of w) k.shares inv.copies s rec x v stored up kept held usable (unlisted_none rec x.refresh unlisted)
       (copy_value catalogue (scene_of w) s x up kept k.held rec stored h) ((k.views.site s x up).held v held) (subst (Has v.members) (k.views.site s x up).id ((k.views.site s x up).tidy.held v held).3)
       (copy_held catalogue (scene_of w) s x up kept k.held rec (mapped_has (λ (p : ℕ × Stored). p.0) x.copies (rec, stored) h))
       (AtMost-along ((k.below.site s x up).copies (rec, stored) h) refl ((k.views.site s x up).tidy.held v held).0)
@@ -90,7 +91,7 @@ module _ (catalogue : Catalogue) (w : WorldState) (inv : Twentieth catalogue (sc
   copies_true_here : copies_true_in catalogue w.journal x v ≡ true
   copies_true_here = all_from _ x.copies (λ copy h. copy_true copy h (is_readable catalogue x copy.0) refl)
 
-site_true : (catalogue : Catalogue) (w : WorldState) → Twentieth catalogue (scene_of w) → (s : ℕ) (x : SiteState) → plain_at (scene_of w) s ≡ Some x → copies_true_at catalogue w.journal x ≡ true
+site_true : (catalogue : Catalogue) (w : WorldState) → Invariant catalogue (scene_of w) → (s : ℕ) (x : SiteState) → plain_at (scene_of w) s ≡ Some x → copies_true_at catalogue w.journal x ≡ true
 site_true catalogue w inv s x up = go x.held refl
   where
     go : (held : Option View) → x.held ≡ held → option_map_or (copies_true_in catalogue w.journal x) held true ≡ true
@@ -144,7 +145,7 @@ apart_differ : (ns : List ℕ) → AreApart ns → Differ ns
 apart_differ [] a = tt
 apart_differ (n ∷ ns) a = ((λ h. a.0 (contains ns n h)), apart_differ ns a.1)
 
-world_true : (catalogue : Catalogue) (w : WorldState) → AreApart (sites_of catalogue) → Twentieth catalogue (scene_of w) → Places catalogue (scene_of w) → copies_true catalogue w ≡ true
+world_true : (catalogue : Catalogue) (w : WorldState) → AreApart (sites_of catalogue) → Invariant catalogue (scene_of w) → Places catalogue (scene_of w) → copies_true catalogue w ≡ true
 world_true catalogue w apart inv places = all_from _ w.places each
   where
     each : (p : Place) → Has w.places p → option_map_or (copies_true_at catalogue w.journal) p.up true ≡ true
@@ -159,7 +160,7 @@ world_true catalogue w apart inv places = all_from _ w.places each
 
 pub copies_read : (s : Schedule) → AreApart (sites_of s.catalogue) → CopiesAreTrue s
 copies_read s apart = true_is _ (all_from (λ (m : Moment). copies_true s.catalogue m.after) (moments_of s) (λ m h.
-    world_true s.catalogue m.after apart (in_each s.catalogue (Twentieth s.catalogue) (order_last s.catalogue) s.events m h).1 (in_each s.catalogue (Places s.catalogue) (places_last s.catalogue) s.events m h).1))
+    world_true s.catalogue m.after apart (in_each s.catalogue (Invariant s.catalogue) (invariant_last s.catalogue) s.events m h).1 (in_each s.catalogue (Places s.catalogue) (places_last s.catalogue) s.events m h).1))
   where
     true_is : (b : Bool) → b ≡ true → IsTrue b
     true_is b e = e

@@ -30,23 +30,25 @@ use Rattle.vp_laws.proofs.Scenes.{Scene, plain_at, kept_at}
 use Rattle.vp_laws.proofs.InvShares.{HasRequest}
 use Rattle.vp_laws.proofs.InvOps.{HasUsed}
 use Rattle.vp_laws.proofs.InvEntered.{Wrote, AgreedAs}
-use Rattle.vp_laws.proofs.InvSettled.{holding}
-use Rattle.vp_laws.proofs.InvUsed.{HasAnswered, Was, Split}
+use Rattle.vp_laws.proofs.InvUsed.{HasAnswered}
 use Rattle.vp_laws.proofs.Closing.{ClosedAt, Open, closed_at_lasts}
 use Rattle.vp_laws.proofs.ValuesAfter.{value_after}
-use Rattle.vp_laws.proofs.CopyInvariants.{FromView, InvCopies, InvRefresh}
 use Rattle.vp_laws.proofs.CopyFacts.{copy_holder, closed_above}
-use Rattle.vp_laws.proofs.Worlds.{now_is}
+use Rattle.vp_laws.proofs.Worlds.{now_is, NowIs}
 use Rattle.vp_laws.proofs.NewEntries.{none_entered, journal_same, Entering, entering, doubted, stops, agreed_was, Fresh, doubt_from}
 use Rattle.vp_laws.proofs.CopyValues.{value_now}
 use Rattle.vp_laws.proofs.CopyBrought.{doubt_on}
 use Rattle.vp_laws.proofs.CopiesKept.{open_now, from_lasts, unlisted_none}
 use Rattle.vp_laws.proofs.OwnUse.{idle_reads, used_closed}
 use Rattle.vp_laws.proofs.Refreshes.{certain_from, left_below}
-use Rattle.vp_laws.proofs.Tower.{Known, Does}
 use Rattle.vp_laws.proofs.LiveUses.{LiveUses, live_uses}
-use Rattle.vp_laws.proofs.InvOps.{same_held}
-use Rattle.vp_laws.proofs.Worlds.{NowIs, now_is}
+use Rattle.vp_laws.proofs.Does.{Does}
+use Rattle.vp_laws.proofs.InvCopies.{FromView, InvCopies}
+use Rattle.vp_laws.proofs.InvRefresh.{InvRefresh}
+use Rattle.vp_laws.proofs.KeepingOps.{same_held}
+use Rattle.vp_laws.proofs.KeepingSettled.{holding}
+use Rattle.vp_laws.proofs.KeepingUsed.{Was, Split}
+use Rattle.vp_laws.proofs.Known.{Known}
 
 module _ (catalogue : Catalogue) (w new : Scene) (s : ℕ) (x : SiteState) (given : Input) (o : Stepped) (k : Known catalogue w) (n : Known catalogue new) (d : Does catalogue w new s x given o) (copies : InvCopies catalogue w) (refresh : InvRefresh catalogue w) where
   -- an answer that is given now: in the held view, from the copy here, where nothing is in doubt on it

@@ -9,22 +9,26 @@ use Rattle.vp_model.specs.Catalogue.{Catalogue, holders, accessible}
 use Rattle.vp_model.specs.Durable.{DurableState}
 use Rattle.vp_model.specs.Refresh.{is_usable_in, other_holders, other_holders_in, unanswered, is_doubtful}
 use Rattle.vp_model.specs.Site.{SiteState, Stepped}
-use Rattle.vp_laws.proofs.Members.{Has, has_none, has_from_test, filter_keeps, map_has, any_false}
+use Rattle.vp_laws.proofs.Members.{Has, has_none, has_from_test, filter_keeps, map_has, any_false, has_test}
 use Rattle.vp_laws.proofs.Order.{AtMost, Precedes, AtMost-trans, AtMost-along, Precedes-at_most, not_both, same_site}
 use Rattle.vp_laws.proofs.LocalViews.{letter}
 use Rattle.vp_laws.proofs.TableCopies.{AnswerNow}
 use Rattle.vp_laws.proofs.TableCopyAt.{Certain}
 use Rattle.vp_laws.proofs.TableLeaves.{Uses}
 use Rattle.vp_laws.proofs.Scenes.{Scene, kept_at, promise_at}
-use Rattle.vp_laws.proofs.InvEntered.{Wrote, has_test, other_holder}
-use Rattle.vp_laws.proofs.InvGuards.{strictly}
-use Rattle.vp_laws.proofs.InvDated.{WasSent, answer_sent}
-use Rattle.vp_laws.proofs.InvListed.{not_below_itself}
-use Rattle.vp_laws.proofs.HasLeft.{HasLeft, left_here}
+use Rattle.vp_laws.proofs.InvEntered.{Wrote}
+use Rattle.vp_laws.proofs.InvDated.{WasSent}
+use Rattle.vp_laws.proofs.HasLeft.{HasLeft}
 use Rattle.vp_laws.proofs.Closing.{ClosedAt, Closed, closed_at_lasts}
-use Rattle.vp_laws.proofs.CopyInvariants.{InvRefresh}
 use Rattle.vp_laws.proofs.NewEntries.{not_listed}
-use Rattle.vp_laws.proofs.Tower.{Known, Does}
+use Rattle.vp_laws.proofs.Does.{Does}
+use Rattle.vp_laws.proofs.InvRefresh.{InvRefresh}
+use Rattle.vp_laws.proofs.KeepingDated.{answer_sent}
+use Rattle.vp_laws.proofs.KeepingEntered.{other_holder}
+use Rattle.vp_laws.proofs.KeepingGuards.{strictly}
+use Rattle.vp_laws.proofs.KeepingListed.{not_below_itself}
+use Rattle.vp_laws.proofs.Known.{Known}
+use Rattle.vp_laws.proofs.Leaving.{left_here}
 
 -- a test that finds no doubtful record
 pub certain_from : (doubts : List Doubt) (site : SiteState) (rec : ℕ) → site.doubts ≡ doubts → is_doubtful site rec ≡ false → Certain doubts rec
@@ -111,12 +115,12 @@ module _ (catalogue : Catalogue) (w new : Scene) (s : ℕ) (x : SiteState) (give
   left_below_now u j held below = left_here w new s x o d.st j promised unused
     where
       promised : AtMost j (promise_at new s)
-      promised = AtMost-along (Precedes-at_most j u.id below) refl (ap (λ (k : DurableState). k.promise) d.st.kept_now ∙ sym (d.here_now.tidy.held u held).0)
+      promised = AtMost-along (Precedes-at_most j u.id below) refl (ap (λ (k : DurableState). k.promise) d.st.kept_now ∙ sym ((n.views.site s o.site d.st.now).tidy.held u held).0)
 
       unused : Uses o.site j → ⊥
       unused (Uses.held v e same) = not_below_itself j u.id below (sym same ∙ ap (λ (v : View). v.id) (let z = e in let is : v ≡ u = cc in is))
-      unused (Uses.awaited e) = let z = (d.here_now.tidy.held u held).1 in cc
-      unused (Uses.invited b e same) = let z = (d.here_now.tidy.held u held).2 in cc
+      unused (Uses.awaited e) = let z = ((n.views.site s o.site d.st.now).tidy.held u held).1 in cc
+      unused (Uses.invited b e same) = let z = ((n.views.site s o.site d.st.now).tidy.held u held).2 in cc
 
   -- the record is closed for the view: each other holder has answered, and nothing here is in doubt on it
   module _ (refresh : InvRefresh catalogue w) (rec : ℕ) (u : View) (r : Refreshing) (site : SiteState) (id : site.id ≡ s) (held : site.held ≡ Some u) (on : r.rec ≡ rec) (all : is_empty (unanswered catalogue site r) ≡ true) (answers : (p : ℕ × Stored) → Has r.answers p → AnswerNow catalogue x given rec p) (held_then : (p : ℕ × Stored) → Has r.answers p → x.held ≡ Some u) where

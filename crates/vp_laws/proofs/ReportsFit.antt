@@ -15,8 +15,6 @@ use Rattle.vp_laws.proofs.Lists.{mapped_has}
 use Rattle.vp_laws.proofs.Scenes.{Scene, scene_of, plain_at, kept_at, acted}
 use Rattle.vp_laws.proofs.Events.{Arrives, crashed, restarted}
 use Rattle.vp_laws.proofs.Worlds.{Quiet, QuietIs, quiet_is, crash_quiet, restart_quiet, NowIs, now_is, started}
-use Rattle.vp_laws.proofs.InvListed.{Seventeenth, listed_last}
-use Rattle.vp_laws.proofs.Tower.{known, Does, does}
 use Rattle.vp_laws.proofs.Occurs.{no_replies, Occurs, occurs, RunLasts, run-keeps}
 use Rattle.vp_laws.proofs.FairStep.{IsStep}
 use Rattle.vp_laws.proofs.Reasons.{IsDone}
@@ -27,6 +25,7 @@ use Rattle.vp_laws.proofs.ToldCalls.{taken_on}
 use Rattle.vp_laws.proofs.ToldAt.{ToldAt}
 use Rattle.vp_laws.proofs.ToldMoves.{same_or_not, done_number, done_call, kept_here}
 use Rattle.vp_laws.proofs.ToldRuns.{RunTold, start_told, one_step-told, starts_none, is_step_of}
+use Rattle.vp_laws.proofs.Does.{Does, does}
 
 -- what the answer reports is of the kind of the call that took the number
 abbrev Fits : List Line → Answer → Type 0
@@ -70,11 +69,8 @@ module _ (catalogue : Catalogue) (world : WorldState) (lines : List Line) (m0 : 
   abbrev more : List Line
   more = lines ++ m0.line ∷ []
 
-  after : Seventeenth catalogue (acted (scene_of world) s x (step catalogue x given))
-  after = (listed_last catalogue).acts (scene_of world) s x given up arrives told.base
-
   d : Does catalogue (scene_of world) (acted (scene_of world) s x (step catalogue x given)) s x given (step catalogue x given)
-  d = does catalogue (scene_of world) s x given up arrives (known catalogue (scene_of world) told.base) (known catalogue _ after)
+  d = does catalogue (scene_of world) s x given up arrives told.known
 
   old_fits : (a : Answer) → IsKept x a → Fits more a
   old_fits a k = fits_on lines m0.line a (h.kept s x a up k)

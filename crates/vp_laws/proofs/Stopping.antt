@@ -8,8 +8,8 @@ use Rattle.vp_model.specs.Catalogue.{Catalogue, holders, weights_of, accessible}
 use Rattle.vp_model.specs.Transactions.{last_changes, writes_held}
 use Rattle.vp_model.specs.Site.{SiteState, Stepped}
 use Rattle.vp_catalog.proofs.Majorities.{accessible_share}
-use Rattle.vp_laws.proofs.Members.{Has, has_from_test, map_has, filter_keeps, has_of}
-use Rattle.vp_laws.proofs.Lists.{mapped_has}
+use Rattle.vp_laws.proofs.Members.{Has, has_from_test, map_has, filter_keeps, has_of, has_test}
+use Rattle.vp_laws.proofs.Lists.{mapped_has, some_not_empty}
 use Rattle.vp_laws.proofs.Order.{Precedes, same_site}
 use Rattle.vp_laws.proofs.LocalViews.{letter}
 use Rattle.vp_laws.proofs.TableLed.{IsOf, Led}
@@ -18,8 +18,7 @@ use Rattle.vp_laws.proofs.TableShares.{Shares}
 use Rattle.vp_laws.proofs.TableLeaves.{Uses}
 use Rattle.vp_laws.proofs.Scenes.{Scene, plain_at, Acted}
 use Rattle.vp_laws.proofs.InvShares.{InDoubt, InvShares}
-use Rattle.vp_laws.proofs.InvEntered.{Wrote, AgreedAs, InvEntered, has_test}
-use Rattle.vp_laws.proofs.InvSettled.{some_not_empty}
+use Rattle.vp_laws.proofs.InvEntered.{Wrote, AgreedAs, InvEntered}
 use Rattle.vp_laws.proofs.Closing.{ClosedAt, Open}
 
 -- two sets of sites in which a record is accessible share a holder

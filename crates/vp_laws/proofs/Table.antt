@@ -19,10 +19,9 @@ use Rattle.vp_model.specs.Transactions.{last_changes, entry_of, last_writes, ans
 use Rattle.vp_model.specs.Refresh.{members, is_open, other_holders, is_doubtful, refreshing_of, unanswered, end_refresh, start_refresh}
 use Rattle.vp_model.specs.Views.{part_of, has_doubt, without_view, without_parts, highest, is_spent, drop_view, start_inviting, invite, hold}
 use Rattle.vp_model.specs.Calls.{next_txn, start_txn, handling, take_lock, read_at, write_at, prepare_parts}
-use Rattle.vp_model.specs.Step.{is_marked_call, least_missing}
+use Rattle.vp_model.specs.Step.{is_marked_call, least_missing, fix, without_wait, probe_all, mark_calls, ask_again, resend_one, known, inquire}
 use Rattle.vp_model.specs.Answers.{waits_for, with_acknowledged, is_live, is_decided}
 use Rattle.vp_model.specs.Messages.{holds_view, accept, on_accept, on_stale, with_heard, refuse_view, grant, has_all_locks, with_vote, with_new_doubt, end_here, with_answer}
-use Rattle.vp_model.specs.Step.{fix, without_wait, probe_all, mark_calls, ask_again, resend_one, known, inquire}
 use Rattle.vp_laws.specs.Votes.{is_commit}
 use Rattle.vp_laws.proofs.Members.{Has}
 

@@ -17,12 +17,11 @@ use Rattle.vp_model.specs.Views.{drop_view, start_inviting, hold}
 use Rattle.vp_model.specs.Calls.{start_txn, take_lock, read_at, write_at, prepare_parts}
 use Rattle.vp_model.specs.Messages.{holds_view, with_answer, accept, on_accept, on_stale, grant, end_here}
 use Rattle.vp_model.specs.Step.{fix, mark_calls, ask_again, resend_one, inquire, step}
-pub use Rattle.vp_laws.specs.Decisions.{dated_at}
-use Rattle.vp_laws.proofs.Members.{Has, has_none, has_one, has_first, has_more, map_has, filter_has, find_has, find_true}
+use Rattle.vp_laws.specs.Decisions.{dated_at}
+use Rattle.vp_laws.proofs.Members.{Has, has_none, has_one, has_first, has_more, map_has, filter_has, find_has, find_true, both_true}
 use Rattle.vp_laws.proofs.Apart.{same_txn-is}
 use Rattle.vp_laws.proofs.Lists.{put_has}
 use Rattle.vp_laws.proofs.Order.{is_view_is}
-use Rattle.vp_laws.proofs.Members.{both_true}
 use Rattle.vp_laws.proofs.Frames.{close-ends, close-commits, decided-ends, decided-commits, decide-cases}
 use Rattle.vp_laws.proofs.LocalViews.{Tidy}
 use Rattle.vp_laws.proofs.Table.{Comes, Left, lent_at, Back, Table}

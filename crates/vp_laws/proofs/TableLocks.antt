@@ -38,8 +38,9 @@ use Rattle.vp_laws.proofs.TableBelow.{Below}
 use Rattle.vp_laws.proofs.TableEndings.{NotLive}
 use Rattle.vp_laws.proofs.TableShares.{OutcomeComes}
 use Rattle.vp_laws.proofs.TableLeaves.{Uses, unused, uses_same, invites_only, accepts_only}
-use Rattle.vp_laws.proofs.InvOps.{last_written, value_key, reads_same, writes_same, read_not_write}
 use Rattle.vp_laws.proofs.Numbers.{one_above}
+use Rattle.vp_laws.proofs.Calls.{reads_same, writes_same, read_not_write}
+use Rattle.vp_laws.proofs.Written.{last_written, value_key}
 
 -- why a transaction's lock is gone: its outcome came, the site has left its view, or it was of this site and is not live
 pub data Gone (x : SiteState) (given : Input) (o : Stepped) (txn : TxnId) : Type 0 where

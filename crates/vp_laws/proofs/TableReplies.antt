@@ -23,8 +23,7 @@ use Rattle.vp_laws.proofs.Table.{next_view, lent_at, Handled, Completes, Decides
 use Rattle.vp_laws.proofs.TableLed.{Led}
 use Rattle.vp_laws.proofs.TableEndings.{NotLive, WasLive}
 use Rattle.vp_laws.proofs.OnlyCoordinator.{OnCoordinator, only_table, only_begins}
-use Rattle.vp_laws.proofs.TableSteps.{Steps, completes_effects, locked_effects}
-use Rattle.vp_laws.proofs.TableSteps.{keeps as steps_keeps}
+use Rattle.vp_laws.proofs.TableSteps.{Steps, completes_effects, locked_effects, keeps as steps_keeps}
 use Rattle.vp_laws.proofs.Rows.{step-keeps}
 
 -- why an answer is given

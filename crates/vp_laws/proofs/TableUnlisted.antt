@@ -22,8 +22,7 @@ use Rattle.vp_laws.proofs.Order.{AtMost, AtMost-refl, AtMost-trans, same_site}
 use Rattle.vp_laws.proofs.LocalViews.{Tidy}
 use Rattle.vp_laws.proofs.Table.{Comes, Left, Table}
 use Rattle.vp_laws.proofs.TableCopies.{AnswerNow, value_pair}
-use Rattle.vp_laws.proofs.TableCopyAt.{CopiesAt, newest_each, replaced_not}
-use Rattle.vp_laws.proofs.TableCopyAt.{table as copies_table, starts as copies_start}
+use Rattle.vp_laws.proofs.TableCopyAt.{CopiesAt, newest_each, replaced_not, table as copies_table, starts as copies_start}
 use Rattle.vp_laws.proofs.Rows.{step-keeps}
 use Rattle.vp_laws.proofs.UpTo.{up_to_from}
 use Rattle.vp_laws.proofs.Numbers.{eq_not}

@@ -1,5 +1,5 @@
 -- Prepares and votes: a prepare speaks of a live transaction whose commit is pending, and a vote answers a prepare.
-use Rattle.std.proofs.Common.{◌≡◌, ◌∙◌, ap, sym, ℕ, Bool, true, false, cond, List, [], ◌∷◌, ◌++◌, map, refl, inl, inr, ⊎_elim, append-nil}
+use Rattle.std.proofs.Common.{◌≡◌, ◌∙◌, ap, sym, ℕ, Bool, true, false, cond, List, [], ◌∷◌, ◌++◌, map, refl, inl, inr, ⊎_elim, append-nil, subst}
 use Rattle.std.specs.Prelude.{Option, Some, None, is_some, ◌==◌, not, filter}
 use Rattle.vp_model.specs.Types.{Change, ViewId, TxnId, View, Stored, Op, Answer, Message, Sent, Input, Part, Refreshing, Pending, Live, Ending, Doubt}
 use Rattle.vp_base.specs.declared.site.Ending.TheVariants.{Committed}
@@ -28,7 +28,6 @@ use Rattle.vp_laws.proofs.Table.{IsOperating, Completes, Comes, next_view, next_
 use Rattle.vp_laws.proofs.Rows.{step-keeps}
 use Rattle.vp_laws.proofs.LocalViews.{letter}
 use Rattle.vp_laws.proofs.TableLed.{Led}
-use Rattle.std.proofs.Common.{subst}
 use Rattle.vp_laws.proofs.Numbers.{one_above}
 
 -- the pending call is the same one, marked or with fewer sites missing

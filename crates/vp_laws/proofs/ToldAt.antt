@@ -16,24 +16,23 @@ use Rattle.vp_model.specs.Refresh.{members_in, other_holders}
 use Rattle.vp_model.specs.World.{WorldState}
 use Rattle.vp_model.specs.Told.{answers_in, is_step, call_in, reported, put_first, is_early_refusal, is_call, takes}
 use Rattle.vp_laws.proofs.ToldLines.{Report, IsReported, Tells, IsUnheard}
-use Rattle.vp_laws.proofs.Members.{Has, has_none, has_first, has_more, filter_keeps, both_true, any_false}
+use Rattle.vp_laws.proofs.Members.{Has, has_none, has_first, has_more, filter_keeps, both_true, any_false, has_test}
 use Rattle.vp_laws.proofs.Apart.{same_txn-is}
 use Rattle.vp_laws.proofs.Scenes.{Scene, plain_at}
 use Rattle.vp_laws.proofs.Stopping.{in_force_holder}
-use Rattle.vp_laws.proofs.InvEntered.{has_test}
 use Rattle.vp_laws.proofs.InvHeld.{holds_copy}
 use Rattle.vp_laws.proofs.TableLocks.{not_copied}
 use Rattle.vp_laws.proofs.InvNames.{UsedTxn}
-use Rattle.vp_laws.proofs.InvListed.{Seventeenth}
 use Rattle.vp_laws.proofs.TableCalls.{IsCallOf, HasHolders}
 use Rattle.vp_laws.proofs.TableTold.{IsKept, told_of}
 use Rattle.vp_laws.proofs.ToldCalls.{TellsCall}
 use Rattle.vp_laws.proofs.Occurs.{Gives}
-use Rattle.vp_laws.proofs.Tower.{Known}
 use Rattle.vp_laws.proofs.Numbers.{eq_not}
+use Rattle.vp_laws.proofs.Known.{Known}
 
 pub record ToldAt (catalogue : Catalogue) (w : Scene) (lines : List Line) : Type 0 where
-  pub base : Seventeenth catalogue w
+  -- all that is known of sites and messages
+  pub known : Known catalogue w
   pub live : (s : ℕ) (x : SiteState) (t : Live) → plain_at w s ≡ Some x → Has x.live t → TellsCall catalogue lines t.txn (length t.answers) t.pending t.ops
   pub entries : (e : Commit) → Has w.journal e → Tells catalogue lines e.txn e.ops
   pub fresh : (u : TxnId) → (UsedTxn w u → ⊥) → IsUnheard lines u

@@ -28,14 +28,16 @@ use Rattle.vp_laws.proofs.Scenes.{Scene, scene_of, plain_at, kept_at, acted}
 use Rattle.vp_laws.proofs.Events.{Arrives}
 use Rattle.vp_laws.proofs.Worlds.{NowIs, now_is}
 use Rattle.vp_laws.proofs.InvViews.{SiteOk}
-use Rattle.vp_laws.proofs.InvNames.{UsedTxn, used_lasts, own_used}
-use Rattle.vp_laws.proofs.InvEndings.{fresh}
-use Rattle.vp_laws.proofs.InvListed.{Seventeenth, listed_last}
-use Rattle.vp_laws.proofs.Tower.{Known, known, Does, does}
+use Rattle.vp_laws.proofs.InvNames.{UsedTxn}
 use Rattle.vp_laws.proofs.Reasons.{Takes, IsDone, told_to}
 use Rattle.vp_laws.proofs.FairStep.{IsStep}
 use Rattle.vp_laws.proofs.ToldCalls.{reach, TellsCall, SameCall, as_pending, call_on, call_taken, taken_on, taken_now, untaken_on, done_next, begins}
 use Rattle.vp_laws.proofs.ToldAt.{ToldAt, same_reports, taking, takes_now, call_of, gives_call, call_gives, has_holders}
+use Rattle.vp_laws.proofs.Does.{Does, does}
+use Rattle.vp_laws.proofs.KeepingEndings.{fresh}
+use Rattle.vp_laws.proofs.KeepingNames.{used_lasts, own_used}
+use Rattle.vp_laws.proofs.Known.{Known}
+use Rattle.vp_laws.proofs.KeepingKnown.{known_acts}
 
 by_false : (b : Bool) → (b ≡ true → ⊥) → b ≡ false
 by_false true h = absurd (h refl)
@@ -96,14 +98,14 @@ module _ (catalogue : Catalogue) (world : WorldState) (lines : List Line) (m0 : 
   abbrev more : List Line
   more = lines ++ line ∷ []
 
-  base : Seventeenth catalogue new
-  base = (listed_last catalogue).acts w s x given up arrives told.base
+  n : Known catalogue new
+  n = known_acts catalogue w s x given up arrives told.known
 
   k : Known catalogue w
-  k = known catalogue w told.base
+  k = told.known
 
   d : Does catalogue w new s x given o
-  d = does catalogue w s x given up arrives k (known catalogue new base)
+  d = does catalogue w s x given up arrives k
 
   apart : Apart x.live
   apart = k.votes.site s x up
@@ -360,7 +362,7 @@ module _ (catalogue : Catalogue) (world : WorldState) (lines : List Line) (m0 : 
 
   pub step_told : ToldAt catalogue new more
   step_told = record {
-    base = base;
+    known = n;
     live = λ j y a at h. live_now j y a h (now_is w new s x o d.st j y at);
     entries = λ e h. entry_now e (d.st.entered e h);
     fresh = fresh_now;

@@ -1,6 +1,6 @@
 -- In every schedule each transaction is committed with the operations that its client was told of; and with it, each schedule over a
 -- catalogue whose sites are different numbers is one copy.
-use Rattle.std.proofs.Common.{◌≡◌, ap, sym, subst, ℕ, ◌<◌, false, List, [], ◌∷◌, ◌++◌, map, length, refl, inr}
+use Rattle.std.proofs.Common.{◌≡◌, ap, sym, subst, ℕ, false, List, [], ◌∷◌, ◌++◌, map, length, refl}
 use Rattle.std.specs.Prelude.{Some, All}
 use Rattle.std.proofs.lemmas.List.Elements.{All-from_recursion}
 use Rattle.vp_model.specs.Types.{TxnId, Answer, Commit, Event, Input, Line, Reply, Live}
@@ -17,9 +17,7 @@ use Rattle.vp_laws.proofs.Members.{Has, all_of}
 use Rattle.vp_laws.proofs.Scenes.{Scene, scene_of, plain_at, kept_at, acted}
 use Rattle.vp_laws.proofs.Events.{Arrives, crashed, restarted}
 use Rattle.vp_laws.proofs.Worlds.{Quiet, QuietIs, quiet_is, crash_quiet, restart_quiet, started, start_entered, no_live, no_finished, started_idle}
-use Rattle.vp_laws.proofs.InvNames.{UsedTxn, Grows, used_lasts, start_life}
-use Rattle.vp_laws.proofs.InvListed.{Seventeenth, listed_last}
-use Rattle.vp_laws.proofs.Tower.{known, Does, does}
+use Rattle.vp_laws.proofs.InvNames.{UsedTxn}
 use Rattle.vp_laws.proofs.Occurs.{no_replies, Gives, Occurs, occurs, run-keeps}
 use Rattle.vp_laws.proofs.FairStep.{IsStep}
 use Rattle.vp_laws.proofs.FairTold.{refusals_justified}
@@ -28,6 +26,10 @@ use Rattle.vp_laws.proofs.TableTold.{IsKept}
 use Rattle.vp_laws.proofs.ToldCalls.{TellsCall, call_on}
 use Rattle.vp_laws.proofs.ToldAt.{ToldAt, unstepped}
 use Rattle.vp_laws.proofs.ToldMoves.{step_told}
+use Rattle.vp_laws.proofs.Does.{Does, does}
+use Rattle.vp_laws.proofs.KeepingNames.{used_lasts, quiet_grows}
+use Rattle.vp_laws.proofs.Known.{Known}
+use Rattle.vp_laws.proofs.KeepingKnown.{known_last, known_starts}
 
 -- a site that starts keeps no answer
 pub starts_none : (catalogue : Catalogue) (s : ℕ) (d : DurableState) (a : Answer) → IsKept (start catalogue s d) a → ⊥
@@ -53,7 +55,7 @@ module _ (catalogue : Catalogue) (w new : Scene) (lines : List Line) (l : Line) 
 
   same_told : ToldAt catalogue w more
   same_told = record {
-    base = told_so_far.base;
+    known = told_so_far.known;
     live = still_told;
     entries = λ e h. tells_on catalogue lines l e.txn e.ops (told_so_far.entries e h) (silent e.txn);
     fresh = still_unheard;
@@ -61,18 +63,15 @@ module _ (catalogue : Catalogue) (w new : Scene) (lines : List Line) (l : Line) 
   }
 
   -- a site goes down or starts again
-  quiet_told : (s : ℕ) → Quiet catalogue w new s → Seventeenth catalogue new → ToldAt catalogue new more
-  quiet_told s q base = record {
-    base = base;
+  quiet_told : (s : ℕ) → Quiet catalogue w new s → Known catalogue new → ToldAt catalogue new more
+  quiet_told s q n = record {
+    known = n;
     live = λ j y t up h. live_at j y t h (quiet_is catalogue w new s q j y up);
     entries = λ e h. tells_on catalogue lines l e.txn e.ops (told_so_far.entries e (rw q.journal at h)) (silent e.txn);
-    fresh = λ u unused. still_unheard u (λ used. unused (used_lasts w new s q.moved grows u used));
+    fresh = λ u unused. still_unheard u (λ used. unused (used_lasts w new s q.moved (quiet_grows catalogue w new s q) u used));
     kept = λ j y a up h. kept_at_site j y a h (quiet_is catalogue w new s q j y up);
   }
     where
-      grows : Grows w new s
-      grows = record { life = q.life; seq = λ y h. inr (subst (λ (y : SiteState). (kept_at w s).life < y.life) (q.now y h) (start_life catalogue s (kept_at w s))) }
-
       live_at : (j : ℕ) (y : SiteState) (t : Live) → Has y.live t → QuietIs catalogue w s j y → TellsCall catalogue more t.txn (length t.answers) t.pending t.ops
       live_at j y t h (QuietIs.other n old) = still_told j y t old h
       live_at j y t h (QuietIs.here e same) = absurd (no_live catalogue s (kept_at w s) t (subst (λ (y : SiteState). Has y.live t) (sym same) h))
@@ -93,11 +92,8 @@ is_step_of catalogue lines number e w v s x given same up arrives gives told_so_
   after = subst (λ (z : Scene). plain_at (acted z s x (step catalogue x given)) s ≡ Some (step catalogue x given).site) (sym same) d.st.now;
 }
   where
-    base : Seventeenth catalogue (acted (scene_of w) s x (step catalogue x given))
-    base = (listed_last catalogue).acts (scene_of w) s x given up arrives told_so_far.base
-
     d : Does catalogue (scene_of w) (acted (scene_of w) s x (step catalogue x given)) s x given (step catalogue x given)
-    d = does catalogue (scene_of w) s x given up arrives (known catalogue (scene_of w) told_so_far.base) (known catalogue (acted (scene_of w) s x (step catalogue x given)) base)
+    d = does catalogue (scene_of w) s x given up arrives told_so_far.known
 
 stepped : (catalogue : Catalogue) (lines : List Line) (number : ℕ) (e : Event) (w v : WorldState) (s : ℕ) (x : SiteState) (given : Input) → scene_of v ≡ scene_of w → site_of w s ≡ Some x → Arrives (scene_of w) s given → Gives e w s given → ToldAt catalogue (scene_of w) lines → ToldAt catalogue (scene_of (site_step catalogue s x given v).world) (lines ++ (moment number w e (site_step catalogue s x given v)).line ∷ [])
 unfolding site_step
@@ -109,9 +105,9 @@ occurred : (catalogue : Catalogue) (lines : List Line) (number : ℕ) (e : Event
 occurred catalogue lines number e w m told_so_far (Occurs.stands same none) =
     rw same (same_told catalogue (scene_of w) (scene_of w) lines (moment number w e m).line none told_so_far)
 occurred catalogue lines number e w m told_so_far (Occurs.crashes s same none) =
-    rw same (quiet_told catalogue (scene_of w) (crashed (scene_of w) s) lines (moment number w e m).line none told_so_far s (crash_quiet catalogue (scene_of w) s) ((listed_last catalogue).crashes (scene_of w) s told_so_far.base))
+    rw same (quiet_told catalogue (scene_of w) (crashed (scene_of w) s) lines (moment number w e m).line none told_so_far s (crash_quiet catalogue (scene_of w) s) ((known_last catalogue).crashes (scene_of w) s told_so_far.known))
 occurred catalogue lines number e w m told_so_far (Occurs.restarts s place at down id same none) =
-    rw same (quiet_told catalogue (scene_of w) (restarted catalogue (scene_of w) s) lines (moment number w e m).line none told_so_far s (restart_quiet catalogue (scene_of w) s place at id) ((listed_last catalogue).restarts (scene_of w) s place at down id told_so_far.base))
+    rw same (quiet_told catalogue (scene_of w) (restarted catalogue (scene_of w) s) lines (moment number w e m).line none told_so_far s (restart_quiet catalogue (scene_of w) s place at id) ((known_last catalogue).restarts (scene_of w) s place at down id told_so_far.known))
 occurred catalogue lines number e w m told_so_far (Occurs.acts s x given v same up arrives gives is) =
     subst (λ (m : Moved). ToldAt catalogue (scene_of m.world) (lines ++ (moment number w e m).line ∷ [])) (sym is) (stepped catalogue lines number e w v s x given same up arrives gives told_so_far)
 
@@ -128,7 +124,7 @@ one_step-told catalogue number e run h =
 
 pub start_told : (catalogue : Catalogue) → ToldAt catalogue (scene_of (start_world catalogue)) []
 start_told catalogue = record {
-  base = (listed_last catalogue).starts;
+  known = known_starts catalogue;
   live = λ s x t h k. absurd (started_idle catalogue s x t h k);
   entries = λ e h. absurd (start_entered catalogue e h);
   fresh = λ u unused. record { unreported = refl; untaken = λ k. refl };

@@ -14,11 +14,11 @@ use Rattle.vp_laws.proofs.Order.{AtMost, Precedes, same_is, same_from}
 use Rattle.vp_laws.proofs.Scenes.{Scene, plain_at, kept_at}
 use Rattle.vp_laws.proofs.InvShares.{InvShares}
 use Rattle.vp_laws.proofs.InvEntered.{Wrote}
-use Rattle.vp_laws.proofs.InvGuards.{strictly}
 use Rattle.vp_laws.proofs.ValuesAfter.{value_after, value_up_to, value_between, without_none}
 use Rattle.vp_laws.proofs.ValuesGrow.{doubt_or_none}
 use Rattle.vp_laws.proofs.CopyBrought.{doubt_on}
-use Rattle.vp_laws.proofs.CopyInvariants.{InvCopies}
+use Rattle.vp_laws.proofs.InvCopies.{InvCopies}
+use Rattle.vp_laws.proofs.KeepingGuards.{strictly}
 
 -- where no entry between two views wrote the record, its value after both is the same
 pub after_between : (catalogue : Catalogue) (journal : List Commit) (c d : ViewId) (rec : ℕ) → AtMost c d → ((f : Commit) → Has journal f → Precedes c f.view → AtMost f.view d → Wrote f rec → ⊥) → value_after catalogue journal d rec ≡ value_after catalogue journal c rec

@@ -13,10 +13,10 @@ use Rattle.vp_laws.proofs.Members.{Has}
 use Rattle.vp_laws.proofs.Lists.{mapped_has}
 use Rattle.vp_laws.proofs.Order.{AtMost, Precedes}
 use Rattle.vp_laws.proofs.TableLocks.{not_copied}
-use Rattle.vp_laws.proofs.InvOps.{value_key}
 use Rattle.vp_laws.proofs.InvEntered.{Wrote}
 use Rattle.vp_laws.proofs.UpTo.{filter_all}
 use Rattle.vp_laws.proofs.Acts.{IsQuiet, after, after_upto, after_own, after_between, after_more, after_added}
+use Rattle.vp_laws.proofs.Written.{value_key}
 
 -- the written value, or the one before
 abbrev pub overwritten : List (ℕ × Change) → ℕ → List ℕ → List ℕ

@@ -6,9 +6,9 @@ use Rattle.std.proofs.lemmas.Option.{slice_get-map}
 use Rattle.vp_model.specs.Types.{ViewId, Commit, Doubt}
 use Rattle.vp_model.specs.Words.{has, keys, same_view}
 use Rattle.vp_model.specs.Catalogue.{Catalogue, RecordEntry, holders, start_values}
-use Rattle.vp_laws.proofs.Members.{Has, has_none, any_true, any_false, both_true, has_from_test}
+use Rattle.vp_laws.proofs.Members.{Has, has_none, any_true, any_false, both_true, has_from_test, has_test}
 use Rattle.vp_laws.proofs.Order.{AtMost, same_is, same_from}
-use Rattle.vp_laws.proofs.InvEntered.{Wrote, has_test}
+use Rattle.vp_laws.proofs.InvEntered.{Wrote}
 use Rattle.vp_laws.proofs.ValuesAfter.{value_up_to, value_after, value_more}
 
 -- an entry of a view above, or one that has not written the record, leaves its value

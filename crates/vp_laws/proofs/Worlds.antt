@@ -1,18 +1,42 @@
 -- Who each site is after an event, and how the world starts: what every invariant of all sites goes by.
-use Rattle.std.proofs.Common.{◌≡◌, ◌≢◌, ◌∙◌, ap, sym, subst, ℕ, ◌+◌, ◌≤◌, [], map, refl, arith, ⊎_elim}
-use Rattle.std.specs.Prelude.{Option, Some, None, option_map}
-use Rattle.vp_model.specs.Types.{Stored, Sent, Commit, Input, Refreshing, Live, Finished}
-use Rattle.vp_laws.proofs.Members.{Has, has_none, map_has}
+use Rattle.std.proofs.Common.{◌≢◌, subst, ◌+◌, ◌≤◌, ⊎_elim, ◌≡◌, ◌∙◌, ap, sym, ℕ, Bool, true, false, cond, List, [], ◌∷◌, map, refl, arith}
+use Rattle.std.specs.Prelude.{Option, Some, None, ◌==◌, option_map}
+use Rattle.vp_model.specs.Types.{Stored, Sent, Commit, Input, Refreshing, Live, Finished, ViewId}
+use Rattle.vp_laws.proofs.Members.{has_none, map_has, Has, has_first, has_more}
 use Rattle.vp_model.specs.Words.{opening}
-use Rattle.vp_model.specs.Catalogue.{Catalogue, RecordEntry, sites_of, start_copies}
-use Rattle.vp_model.specs.Durable.{DurableState, empty_durable, apply}
-use Rattle.vp_model.specs.Site.{SiteState, Stepped}
-use Rattle.vp_model.specs.Step.{start, start_record, durable_of, step}
-use Rattle.vp_model.specs.World.{Place, place_of, start_place, start_world, restart_place}
+use Rattle.vp_model.specs.Catalogue.{RecordEntry, sites_of, start_copies, Catalogue}
+use Rattle.vp_model.specs.Durable.{empty_durable, DurableState, apply}
+use Rattle.vp_model.specs.Site.{Stepped, SiteState}
+use Rattle.vp_model.specs.Step.{durable_of, step, start, start_record}
+use Rattle.vp_model.specs.World.{start_world, restart_place, Place, place_of, start_place}
 use Rattle.vp_laws.proofs.Order.{same_site}
-use Rattle.vp_laws.proofs.Scenes.{Scene, scene_of, kept_in, up_in, plain_at, kept_at, Moved, Acted, acted, moves, place-same}
-use Rattle.vp_laws.proofs.Agreement.{start_at, start_promise, down}
-use Rattle.vp_laws.proofs.Events.{Arrives, crashed, restarted, Lasts}
+use Rattle.vp_laws.proofs.Scenes.{scene_of, kept_in, kept_at, Moved, Acted, acted, moves, Scene, up_in, plain_at, place-same}
+use Rattle.vp_laws.proofs.Events.{Arrives, restarted, Lasts, crashed}
+use Rattle.std.proofs.lemmas.Bool.Decides.{nat_tests}
+
+pub none_waiting : (catalogue : Catalogue) (s : ℕ) (d : DurableState) (i : ViewId) → (start catalogue s d).waiting ≡ Some i → ⊥
+unfolding start
+none_waiting catalogue s d i h = cc
+
+pub start_promise : (d : DurableState) → (apply (start_record d) d).promise ≡ d.promise
+unfolding apply
+start_promise d = refl
+
+pub down : (w : Scene) (s : ℕ) (x : SiteState) → plain_at (crashed w s) s ≡ Some x → ⊥
+down w s x h = go (place_of s w.places) (sym (ap up_in (place-same s (λ (place : Place). record place { up = None }) w.places (λ p. refl))) ∙ h)
+  where
+    go : (o : Option Place) → up_in (option_map (λ (place : Place). record place { up = None }) o) ≡ Some x → ⊥
+    go None e = cc
+    go (Some p) e = cc
+
+-- the start
+pub start_at : (catalogue : Catalogue) (s : ℕ) (sites : List ℕ) (p : Place) → place_of s (map (start_place catalogue) sites) ≡ Some p → Has sites s × (start_place catalogue s ≡ p)
+start_at catalogue s [] p e = cc
+start_at catalogue s (a ∷ sites) p e = go (a == s) refl e (λ q. start_at catalogue s sites p q)
+  where
+    go : (t : Bool) → (a == s) ≡ t → cond t (Some (start_place catalogue a)) (place_of s (map (start_place catalogue) sites)) ≡ Some p → (place_of s (map (start_place catalogue) sites) ≡ Some p → Has sites s × (start_place catalogue s ≡ p)) → Has (a ∷ sites) s × (start_place catalogue s ≡ p)
+    go true t q rest = let here : a ≡ s = grind (arith, nat_tests, t) in (rw here (has_first s sites), let z : Some (start_place catalogue a) ≡ Some p = q in rw (← here) (let y = z in cc))
+    go false t q rest = (has_more a sites s (rest q).0, (rest q).1)
 
 -- the site that moved, or another one as it was
 pub data NowIs (w : Scene) (s : ℕ) (moved : SiteState) (k : ℕ) (y : SiteState) : Type 0 where
@@ -135,7 +159,7 @@ pub record StartKept (d : DurableState) : Type 0 where
   pub decisions : d.decisions ≡ []
   pub dated : (a : ℕ × Stored) → Has d.copies a → a.1.date ≡ opening
 
-start_dated : (catalogue : Catalogue) (s : ℕ) (a : ℕ × Stored) → Has (start_copies catalogue s) a → a.1.date ≡ opening
+pub start_dated : (catalogue : Catalogue) (s : ℕ) (a : ℕ × Stored) → Has (start_copies catalogue s) a → a.1.date ≡ opening
 start_dated catalogue s a h = let r = map_has (λ (placed : ℕ × RecordEntry). (placed.0, record { value = placed.1.start; date = opening })) _ a h in ap (λ (c : ℕ × Stored). c.1.date) (sym r.2)
 
 pub start_kept : (catalogue : Catalogue) (s : ℕ) → StartKept (kept_at (scene_of (start_world catalogue)) s)
@@ -160,20 +184,20 @@ start_sent catalogue m h = has_none m h
 pub start_entered : (catalogue : Catalogue) (e : Commit) → Has (scene_of (start_world catalogue)).journal e → ⊥
 start_entered catalogue e h = has_none e (rw start_journal at h)
 
--- an invariant above another one, which holds before and after each event
-pub record With (A G : Scene → Type 0) (w : Scene) : Type 0 where
-  pub lower : A w
-  pub upper : G w
+-- an invariant beside one that is proved
+pub record With (I P : Scene → Type 0) (w : Scene) : Type 0 where
+  pub base : I w
+  pub more : P w
 
-pub record Above (catalogue : Catalogue) (A G : Scene → Type 0) : Type 0 where
-  pub starts : G (scene_of (start_world catalogue))
-  pub acts : (w : Scene) (s : ℕ) (x : SiteState) (given : Input) → plain_at w s ≡ Some x → Arrives w s given → A w → A (acted w s x (step catalogue x given)) → G w → G (acted w s x (step catalogue x given))
-  pub quiet : (w new : Scene) (s : ℕ) → Quiet catalogue w new s → A w → A new → G w → G new
+pub record Beside (catalogue : Catalogue) (I P : Scene → Type 0) : Type 0 where
+  pub starts : P (scene_of (start_world catalogue))
+  pub acts : (w : Scene) (s : ℕ) (x : SiteState) (given : Input) → plain_at w s ≡ Some x → Arrives w s given → I w → P w → P (acted w s x (step catalogue x given))
+  pub quiet : (w new : Scene) (s : ℕ) → Quiet catalogue w new s → I w → P w → P new
 
-pub with_last : (catalogue : Catalogue) (A G : Scene → Type 0) → Lasts catalogue A → Above catalogue A G → Lasts catalogue (With A G)
-with_last catalogue A G a g = record {
-  starts = record { lower = a.starts; upper = g.starts };
-  acts = λ w s x given up r inv. let now = a.acts w s x given up r inv.lower in record { lower = now; upper = g.acts w s x given up r inv.lower now inv.upper };
-  crashes = λ w s inv. let now = a.crashes w s inv.lower in record { lower = now; upper = g.quiet w (crashed w s) s (crash_quiet catalogue w s) inv.lower now inv.upper };
-  restarts = λ w s place e u i inv. let now = a.restarts w s place e u i inv.lower in record { lower = now; upper = g.quiet w (restarted catalogue w s) s (restart_quiet catalogue w s place e i) inv.lower now inv.upper };
+pub with_last : (catalogue : Catalogue) (I P : Scene → Type 0) → Lasts catalogue I → Beside catalogue I P → Lasts catalogue (With I P)
+with_last catalogue I P i p = record {
+  starts = record { base = i.starts; more = p.starts };
+  acts = λ w s x given up r h. record { base = i.acts w s x given up r h.base; more = p.acts w s x given up r h.base h.more };
+  crashes = λ w s h. record { base = i.crashes w s h.base; more = p.quiet w (crashed w s) s (crash_quiet catalogue w s) h.base h.more };
+  restarts = λ w s place e u a h. record { base = i.restarts w s place e u a h.base; more = p.quiet w (restarted catalogue w s) s (restart_quiet catalogue w s place e a) h.base h.more };
 }

@@ -1,32 +1,24 @@
--- The answers that transactions keep, in every world: a live one keeps no end, and a finished one no other end than its own.
-use Rattle.std.proofs.Common.{◌≡◌, ◌⊎◌, ◌∙◌, ap, sym, subst, ℕ, false, List, [], ◌∷◌, inl, inr, ⊎_elim}
+-- No transaction comes to keep another end than its own.
+use Rattle.std.proofs.Common.{◌≡◌, ◌∙◌, ap, sym, subst, ℕ, false, List, [], ◌∷◌, inl, inr, ⊎_elim}
 use Rattle.std.specs.Prelude.{Option, Some, None, option_map, option_to_list}
 use Rattle.vp_model.specs.Types.{Input, Answer, Pending, Live, Finished}
 use Rattle.vp_model.specs.Catalogue.{Catalogue, start_copies}
 use Rattle.vp_model.specs.Durable.{empty_durable}
 use Rattle.vp_model.specs.Transactions.{answer_of}
 use Rattle.vp_model.specs.Site.{SiteState, Stepped}
-use Rattle.vp_model.specs.Step.{step}
 use Rattle.vp_laws.proofs.Members.{Has, has_none, has_one_is, has_cases}
 use Rattle.vp_laws.proofs.Table.{is_end}
 use Rattle.vp_laws.proofs.TableSteps.{LiveNow}
 use Rattle.vp_laws.proofs.TableReplies.{completed_words}
 use Rattle.vp_laws.proofs.TableFinished.{EndsNow}
-use Rattle.vp_laws.proofs.Scenes.{Scene, plain_at, kept_at, acted}
-use Rattle.vp_laws.proofs.Events.{Lasts}
-use Rattle.vp_laws.proofs.Worlds.{NowIs, now_is, QuietIs, quiet_is, started, With, Above, with_last, started_idle, live_still, no_finished}
-use Rattle.vp_laws.proofs.InvOrder.{Twentieth, order_last}
-use Rattle.vp_laws.proofs.Tower.{Known, known, Does, does}
+use Rattle.vp_laws.proofs.Scenes.{Scene, plain_at, kept_at, scene_of}
+use Rattle.vp_laws.proofs.Worlds.{NowIs, now_is, QuietIs, quiet_is, started, started_idle, live_still, no_finished, Quiet}
+use Rattle.vp_laws.proofs.Does.{Does}
+use Rattle.vp_laws.proofs.InvOwnEnds.{IsOwnEnd, InvOwnEnds}
+use Rattle.vp_laws.proofs.Known.{Known}
+use Rattle.vp_model.specs.World.{start_world}
 
--- the answer is no end, or that of the finished transaction
-abbrev pub IsOwnEnd : Finished → Answer → Type 0
-IsOwnEnd f a = (is_end a ≡ false) ⊎ ((number : ℕ) × (answer_of f.txn number f.ending ≡ a))
-
-pub record InvKept (w : Scene) : Type 0 where
-  pub live : (s : ℕ) (x : SiteState) (t : Live) (a : Answer) → plain_at w s ≡ Some x → Has x.live t → Has t.answers a → is_end a ≡ false
-  pub finished : (s : ℕ) (x : SiteState) (f : Finished) (a : Answer) → plain_at w s ≡ Some x → Has x.finished f → Has f.answers a → IsOwnEnd f a
-
-module _ (catalogue : Catalogue) (w new : Scene) (s : ℕ) (x : SiteState) (given : Input) (o : Stepped) (k : Known catalogue w) (n : Known catalogue new) (d : Does catalogue w new s x given o) (inv : InvKept w) where
+module _ (catalogue : Catalogue) (w new : Scene) (s : ℕ) (x : SiteState) (given : Input) (o : Stepped) (k : Known catalogue w) (n : Known catalogue new) (d : Does catalogue w new s x given o) (inv : InvOwnEnds w) where
   same_answers : (u t : Live) (a : Answer) → Has x.live u → u.answers ≡ t.answers → Has t.answers a → is_end a ≡ false
   same_answers u t a h same there = inv.live s x u a d.up h (rw same there)
 
@@ -53,8 +45,8 @@ module _ (catalogue : Catalogue) (w new : Scene) (s : ℕ) (x : SiteState) (give
       of_pending None a h = absurd (has_none a h)
       of_pending (Some p) a h = (p.number, has_one_is _ a h)
 
-  kept_keep : InvKept new
-  kept_keep = record {
+  pub own_ends_keep : InvOwnEnds new
+  own_ends_keep = record {
     live = λ j y t a up h there. live_at j y t a h there (now_is w new s x o d.st j y up);
     finished = λ j y f a up h there. finished_at j y f a h there (now_is w new s x o d.st j y up);
   }
@@ -70,29 +62,18 @@ module _ (catalogue : Catalogue) (w new : Scene) (s : ℕ) (x : SiteState) (give
           (λ new. ends_now f new a there)
           (d.finished f (subst (λ (y : SiteState). Has y.finished f) (sym same) h))
 
-abbrev pub TwentyFirst : Catalogue → Scene → Type 0
-TwentyFirst catalogue w = With (Twentieth catalogue) InvKept w
+pub own_ends_starts : (catalogue : Catalogue) → InvOwnEnds (scene_of (start_world catalogue))
+own_ends_starts catalogue = record {
+  live = λ s x t a up h there. absurd (started_idle catalogue s x t up h);
+  finished = λ s x f a up h there. absurd (no_finished catalogue s (empty_durable (start_copies catalogue s)) f (subst (λ (x : SiteState). Has x.finished f) (sym (started catalogue s x up)) h));
+}
 
-kept_above : (catalogue : Catalogue) → Above catalogue (Twentieth catalogue) InvKept
-kept_above catalogue = record {
-  starts = record {
-    live = λ s x t a up h there. absurd (started_idle catalogue s x t up h);
-    finished = λ s x f a up h there. absurd (no_finished catalogue s (empty_durable (start_copies catalogue s)) f (subst (λ (x : SiteState). Has x.finished f) (sym (started catalogue s x up)) h));
-  };
-  acts = λ w s x given up r low now inv.
-      let new = acted w s x (step catalogue x given) in
-      let k = known catalogue w low.lower.lower.lower in
-      let n = known catalogue new now.lower.lower.lower in
-      kept_keep catalogue w new s x given (step catalogue x given) k n (does catalogue w s x given up r k n) inv;
-  quiet = λ w new s q low now inv. record {
-    live = λ j y t a up h there. inv.live j y t a (live_still catalogue w s j y t h (quiet_is catalogue w new s q j y up)) h there;
-    finished = λ j y f a up h there. inv.finished j y f a (still_finished w s j y f h (quiet_is catalogue w new s q j y up)) h there;
-  };
+pub own_ends_quiet : (catalogue : Catalogue) (w new : Scene) (s : ℕ) → Quiet catalogue w new s → InvOwnEnds w → InvOwnEnds new
+own_ends_quiet catalogue w new s q inv = record {
+  live = λ j y t a up h there. inv.live j y t a (live_still catalogue w s j y t h (quiet_is catalogue w new s q j y up)) h there;
+  finished = λ j y f a up h there. inv.finished j y f a (still_finished w s j y f h (quiet_is catalogue w new s q j y up)) h there;
 }
   where
     still_finished : (w : Scene) (s j : ℕ) (y : SiteState) (f : Finished) → Has y.finished f → QuietIs catalogue w s j y → plain_at w j ≡ Some y
     still_finished w s j y f h (QuietIs.other n old) = old
     still_finished w s j y f h (QuietIs.here z same) = absurd (no_finished catalogue s (kept_at w s) f (subst (λ (y : SiteState). Has y.finished f) (sym same) h))
-
-pub kept_last : (catalogue : Catalogue) → Lasts catalogue (TwentyFirst catalogue)
-kept_last catalogue = with_last catalogue (Twentieth catalogue) InvKept (order_last catalogue) (kept_above catalogue)

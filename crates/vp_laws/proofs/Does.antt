@@ -1,4 +1,4 @@
--- All that is proved of a world so far, by name, and all that is known of one step of it.
+-- What one step does, of a site of which all is known: what every later proof of a step goes by.
 use Rattle.std.proofs.Common.{◌≡◌, ◌∙◌, ◌≤◌, inl, ap, sym, subst, ℕ, Bool, true}
 use Rattle.std.specs.Prelude.{Some}
 use Rattle.vp_model.specs.Types.{View, Input, Message, Live}
@@ -29,114 +29,69 @@ use Rattle.vp_laws.proofs.TableCovered.{Quits, quits}
 use Rattle.vp_laws.proofs.Scenes.{Scene, plain_at, Acted, acted, stepping}
 use Rattle.vp_laws.proofs.Events.{Arrives}
 use Rattle.vp_laws.proofs.Worlds.{NowIs}
-use Rattle.vp_laws.proofs.InvViews.{InvViews, SiteOk}
-use Rattle.vp_laws.proofs.InvLed.{InvLed}
-use Rattle.vp_laws.proofs.InvBelow.{InvBelow}
-use Rattle.vp_laws.proofs.InvNames.{UsedTxn, InvNames, Grows, at_most_equal}
-use Rattle.vp_laws.proofs.InvVotes.{InvVotes}
-use Rattle.vp_laws.proofs.InvEndings.{InvEndings, fresh}
-use Rattle.vp_laws.proofs.InvShares.{InvShares}
-use Rattle.vp_laws.proofs.InvOps.{InvOps}
-use Rattle.vp_laws.proofs.InvAnswers.{InvAnswers}
-use Rattle.vp_laws.proofs.InvEntered.{InvEntered}
-use Rattle.vp_laws.proofs.InvLived.{InvLived}
-use Rattle.vp_laws.proofs.InvSettled.{InvSettled}
-use Rattle.vp_laws.proofs.InvGuards.{InvGuards, outcomes, awaited, invited}
-use Rattle.vp_laws.proofs.InvUsed.{HasAnswered, Was, Split, was, split, InvUsed}
-use Rattle.vp_laws.proofs.InvDated.{InvDated}
-use Rattle.vp_laws.proofs.InvReads.{InvReads}
-use Rattle.vp_laws.proofs.InvHeld.{InvHeld}
-use Rattle.vp_laws.proofs.InvListed.{InvListed, Seventeenth}
-
-pub record Known (catalogue : Catalogue) (w : Scene) : Type 0 where
-  pub views : InvViews catalogue w
-  pub led : InvLed w
-  pub below : InvBelow w
-  pub names : InvNames w
-  pub votes : InvVotes catalogue w
-  pub ends : InvEndings w
-  pub shares : InvShares catalogue w
-  pub ops : InvOps catalogue w
-  pub answers : InvAnswers catalogue w
-  pub entered : InvEntered catalogue w
-  pub lived : InvLived w
-  pub settled : InvSettled catalogue w
-  pub guards : InvGuards catalogue w
-  pub used : InvUsed catalogue w
-  pub dated : InvDated catalogue w
-  pub reads : InvReads catalogue w
-  pub held : InvHeld catalogue w
-  pub listed : InvListed catalogue w
-
-pub known : (catalogue : Catalogue) (w : Scene) → Seventeenth catalogue w → Known catalogue w
-known catalogue w inv =
-    let sixteenth = inv.lower in
-    let fifteenth = sixteenth.lower in
-    let fourteenth = fifteenth.lower in
-    let thirteenth = fourteenth.lower in
-    let twelfth = thirteenth.lower in
-    let eleventh = twelfth.lower in
-    let tenth = eleventh.lower in
-    let ninth = tenth.lower in
-    let eighth = ninth.lower in
-    let seventh = eighth.lower in
-    let sixth = seventh.lower in
-    let fifth = sixth.lower in
-    let fourth = fifth.lower in
-    let second = fourth.third.second in
-    record {
-      views = second.first.views;
-      led = second.first.led;
-      below = second.below;
-      names = fourth.third.names;
-      votes = fourth.votes;
-      ends = fifth.upper;
-      shares = sixth.upper;
-      ops = seventh.upper;
-      answers = eighth.upper;
-      entered = ninth.upper;
-      lived = tenth.upper;
-      settled = eleventh.upper;
-      guards = twelfth.upper;
-      used = thirteenth.upper;
-      dated = fourteenth.upper;
-      reads = fifteenth.upper;
-      held = sixteenth.upper;
-      listed = inv.upper;
-    }
+use Rattle.vp_laws.proofs.InvViews.{SiteOk}
+use Rattle.vp_laws.proofs.InvNames.{UsedTxn}
+use Rattle.vp_laws.proofs.InvUsed.{HasAnswered}
+use Rattle.vp_laws.proofs.KeepingEndings.{fresh}
+use Rattle.vp_laws.proofs.KeepingGuards.{outcomes, awaited, invited}
+use Rattle.vp_laws.proofs.KeepingNames.{Grows, at_most_equal}
+use Rattle.vp_laws.proofs.KeepingUsed.{Was, Split, was, split, owned}
+use Rattle.vp_laws.proofs.Known.{Known}
 
 -- one step of the site s, which was x and has done o, from w to new
 pub record Does (catalogue : Catalogue) (w new : Scene) (s : ℕ) (x : SiteState) (given : Input) (o : Stepped) : Type 0 where
+  -- the site was up
   pub up : plain_at w s ≡ Some x
+  -- what came was sent to it
   pub arrives : Arrives w s given
+  -- a message that came was sent
   pub came : (from : ℕ) (m : Message) → Comes given from m → Has w.sent (letter from s m)
+  -- the site by its promise and views
   pub here : SiteOk w s x
-  pub here_now : SiteOk new s o.site
+  -- its own transactions
   pub led : Led x
+  -- its parts, doubts and dates
   pub below : Below x
+  -- what the step tells of views
   pub local : Local x given o
+  -- how transactions end in it
   pub endings : Endings x given o.site.coordinator o.effects.messages o.effects.commits
+  -- where its live transactions, requests and entries come from
   pub steps : Steps catalogue x given o.site.coordinator o.effects.messages o.effects.commits
+  -- where its parts, doubts and answers come from
   pub shares : Shares x given o
+  -- names that were used stay so
   pub grows : Grows w new s
+  -- where finished transactions come from
   pub finished : FinishedNow x o.site.coordinator o.effects.messages o.effects.commits
+  -- what it replies
   pub replying : Replying x o.site.live o.effects.commits o.effects.replies
+  -- a step with an entry changes no other live transaction
   pub alone : Alone x o.site.coordinator o.effects.messages o.effects.commits
+  -- whom its decisions wait for
   pub waits : Waits catalogue x given o.site.coordinator o.effects.messages o.effects.commits
+  -- what it gives up
   pub leaves : Leaves x given o
+  -- its locks after the step
   pub guards : Guards catalogue x given o
+  -- where copies and kept answers come from
   pub copies : Copies catalogue x given o
+  -- why a record is not under refresh
   pub unlisting : Unlisting catalogue x given o
+  -- why one that may be used is not
   pub quits : (rec : ℕ) (v : View) → o.site.held ≡ Some v → is_open catalogue o.site rec ≡ true → Has (keys x.copies) rec → IsUnlisted o.site.refresh rec → Quits catalogue x given o rec
+  -- what a live transaction of a used name was before
   pub was : (j : ℕ) (y : SiteState) (t : Live) → UsedTxn w t.txn → Has y.live t → NowIs w s o.site j y → Was w j t
+  -- an answer was given before, or is given now
   pub split : (j : ℕ) (y : SiteState) (t : Live) → NowIs w s o.site j y → Has y.live t → (q rec : ℕ) (exclusive : Bool) → HasAnswered new q t.txn rec exclusive → Split w s x given o j t q rec exclusive
+  -- what the step changes of the world
   pub st : Acted w new s x o
 
 came_in : (w : Scene) (s : ℕ) (given : Input) → Arrives w s given → (from : ℕ) (m : Message) → Comes given from m → Has w.sent (letter from s m)
 came_in w s given r from m e = rw e at r
 
-pub does : (catalogue : Catalogue) (w : Scene) (s : ℕ) (x : SiteState) (given : Input) → plain_at w s ≡ Some x → Arrives w s given → Known catalogue w → Known catalogue (acted w s x (step catalogue x given)) → Does catalogue w (acted w s x (step catalogue x given)) s x given (step catalogue x given)
-does catalogue w s x given up r k n =
+pub does : (catalogue : Catalogue) (w : Scene) (s : ℕ) (x : SiteState) (given : Input) → plain_at w s ≡ Some x → Arrives w s given → Known catalogue w → Does catalogue w (acted w s x (step catalogue x given)) s x given (step catalogue x given)
+does catalogue w s x given up r k =
     let o = step catalogue x given in
     let ok = k.views.site s x up in
     let led = k.led.site s x up in
@@ -155,7 +110,6 @@ does catalogue w s x given up r k n =
       arrives = r;
       came = came_in w s given r;
       here = ok;
-      here_now = n.views.site s o.site st.now;
       led = led;
       below = below;
       local = local-step catalogue x given ok.tidy;
@@ -175,10 +129,7 @@ does catalogue w s x given up r k n =
       copies = copies-step catalogue x given ok.tidy (λ r h. let q = locks.lower r h in (q.0, q.1));
       unlisting = unlisting-step catalogue x given ok.tidy (λ r h. let q = locks.lower r h in (q.0, q.1));
       quits = quits catalogue x given (λ e. (led.idle e).1) ok.tidy (unlisting-step catalogue x given ok.tidy (λ r h. let q = locks.lower r h in (q.0, q.1)));
-      was = was catalogue w (acted w s x o) s x given up r ok.id (ap (λ (d : DurableState). d.promise) ok.kept) k.views k.led (owned w k) k.names k.ends k.shares k.answers k.used (steps-step catalogue x given led apart).kept (shares-step catalogue x given) (leaves-step catalogue x given) locks_now st;
-      split = split catalogue w (acted w s x o) s x given up r ok.id (ap (λ (d : DurableState). d.promise) ok.kept) k.views k.led (owned w k) k.names k.ends k.shares k.answers k.used (steps-step catalogue x given led apart).kept (shares-step catalogue x given) (leaves-step catalogue x given) locks_now st;
+      was = was catalogue w (acted w s x o) s x given up r ok.id (ap (λ (d : DurableState). d.promise) ok.kept) k.views k.led (owned catalogue w k.views k.led) k.names k.ends k.shares k.answers k.used (steps-step catalogue x given led apart).kept (shares-step catalogue x given) (leaves-step catalogue x given) locks_now st;
+      split = split catalogue w (acted w s x o) s x given up r ok.id (ap (λ (d : DurableState). d.promise) ok.kept) k.views k.led (owned catalogue w k.views k.led) k.names k.ends k.shares k.answers k.used (steps-step catalogue x given led apart).kept (shares-step catalogue x given) (leaves-step catalogue x given) locks_now st;
       st = st;
     }
-  where
-    owned : (w : Scene) → Known catalogue w → (k : ℕ) (y : SiteState) (t : Live) → plain_at w k ≡ Some y → Has y.live t → t.txn.site ≡ k
-    owned w k j y t g h = ((k.led.site j y g).names t h).0 ∙ (k.views.site j y g).id
