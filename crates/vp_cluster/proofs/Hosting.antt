@@ -11,7 +11,7 @@ use Rattle.vp_model.specs.Catalogue.{Catalogue, sites_of}
 use Rattle.vp_model.specs.Site.{SiteState}
 use Rattle.vp_model.specs.Step.{start}
 use Rattle.vp_laws.specs.Shapes.{IsShaped}
-use Rattle.vp_laws.proofs.ShapeSteps.{step_forms}
+use Rattle.vp_laws.proofs.Shapes.Steps.{step_forms}
 use Rattle.vp_outside.specs.Disk.{Steps}
 use Rattle.vp_outside.specs.Changes.{asked_of, changes_of, content_of, state_after}
 use Rattle.vp_outside.specs.declared.changes.Change.{Change}

@@ -9,13 +9,13 @@ use Rattle.vp_model.specs.Catalogue.{Catalogue}
 use Rattle.vp_model.specs.World.{Place, WorldState, Moment, Schedule, start_place, start_world, run_of, moments_of, numbered_lines}
 use Rattle.vp_model.specs.Limits.{Limits, limit_reached, lines_within}
 use Rattle.vp_laws.specs.ShapeLaws.{IsEvent}
-use Rattle.vp_laws.proofs.Members.{Has, has_first, has_more}
-use Rattle.vp_laws.proofs.Events.{in_each}
-use Rattle.vp_laws.proofs.Worlds.{With}
-use Rattle.vp_laws.proofs.InvViews.{InvViews}
-use Rattle.vp_laws.proofs.Known.{Known}
-use Rattle.vp_laws.proofs.KeepingViews.{views_last}
-use Rattle.vp_laws.proofs.CutTraces.{limits_cut_traces}
+use Rattle.vp_laws.proofs.Lists.Members.{Has, has_first, has_more}
+use Rattle.vp_laws.proofs.Worlds.Events.{in_each}
+use Rattle.vp_laws.proofs.Worlds.Sites.{With}
+use Rattle.vp_laws.proofs.Invariant.Views.{InvViews}
+use Rattle.vp_laws.proofs.Invariant.Known.{Known}
+use Rattle.vp_laws.proofs.Keeping.Views.{views_last}
+use Rattle.vp_laws.proofs.Words.CutTraces.{limits_cut_traces}
 use Rattle.vp_routes.proofs.InvRoutes.{InvRoutes, routes_last}
 use Rattle.vp_stable.specs.Halves.{HaveBatches}
 use Rattle.vp_kept.specs.Kept.{kept}

@@ -12,19 +12,19 @@ use Rattle.vp_model.specs.Site.{SiteState}
 use Rattle.vp_model.specs.Step.{step, start, durable_of}
 use Rattle.vp_model.specs.World.{Place, WorldState, Moment, Schedule, place_of, start_place, after_step, restart_place, moments_of}
 use Rattle.vp_laws.specs.ShapeLaws.{IsEvent, IsPlace, IsWorld, message_frame}
-use Rattle.vp_laws.proofs.Members.{Has, contains, find_has}
-use Rattle.vp_laws.proofs.Scenes.{place-id}
-use Rattle.vp_laws.proofs.Events.{in_each, in_last}
-use Rattle.vp_laws.proofs.Worlds.{With}
-use Rattle.vp_laws.proofs.InvViews.{InvViews}
-use Rattle.vp_laws.proofs.Known.{Known}
-use Rattle.vp_laws.proofs.KeepingViews.{views_last}
-use Rattle.vp_laws.proofs.TableDurable.{step-folds}
+use Rattle.vp_laws.proofs.Lists.Members.{Has, contains, find_has}
+use Rattle.vp_laws.proofs.Worlds.Scenes.{place-id}
+use Rattle.vp_laws.proofs.Worlds.Events.{in_each, in_last}
+use Rattle.vp_laws.proofs.Worlds.Sites.{With}
+use Rattle.vp_laws.proofs.Invariant.Views.{InvViews}
+use Rattle.vp_laws.proofs.Invariant.Known.{Known}
+use Rattle.vp_laws.proofs.Keeping.Views.{views_last}
+use Rattle.vp_laws.proofs.Table.Durable.{step-folds}
 use Rattle.vp_routes.proofs.InvRoutes.{InvRoutes, routes_last}
-use Rattle.vp_laws.proofs.ShapeWorlds.{each_world}
+use Rattle.vp_laws.proofs.Shapes.Worlds.{each_world}
 use Rattle.vp_laws.specs.Shapes.{IsShaped}
-use Rattle.vp_laws.proofs.ShapeLists.{all_at}
-use Rattle.vp_laws.proofs.ShapeMoves.{some_at}
+use Rattle.vp_laws.proofs.Lists.Items.{all_at}
+use Rattle.vp_laws.proofs.Shapes.Moves.{some_at}
 use Rattle.vp_outside.specs.declared.datagram.Datagram.{Datagram}
 use Rattle.vp_runs.specs.declared.arrival.Arrival.TheVariants as arrives
 use Rattle.vp_runs.specs.Arrivals.{arrival}

@@ -1,26 +1,32 @@
--- The whole invariant: all that is known of sites and messages, and what it gives of copies, of the order of entries and of ends.
-use Rattle.vp_model.specs.Catalogue.{Catalogue}
-use Rattle.vp_laws.proofs.InvBase.{InvBase}
-use Rattle.vp_laws.proofs.InvCopies.{InvCopies}
-use Rattle.vp_laws.proofs.InvOrder.{InvOrder}
-use Rattle.vp_laws.proofs.InvOwnEnds.{InvOwnEnds}
-use Rattle.vp_laws.proofs.InvReading.{InvReading}
-use Rattle.vp_laws.proofs.InvRefresh.{InvRefresh}
-use Rattle.vp_laws.proofs.Known.{Known}
-use Rattle.vp_laws.proofs.Scenes.{Scene}
-
-pub record Invariant (catalogue : Catalogue) (w : Scene) : Type 0 where
-  -- each part about sites and messages
-  pub known : Known catalogue w
-  -- copies have the values of their dates
-  pub copies : InvCopies catalogue w
-  -- answers to a refresh have them too, and what is used is open
-  pub refresh : InvRefresh catalogue w
-  -- between the date of a copy and a standing doubt on it no entry wrote the record
-  pub base : InvBase w
-  -- reads are of what was not written, or were answered
-  pub reading : InvReading catalogue w
-  -- the entries by view are a serial run
-  pub order : InvOrder catalogue w
-  -- no transaction keeps another end than its own
-  pub own_ends : InvOwnEnds w
+-- The invariant: a record in the file of its name for each part, a line of words for each clause, and what follows from a part in one world.
+-- It uses Lists, Journal, Moves, Table and Worlds.
+pub mod Views
+pub mod Led
+pub mod Below
+pub mod Votes
+pub mod Endings
+pub mod Repeated
+pub mod Ops
+pub mod Lived
+pub mod HasLeft
+pub mod Dated
+pub mod Held
+pub mod Base
+pub mod Order
+pub mod OwnEnds
+pub mod Names
+pub mod Shares
+pub mod LiveUses
+pub mod Answers
+pub mod Guards
+pub mod Reads
+pub mod Closed
+pub mod Entered
+pub mod Used
+pub mod Listed
+pub mod Reading
+pub mod Settled
+pub mod Copies
+pub mod Refresh
+pub mod Known
+pub mod Invariant

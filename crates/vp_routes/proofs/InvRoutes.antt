@@ -12,21 +12,21 @@ use Rattle.vp_model.specs.Site.{SiteState, Stepped}
 use Rattle.vp_model.specs.Refresh.{other_holders}
 use Rattle.vp_model.specs.Step.{step, start, durable_of, locks_in_doubt}
 use Rattle.vp_model.specs.World.{Place, place_of, start_place, start_world, run_of}
-use Rattle.vp_laws.proofs.Members.{Has, has_none, has_cases, has_more, has_first, map_has, any_of, all_of}
-use Rattle.vp_laws.proofs.Lists.{put_has}
-use Rattle.vp_laws.proofs.Order.{AtMost}
-use Rattle.vp_laws.proofs.Scenes.{Scene, scene_of, kept_in, up_in, plain_at, kept_at, promise_at, acted, stepping, up-place}
-use Rattle.vp_laws.proofs.Worlds.{NowIs, now_is, KeptIs, kept_is, Quiet, QuietIs, quiet_is, quiet_kept, With, Beside, with_last, start_at}
-use Rattle.vp_laws.proofs.Events.{Arrives, Lasts, in_last}
-use Rattle.vp_laws.proofs.TableViews.{local-step}
-use Rattle.vp_laws.proofs.TableNames.{OwnerNamed, Named, Names}
-use Rattle.vp_laws.proofs.TableSteps.{LiveNow, steps-step}
-use Rattle.vp_laws.proofs.InvViews.{InvViews}
-use Rattle.vp_laws.proofs.Known.{Known}
-use Rattle.vp_laws.proofs.KeepingKnown.{known_last}
+use Rattle.vp_laws.proofs.Lists.Members.{Has, has_none, has_cases, has_more, has_first, map_has, any_of, all_of}
+use Rattle.vp_laws.proofs.Lists.Changes.{put_has}
+use Rattle.vp_laws.proofs.Lists.Views.{AtMost}
+use Rattle.vp_laws.proofs.Worlds.Scenes.{Scene, scene_of, kept_in, up_in, plain_at, kept_at, promise_at, acted, stepping, up-place}
+use Rattle.vp_laws.proofs.Worlds.Sites.{NowIs, now_is, KeptIs, kept_is, Quiet, QuietIs, quiet_is, quiet_kept, With, Beside, with_last, start_at}
+use Rattle.vp_laws.proofs.Worlds.Events.{Arrives, Lasts, in_last}
+use Rattle.vp_laws.proofs.Table.Views.{local-step}
+use Rattle.vp_laws.proofs.Table.Names.{OwnerNamed, Named, Names}
+use Rattle.vp_laws.proofs.Table.Steps.{LiveNow, steps-step}
+use Rattle.vp_laws.proofs.Invariant.Views.{InvViews}
+use Rattle.vp_laws.proofs.Invariant.Known.{Known}
+use Rattle.vp_laws.proofs.Keeping.Known.{known_last}
 use Rattle.vp_routes.specs.Routes.{IsBetweenSites, MessagesGoBetweenSites}
-use Rattle.vp_laws.proofs.ShapeCatalogue.{listed_is}
-use Rattle.vp_laws.proofs.Table.{Comes}
+use Rattle.vp_laws.proofs.Shapes.Catalogue.{listed_is}
+use Rattle.vp_laws.proofs.Moves.Table.{Comes}
 use Rattle.vp_routes.proofs.Holders.{other_holders_stand}
 use Rattle.vp_routes.proofs.TableRoutes.{OfSite, AnyView, Routed, routes-step}
 
