@@ -80,9 +80,11 @@ def without_worked_schedules(copy):
 def without_shapes(copy):
     """Takes out the laws of well-formed sites, so that the crates of frames and log records need no proof first."""
     crate = copy / "crates/vp_laws"
-    for path in [*crate.glob("proofs/Shape*.antt"), *crate.glob("specs/Shape*.antt"), crate / "src/shaped.rt"]:
+    for path in [*crate.glob("specs/Shape*.antt"), crate / "src/shaped.rt"]:
         path.unlink()
-    shutil.rmtree(crate / "proofs/shaped")
+    (crate / "proofs/Shapes.antt").unlink()
+    for name in ("Shapes", "shaped"):
+        shutil.rmtree(crate / "proofs" / name)
     shutil.rmtree(crate / "must-fail", ignore_errors=True)
     for path, word in [("proofs/Lib.antt", "Shape"), ("specs/Lib.antt", "Shape"), ("src/lib.rt", "shaped")]:
         kept = [line for line in (crate / path).read_text().splitlines() if word not in line]
@@ -108,8 +110,8 @@ def without_catalogues(copy):
     claims = laws / "src/claims.rt"
     claims.write_text(re.sub(r"(///.*\n)+pub fn sites_are_apart\(\)\n(    .*\n)+\{\}\n", "", claims.read_text()))
     shutil.rmtree(laws / "proofs/claims/sites_are_apart")
-    (laws / "proofs/Catalogues.antt").unlink()
-    replaced(laws / "proofs/Lib.antt", "pub mod Catalogues\n", "")
+    (laws / "proofs/Lists/Catalogues.antt").unlink()
+    replaced(laws / "proofs/Lists.antt", "pub mod Catalogues\n", "")
 
 
 def left_out(folder, names):

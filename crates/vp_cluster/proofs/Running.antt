@@ -12,7 +12,7 @@ use Rattle.vp_model.specs.Types.event
 use Rattle.vp_model.specs.Limits.{world_limits, limit_reached, lines_within, trace_text_within}
 use Rattle.vp_model.specs.Texts.Trace.{line_text, trace_text}
 use Rattle.vp_laws.specs.ShapeLaws.{IsEvent}
-use Rattle.vp_laws.proofs.CutTraces.{limits_cut_traces}
+use Rattle.vp_laws.proofs.Words.CutTraces.{limits_cut_traces}
 use Rattle.vp_schedule.specs.Document.{IsSchedule}
 use Rattle.vp_schedule.specs.Events.{IsEvent as IsReadable}
 use Rattle.vp_world.specs.Known.{Known}

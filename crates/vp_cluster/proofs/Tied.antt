@@ -9,13 +9,13 @@ use Rattle.vp_model.specs.Catalogue.{Catalogue}
 use Rattle.vp_model.specs.World.{Place, WorldState, Moment, Schedule, start_place, start_world, run_of, moments_of, numbered_lines}
 use Rattle.vp_model.specs.Limits.{Limits, limit_reached, lines_within}
 use Rattle.vp_laws.specs.ShapeLaws.{IsEvent}
-use Rattle.vp_laws.proofs.Members.{Has, has_first, has_more}
-use Rattle.vp_laws.proofs.Events.{in_each}
-use Rattle.vp_laws.proofs.Worlds.{With}
-use Rattle.vp_laws.proofs.InvViews.{InvViews}
-use Rattle.vp_laws.proofs.InvVotes.{Fourth}
-use Rattle.vp_laws.proofs.Agreement.{views_last}
-use Rattle.vp_laws.proofs.CutTraces.{limits_cut_traces}
+use Rattle.vp_laws.proofs.Lists.Members.{Has, has_first, has_more}
+use Rattle.vp_laws.proofs.Worlds.Events.{in_each}
+use Rattle.vp_laws.proofs.Worlds.Sites.{With}
+use Rattle.vp_laws.proofs.Invariant.Views.{InvViews}
+use Rattle.vp_laws.proofs.Invariant.Known.{Known}
+use Rattle.vp_laws.proofs.Keeping.Views.{views_last}
+use Rattle.vp_laws.proofs.Words.CutTraces.{limits_cut_traces}
 use Rattle.vp_routes.proofs.InvRoutes.{InvRoutes, routes_last}
 use Rattle.vp_kept.proofs.Happened.{Effect, effect}
 use Rattle.vp_kept.proofs.Through.{Follow, moments_follow, starts_at}
@@ -74,7 +74,7 @@ module _ (s : Schedule) (k : IsCatalogue s.catalogue) (i : AllByRecursion IsEven
     event_is = events_are s.catalogue s.events i m has;
     views = (in_each s.catalogue (InvViews s.catalogue) (views_last s.catalogue) s.events m has).0;
     sent = sent_are s k i m has;
-    routed = λ sent h. ((in_each s.catalogue (With (Fourth s.catalogue) (InvRoutes s.catalogue k)) (routes_last s.catalogue k) s.events m has).1.upper.sent sent h).1;
+    routed = λ sent h. ((in_each s.catalogue (With (Known s.catalogue) (InvRoutes s.catalogue k)) (routes_last s.catalogue k) s.events m has).1.more.sent sent h).1;
   }
 
   pub nodes_are_tied : (begun ended : NodesValue) → Begin s.catalogue begun → FollowAll (numbered_lines s) begun ended → AreTied s.catalogue (moments_of s) (run_of s).world ended

@@ -16,12 +16,12 @@ use Rattle.vp_model.specs.Step.{step, start, durable_of}
 use Rattle.vp_model.specs.Told.{is_step}
 use Rattle.vp_model.specs.World.{Place, WorldState, Moment, place_of, after_step, restart_place}
 use Rattle.vp_laws.specs.ShapeLaws.{IsEvent, message_frame}
-use Rattle.vp_laws.proofs.Members.{Has, has_right}
-use Rattle.vp_laws.proofs.Order.{same_site}
-use Rattle.vp_laws.proofs.Scenes.{scene_of, kept_in, up-place, place-id}
-use Rattle.vp_laws.proofs.InvViews.{InvViews}
-use Rattle.vp_laws.proofs.TableViews.{local-step}
-use Rattle.vp_laws.proofs.TableDurable.{step-folds}
+use Rattle.vp_laws.proofs.Lists.Members.{Has, has_right}
+use Rattle.vp_laws.proofs.Lists.Views.{same_site}
+use Rattle.vp_laws.proofs.Worlds.Scenes.{scene_of, kept_in, up-place, place-id}
+use Rattle.vp_laws.proofs.Invariant.Views.{InvViews}
+use Rattle.vp_laws.proofs.Table.Views.{local-step}
+use Rattle.vp_laws.proofs.Table.Durable.{step-folds}
 use Rattle.vp_outside.specs.declared.datagram.Datagram.{Datagram}
 use Rattle.vp_runs.specs.Arrivals.{arrival}
 use Rattle.vp_runs.specs.Keeping.{durable_in, kept_with}

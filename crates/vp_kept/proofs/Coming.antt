@@ -11,9 +11,9 @@ use Rattle.vp_model.specs.Words.{keys, value_at}
 use Rattle.vp_model.specs.Catalogue.{Catalogue, sites_of}
 use Rattle.vp_model.specs.World.{WorldState}
 use Rattle.vp_laws.specs.ShapeLaws.{IsEvent, message_frame}
-use Rattle.vp_laws.proofs.Members.{Has, has_none, has_cons}
-use Rattle.vp_laws.proofs.Occurs.{Gives}
-use Rattle.vp_laws.proofs.Scenes.{message_at-has}
+use Rattle.vp_laws.proofs.Lists.Members.{Has, has_none, has_cons}
+use Rattle.vp_laws.proofs.Worlds.Occurs.{Gives}
+use Rattle.vp_laws.proofs.Worlds.Scenes.{message_at-has}
 use Rattle.vp_outside.specs.declared.datagram.Datagram.{Datagram}
 use Rattle.vp_wire.specs.declared.frame.Body.TheVariants as body
 use Rattle.vp_wire.specs.Grammar.{IsFrame, frame_of}

@@ -13,10 +13,10 @@ use Rattle.vp_model.specs.Step.{step}
 use Rattle.vp_model.specs.Told.{is_step}
 use Rattle.vp_model.specs.Justified.{site_named}
 use Rattle.vp_model.specs.World.{Place, WorldState, Moved, Moment, place_of, site_of, message_at, is_cut, change_place, after_step, site_step, at_site, deliver, crash, restart, restart_place, restart_from, cut, heal, happens, next, shows, moment}
-use Rattle.vp_laws.proofs.Keeps.{by_option, by_test}
-use Rattle.vp_laws.proofs.Order.{same_site}
-use Rattle.vp_laws.proofs.Scenes.{place-same, place-other, place-id}
-use Rattle.vp_laws.proofs.Occurs.{Gives}
+use Rattle.vp_laws.proofs.Lists.Keeps.{by_option, by_test}
+use Rattle.vp_laws.proofs.Lists.Views.{same_site}
+use Rattle.vp_laws.proofs.Worlds.Scenes.{place-same, place-other, place-id}
+use Rattle.vp_laws.proofs.Worlds.Occurs.{Gives}
 use Rattle.vp_runs.specs.Keeping.{kept_with}
 use Rattle.vp_kept.specs.Kept.{input_of, is_restart_of, with_life, with_start, kept_after}
 

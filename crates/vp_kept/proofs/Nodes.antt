@@ -12,19 +12,19 @@ use Rattle.vp_model.specs.Site.{SiteState}
 use Rattle.vp_model.specs.Step.{step, start, durable_of}
 use Rattle.vp_model.specs.World.{Place, WorldState, Moment, Schedule, place_of, start_place, after_step, restart_place, moments_of}
 use Rattle.vp_laws.specs.ShapeLaws.{IsEvent, IsPlace, IsWorld, message_frame}
-use Rattle.vp_laws.proofs.Members.{Has, contains, find_has}
-use Rattle.vp_laws.proofs.Scenes.{place-id}
-use Rattle.vp_laws.proofs.Events.{in_each, in_last}
-use Rattle.vp_laws.proofs.Worlds.{With}
-use Rattle.vp_laws.proofs.InvViews.{InvViews}
-use Rattle.vp_laws.proofs.InvVotes.{Fourth}
-use Rattle.vp_laws.proofs.Agreement.{views_last}
-use Rattle.vp_laws.proofs.TableDurable.{step-folds}
+use Rattle.vp_laws.proofs.Lists.Members.{Has, contains, find_has}
+use Rattle.vp_laws.proofs.Worlds.Scenes.{place-id}
+use Rattle.vp_laws.proofs.Worlds.Events.{in_each, in_last}
+use Rattle.vp_laws.proofs.Worlds.Sites.{With}
+use Rattle.vp_laws.proofs.Invariant.Views.{InvViews}
+use Rattle.vp_laws.proofs.Invariant.Known.{Known}
+use Rattle.vp_laws.proofs.Keeping.Views.{views_last}
+use Rattle.vp_laws.proofs.Table.Durable.{step-folds}
 use Rattle.vp_routes.proofs.InvRoutes.{InvRoutes, routes_last}
-use Rattle.vp_laws.proofs.ShapeWorlds.{each_world}
+use Rattle.vp_laws.proofs.Shapes.Worlds.{each_world}
 use Rattle.vp_laws.specs.Shapes.{IsShaped}
-use Rattle.vp_laws.proofs.ShapeLists.{all_at}
-use Rattle.vp_laws.proofs.ShapeMoves.{some_at}
+use Rattle.vp_laws.proofs.Lists.Items.{all_at}
+use Rattle.vp_laws.proofs.Shapes.Moves.{some_at}
 use Rattle.vp_outside.specs.declared.datagram.Datagram.{Datagram}
 use Rattle.vp_runs.specs.declared.arrival.Arrival.TheVariants as arrives
 use Rattle.vp_runs.specs.Arrivals.{arrival}
@@ -125,8 +125,8 @@ module _ (s : Schedule) (k : IsCatalogue s.catalogue) (i : AllByRecursion IsEven
   pub sent_are : (m : Moment) → Has (moments_of s) m → (sent : Sent) → Has m.before.sent sent → IsFrame (message_frame sent) × Has (sites_of s.catalogue) sent.from
   sent_are m has sent q =
       let world = (each_world s m k i (contains (moments_of s) m has)).0 in
-      let from = (in_each s.catalogue (With (Fourth s.catalogue) (InvRoutes s.catalogue k)) (routes_last s.catalogue k) s.events m has).0 in
-      (all_at (λ (sent : Sent). IsFrame (message_frame sent)) m.before.sent world.sent_are sent q, (from.upper.sent sent q).0)
+      let from = (in_each s.catalogue (With (Known s.catalogue) (InvRoutes s.catalogue k)) (routes_last s.catalogue k) s.events m has).0 in
+      (all_at (λ (sent : Sent). IsFrame (message_frame sent)) m.before.sent world.sent_are sent q, (from.more.sent sent q).0)
 
 module _ (s : Schedule) (id : ℕ) (k : IsCatalogue s.catalogue) (i : AllByRecursion IsEvent s.events) (listed : Has (sites_of s.catalogue) id) where
   of_node : (m : Moment) → Has (moments_of s) m → (old new : Place) (before after : List (List LogRecord)) → place_of id m.before.places ≡ Some old → Happened s.catalogue id m.line.event m.before old new before after

@@ -6,8 +6,8 @@ use Rattle.vp_model.specs.Types.event
 use Rattle.vp_model.specs.Catalogue.{Catalogue}
 use Rattle.vp_model.specs.World.{Run, Moment, flowing, one_step, flow, one_event, run_from, run_of, moments_of}
 use Rattle.vp_laws.specs.ShapeLaws.{IsEvent}
-use Rattle.vp_laws.proofs.Members.{Has, has_none, has_cases, has_one_is}
-use Rattle.vp_laws.proofs.Keeps.{for_some-keeps}
+use Rattle.vp_laws.proofs.Lists.Members.{Has, has_none, has_cases, has_one_is}
+use Rattle.vp_laws.proofs.Lists.Keeps.{for_some-keeps}
 
 module _ (catalogue : Catalogue) where
   -- each moment has an event of the schedule, or a delivery of a flow

@@ -6,11 +6,11 @@ use Rattle.vp_model.specs.Types.{LogRecord, Event}
 use Rattle.vp_model.specs.Words.{for_each}
 use Rattle.vp_model.specs.Catalogue.{Catalogue, sites_of}
 use Rattle.vp_model.specs.World.{Place, WorldState, Run, Moment, Schedule, place_of, next, moment, one_step, start_place, start_world, run_of, moments_of}
-use Rattle.vp_laws.proofs.Members.{Has, has_cons, has_first, has_more, has_none}
-use Rattle.vp_laws.proofs.Events.{in_last}
-use Rattle.vp_laws.proofs.Occurs.{run-keeps}
-use Rattle.vp_laws.proofs.InvViews.{InvViews}
-use Rattle.vp_laws.proofs.Agreement.{views_last}
+use Rattle.vp_laws.proofs.Lists.Members.{Has, has_cons, has_first, has_more, has_none}
+use Rattle.vp_laws.proofs.Worlds.Events.{in_last}
+use Rattle.vp_laws.proofs.Worlds.Occurs.{run-keeps}
+use Rattle.vp_laws.proofs.Invariant.Views.{InvViews}
+use Rattle.vp_laws.proofs.Keeping.Views.{views_last}
 use Rattle.vp_kept.specs.Kept.{with_life, kept_after, kept_in}
 use Rattle.vp_kept.proofs.Happened.{Effect, effect, Happened, happened, same_number}
 

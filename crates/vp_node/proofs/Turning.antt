@@ -11,9 +11,9 @@ use Rattle.vp_model.specs.Durable.{apply_all}
 use Rattle.vp_model.specs.Site.{SiteState}
 use Rattle.vp_model.specs.Step.{durable_of}
 use Rattle.vp_laws.specs.Shapes.{IsShaped}
-use Rattle.vp_laws.proofs.ShapeLog.{checkpoint_is}
-use Rattle.vp_laws.proofs.ShapeSteps.{step_forms, shaped_durable}
-use Rattle.vp_laws.proofs.TableDurable.{step-folds}
+use Rattle.vp_laws.proofs.Shapes.Log.{checkpoint_is}
+use Rattle.vp_laws.proofs.Shapes.Steps.{step_forms, shaped_durable}
+use Rattle.vp_laws.proofs.Table.Durable.{step-folds}
 use Rattle.vp_outside.specs.Disk.{Halves, DiskState, Becomes}
 use Rattle.vp_outside.specs.declared.datagram.Datagram.{Datagram}
 use Rattle.vp_stable.specs.Halves.{AreSettled}

@@ -19,7 +19,7 @@ use Rattle.vp_world.specs.Known.{Known}
 use Rattle.vp_world.specs.declared.end.WorldEnd.{WorldEnd}
 use Rattle.vp_world.specs.declared.end.WorldEnd.TheVariants as end
 use Rattle.vp_playing.specs.Played.{run_in, Sees}
-use Rattle.vp_laws.proofs.CutTraces.{limits_cut_traces}
+use Rattle.vp_laws.proofs.Words.CutTraces.{limits_cut_traces}
 use Rattle.vp_replay.specs.Summary.{replies_of}
 use Rattle.vp_replay.specs.Generated.{Makes}
 use Rattle.vp_replay.specs.declared.generating.Made.{Made}

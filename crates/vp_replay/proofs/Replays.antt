@@ -8,8 +8,8 @@ use Rattle.vp_model.specs.World.{Schedule, run_of}
 use Rattle.vp_model.specs.Texts.Trace.{trace_text}
 use Rattle.vp_model.specs.Texts.History.{history_lines}
 use Rattle.vp_schedule.specs.Document.{IsSchedule}
-use Rattle.vp_laws.proofs.ToldRuns.{one_copy_told}
-use Rattle.vp_laws.proofs.Catalogues.{catalogue_apart}
+use Rattle.vp_laws.proofs.Told.Runs.{one_copy_told}
+use Rattle.vp_laws.proofs.Lists.Catalogues.{catalogue_apart}
 use Rattle.vp_cluster.specs.Ran.{Runs}
 use Rattle.vp_cluster.specs.declared.cluster.Ran.{Ran}
 use Rattle.vp_replay.specs.Replayed.{IsDone}

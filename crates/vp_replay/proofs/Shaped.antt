@@ -22,10 +22,10 @@ use Rattle.vp_onecopy.specs.Playing.{op_record, CommitsWithin}
 use Rattle.vp_laws.specs.Shapes.{IsShaped, IsLive}
 use Rattle.vp_laws.specs.ShapeLaws.{IsEvent, IsPlace, IsWorld}
 use Rattle.vp_laws.specs.Entries.{record_in}
-use Rattle.vp_laws.proofs.ShapeWorlds.{last_world}
-use Rattle.vp_laws.proofs.EntryWords.{entered}
-use Rattle.vp_laws.proofs.Journal.{order_has}
-use Rattle.vp_laws.proofs.Members.{contains, has_of}
+use Rattle.vp_laws.proofs.Shapes.Worlds.{last_world}
+use Rattle.vp_laws.proofs.Words.Entries.{entered}
+use Rattle.vp_laws.proofs.Journal.Order.{order_has}
+use Rattle.vp_laws.proofs.Lists.Members.{contains, has_of}
 use Rattle.std.proofs.lemmas.Option.{slice_get_within}
 use Rattle.std.proofs.lemmas.List.{length-map, get_or_default}
 use Rattle.vp_replay.proofs.GeneratedCatalogue.{generated_is, name_is, number_is_value}

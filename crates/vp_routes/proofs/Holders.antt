@@ -9,7 +9,7 @@ use Rattle.vp_model.specs.Types.{View}
 use Rattle.vp_model.specs.Words.{has, keys}
 use Rattle.vp_model.specs.Catalogue.{Catalogue, RecordEntry, sites_of, weights_in, weights_of, holders}
 use Rattle.vp_model.specs.Refresh.{members_in, other_holders_in}
-use Rattle.vp_laws.proofs.Members.{Has, has_none, has_cons, has_from_test, filter_has}
+use Rattle.vp_laws.proofs.Lists.Members.{Has, has_none, has_cons, has_from_test, filter_has}
 
 module _ (c : Catalogue) (k : IsCatalogue c) where
   weights_stand : (above : ℕ) (ws : List (ℕ × ℕ)) → AreWeights (sites_of c) above ws → (q : ℕ) → Has (keys ws) q → Has (sites_of c) q

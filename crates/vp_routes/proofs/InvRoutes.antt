@@ -12,21 +12,21 @@ use Rattle.vp_model.specs.Site.{SiteState, Stepped}
 use Rattle.vp_model.specs.Refresh.{other_holders}
 use Rattle.vp_model.specs.Step.{step, start, durable_of, locks_in_doubt}
 use Rattle.vp_model.specs.World.{Place, place_of, start_place, start_world, run_of}
-use Rattle.vp_laws.proofs.Members.{Has, has_none, has_cases, has_more, has_first, map_has, any_of, all_of}
-use Rattle.vp_laws.proofs.Lists.{put_has}
-use Rattle.vp_laws.proofs.Order.{AtMost}
-use Rattle.vp_laws.proofs.Scenes.{Scene, scene_of, kept_in, up_in, plain_at, kept_at, promise_at, acted, stepping, up-place}
-use Rattle.vp_laws.proofs.Worlds.{NowIs, now_is, KeptIs, kept_is, Quiet, QuietIs, quiet_is, quiet_kept, With, Above, with_last}
-use Rattle.vp_laws.proofs.Events.{Arrives, Lasts, in_last}
-use Rattle.vp_laws.proofs.Agreement.{start_at}
-use Rattle.vp_laws.proofs.TableViews.{local-step}
-use Rattle.vp_laws.proofs.TableNames.{OwnerNamed, Named, Names}
-use Rattle.vp_laws.proofs.TableSteps.{LiveNow, steps-step}
-use Rattle.vp_laws.proofs.InvViews.{InvViews}
-use Rattle.vp_laws.proofs.InvVotes.{Fourth, votes_last}
+use Rattle.vp_laws.proofs.Lists.Members.{Has, has_none, has_cases, has_more, has_first, map_has, any_of, all_of}
+use Rattle.vp_laws.proofs.Lists.Changes.{put_has}
+use Rattle.vp_laws.proofs.Lists.Views.{AtMost}
+use Rattle.vp_laws.proofs.Worlds.Scenes.{Scene, scene_of, kept_in, up_in, plain_at, kept_at, promise_at, acted, stepping, up-place}
+use Rattle.vp_laws.proofs.Worlds.Sites.{NowIs, now_is, KeptIs, kept_is, Quiet, QuietIs, quiet_is, quiet_kept, With, Beside, with_last, start_at}
+use Rattle.vp_laws.proofs.Worlds.Events.{Arrives, Lasts, in_last}
+use Rattle.vp_laws.proofs.Table.Views.{local-step}
+use Rattle.vp_laws.proofs.Table.Names.{OwnerNamed, Named, Names}
+use Rattle.vp_laws.proofs.Table.Steps.{LiveNow, steps-step}
+use Rattle.vp_laws.proofs.Invariant.Views.{InvViews}
+use Rattle.vp_laws.proofs.Invariant.Known.{Known}
+use Rattle.vp_laws.proofs.Keeping.Known.{known_last}
 use Rattle.vp_routes.specs.Routes.{IsBetweenSites, MessagesGoBetweenSites}
-use Rattle.vp_laws.proofs.ShapeCatalogue.{listed_is}
-use Rattle.vp_laws.proofs.Table.{Comes}
+use Rattle.vp_laws.proofs.Shapes.Catalogue.{listed_is}
+use Rattle.vp_laws.proofs.Moves.Table.{Comes}
 use Rattle.vp_routes.proofs.Holders.{other_holders_stand}
 use Rattle.vp_routes.proofs.TableRoutes.{OfSite, AnyView, Routed, routes-step}
 
@@ -147,9 +147,9 @@ module _ (catalogue : Catalogue) (k : IsCatalogue catalogue) where
   parts_now x given all t (LiveNow.prepares u r h a e) q p = all u h q (rw (← e) at p)
   parts_now x given all t (LiveNow.begins view h e) q p = absurd (has_none q (rw (← e) at p))
 
-  module _ (w : Scene) (s : ℕ) (x : SiteState) (given : Input) (up : plain_at w s ≡ Some x) (a : Arrives w s given) (low : Fourth catalogue w) (inv : InvRoutes w) where
+  module _ (w : Scene) (s : ℕ) (x : SiteState) (given : Input) (up : plain_at w s ≡ Some x) (a : Arrives w s given) (known : Known catalogue w) (inv : InvRoutes w) where
     views : InvViews catalogue w
-    views = low.third.second.first.views
+    views = known.views
 
     abbrev o : Stepped
     o = step catalogue x given
@@ -172,10 +172,10 @@ module _ (catalogue : Catalogue) (k : IsCatalogue catalogue) where
 
     routed : Routed catalogue k o
     routed =
-        routes-step catalogue k x given (views.site s x up).tidy (low.third.second.first.led.site s x up) (inv.names s x up) here waits (λ t h q p. inv.parts s x t up h q p) invited came
+        routes-step catalogue k x given (views.site s x up).tidy (known.led.site s x up) (inv.names s x up) here waits (λ t h q p. inv.parts s x t up h q p) invited came
 
     live_now : (t : Live) → Has o.site.live t → (q : ℕ) → Has t.parts q → S q
-    live_now t h = parts_now x given (λ t h q p. inv.parts s x t up h q p) t ((steps-step catalogue x given (low.third.second.first.led.site s x up) (low.votes.site s x up)).kept.live t h)
+    live_now t h = parts_now x given (λ t h q p. inv.parts s x t up h q p) t ((steps-step catalogue x given (known.led.site s x up) (known.votes.site s x up)).kept.live t h)
 
     kept_now : KeptRoutes (durable_of o.site)
     kept_now = record { doubts = λ d h. (routed.0.names.doubts d h).0; decisions = routed.0.names.decisions; waiting = routed.1.waiting }
@@ -226,20 +226,20 @@ module _ (catalogue : Catalogue) (k : IsCatalogue catalogue) where
       parts_at n y t h (QuietIs.here e same) = no_parts s (kept_at w s) y t same h
       parts_at n y t h (QuietIs.other e old) = inv.parts n y t old h
 
-  routes_above : Above catalogue (Fourth catalogue) InvRoutes
-  routes_above = record {
+  routes_beside : Beside catalogue (Known catalogue) InvRoutes
+  routes_beside = record {
     starts = starts_so;
-    acts = λ w s x given up a low now inv. acts_so w s x given up a low inv;
-    quiet = λ w new s q low now inv. quiet_so w new s q inv;
+    acts = λ w s x given up a known inv. acts_so w s x given up a known inv;
+    quiet = λ w new s q known inv. quiet_so w new s q inv;
   }
 
-  pub routes_last : Lasts catalogue (With (Fourth catalogue) InvRoutes)
-  routes_last = with_last catalogue (Fourth catalogue) InvRoutes (votes_last catalogue) routes_above
+  pub routes_last : Lasts catalogue (With (Known catalogue) InvRoutes)
+  routes_last = with_last catalogue (Known catalogue) InvRoutes (known_last catalogue) routes_beside
 
 pub messages_go_between_sites : MessagesGoBetweenSites
 messages_go_between_sites s k =
-    let inv = in_last s.catalogue (With (Fourth s.catalogue) (InvRoutes s.catalogue k)) (routes_last s.catalogue k) s.events in
-    all_of (IsBetweenSites s.catalogue) (run_of s).world.sent (λ m h. let z = inv.upper.sent m h in record { from_is = listed m.from z.0; to_is = listed m.to z.1 })
+    let inv = in_last s.catalogue (With (Known s.catalogue) (InvRoutes s.catalogue k)) (routes_last s.catalogue k) s.events in
+    all_of (IsBetweenSites s.catalogue) (run_of s).world.sent (λ m h. let z = inv.more.sent m h in record { from_is = listed m.from z.0; to_is = listed m.to z.1 })
   where
     listed : (q : ℕ) → Has (sites_of s.catalogue) q → has (sites_of s.catalogue) q ≡ true
     listed q h = any_of (λ (m : ℕ). m == q) (sites_of s.catalogue) q h (same_number q)

@@ -17,15 +17,15 @@ use Rattle.vp_model.specs.Calls.{start_txn, take_lock, read_at, write_at, prepar
 use Rattle.vp_model.specs.Answers.{is_decided}
 use Rattle.vp_model.specs.Messages.{held_id, accept, on_accept, on_stale, grant, end_here}
 use Rattle.vp_model.specs.Step.{step, fix, probe_all, mark_calls, ask_again, resend_one, known, inquire}
-use Rattle.vp_laws.proofs.Members.{Has, has_none, has_one_is, has_cases, filter_has, map_has}
-use Rattle.vp_laws.proofs.Lists.{put_has}
-use Rattle.vp_laws.proofs.Frames.{Ends, close-ends, decided-ends, decide-cases}
-use Rattle.vp_laws.proofs.Table.{Comes, next_view, lent_at, Requests, Asks, Handled, Back, Table}
-use Rattle.vp_laws.proofs.Rows.{step-keeps}
-use Rattle.vp_laws.proofs.LocalViews.{letter, Tidy}
-use Rattle.vp_laws.proofs.TableLed.{Led}
-use Rattle.vp_laws.proofs.TableNames.{Named, Names, Calls}
-use Rattle.vp_laws.proofs.TableNames as named
+use Rattle.vp_laws.proofs.Lists.Members.{Has, has_none, has_one_is, has_cases, filter_has, map_has}
+use Rattle.vp_laws.proofs.Lists.Changes.{put_has}
+use Rattle.vp_laws.proofs.Moves.Frames.{Ends, close-ends, decided-ends, decide-cases}
+use Rattle.vp_laws.proofs.Moves.Table.{Comes, next_view, lent_at, Requests, Asks, Handled, Back, Table}
+use Rattle.vp_laws.proofs.Moves.Rows.{step-keeps}
+use Rattle.vp_laws.proofs.Moves.LocalViews.{letter, Tidy}
+use Rattle.vp_laws.proofs.Table.Led.{Led}
+use Rattle.vp_laws.proofs.Table.Names.{Named, Names, Calls}
+use Rattle.vp_laws.proofs.Table.Names as named
 use Rattle.vp_routes.proofs.Holders.{other_holders_stand}
 
 module _ (catalogue : Catalogue) (k : IsCatalogue catalogue) where

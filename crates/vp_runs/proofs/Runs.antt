@@ -6,7 +6,7 @@ use Rattle.vp_model.specs.Words.{for_each}
 use Rattle.vp_model.specs.Catalogue.{Catalogue}
 use Rattle.vp_model.specs.Durable.{apply, apply_all}
 use Rattle.vp_model.specs.Step.{step, start, start_record, durable_of}
-use Rattle.vp_laws.proofs.TableDurable.{step-folds}
+use Rattle.vp_laws.proofs.Table.Durable.{step-folds}
 use Rattle.vp_outside.specs.declared.datagram.Datagram.{Datagram}
 use Rattle.vp_runs.specs.declared.arrival.Arrival.{Arrival}
 use Rattle.vp_runs.specs.declared.arrival.Arrival.TheVariants.{Bad, Stray, Stops, Gives}

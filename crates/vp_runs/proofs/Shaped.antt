@@ -14,10 +14,10 @@ use Rattle.vp_catalog.specs.Document.{IsCatalogue, AreSites}
 use Rattle.vp_records.specs.Batches.{IsBatch}
 use Rattle.vp_laws.specs.Shapes.{IsDurable, IsShaped, IsSent, IsReply}
 use Rattle.vp_laws.specs.ShapeLaws.{message_frame, reply_frame}
-use Rattle.vp_laws.proofs.ShapeLists.{all_append, all_map}
-use Rattle.vp_laws.proofs.ShapeFold.{all_applied}
-use Rattle.vp_laws.proofs.ShapeLog.{fresh_is_durable, sent_is_frame, reply_is_frame}
-use Rattle.vp_laws.proofs.ShapeSteps.{starts_are_shaped, steps_are_shaped}
+use Rattle.vp_laws.proofs.Lists.Items.{all_append, all_map}
+use Rattle.vp_laws.proofs.Shapes.Fold.{all_applied}
+use Rattle.vp_laws.proofs.Shapes.Log.{fresh_is_durable, sent_is_frame, reply_is_frame}
+use Rattle.vp_laws.proofs.Shapes.Steps.{starts_are_shaped, steps_are_shaped}
 use Rattle.vp_outside.specs.declared.datagram.Datagram.{Datagram}
 use Rattle.vp_wire.specs.declared.frame.Frame.{Frame}
 use Rattle.vp_wire.specs.declared.frame.Body.{Body}

@@ -1,4 +1,4 @@
-use Rattle.vp_laws.proofs.EntryWords.{committed_once}
+use Rattle.vp_laws.proofs.Words.Entries.{committed_once}
 use Rattle.vp_laws.proofs.claims.commits_are_once.Goals as goal
 
 pub returns : goal.returns

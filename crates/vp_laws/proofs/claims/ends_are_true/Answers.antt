@@ -1,4 +1,4 @@
-use Rattle.vp_laws.proofs.EndsTrue.{ends_told}
+use Rattle.vp_laws.proofs.Replies.EndsTrue.{ends_told}
 use Rattle.vp_laws.proofs.claims.ends_are_true.Goals as goal
 
 pub returns : goal.returns

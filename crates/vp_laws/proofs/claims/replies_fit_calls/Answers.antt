@@ -1,4 +1,4 @@
-use Rattle.vp_laws.proofs.ReportsFit.{replies_fit_calls}
+use Rattle.vp_laws.proofs.Told.ReportsFit.{replies_fit_calls}
 use Rattle.vp_laws.proofs.claims.replies_fit_calls.Goals as goal
 
 pub returns : goal.returns

@@ -1,4 +1,4 @@
-use Rattle.vp_laws.proofs.EntryWords.{doubted}
+use Rattle.vp_laws.proofs.Words.Entries.{doubted}
 use Rattle.vp_laws.proofs.claims.votes_leave_doubts.Goals as goal
 
 pub returns : goal.returns

@@ -1,4 +1,4 @@
-use Rattle.vp_laws.proofs.CutTraces.{limits_cut_traces}
+use Rattle.vp_laws.proofs.Words.CutTraces.{limits_cut_traces}
 use Rattle.vp_laws.proofs.limits.limits_cut_traces.Goals as goal
 
 pub returns : goal.returns

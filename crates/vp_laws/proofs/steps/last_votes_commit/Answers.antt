@@ -1,4 +1,4 @@
-use Rattle.vp_laws.proofs.Completing.{last_votes_commit}
+use Rattle.vp_laws.proofs.Words.Completing.{last_votes_commit}
 use Rattle.vp_laws.proofs.steps.last_votes_commit.Goals as goal
 
 pub returns : goal.returns

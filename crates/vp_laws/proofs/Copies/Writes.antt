@@ -1,0 +1,182 @@
+-- A copy that a step writes: for a doubt that commits, or for an entry of the step. Nothing is in doubt on it, it has the value that its
+-- entry wrote, and no entry of a later view of the site has written it.
+use Rattle.std.proofs.Common.{◌≡◌, ◌∙◌, ap, sym, subst, ℕ, true, List, ◌∷◌, ◌++◌, refl, ⊎_elim}
+use Rattle.std.specs.Prelude.{Some}
+use Rattle.vp_model.specs.Types.{Change, ViewId, View, Commit, Input, Stored, Doubt}
+use Rattle.vp_model.specs.Types.message
+use Rattle.vp_model.specs.Words.{has, keys, value_at}
+use Rattle.vp_model.specs.Catalogue.{Catalogue, holders}
+use Rattle.vp_model.specs.Durable.{DurableState}
+use Rattle.vp_model.specs.Transactions.{last_changes, writes_held}
+use Rattle.vp_model.specs.Site.{SiteState, Stepped}
+use Rattle.vp_laws.proofs.Lists.Members.{Has, filter_has}
+use Rattle.vp_laws.proofs.Lists.Changes.{mapped_has}
+use Rattle.vp_laws.proofs.Lists.Views.{AtMost, Precedes, AtMost-same, AtMost-along, not_both, three_ways}
+use Rattle.vp_laws.proofs.Journal.Order.{Precedes-trans}
+use Rattle.vp_laws.proofs.Moves.LocalViews.{letter}
+use Rattle.vp_laws.proofs.Worlds.Scenes.{Scene, kept_at, promise_at}
+use Rattle.vp_laws.proofs.Invariant.Shares.{InDoubt}
+use Rattle.vp_laws.proofs.Invariant.Entered.{AgreedAs}
+use Rattle.vp_laws.proofs.Invariant.Held.{has_copy}
+use Rattle.vp_laws.proofs.Journal.Places.{Once, has_split, stands_behind, once_later, last_value}
+use Rattle.vp_laws.proofs.Journal.ValuesAfter.{Wrote, value_after, value_up_to, value_written, value_of_last}
+use Rattle.vp_laws.proofs.Journal.ValuesGrow.{after_is}
+use Rattle.vp_laws.proofs.Copies.Facts.{no_doubt_below}
+use Rattle.vp_laws.proofs.Keeping.NewEntries.{none_entered, journal_same, journal_with, one_entry, Entering, entering, entering_agreed, certain_now, doubt_says, agreed_was, doubt_from, fresh_no_outcome}
+use Rattle.vp_laws.proofs.Copies.Origins.{Applied, Written}
+use Rattle.vp_laws.proofs.Copies.Values.{value_now}
+use Rattle.vp_laws.proofs.Keeping.Does.{Does}
+use Rattle.vp_laws.proofs.Invariant.Copies.{FromView, InvCopies}
+use Rattle.vp_laws.proofs.Invariant.Refresh.{InvRefresh}
+use Rattle.vp_laws.proofs.Keeping.Listed.{wrote_here, not_below_itself}
+use Rattle.vp_laws.proofs.Invariant.Known.{Known}
+
+pair_at : (ws : List (ℕ × Change)) (p : ℕ × List ℕ) (rec : ℕ) (value : List ℕ) → p.0 ≡ rec → p.1 ≡ value → value_at p.0 ws ≡ Some p.1 → value_at rec ws ≡ Some value
+pair_at ws p rec value e f h = rw (sym e, sym f) h
+
+value_along : (rec : ℕ) (start value : List ℕ) (es fs : List Commit) (a b : ViewId) → es ≡ fs → a ≡ b → value_up_to rec start fs b ≡ value → value_up_to rec start es a ≡ value
+value_along rec start value es fs a b e f h = rw (e, f) h
+
+module _ (catalogue : Catalogue) (w new : Scene) (s : ℕ) (x : SiteState) (given : Input) (o : Stepped) (k : Known catalogue w) (n : Known catalogue new) (d : Does catalogue w new s x given o) (copies : InvCopies catalogue w) (refresh : InvRefresh catalogue w) where
+  -- for a doubt that commits
+  module _ (j rec : ℕ) (c : Stored) (holder : Has (holders catalogue rec) j) (a : Applied catalogue w new s x given o k n d j rec c) where
+    pub applied_date : a.doubt.view ≡ c.date
+    applied_date = ap (λ (p : ℕ × Stored). p.1.date) a.is
+
+    pub applied_on : Has (keys a.doubt.writes) rec
+    applied_on = subst (Has (keys a.doubt.writes)) (ap (λ (p : ℕ × Stored). p.0) a.is) (mapped_has (λ (p : ℕ × List ℕ). p.0) a.doubt.writes a.write a.wrote)
+
+    no_entry : (e : Commit) → Has o.effects.commits e → ⊥
+    no_entry = none_entered catalogue w new s x given o k n d a.from (message.Outcome a.doubt.txn true) a.comes (λ q. let z = q.1 in cc)
+
+    quiet : new.journal ≡ w.journal
+    quiet = journal_same catalogue w new s x given o k n d a.from (message.Outcome a.doubt.txn true) a.comes (λ q. let z = q.1 in cc)
+
+    entry : (e : Commit) × Has w.journal e × (e.txn ≡ a.doubt.txn)
+    entry = (k.ends.told (letter a.from s (message.Outcome a.doubt.txn true)) (d.came a.from _ a.comes)).1
+
+    says : (entry.0.view ≡ a.doubt.view) × (writes_held catalogue j (last_changes entry.0) ≡ a.doubt.writes)
+    says = doubt_says catalogue w new s x given o k n d entry.0 (d.st.moved.journal entry.0 entry.1) j a.doubt a.was (sym entry.2)
+
+    view : (v : View) × AgreedAs w a.doubt.view v × Has v.members j
+    view = let q = (k.shares.doubts j a.doubt a.was).0 in let b = k.led.asked _ q.3 in (b.0, (b.1, b.2), b.3)
+
+    pub applied_sure : (v : Doubt) → Has (kept_at new j).doubts v → Has (keys v.writes) rec → ⊥
+    applied_sure v there also = ⊎_elim
+        (λ was. a.gone v there (k.guards.writes j v a.doubt rec was a.was also applied_on))
+        (λ f. fresh_no_outcome catalogue w new s x given o k n d j v f a.from a.doubt.txn true a.comes)
+        (doubt_from catalogue w new s x given o k n d j v there)
+
+    -- the copy before
+    before : (b : Stored) × (value_at rec (kept_at w j).copies ≡ Some b)
+    before =
+        let q = has_copy catalogue w s x d.up d.here.kept k.held rec (subst (Has (holders catalogue rec)) a.here holder) in
+        (q.0, subst (λ (k : DurableState). value_at rec k.copies ≡ Some q.0) (d.here.kept ∙ ap (kept_at w) (sym a.here)) q.1)
+
+    -- an entry that wrote the record and is in doubt here is the doubt's
+    same_txn_in_doubt : (f : Commit) → Has w.journal f → Wrote f rec → InDoubt w j f.txn → f.txn ≡ a.doubt.txn
+    same_txn_in_doubt f h wrote (u, there, named) =
+        let q = doubt_says catalogue w new s x given o k n d f (d.st.moved.journal f h) j u there named in
+        sym named ∙ k.guards.writes j u a.doubt rec there a.was (subst (λ (ws : List (ℕ × Change)). Has (keys ws) rec) q.1 (wrote_here catalogue f j rec holder wrote)) applied_on
+
+    -- it is the last one of its view that wrote it
+    none_behind : (front back : List Commit) (f : Commit) → w.journal ≡ front ++ entry.0 ∷ back → Has back f → f.view ≡ entry.0.view → Wrote f rec → ⊥
+    none_behind front back f is behind same wrote = ⊎_elim earlier (λ later. ⊎_elim equal above later) (three_ways before.0.date a.doubt.view)
+      where
+        there : Has w.journal f
+        there = rw is (stands_behind front entry.0 back f behind)
+
+        earlier : Precedes before.0.date a.doubt.view → ⊥
+        earlier p =
+            let at : f.view ≡ a.doubt.view = same ∙ says.0 in
+            let u = copies.above j rec before.0 f view.0 before.1 there wrote (subst (Precedes before.0.date) (sym at) p) (view.1.0, view.1.1 ∙ sym at) view.2 in
+            once_later front back entry.0 f (subst (λ (es : List Commit). Once es) is k.ends.once) behind (same_txn_in_doubt f there wrote u ∙ sym entry.2)
+
+        equal : before.0.date ≡ a.doubt.view → ⊥
+        equal e = copies.last j rec before.0 a.doubt front back entry.0 f before.1 (a.was, applied_on, sym e) is entry.2 behind wrote same
+
+        above : Precedes a.doubt.view before.0.date → ⊥
+        above p = no_doubt_below catalogue w k copies refresh j rec before.0 a.doubt before.1 a.was applied_on p
+
+    wrote_value : value_at rec (last_changes entry.0) ≡ Some c.value
+    wrote_value =
+        let there : Has (writes_held catalogue j (last_changes entry.0)) a.write = rw says.1 a.wrote in
+        let last = last_value entry.0.ops a.write (filter_has (λ (w : ℕ × List ℕ). has (holders catalogue w.0) j) (last_changes entry.0) a.write there).0 in
+        pair_at (last_changes entry.0) a.write rec c.value (ap (λ (p : ℕ × Stored). p.0) a.is) (ap (λ (p : ℕ × Stored). p.1.value) a.is) last
+
+    pub applied_value : value_after catalogue new.journal c.date rec ≡ Some c.value
+    applied_value =
+        let q = has_split w.journal entry.0 entry.1 in
+        let at : c.date ≡ entry.0.view = sym applied_date ∙ sym says.0 in
+        value_now catalogue w new s x given o k n d copies refresh c.date rec (λ e h. absurd (no_entry e h))
+        ∙ after_is catalogue w.journal c.date rec j c.value holder (λ start. value_along rec start c.value w.journal (q.0 ++ entry.0 ∷ q.1) c.date entry.0.view q.2 at (value_of_last rec start c.value q.0 q.1 entry.0 wrote_value (λ f h same wrote. none_behind q.0 q.1 f q.2 h same wrote)))
+
+    pub applied_above : (e : Commit) (v : View) → Has new.journal e → Wrote e rec → Precedes c.date e.view → AgreedAs new e.view v → Has v.members j → ⊥
+    applied_above e v h wrote later agreed member = ⊎_elim earlier (λ q. ⊎_elim equal above q) (three_ways before.0.date e.view)
+      where
+        there : Has w.journal e
+        there = rw quiet at h
+
+        below : Precedes a.doubt.view e.view
+        below = subst (λ (i : ViewId). Precedes i e.view) (sym applied_date) later
+
+        earlier : Precedes before.0.date e.view → ⊥
+        earlier p =
+            let u = copies.above j rec before.0 e v before.1 there wrote p (agreed_was catalogue w new s x given o k n d e v there agreed) member in
+            let q = doubt_says catalogue w new s x given o k n d e h j a.doubt a.was (sym (same_txn_in_doubt e there wrote u)) in
+            not_below_itself a.doubt.view e.view below (sym q.0)
+
+        equal : before.0.date ≡ e.view → ⊥
+        equal q = no_doubt_below catalogue w k copies refresh j rec before.0 a.doubt before.1 a.was applied_on (subst (Precedes a.doubt.view) (sym q) below)
+
+        above : Precedes e.view before.0.date → ⊥
+        above p = no_doubt_below catalogue w k copies refresh j rec before.0 a.doubt before.1 a.was applied_on (Precedes-trans a.doubt.view e.view before.0.date below p)
+
+    pub applied_from : FromView catalogue new j rec c.date
+    applied_from = FromView.member view.0 (d.st.moved.agreed view.0 view.1.0, view.1.1 ∙ applied_date) view.2
+
+  -- for an entry of the step
+  module _ (j rec : ℕ) (c : Stored) (holder : Has (holders catalogue rec) j) (b : Written catalogue w new s x given o k n d j rec c) where
+    pub written_date : b.entry.view ≡ c.date
+    written_date = ap (λ (p : ℕ × Stored). p.1.date) b.is
+
+    there_last : Has (last_changes b.entry) b.write
+    there_last = (filter_has (λ (w : ℕ × List ℕ). has (holders catalogue w.0) x.id) (last_changes b.entry) b.write b.wrote).0
+
+    wrote : Wrote b.entry rec
+    wrote = subst (Wrote b.entry) (ap (λ (p : ℕ × Stored). p.0) b.is) (mapped_has (λ (p : ℕ × List ℕ). p.0) (last_changes b.entry) b.write there_last)
+
+    f : Entering catalogue w new s x given o k n d b.entry
+    f = entering catalogue w new s x given o k n d b.entry b.entered
+
+    pub written_sure : (v : Doubt) → Has (kept_at new j).doubts v → Has (keys v.writes) rec → ⊥
+    written_sure v there also =
+        certain_now catalogue w new s x given o k n d b.entry rec b.entered wrote (subst (Has (holders catalogue rec)) b.here holder) v
+        (subst (λ (k : DurableState). Has k.doubts v) (ap (kept_at new) b.here ∙ d.st.kept_now) there) also
+
+    pub written_value : value_after catalogue new.journal c.date rec ≡ Some c.value
+    written_value =
+        let last : value_at rec (last_changes b.entry) ≡ Some c.value = pair_at (last_changes b.entry) b.write rec c.value (ap (λ (p : ℕ × Stored). p.0) b.is) (ap (λ (p : ℕ × Stored). p.1.value) b.is) (last_value b.entry.ops b.write there_last) in
+        let grown = journal_with catalogue w new s x given o k n d b.entry b.entered in
+        after_is catalogue new.journal c.date rec j c.value holder (λ start. ap (λ (es : List Commit). value_up_to rec start es c.date) grown ∙ value_written rec start w.journal b.entry c.date c.value (AtMost-same b.entry.view c.date written_date) last (λ g h above le q. not_both b.entry.view g.view above (AtMost-along le refl written_date)))
+
+    pub written_above : (e : Commit) (v : View) → Has new.journal e → Wrote e rec → Precedes c.date e.view → AgreedAs new e.view v → Has v.members j → ⊥
+    written_above e v h also later agreed member = ⊎_elim old more (d.st.entered e h)
+      where
+        below : Precedes b.entry.view e.view
+        below = subst (λ (i : ViewId). Precedes i e.view) (sym written_date) later
+
+        more : Has o.effects.commits e → ⊥
+        more q = not_below_itself b.entry.view e.view below (ap (λ (e : Commit). e.view) (one_entry catalogue w new s x given o k n d b.entry e b.entered q))
+
+        old : Has w.journal e → ⊥
+        old q =
+            let v_was = agreed_was catalogue w new s x given o k n d e v q agreed in
+            let le : AtMost v.id (promise_at w s) = (k.views.view v v_was.0).members s (subst (Has v.members) b.here member) in
+            let promise : promise_at w s ≡ b.entry.view = ap (λ (d : DurableState). d.promise) (sym d.here.kept) ∙ sym (d.here.tidy.held f.view f.held).0 ∙ f.is in
+            not_both b.entry.view e.view below (AtMost-along le (sym v_was.1) (sym promise))
+
+    pub written_from : FromView catalogue new j rec c.date
+    written_from =
+        let agreed = entering_agreed catalogue w new s x given o k n d b.entry f in
+        FromView.member f.view (d.st.moved.agreed f.view agreed.0, f.is ∙ written_date) (subst (Has f.view.members) (d.here.id ∙ sym b.here) (d.here.tidy.held f.view f.held).3)

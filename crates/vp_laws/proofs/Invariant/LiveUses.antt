@@ -1,0 +1,86 @@
+-- What a live transaction uses is accessible in the view that its site holds: the records of its operations, and of its pending call.
+use Rattle.std.proofs.Common.{◌≡◌, ◌∙◌, ap, sym, subst, ℕ, true, List, [], ◌∷◌, refl, ⊎_elim}
+use Rattle.std.specs.Prelude.{Option, Some}
+use Rattle.vp_model.specs.Types.{TxnId, View, ViewId, Input, Op, Answer, Pending, Live}
+use Rattle.vp_model.specs.Types.op
+use Rattle.vp_model.specs.Catalogue.{Catalogue}
+use Rattle.vp_model.specs.Site.{SiteState, Lent}
+use Rattle.vp_model.specs.Refresh.{is_usable_in, other_holders}
+use Rattle.vp_model.specs.Calls.{begun}
+use Rattle.vp_model.specs.Step.{mark}
+use Rattle.vp_laws.proofs.Lists.Members.{Has, has_none, has_one_is, has_cases}
+use Rattle.vp_laws.proofs.Moves.Table.{Reads, Writes, remaining, Completes}
+use Rattle.vp_laws.proofs.Table.Steps.{LiveNow}
+use Rattle.vp_laws.proofs.Invariant.Ops.{HasUsed, record_of}
+use Rattle.vp_laws.proofs.Moves.Calls.{waiting, done, reading, writing, read_not_write, reads_same, writes_same, unmarked, no_commit_reads, no_commit_writes}
+
+pub record LiveUses (catalogue : Catalogue) (held : Option View) (t : Live) : Type 0 where
+  pub usable : (rec : ℕ) → HasUsed t.ops rec → is_usable_in catalogue held rec ≡ true
+  pub reading : (p : Pending) (rec : ℕ) → t.pending ≡ Some p → Reads catalogue p rec → is_usable_in catalogue held rec ≡ true
+  pub writing : (p : Pending) (rec : ℕ) (value : List ℕ) → t.pending ≡ Some p → Writes catalogue p rec value → is_usable_in catalogue held rec ≡ true
+
+module _ (catalogue : Catalogue) (x : SiteState) (given : Input) (all : (u : Live) → Has x.live u → LiveUses catalogue x.held u) where
+  abbrev Usable : ℕ → Type 0
+  Usable rec = is_usable_in catalogue x.held rec ≡ true
+
+  marked_uses : (u : Live) → LiveUses catalogue x.held u → LiveUses catalogue x.held (mark u)
+  marked_uses u h = record {
+    usable = h.usable;
+    reading = λ p rec e r. let q = unmarked u.pending p e in h.reading q.0 rec q.1 (record { txn = r.txn; number = r.number; name = r.name; words = ap (λ (p : Pending). p.call) q.2 ∙ r.words; found = r.found });
+    writing = λ p rec value e r. let q = unmarked u.pending p e in h.writing q.0 rec value q.1 (record { txn = r.txn; number = r.number; name = r.name; words = ap (λ (p : Pending). p.call) q.2 ∙ r.words; found = r.found });
+  }
+
+  -- a call is asked of sites, and nothing more is done
+  asking_uses : (u t : Live) (p : Pending) (sites : List ℕ) → LiveUses catalogue x.held u → t.ops ≡ u.ops → t.pending ≡ Some (record p { missing = sites }) → ((rec : ℕ) → Reads catalogue p rec → Usable rec) → ((rec : ℕ) (value : List ℕ) → Writes catalogue p rec value → Usable rec) → LiveUses catalogue x.held t
+  asking_uses u t p sites h same now reads writes = record {
+    usable = λ rec k. h.usable rec (subst (λ (ops : List Op). HasUsed ops rec) same k);
+    reading = λ a rec e r. let is : record p { missing = sites } ≡ a = (let z = sym now ∙ e in cc) in reads rec (record { txn = r.txn; number = r.number; name = r.name; words = ap (λ (p : Pending). p.call) is ∙ r.words; found = r.found });
+    writing = λ a rec value e r. let is : record p { missing = sites } ≡ a = (let z = sym now ∙ e in cc) in writes rec value (record { txn = r.txn; number = r.number; name = r.name; words = ap (λ (p : Pending). p.call) is ∙ r.words; found = r.found });
+  }
+
+  done_uses : (u : Live) (operation : Op) (words : Answer) → LiveUses catalogue x.held u → Usable (record_of operation) → LiveUses catalogue x.held (done u operation words)
+  done_uses u operation words h usable = record {
+    usable = λ rec k. ⊎_elim (λ old. h.usable rec (k.0, old, k.2)) (λ new. subst Usable (ap record_of (has_one_is operation k.0 new) ∙ k.2) usable) (has_cases u.ops (operation ∷ []) k.0 k.1);
+    reading = λ p rec e r. cc;
+    writing = λ p rec value e r. cc;
+  }
+
+  usable_read : (operation : Op) (rec : ℕ) (value : List ℕ) → operation ≡ op.Read rec value → Usable rec → Usable (record_of operation)
+  usable_read operation rec value e h = rw e h
+
+  usable_write : (operation : Op) (rec : ℕ) (value : List ℕ) → operation ≡ op.Write rec value → Usable rec → Usable (record_of operation)
+  usable_write operation rec value e h = rw e h
+
+  completed_uses : (u : Live) (p : Pending) (operation : Op) (words : Answer) (l : Lent) → LiveUses catalogue x.held u → Completes catalogue x given u p operation words l → LiveUses catalogue x.held (done u operation words)
+  completed_uses u p operation words l h (Completes.own_write rec value next r a v o w e) = done_uses u operation words h (usable_read operation rec value o a)
+  completed_uses u p operation words l h (Completes.own_copy rec stored next r a v c f o w e) = done_uses u operation words h (usable_read operation rec stored.value o a)
+  completed_uses u p operation words l h (Completes.write_again rec before value next r a v o w e) = done_uses u operation words h (usable_write operation rec value o a)
+  completed_uses u p operation words l h (Completes.write_alone rec value next r a v n o w e) = done_uses u operation words h (usable_write operation rec value o a)
+  completed_uses u p operation words l h (Completes.read_answered from rec value c last r o w e) = done_uses u operation words h (usable_read operation rec value o (h.reading p rec last.pending r))
+  completed_uses u p operation words l h (Completes.write_answered from rec value c last r o w e) = done_uses u operation words h (usable_write operation rec value o (h.writing p rec value last.pending r))
+
+  begun_uses : (txn : TxnId) (view : ViewId) → LiveUses catalogue x.held (begun txn view)
+  begun_uses txn view = record {
+    usable = λ rec k. absurd (has_none k.0 k.1);
+    reading = λ p rec e r. cc;
+    writing = λ p rec value e r. cc;
+  }
+
+  pub live_uses : (t : Live) → LiveNow catalogue x given t → LiveUses catalogue x.held t
+  live_uses t (LiveNow.still h) = all t h
+  live_uses t (LiveNow.marked u h tick e) = subst (LiveUses catalogue x.held) e (marked_uses u (all u h))
+  live_uses t (LiveNow.waits u p from h f m l k e) =
+      let a = all u h in
+      subst (LiveUses catalogue x.held) e (asking_uses u (waiting u p (remaining from p)) p (remaining from p) a refl refl (λ rec r. a.reading p rec f r) (λ rec value r. a.writing p rec value f r))
+  live_uses t (LiveNow.completed u p operation words l h c e) = subst (LiveUses catalogue x.held) e (completed_uses u p operation words l (all u h) c)
+  live_uses t (LiveNow.reads u p rec q h a e) = subst (LiveUses catalogue x.held) e
+      (asking_uses u (reading u p rec q) p (q ∷ []) (all u h) refl refl
+      (λ other r. subst Usable (reads_same catalogue p rec other a.reads r) a.usable)
+      (λ other value r. read_not_write catalogue p rec other value a.reads r))
+  live_uses t (LiveNow.writes u p rec value h a e) = subst (LiveUses catalogue x.held) e
+      (asking_uses u (writing u p (other_holders catalogue x rec)) p (other_holders catalogue x rec) (all u h) refl refl
+      (λ other r. read_not_write catalogue p other rec value r a.writes)
+      (λ other v r. subst Usable (writes_same catalogue p rec other value v a.writes r) a.usable))
+  live_uses t (LiveNow.prepares u p h a e) = subst (LiveUses catalogue x.held) e
+      (asking_uses u (waiting u p u.parts) p u.parts (all u h) refl refl (λ rec r. no_commit_reads catalogue p rec a.commit r) (λ rec value r. no_commit_writes catalogue p rec value a.commit r))
+  live_uses t (LiveNow.begins view h e) = subst (LiveUses catalogue x.held) e (begun_uses _ view.id)

@@ -1,0 +1,50 @@
+-- What a live transaction has done and asks, in every world: its parts are the other holders of
+-- what it wrote, its numbers go up by one, and a request is of the pending call or of one that was answered.
+use Rattle.std.proofs.Common.{◌≡◌, ℕ, ◌+◌, List, refl, length}
+use Rattle.std.specs.Prelude.{Option, Some}
+use Rattle.vp_model.specs.Types.{View, Op, Pending, Live}
+use Rattle.vp_model.specs.Types.op
+use Rattle.vp_model.specs.Catalogue.{Catalogue}
+use Rattle.vp_model.specs.Site.{SiteState}
+use Rattle.vp_model.specs.Refresh.{other_holders_in}
+use Rattle.vp_laws.proofs.Lists.Members.{Has}
+use Rattle.vp_laws.proofs.Moves.Table.{Writes}
+use Rattle.vp_laws.proofs.Worlds.Scenes.{Scene, plain_at}
+
+-- the record of an operation
+abbrev pub record_of : Op → ℕ
+record_of (op.Read rec value) = rec
+record_of (op.Write rec value) = rec
+
+-- an operation among these is on the record
+abbrev pub HasUsed : List Op → ℕ → Type 0
+HasUsed ops rec = (operation : Op) × Has ops operation × (record_of operation ≡ rec)
+
+pub op_used : (ops : List Op) (operation : Op) → Has ops operation → HasUsed ops (record_of operation)
+op_used ops operation h = (operation, h, refl)
+
+pub written_used : (ops : List Op) (rec : ℕ) → (value : List ℕ) × Has ops (op.Write rec value) → HasUsed ops rec
+written_used ops rec h = (op.Write rec h.0, h.1, refl)
+
+-- the transaction has written the record
+abbrev pub HasWritten : Live → ℕ → Type 0
+HasWritten t rec = (value : List ℕ) × Has t.ops (op.Write rec value)
+
+-- a live transaction, by what it has done and asks
+pub record LiveOk (catalogue : Catalogue) (id : ℕ) (held : Option View) (t : Live) : Type 0 where
+  -- each operation has its answer
+  pub numbers : length t.ops ≡ length t.answers
+  -- the pending call has the next number
+  pub next : (p : Pending) → t.pending ≡ Some p → p.number ≡ length t.answers + 1
+  -- the other holders in the view of each record that it wrote are parts
+  pub written : (rec : ℕ) → HasWritten t rec → (q : ℕ) → Has (other_holders_in catalogue id held rec) q → Has t.parts q
+  -- the sites that it read at are parts
+  pub remote : (r : ℕ × ℕ) → Has t.remote r → Has t.parts r.0
+  -- the sites that the pending call waits for are parts
+  pub missing : (p : Pending) (q : ℕ) → t.pending ≡ Some p → Has p.missing q → Has t.parts q
+  -- the other holders in the view of the record of a pending write are parts
+  pub writing : (p : Pending) (rec : ℕ) (value : List ℕ) → t.pending ≡ Some p → Writes catalogue p rec value → ((q : ℕ) → Has (other_holders_in catalogue id held rec) q → Has t.parts q)
+
+pub record InvOps (catalogue : Catalogue) (w : Scene) : Type 0 where
+  -- each live transaction
+  pub live : (s : ℕ) (x : SiteState) (t : Live) → plain_at w s ≡ Some x → Has x.live t → LiveOk catalogue x.id x.held t

@@ -1,0 +1,100 @@
+-- The value of a record after the entries of views up to one, and what an added entry makes of it.
+use Rattle.std.proofs.Common.{◌≡◌, ◌≢◌, ◌∙◌, ap, subst, true, false, List, [], ◌∷◌, ◌++◌, refl, arith, ℕ}
+use Rattle.std.specs.Prelude.{Option, Some, None, option_map, slice_get, filter, not}
+use Rattle.std.specs.Option.{option_map_or}
+use Rattle.std.proofs.lemmas.Bool.Decides.{nat_tests}
+use Rattle.std.proofs.lemmas.List.{append-nil}
+use Rattle.std.proofs.lemmas.List.Elements.{filter-append}
+use Rattle.vp_model.specs.Types.{Change, ViewId, TxnId, Commit}
+use Rattle.vp_model.specs.Words.{same_txn, value_at, keys}
+use Rattle.vp_model.specs.Catalogue.{Catalogue, start_values}
+use Rattle.vp_model.specs.Transactions.{last_changes}
+use Rattle.vp_laws.proofs.Lists.Members.{Has}
+use Rattle.vp_laws.proofs.Lists.Changes.{mapped_has}
+use Rattle.vp_laws.proofs.Lists.Views.{AtMost, Precedes}
+use Rattle.vp_laws.proofs.Journal.UpTo.{filter_all}
+use Rattle.vp_laws.proofs.Journal.Acts.{IsQuiet, after, after_upto, after_own, after_between, after_more, after_added}
+use Rattle.vp_laws.proofs.Lists.Pairs.{not_copied, value_key}
+
+-- the entry wrote the record
+abbrev pub Wrote : Commit → ℕ → Type 0
+Wrote e rec = Has (keys (last_changes e)) rec
+
+-- the written value, or the one before
+abbrev pub overwritten : List (ℕ × Change) → ℕ → List ℕ → List ℕ
+overwritten writes rec before = option_map_or (λ value. value) (value_at rec writes) before
+
+-- what an entry does to the value of a record
+abbrev pub writes_over : ℕ → Commit → List ℕ → List ℕ
+writes_over rec e before = overwritten (last_changes e) rec before
+
+-- the value of the record after these entries, and after those of views up to one
+abbrev pub value_in : ℕ → List ℕ → List Commit → List ℕ
+value_in rec start es = after (writes_over rec) start es
+
+abbrev pub value_up_to : ℕ → List ℕ → List Commit → ViewId → List ℕ
+value_up_to rec start journal view = after_upto (writes_over rec) start journal view
+
+-- the value of a record of the catalogue after the entries of views up to this one
+abbrev pub value_after : Catalogue → List Commit → ViewId → ℕ → Option (List ℕ)
+value_after catalogue journal view rec = option_map (λ start. value_up_to rec start journal view) (slice_get (start_values catalogue) rec)
+
+-- the journal without the entry of a transaction
+abbrev pub without_entry : TxnId → List Commit → List Commit
+without_entry txn journal = filter (λ e. not (same_txn e.txn txn)) journal
+
+-- values
+
+-- an entry that has not written the record leaves its value
+pub unwritten_value : (e : Commit) (rec : ℕ) → (Wrote e rec → ⊥) → value_at rec (last_changes e) ≡ None
+unwritten_value e rec n = go (value_at rec (last_changes e)) refl
+  where
+    go : (o : Option (List ℕ)) → value_at rec (last_changes e) ≡ o → o ≡ None
+    go None q = refl
+    go (Some v) q = let k = value_key rec (last_changes e) v q in absurd (n (subst (Has _) k.2 (mapped_has (λ (p : ℕ × List ℕ). p.0) (last_changes e) k.0 k.1)))
+
+pub leaves_value : (e : Commit) (rec : ℕ) → (Wrote e rec → ⊥) → IsQuiet (writes_over rec) e
+leaves_value e rec n start = let z = unwritten_value e rec n in rw z refl
+
+-- one that has leaves what it wrote
+takes_value : (e : Commit) (rec : ℕ) (value before : List ℕ) → value_at rec (last_changes e) ≡ Some value → writes_over rec e before ≡ value
+takes_value e rec value before w = ap (λ (o : Option (List ℕ)). option_map_or (λ value. value) o before) w
+
+pub written_value : (e : Commit) (rec : ℕ) → Wrote e rec → (value : List ℕ) × (value_at rec (last_changes e) ≡ Some value)
+written_value e rec h = go (value_at rec (last_changes e)) refl
+  where
+    go : (o : Option (List ℕ)) → value_at rec (last_changes e) ≡ o → (value : List ℕ) × (value_at rec (last_changes e) ≡ Some value)
+    go None q = absurd (not_copied rec (last_changes e) q h)
+    go (Some v) q = (v, q)
+
+-- where no entry between two views wrote the record, its value after both is the same
+pub value_between : (rec : ℕ) (start : List ℕ) (journal : List Commit) (c d : ViewId) → AtMost c d → ((f : Commit) → Has journal f → Precedes c f.view → AtMost f.view d → Wrote f rec → ⊥) → value_up_to rec start journal d ≡ value_up_to rec start journal c
+value_between rec start journal c d h none = after_between (writes_over rec) start journal c d h (λ f q a b. leaves_value f rec (none f q a b))
+
+-- an entry is added: of a view above, or one that has not written the record
+pub value_more : (rec : ℕ) (start : List ℕ) (journal : List Commit) (e : Commit) (d : ViewId) → (Wrote e rec → AtMost e.view d → ⊥) → value_up_to rec start (journal ++ e ∷ []) d ≡ value_up_to rec start journal d
+value_more rec start journal e d none = after_more (writes_over rec) start journal e d (λ le. leaves_value e rec (λ wrote. none wrote le))
+
+-- or one that has, where no entry above it has
+pub value_written : (rec : ℕ) (start : List ℕ) (journal : List Commit) (e : Commit) (d : ViewId) (value : List ℕ) → AtMost e.view d → value_at rec (last_changes e) ≡ Some value → ((f : Commit) → Has journal f → Precedes e.view f.view → AtMost f.view d → Wrote f rec → ⊥) → value_up_to rec start (journal ++ e ∷ []) d ≡ value
+value_written rec start journal e d value h w none =
+    after_added (writes_over rec) start journal e d h (λ f q a b. leaves_value f rec (none f q a b)) ∙ takes_value e rec value _ w
+
+-- an entry that stands anywhere in the journal: no later entry of its view wrote the record
+pub value_of_last : (rec : ℕ) (start value : List ℕ) (front back : List Commit) (e : Commit) → value_at rec (last_changes e) ≡ Some value → ((f : Commit) → Has back f → f.view ≡ e.view → Wrote f rec → ⊥) → value_up_to rec start (front ++ e ∷ back) e.view ≡ value
+value_of_last rec start value front back e w none =
+    after_own (writes_over rec) start front back e (λ f q is. leaves_value f rec (none f q is)) ∙ takes_value e rec value _ w
+
+-- a journal without the entry of a transaction
+
+pub without_more : (txn : TxnId) (journal : List Commit) (e : Commit) → e.txn ≢ txn → without_entry txn (journal ++ e ∷ []) ≡ without_entry txn journal ++ e ∷ []
+without_more txn journal e n = filter-append (λ (e : Commit). not (same_txn e.txn txn)) journal (e ∷ []) ∙ (let t : same_txn e.txn txn ≡ false = grind (arith, nat_tests, n) in ap (λ (l : List Commit). without_entry txn journal ++ l) (rw t refl))
+
+pub without_same : (txn : TxnId) (journal : List Commit) (e : Commit) → e.txn ≡ txn → without_entry txn (journal ++ e ∷ []) ≡ without_entry txn journal
+without_same txn journal e is = filter-append (λ (e : Commit). not (same_txn e.txn txn)) journal (e ∷ []) ∙ (let t : same_txn e.txn txn ≡ true = grind (arith, nat_tests, is) in ap (λ (l : List Commit). without_entry txn journal ++ l) (rw t refl)) ∙ append-nil (without_entry txn journal)
+
+pub without_none : (txn : TxnId) (journal : List Commit) → ((f : Commit) → Has journal f → f.txn ≢ txn) → without_entry txn journal ≡ journal
+without_none txn journal h = filter_all (λ (e : Commit). not (same_txn e.txn txn)) journal (λ f q. differs f.txn (h f q))
+  where
+    differs : (t : TxnId) → t ≢ txn → not (same_txn t txn) ≡ true
+    differs t n = let z : same_txn t txn ≡ false = grind (arith, nat_tests, n) in rw z refl

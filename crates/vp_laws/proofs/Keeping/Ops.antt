@@ -1,0 +1,187 @@
+-- What live transactions have done and ask stays in order.
+use Rattle.std.proofs.Common.{◌≡◌, ◌∙◌, ap, sym, subst, ℕ, ◌+◌, true, List, [], ◌∷◌, refl, ⊎_elim, length}
+use Rattle.std.specs.Prelude.{Option, Some, ◌==◌, nat_lt, not, nat_eq}
+use Rattle.vp_model.specs.Types.{ViewId, TxnId, View, Input, Op, Answer, Pending, Live}
+use Rattle.vp_model.specs.Types.op
+use Rattle.vp_model.specs.Words.{for_each, put_number}
+use Rattle.vp_model.specs.Catalogue.{Catalogue}
+use Rattle.vp_model.specs.Site.{SiteState, Stepped, Lent}
+use Rattle.vp_model.specs.Transactions.{last_writes}
+use Rattle.vp_model.specs.Refresh.{other_holders_in, other_holders}
+use Rattle.vp_model.specs.Calls.{begun}
+use Rattle.vp_model.specs.Step.{mark}
+use Rattle.vp_laws.proofs.Lists.Members.{Has, has_none, has_one_is, has_cons, has_cases, filter_has}
+use Rattle.vp_laws.proofs.Lists.Changes.{put_new, empty_not, longer}
+use Rattle.vp_laws.proofs.Lists.Views.{put_keeps}
+use Rattle.vp_laws.proofs.Moves.Table.{Writes, remaining, Completes}
+use Rattle.vp_laws.proofs.Table.Steps.{AskingRead, AskingWrite, LiveNow, Steps}
+use Rattle.vp_laws.proofs.Table.Led.{Led}
+use Rattle.vp_laws.proofs.Moves.OnlyCoordinator.{OnCoordinator}
+use Rattle.vp_laws.proofs.Invariant.Views.{InvViews}
+use Rattle.vp_laws.proofs.Invariant.Led.{InvLed}
+use Rattle.vp_laws.proofs.Worlds.Scenes.{Scene, plain_at, kept_at, Acted, scene_of}
+use Rattle.vp_laws.proofs.Worlds.Sites.{NowIs, now_is, QuietIs, quiet_is, no_live, started_idle, Quiet}
+use Rattle.vp_laws.proofs.Moves.Calls.{waiting, done, reading, writing, read_not_write, writes_same, no_commit_writes, unmarked}
+use Rattle.vp_laws.proofs.Invariant.Ops.{HasWritten, LiveOk, InvOps}
+use Rattle.vp_laws.proofs.Lists.Pairs.{last_written, value_key}
+use Rattle.vp_model.specs.World.{start_world}
+
+-- parts
+put_all_keeps : (ns ms : List ℕ) (a : ℕ) → Has ms a → Has (for_each ns put_number ms) a
+put_all_keeps [] ms a h = h
+put_all_keeps (n ∷ ns) ms a h = put_all_keeps ns (put_number n ms) a (put_keeps n ms a h)
+
+put_all_new : (ns ms : List ℕ) (a : ℕ) → Has ns a → Has (for_each ns put_number ms) a
+put_all_new [] ms a h = absurd (has_none a h)
+put_all_new (n ∷ ns) ms a h = ⊎_elim (λ (one : n ≡ a). put_all_keeps ns (put_number n ms) a (rw one (put_new nat_eq nat_lt a ms))) (λ more. put_all_new ns (put_number n ms) a more) (has_cons n ns a h)
+
+module _ (catalogue : Catalogue) (x : SiteState) (given : Input) (all : (u : Live) → Has x.live u → LiveOk catalogue x.id x.held u) where
+  marked_ok : (u : Live) → LiveOk catalogue x.id x.held u → LiveOk catalogue x.id x.held (mark u)
+  marked_ok u h = record {
+    numbers = h.numbers;
+    next = λ p e. let q = unmarked u.pending p e in numbered q.0 p (h.next q.0 q.1) q.2;
+    written = h.written;
+    remote = h.remote;
+    missing = λ p a e k. let q = unmarked u.pending p e in h.missing q.0 a q.1 (rw (ap (λ (p : Pending). p.missing) q.2) k);
+    writing = λ p rec value e r. let q = unmarked u.pending p e in h.writing q.0 rec value q.1 (called_writes q.0 p rec value q.2 r);
+  }
+    where
+      numbered : (a p : Pending) → a.number ≡ length u.answers + 1 → record a { marked = true } ≡ p → p.number ≡ length u.answers + 1
+      numbered a p n e = ap (λ (p : Pending). p.number) (sym e) ∙ n
+
+      called_writes : (a p : Pending) (rec : ℕ) (value : List ℕ) → record a { marked = true } ≡ p → Writes catalogue p rec value → Writes catalogue a rec value
+      called_writes a p rec value e r = record { txn = r.txn; number = r.number; name = r.name; words = ap (λ (p : Pending). p.call) e ∙ r.words; found = r.found }
+
+  waits_ok : (u : Live) (p : Pending) (sites : List ℕ) → LiveOk catalogue x.id x.held u → p.number ≡ length u.answers + 1 → ((q : ℕ) → Has sites q → Has u.parts q) → ((rec : ℕ) (value : List ℕ) → Writes catalogue p rec value → (q : ℕ) → Has (other_holders_in catalogue x.id x.held rec) q → Has u.parts q) → LiveOk catalogue x.id x.held (waiting u p sites)
+  waits_ok u p sites h number sub writes = record {
+    numbers = h.numbers;
+    next = λ a e. let is : record p { missing = sites } ≡ a = cc in ap (λ (p : Pending). p.number) (sym is) ∙ number;
+    written = h.written;
+    remote = h.remote;
+    missing = λ a q e k. let is : record p { missing = sites } ≡ a = cc in sub q (rw (ap (λ (p : Pending). p.missing) is) k);
+    writing = λ a rec value e r. let is : record p { missing = sites } ≡ a = cc in writes rec value (record { txn = r.txn; number = r.number; name = r.name; words = ap (λ (p : Pending). p.call) is ∙ r.words; found = r.found });
+  }
+
+  done_ok : (u : Live) (operation : Op) (words : Answer) → LiveOk catalogue x.id x.held u → ((rec : ℕ) (value : List ℕ) → operation ≡ op.Write rec value → (q : ℕ) → Has (other_holders_in catalogue x.id x.held rec) q → Has u.parts q) → LiveOk catalogue x.id x.held (done u operation words)
+  done_ok u operation words h parts = record {
+    numbers = longer u.ops operation ∙ ap (λ n. n + 1) h.numbers ∙ sym (longer u.answers words);
+    next = λ p e. cc;
+    written = λ rec k q z. ⊎_elim (λ old. h.written rec (k.0, old) q z) (λ new. parts rec k.0 (has_one_is operation (op.Write rec k.0) new) q z) (has_cases u.ops (operation ∷ []) (op.Write rec k.0) k.1);
+    remote = h.remote;
+    missing = λ p q e k. cc;
+    writing = λ p rec value e r. cc;
+  }
+
+  not_write : {C : Type 0} (operation : Op) (rec r : ℕ) (value v : List ℕ) → operation ≡ op.Read rec value → operation ≡ op.Write r v → C
+  not_write operation rec r value v e f = cc
+
+  same_record : (operation : Op) (rec r : ℕ) (value v : List ℕ) → operation ≡ op.Write rec value → operation ≡ op.Write r v → rec ≡ r
+  same_record operation rec r value v e f = cc
+
+  completed_ok : (u : Live) (p : Pending) (operation : Op) (words : Answer) (l : Lent) → LiveOk catalogue x.id x.held u → Completes catalogue x given u p operation words l → LiveOk catalogue x.id x.held (done u operation words)
+  completed_ok u p operation words l h (Completes.own_write rec value next r a v o w e) = done_ok u operation words h (λ r v f. not_write operation rec r value v o f)
+  completed_ok u p operation words l h (Completes.own_copy rec stored next r a v c f o w e) = done_ok u operation words h (λ r v f. not_write operation rec r stored.value v o f)
+  completed_ok u p operation words l h (Completes.write_again rec before value next r a v o w e) = done_ok u operation words h
+      (λ r z f q k.
+      let b = value_key rec (last_writes u.ops) before v in
+      let was = last_written u.ops b.0 b.1 in
+      h.written r (was.0, subst (λ (n : ℕ). Has u.ops (op.Write n was.0)) (b.2 ∙ same_record operation rec r value z o f) was.1) q k)
+  completed_ok u p operation words l h (Completes.write_alone rec value next r a v n o w e) = done_ok u operation words h
+      (λ r v f q k. absurd (empty_not (other_holders_in catalogue x.id x.held r) q (rw (← (same_record operation rec r value v o f)) n) k))
+  completed_ok u p operation words l h (Completes.read_answered from rec value c last r o w e) = done_ok u operation words h (λ r v f. not_write operation rec r value v o f)
+  completed_ok u p operation words l h (Completes.write_answered from rec value c last r o w e) =
+      done_ok u operation words h (λ z v f a k. h.writing p rec value last.pending r a (rw (same_record operation rec z value v o f) k))
+
+  -- more parts
+  wider : (u now : Live) → LiveOk catalogue x.id x.held u → now.ops ≡ u.ops → ((q : ℕ) → Has u.parts q → Has now.parts q) → (rec : ℕ) → HasWritten now rec → (q : ℕ) → Has (other_holders_in catalogue x.id x.held rec) q → Has now.parts q
+  wider u now h same up rec k q z = up q (h.written rec (k.0, rw same at k.1) q z)
+
+  reads_ok : (u : Live) (p : Pending) (rec q : ℕ) → LiveOk catalogue x.id x.held u → AskingRead catalogue x given u p rec q → LiveOk catalogue x.id x.held (reading u p rec q)
+  reads_ok u p rec q h a = record {
+    numbers = h.numbers;
+    next = λ b e. let is : record p { missing = q ∷ [] } ≡ b = cc in ap (λ (p : Pending). p.number) (sym is) ∙ a.next.number;
+    written = wider u (reading u p rec q) h refl (λ b k. put_keeps q u.parts b k);
+    remote = λ r k. ⊎_elim (λ old. put_keeps q u.parts r.0 (h.remote r old)) (λ new. rw (← (ap (λ (r : ℕ × ℕ). r.0) (has_one_is (q, rec) r new))) (put_new nat_eq nat_lt q u.parts)) (has_cases u.remote ((q, rec) ∷ []) r k);
+    missing = λ b c e k. let is : record p { missing = q ∷ [] } ≡ b = cc in let m : Has (q ∷ []) c = rw (ap (λ (p : Pending). p.missing) is) k in rw (← (has_one_is q c m)) (put_new nat_eq nat_lt q u.parts);
+    writing = λ b other value e r.
+        let is : record p { missing = q ∷ [] } ≡ b = cc in
+        read_not_write catalogue p rec other value a.reads (record { txn = r.txn; number = r.number; name = r.name; words = ap (λ (p : Pending). p.call) is ∙ r.words; found = r.found });
+  }
+
+  writes_ok : (u : Live) (p : Pending) (rec : ℕ) (value : List ℕ) → LiveOk catalogue x.id x.held u → AskingWrite catalogue x given u p rec value → LiveOk catalogue x.id x.held (writing u p (other_holders catalogue x rec))
+  writes_ok u p rec value h a = record {
+    numbers = h.numbers;
+    next = λ b e. let is : record p { missing = other_holders catalogue x rec } ≡ b = cc in ap (λ (p : Pending). p.number) (sym is) ∙ a.next.number;
+    written = wider u (writing u p (other_holders catalogue x rec)) h refl (λ b k. put_all_keeps (other_holders catalogue x rec) u.parts b k);
+    remote = λ r k. put_all_keeps (other_holders catalogue x rec) u.parts r.0 (h.remote r k);
+    missing = λ b c e k. let is : record p { missing = other_holders catalogue x rec } ≡ b = cc in put_all_new (other_holders catalogue x rec) u.parts c (rw (ap (λ (p : Pending). p.missing) is) k);
+    writing = λ b other v e r.
+        let is : record p { missing = other_holders catalogue x rec } ≡ b = cc in
+        let same = writes_same catalogue p rec other value v a.writes (record { txn = r.txn; number = r.number; name = r.name; words = ap (λ (p : Pending). p.call) is ∙ r.words; found = r.found }) in
+        (λ q k. put_all_new (other_holders catalogue x rec) u.parts q (rw same k));
+  }
+
+  begun_ok : (txn : TxnId) (view : ViewId) → LiveOk catalogue x.id x.held (begun txn view)
+  begun_ok txn view = record {
+    numbers = refl;
+    next = λ p e. cc;
+    written = λ rec k q z. absurd (has_none _ k.1);
+    remote = λ r k. absurd (has_none r k);
+    missing = λ p q e k. cc;
+    writing = λ p rec value e r. cc;
+  }
+
+  pub live_ok : (t : Live) → LiveNow catalogue x given t → LiveOk catalogue x.id x.held t
+  live_ok t (LiveNow.still h) = all t h
+  live_ok t (LiveNow.marked u h tick e) = subst (LiveOk catalogue x.id x.held) e (marked_ok u (all u h))
+  live_ok t (LiveNow.waits u p from h f m l k e) =
+      let a = all u h in
+      subst (LiveOk catalogue x.id x.held) e (waits_ok u p (remaining from p) a (a.next p f) (λ q z. a.missing p q f (filter_has (λ (b : ℕ). not (b == from)) p.missing q z).0) (λ rec value r. a.writing p rec value f r))
+  live_ok t (LiveNow.completed u p operation words l h c e) = subst (LiveOk catalogue x.id x.held) e (completed_ok u p operation words l (all u h) c)
+  live_ok t (LiveNow.reads u p rec q h a e) = subst (LiveOk catalogue x.id x.held) e (reads_ok u p rec q (all u h) a)
+  live_ok t (LiveNow.writes u p rec value h a e) = subst (LiveOk catalogue x.id x.held) e (writes_ok u p rec value (all u h) a)
+  live_ok t (LiveNow.prepares u p h a e) = subst (LiveOk catalogue x.id x.held) e (waits_ok u p u.parts (all u h) a.next.number (λ q z. z) (λ rec value r. no_commit_writes catalogue p rec value a.commit r))
+  live_ok t (LiveNow.begins view h e) = subst (LiveOk catalogue x.id x.held) e (begun_ok _ view.id)
+
+-- a site with a live transaction holds the view that it held as the step began
+pub same_held : (catalogue : Catalogue) (w new : Scene) (s : ℕ) (x : SiteState) (given : Input) (o : Stepped) (t : Live) → InvViews catalogue w → InvViews catalogue new → plain_at w s ≡ Some x → plain_at new s ≡ Some o.site → Led x → Led o.site → ((v : View) → Has w.agreed v → Has new.agreed v) → Has o.site.live t → LiveNow catalogue x given t → x.held ≡ o.site.held
+same_held catalogue w new s x given o t before after up now led led_now stays h from =
+    let n = led_now.live t h in
+    let v = held_from from in
+    let same : v.0 ≡ n.0 = after.unique v.0 n.0 (stays v.0 ((before.site s x up).held v.0 v.1)) ((after.site s o.site now).held n.0 n.1) (v.2 ∙ sym n.2) in
+    v.1 ∙ ap (λ (v : View). Some v) same ∙ sym n.1
+  where
+    of : (u : Live) → Has x.live u → u.view ≡ t.view → (v : View) × (x.held ≡ Some v) × (v.id ≡ t.view)
+    of u k e = let q = led.live u k in (q.0, q.1, q.2 ∙ e)
+
+    held_from : LiveNow catalogue x given t → (v : View) × (x.held ≡ Some v) × (v.id ≡ t.view)
+    held_from (LiveNow.still k) = of t k refl
+    held_from (LiveNow.marked u k tick e) = of u k (ap (λ (t : Live). t.view) e)
+    held_from (LiveNow.waits u p sender k f m l c e) = of u k (ap (λ (t : Live). t.view) e)
+    held_from (LiveNow.completed u p operation words l k c e) = of u k (ap (λ (t : Live). t.view) e)
+    held_from (LiveNow.reads u p rec q k a e) = of u k (ap (λ (t : Live). t.view) e)
+    held_from (LiveNow.writes u p rec value k a e) = of u k (ap (λ (t : Live). t.view) e)
+    held_from (LiveNow.prepares u p k a e) = of u k (ap (λ (t : Live). t.view) e)
+    held_from (LiveNow.begins view k e) = (view, k, ap (λ (t : Live). t.view) e)
+
+pub ops_starts : (catalogue : Catalogue) → InvOps catalogue (scene_of (start_world catalogue))
+ops_starts catalogue = record { live = λ s x t h k. absurd (started_idle catalogue s x t h k) }
+
+pub ops_acts : (catalogue : Catalogue) (w new : Scene) (s : ℕ) (x : SiteState) (given : Input) (o : Stepped) → plain_at w s ≡ Some x → InvViews catalogue w → InvViews catalogue new → Led x → InvLed new → InvOps catalogue w → OnCoordinator catalogue x given (Steps catalogue x given) o → Acted w new s x o → InvOps catalogue new
+ops_acts catalogue w new s x given o up before after led led_now inv c st = record { live = λ k y t h q. live_at k y t q (now_is w new s x o st k y h) }
+  where
+    live_at : (k : ℕ) (y : SiteState) (t : Live) → Has y.live t → NowIs w s o.site k y → LiveOk catalogue y.id y.held t
+    live_at k y t q (NowIs.other n old) = inv.live k y t old q
+    live_at k y t q (NowIs.here e same) =
+        let here : Has o.site.live t = subst (λ (y : SiteState). Has y.live t) (sym same) q in
+        let from = c.kept.live t here in
+        let held : x.held ≡ o.site.held = same_held catalogue w new s x given o t before after up st.now led (led_now.site s o.site st.now) st.moved.agreed here from in
+        subst (λ (y : SiteState). LiveOk catalogue y.id y.held t) same
+        (subst (λ (i : ℕ). LiveOk catalogue i o.site.held t) (sym c.id) (subst (λ (v : Option View). LiveOk catalogue x.id v t) held (live_ok catalogue x given (λ u k. inv.live s x u up k) t from)))
+
+pub ops_quiet : (catalogue : Catalogue) (w new : Scene) (s : ℕ) → Quiet catalogue w new s → InvOps catalogue w → InvOps catalogue new
+ops_quiet catalogue w new s q inv = record { live = λ k y t h z. live_at w s inv k y t z (quiet_is catalogue w new s q k y h) }
+  where
+    live_at : (w : Scene) (s : ℕ) → InvOps catalogue w → (k : ℕ) (y : SiteState) (t : Live) → Has y.live t → QuietIs catalogue w s k y → LiveOk catalogue y.id y.held t
+    live_at w s inv k y t q (QuietIs.other n old) = inv.live k y t old q
+    live_at w s inv k y t q (QuietIs.here e same) = absurd (no_live catalogue s (kept_at w s) t (subst (λ (y : SiteState). Has y.live t) (sym same) q))

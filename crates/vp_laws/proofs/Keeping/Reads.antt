@@ -1,0 +1,101 @@
+-- What is read without a copy was asked of another site.
+use Rattle.std.proofs.Common.{◌≡◌, ◌⊎◌, ◌∙◌, ap, sym, subst, ℕ, List, [], ◌∷◌, ◌++◌, inl, inr, ⊎_elim}
+use Rattle.vp_model.specs.Types.{Input, Op, Answer, Pending, Live, Stored}
+use Rattle.vp_model.specs.Types.op
+use Rattle.vp_model.specs.Words.{keys}
+use Rattle.vp_model.specs.Catalogue.{Catalogue}
+use Rattle.vp_model.specs.Transactions.{last_writes}
+use Rattle.vp_model.specs.Refresh.{other_holders}
+use Rattle.vp_model.specs.Site.{SiteState, Stepped, Lent}
+use Rattle.vp_laws.specs.Votes.{is_commit}
+use Rattle.vp_laws.proofs.Lists.Members.{Has, has_none, has_one, has_one_is, has_left, has_right, has_cases}
+use Rattle.vp_laws.proofs.Moves.Table.{remaining, Completes}
+use Rattle.vp_laws.proofs.Table.Steps.{LiveNow, Steps}
+use Rattle.vp_laws.proofs.Table.Copies.{value_pair}
+use Rattle.vp_laws.proofs.Table.Locks.{Guards}
+use Rattle.vp_laws.proofs.Lists.Changes.{mapped_has}
+use Rattle.vp_laws.proofs.Worlds.Scenes.{Scene, kept_at, Acted, acted, scene_of}
+use Rattle.vp_laws.proofs.Invariant.Ops.{HasWritten}
+use Rattle.vp_laws.proofs.Worlds.Sites.{NowIs, now_is, QuietIs, quiet_is, no_live, started_idle, Quiet}
+use Rattle.vp_laws.proofs.Moves.Calls.{reads_same, same_call, unmarked_call}
+use Rattle.vp_laws.proofs.Invariant.Reads.{HasAsked, ReadsOk, InvReads}
+use Rattle.vp_laws.proofs.Lists.Pairs.{last_written, value_key}
+use Rattle.vp_model.specs.World.{start_world}
+
+module _ (catalogue : Catalogue) (x : SiteState) (given : Input) (all : (u : Live) → Has x.live u → ReadsOk catalogue (keys x.copies) u) where
+  abbrev Ok : Live → Type 0
+  Ok t = ReadsOk catalogue (keys x.copies) t
+
+  -- the operation that is done
+  new_read : (u : Live) (p : Pending) (operation : Op) (words : Answer) (l : Lent) → Has x.live u → Completes catalogue x given u p operation words l → (rec : ℕ) (value : List ℕ) → operation ≡ op.Read rec value → (Has (keys x.copies) rec → ⊥) → HasWritten u rec ⊎ HasAsked u rec
+  new_read u p operation words l h (Completes.own_write r v next reads a w e f g) rec value is none =
+      let z = sym e ∙ is in
+      let same : r ≡ rec = cc in
+      let q = value_key r (last_writes u.ops) v w in
+      let o = last_written u.ops q.0 q.1 in
+      inl (o.0, subst (λ (n : ℕ). Has u.ops (op.Write n o.0)) (q.2 ∙ same) o.1)
+  new_read u p operation words l h (Completes.own_copy r stored next reads a w copy free e f g) rec value is none =
+      let z = sym e ∙ is in
+      let same : r ≡ rec = cc in
+      absurd (none (rw (← same) (mapped_has (λ (p : ℕ × Stored). p.0) x.copies (r, stored) (value_pair r x.copies stored copy))))
+  new_read u p operation words l h (Completes.write_again r before v next w a k e f g) rec value is none = absurd (let z = sym e ∙ is in cc)
+  new_read u p operation words l h (Completes.write_alone r v next w a k n e f g) rec value is none = absurd (let z = sym e ∙ is in cc)
+  new_read u p operation words l h (Completes.read_answered from r v c last reads e f g) rec value is none =
+      let z = sym e ∙ is in
+      let same : r ≡ rec = cc in
+      inr (rw (← same) ((all u h).asked p r last.pending reads))
+  new_read u p operation words l h (Completes.write_answered from r v c last w e f g) rec value is none = absurd (let z = sym e ∙ is in cc)
+
+  more_written : (u : Live) (operation : Op) (rec : ℕ) → HasWritten u rec → (value : List ℕ) × Has (u.ops ++ operation ∷ []) (op.Write rec value)
+  more_written u operation rec q = (q.0, has_left u.ops (operation ∷ []) _ q.1)
+
+  pub reads_now : (t : Live) → LiveNow catalogue x given t → Ok t
+  reads_now t (LiveNow.still h) = all t h
+  reads_now t (LiveNow.marked u h tick e) = let b = all u h in subst Ok e (record {
+    done = b.done;
+    asked = λ p rec f r. let q = unmarked_call u.pending p f in b.asked q.0 rec q.1 (same_call catalogue p q.0 rec q.2 r);
+  })
+  reads_now t (LiveNow.waits u p from h f m l k e) = let b = all u h in subst Ok e (record {
+    done = b.done;
+    asked = λ a rec g r. let is : record p { missing = remaining from p } ≡ a = cc in b.asked p rec f (same_call catalogue a p rec (ap (λ (p : Pending). p.call) is) r);
+  })
+  reads_now t (LiveNow.completed u p operation words l h c e) = let b = all u h in subst Ok e (record {
+    done = λ rec value k none. ⊎_elim
+        (λ old. ⊎_elim (λ w. inl (more_written u operation rec w)) (λ a. inr a) (b.done rec value old none))
+        (λ new. ⊎_elim (λ w. inl (more_written u operation rec w)) (λ a. inr a) (new_read u p operation words l h c rec value (has_one_is operation _ new) none))
+        (has_cases u.ops (operation ∷ []) _ k);
+    asked = λ a rec g r. cc;
+  })
+  reads_now t (LiveNow.reads u p rec q h a e) = let b = all u h in subst Ok e (record {
+    done = λ r value k none. ⊎_elim (λ w. inl w) (λ (g : HasAsked u r). inr (g.0, has_left u.remote ((q, rec) ∷ []) _ g.1)) (b.done r value k none);
+    asked = λ c r g s.
+        let is : record p { missing = q ∷ [] } ≡ c = cc in
+        let same = reads_same catalogue p rec r a.reads (same_call catalogue c p r (ap (λ (p : Pending). p.call) is) s) in
+        (q, has_right u.remote ((q, rec) ∷ []) _ (rw (← same) (has_one (q, rec))));
+  })
+  reads_now t (LiveNow.writes u p rec value h a e) = let b = all u h in subst Ok e (record {
+    done = b.done;
+    asked = λ c r g s. absurd (let is : record p { missing = other_holders catalogue x rec } ≡ c = cc in let z = sym a.writes.words ∙ ap (λ (p : Pending). p.call) is ∙ s.words in cc);
+  })
+  reads_now t (LiveNow.prepares u p h a e) = let b = all u h in subst Ok e (record {
+    done = b.done;
+    asked = λ c r g s. absurd (let is : record p { missing = u.parts } ≡ c = cc in let z = ap is_commit (ap (λ (p : Pending). p.call) is ∙ s.words) in let y = a.commit in cc);
+  })
+  reads_now t (LiveNow.begins view h e) = subst Ok e (record { done = λ rec value k none. absurd (has_none _ k); asked = λ p rec g r. cc })
+
+pub reads_starts : (catalogue : Catalogue) → InvReads catalogue (scene_of (start_world catalogue))
+reads_starts catalogue = record { live = λ s x t up h. absurd (started_idle catalogue s x t up h) }
+
+pub reads_acts : (catalogue : Catalogue) (w : Scene) (s : ℕ) (x : SiteState) (given : Input) (o : Stepped) → ((t : Live) → LiveNow catalogue x given t → ReadsOk catalogue (keys x.copies) t) → Steps catalogue x given o.site.coordinator o.effects.messages o.effects.commits → Guards catalogue x given o → Acted w (acted w s x o) s x o → InvReads catalogue w → InvReads catalogue (acted w s x o)
+reads_acts catalogue w s x given o ok c g st inv = record { live = λ k y t h q. go k y t q (now_is w (acted w s x o) s x o st k y h) }
+  where
+    go : (k : ℕ) (y : SiteState) (t : Live) → Has y.live t → NowIs w s o.site k y → ReadsOk catalogue (keys y.copies) t
+    go k y t q (NowIs.other n old) = inv.live k y t old q
+    go k y t q (NowIs.here e same) = subst (λ (y : SiteState). ReadsOk catalogue (keys y.copies) t) same (rw g.copied (ok t (c.live t (subst (λ (y : SiteState). Has y.live t) (sym same) q))))
+
+pub reads_quiet : (catalogue : Catalogue) (w new : Scene) (s : ℕ) → Quiet catalogue w new s → InvReads catalogue w → InvReads catalogue new
+reads_quiet catalogue w new s q inv = record { live = λ k y t g h. reads_at w s inv k y t h (quiet_is catalogue w new s q k y g) }
+  where
+    reads_at : (w : Scene) (s : ℕ) → InvReads catalogue w → (k : ℕ) (y : SiteState) (t : Live) → Has y.live t → QuietIs catalogue w s k y → ReadsOk catalogue (keys y.copies) t
+    reads_at w s inv k y t h (QuietIs.other n old) = inv.live k y t old h
+    reads_at w s inv k y t h (QuietIs.here e same) = absurd (no_live catalogue s (kept_at w s) t (subst (λ (y : SiteState). Has y.live t) (sym same) h))

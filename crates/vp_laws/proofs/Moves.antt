@@ -1,0 +1,11 @@
+-- The step table in small moves: what a property has to survive, and that each row is made of such moves. It uses Lists.
+pub mod Table
+pub mod LocalViews
+pub mod Calls
+pub mod OnlyCoordinator
+pub mod Reasons
+pub mod Frames
+pub mod Coordinator
+pub mod Rows
+pub mod FrontRows
+pub mod FrontSteps

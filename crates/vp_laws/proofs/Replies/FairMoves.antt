@@ -1,0 +1,416 @@
+-- One step keeps that what is refused is justified, and its own answers are.
+use Rattle.std.proofs.Common.{◌≡◌, ◌≢◌, ◌∙◌, ap, sym, subst, ℕ, ◌+◌, ◌≤◌, ◌*◌, Bool, true, false, List, [], ◌∷◌, ◌++◌, map, refl, arith, ⊎_elim, length}
+use Rattle.std.specs.Prelude.{Option, Some, None, is_some, option_map, option_to_list, nat_le, nat_lt, ◌&&◌}
+use Rattle.std.proofs.lemmas.Bool.Decides.{nat_tests}
+use Rattle.std.proofs.Math.ListN.{length-append}
+use Rattle.vp_model.specs.Types.{TxnId, ViewId, View, Owner, Obstacle, Answer, Reply, Message, Input, Pending, Live, Ending, Finished}
+use Rattle.vp_base.specs.declared.site.Ending.TheVariants.{Committed, LockHeld}
+use Rattle.vp_model.specs.Types.answer
+use Rattle.vp_model.specs.Types.message
+use Rattle.vp_model.specs.Types.obstacle
+use Rattle.vp_model.specs.Words.{is_view, same_txn}
+use Rattle.vp_model.specs.Catalogue.{Catalogue, find_record, inside, total}
+use Rattle.vp_model.specs.Site.{SiteState, Stepped}
+use Rattle.vp_model.specs.Answers.{is_live}
+use Rattle.vp_model.specs.Messages.{held_id}
+use Rattle.vp_model.specs.Locks.{conflict}
+use Rattle.vp_model.specs.Transactions.{answer_of, answers_after}
+use Rattle.vp_model.specs.Refresh.{members_in, is_usable_in}
+use Rattle.vp_model.specs.Step.{step}
+use Rattle.vp_model.specs.Told.{answers_in}
+use Rattle.vp_model.specs.World.{WorldState, Moment}
+use Rattle.vp_model.specs.Justified.{site_named, justified, was_blocked, held_other, left_and_closed, is_begun, weighs, refused_number, refused_in}
+use Rattle.vp_laws.proofs.Replies.RefusedCalls.{refused_last, none_refused, first_told, refused_of}
+use Rattle.vp_laws.proofs.Lists.Members.{Has, has_none, has_one, has_left, has_right, has_cases, has_one_is, map_has, any_true, any_of}
+use Rattle.vp_laws.proofs.Moves.Table.{Comes, Handled, Reads, Writes, Requests, Asks}
+use Rattle.vp_laws.proofs.Moves.LocalViews.{letter}
+use Rattle.vp_laws.proofs.Worlds.Scenes.{Scene, scene_of, plain_at, kept_at, acted}
+use Rattle.vp_laws.proofs.Worlds.Events.{Arrives}
+use Rattle.vp_laws.proofs.Invariant.Shares.{HasRequest}
+use Rattle.vp_laws.proofs.Invariant.Answers.{Current}
+use Rattle.vp_laws.proofs.Table.Led.{Led}
+use Rattle.vp_laws.proofs.Lists.Names.{apart_unique, same_txn-self}
+use Rattle.vp_laws.proofs.Replies.EndsTrue.{EndedAt, ended_step, ended_quiet, said_refused}
+use Rattle.vp_laws.proofs.Worlds.Sites.{NowIs, now_is, Quiet, QuietIs, quiet_is, no_finished, no_live}
+use Rattle.vp_laws.proofs.Moves.Reasons.{Operates, Takes, Awaits, Why, told_to}
+use Rattle.vp_laws.proofs.Table.Refusals.{Refused, RefuseSays, refusals-step}
+use Rattle.vp_laws.proofs.Table.Fair.{is_free, finished_as, LiveFrom, FinishedFrom, ReplyFrom, Causes, causes-step}
+use Rattle.vp_laws.proofs.Replies.Fair.{WasBegun, Once, OtherView, Fair, begun_more, fair_more, fair_justified}
+use Rattle.vp_laws.proofs.Replies.FairStep.{IsStep, named_site, tested_x, replied, blocked_here, blocked_there, other_there, left_and_closed_now, same_view-self, eq_self}
+use Rattle.vp_laws.proofs.Replies.FairAt.{IsAsked, RefuseFair, RefuseOk, FairEnd, FairAt, refuse_on, end_more, free_justified, report_fair}
+use Rattle.vp_laws.proofs.Table.Kept.{is_report}
+use Rattle.vp_laws.proofs.Lists.Numbers.{one_above}
+use Rattle.vp_laws.proofs.Keeping.Does.{Does, does}
+use Rattle.vp_laws.proofs.Invariant.Known.{Known}
+use Rattle.vp_laws.proofs.Invariant.Invariant.{Invariant}
+use Rattle.vp_laws.proofs.Order.Invariant.{invariant_last}
+
+at_most_of : (a b c : ℕ) → a ≡ b + 1 → b + 1 ≤ c → a ≤ c
+at_most_of a b c e h = omega arith
+
+same_at_most : (a b : ℕ) → a ≡ b → b ≤ a
+same_at_most a b e = omega arith
+
+-- answers that say nothing of a refused call
+free_unrefused : (txn : TxnId) (a : Answer) (n : ℕ) → is_free a ≡ true → refused_number txn a ≡ Some n → ⊥
+free_unrefused txn (answer.LockHeld t number name at holder) n e f = cc
+free_unrefused txn (answer.ViewChanged t number at held now) n e f = cc
+free_unrefused txn _ n e f = cc
+
+report_unrefused : (txn : TxnId) (a : Answer) (n : ℕ) → is_report a ≡ true → refused_number txn a ≡ Some n → ⊥
+report_unrefused txn (answer.LockHeld t number name at holder) n e f = cc
+report_unrefused txn (answer.ViewChanged t number at held now) n e f = cc
+report_unrefused txn _ n e f = cc
+
+own_held : (txn : TxnId) (number : ℕ) (name : List ℕ) (at : ℕ) (holder : Owner) → refused_number txn (answer.LockHeld txn number name at holder) ≡ Some number
+own_held txn number name at holder = rw (same_txn-self txn) refl
+
+own_view : (txn : TxnId) (number at : ℕ) (held : ViewId) (held_now : Option ViewId) → refused_number txn (answer.ViewChanged txn number at held held_now) ≡ Some number
+own_view txn number at held held_now = rw (same_txn-self txn) refl
+
+below_of : (n m : ℕ) → nat_le n m ≡ false → m ≤ n
+below_of n m e = grind (arith, nat_tests, e)
+
+module _ (catalogue : Catalogue) (world : WorldState) (past : List Moment) (m0 : Moment) (s : ℕ) (x : SiteState) (given : Input) (up : plain_at (scene_of world) s ≡ Some x) (arrives : Arrives (scene_of world) s given) (is : IsStep m0 world s x given (step catalogue x given)) (fair : FairAt catalogue (scene_of world) past) where
+  abbrev w : Scene
+  w = scene_of world
+
+  abbrev o : Stepped
+  o = step catalogue x given
+
+  abbrev now : List Moment
+  now = past ++ m0 ∷ []
+
+  here : Has now m0
+  here = has_right past (m0 ∷ []) m0 (has_one m0)
+
+  known : Known catalogue w
+  known = fair.inv.known
+
+  inv_now : Invariant catalogue (acted w s x o)
+  inv_now = (invariant_last catalogue).acts w s x given up arrives fair.inv
+
+  d : Does catalogue w (acted w s x o) s x given o
+  d = does catalogue w s x given up arrives known
+
+  c : Causes catalogue x given o.site o.site.coordinator o.effects.replies o.effects.commits
+  c = causes-step catalogue x given (known.repeated.site s x up)
+
+  own_site : (t : Live) → Has x.live t → t.txn.site ≡ s
+  own_site t h = (d.led.names t h).0 ∙ d.here.id
+
+  -- the pending call has the next number
+  next_number : (t : Live) (p : Pending) → Has x.live t → t.pending ≡ Some p → p.number ≡ length t.answers + 1
+  next_number t p h e = (known.ops.live s x t up h).next p e
+
+  number_of : (t : Live) (why : Ending) (p : Pending) → Why catalogue x given o.site t why → t.pending ≡ Some p → p.number ≡ length t.answers + 1
+  number_of t why p (Why.aborted was q at e) g = let z = ap (λ (t : Live). t.pending) e in let same : q ≡ p = cc in rw (← same, e) at.next.number
+  number_of t why p (Why.held_here was q name rec exclusive holder at e op f n) g = let z = ap (λ (t : Live). t.pending) e in let same : q ≡ p = cc in rw (← same, e) at.next.number
+  number_of t why p (Why.held_there q from name exclusive holder a n op) g = next_number t p a.live g
+  number_of t why p (Why.other_view q from held_now a n) g = next_number t p a.live g
+  number_of t why p (Why.left h gone) g = next_number t p h g
+  number_of t why p (Why.timed_out missing h) g = next_number t p h g
+
+  -- a transaction that was live as the step began was told of no refusal before
+  never_told : (txn : TxnId) (u : Live) → Has x.live u → u.txn ≡ txn → refused_in past txn ≡ None
+  never_told txn u h same = none_refused txn past (λ m k a q n e.
+      let ended = fair.told m k a q txn n e in
+      ended.over x (rw (← same, own_site u h) up) u h same)
+
+  -- and in this step only under the number of its pending call
+  finished_other : (t : Live) (f : Finished) (number : ℕ) (n : ℕ) → Handled x t → Has x.finished f → refused_number t.txn (answer_of f.txn number f.ending) ≡ Some n → ⊥
+  finished_other t f number n at h e =
+      let own : f.txn ≡ t.txn = (refused_of f.txn t.txn number f.ending n e).0 in
+      (known.ends.settled s x up).finished f at.was h at.live (ap (λ (t : Live). t.txn) (sym at.same) ∙ sym own)
+
+  number_told : (t : Live) → Handled x t → (a : Answer) → ReplyFrom catalogue x given o.site a → (n : ℕ) → refused_number t.txn a ≡ Some n → n ≡ length t.answers + 1
+  number_told t at a (ReplyFrom.free b f) n e = absurd (free_unrefused t.txn b n f e)
+  number_told t at a (ReplyFrom.inaccessible u p name rec takes found f) n e = cc
+  number_told t at a (ReplyFrom.repeated f b k q) n e = ⊎_elim
+      (λ r. absurd (report_unrefused t.txn b n r e))
+      (λ (r : (number : ℕ) × (b ≡ answer_of f.txn number f.ending)). absurd (finished_other t f r.0 n at k (ap (refused_number t.txn) (sym r.1) ∙ e)))
+      ((known.repeated.site s x up).finished f k b q)
+  number_told t at a (ReplyFrom.ended f number k l) n e = absurd (finished_other t f number n at k e)
+  number_told t at a (ReplyFrom.closed u why p also w q) n e =
+      let own = refused_of u.txn t.txn p.number why n e in
+      let one : also.was ≡ at.was = apart_unique x.live (known.votes.site s x up) also.was at.was also.live at.live (ap (λ (t : Live). t.txn) (sym also.same) ∙ own.0 ∙ ap (λ (t : Live). t.txn) at.same) in
+      let same : u.answers ≡ t.answers = ap (λ (t : Live). t.answers) also.same ∙ ap (λ (t : Live). t.answers) one ∙ ap (λ (t : Live). t.answers) (sym at.same) in
+      sym own.1 ∙ number_of u why p w q ∙ ap (λ (answers : List Answer). length answers + 1) same
+
+  number_in : (t : Live) → Handled x t → (a : Answer) → Has (answers_in m0.line) a → (n : ℕ) → refused_number t.txn a ≡ Some n → n ≡ length t.answers + 1
+  number_in t at a h =
+      let r = map_has (λ (r : Reply). r.answer) o.effects.replies a (rw is.shown at h) in
+      number_told t at a (subst (ReplyFrom catalogue x given o.site) r.2 (c.says r.0 r.1))
+
+  refused_first : (t : Live) (p : Pending) (a : Answer) → Handled x t → p.number ≡ length t.answers + 1 → refused_number t.txn a ≡ Some p.number → Has (answers_in m0.line) a → refused_in now t.txn ≡ Some p.number
+  refused_first t p a at number own h =
+      refused_last t.txn past m0 (never_told t.txn at.was at.live (ap (λ (t : Live). t.txn) (sym at.same)))
+      ∙ first_told t.txn (answers_in m0.line) p.number (λ b q n e. number_in t at b q n e ∙ sym number) a h own
+
+  came : (from : ℕ) (m : Message) → Comes given from m → Has w.sent (letter from s m)
+  came from m e = rw e at arrives
+
+  -- the request that was refused is of the pending call, and of another site
+  current : (t : Live) (p : Pending) (Asked : Pending → Type 0) → Has x.live t → t.pending ≡ Some p → Current Asked p.number t → Asked p
+  current t p Asked h e cur = ⊎_elim
+      (λ old. absurd (one_above p.number (length t.answers) old (next_number t p h e)))
+      (λ (q : (a : Pending) × (t.pending ≡ Some a) × (a.number ≡ p.number) × Asked a). let z = q.1 in let same : q.0 ≡ p = cc in subst Asked same q.3) cur
+
+  uses_reads : (p : Pending) (name : List ℕ) (exclusive : Bool) (rec : ℕ) → Operates p.call name exclusive → Reads catalogue p rec → find_record catalogue name ≡ Some rec
+  uses_reads p name exclusive rec (Operates.reads txn n e) r = let z = r.words in let same : r.name ≡ name = cc in rw (← same) r.found
+  uses_reads p name exclusive rec (Operates.writes txn n value e) r = let z = r.words in cc
+
+  uses_writes : (p : Pending) (name : List ℕ) (exclusive : Bool) (rec : ℕ) (value : List ℕ) → Operates p.call name exclusive → Writes catalogue p rec value → find_record catalogue name ≡ Some rec
+  uses_writes p name exclusive rec value (Operates.reads txn n e) r = let z = r.words in cc
+  uses_writes p name exclusive rec value (Operates.writes txn n v e) r = let z = r.words in let same : r.name ≡ name = cc in rw (← same) r.found
+
+  up_there : (t : Live) → Has x.live t → plain_at w t.txn.site ≡ Some x
+  up_there t h = rw (own_site t h) up
+
+  named_there : (t : Live) (p : Pending) (from q : ℕ) (view : ViewId) (rec : ℕ) (flag exclusive : Bool) (name : List ℕ) → Awaits x t p → HasRequest w q from t.txn view p.number rec flag → Operates p.call name exclusive → (find_record catalogue name ≡ Some rec) × (from ≢ t.txn.site)
+  named_there t p from q view rec flag exclusive name a (HasRequest.to_read m) op = (
+    uses_reads p name exclusive rec op (current t p (λ p. Reads catalogue p rec) a.live a.pending (known.answers.asks _ m x t (up_there t a.live) a.live refl)),
+    (known.led.asked _ m).5,
+  )
+  named_there t p from q view rec flag exclusive name a (HasRequest.to_write m) op =
+      let r = current t p (λ p. (value : List ℕ) × Writes catalogue p rec value) a.live a.pending (known.answers.asks _ m x t (up_there t a.live) a.live refl) in (
+        uses_writes p name exclusive rec r.0 op r.1,
+        (known.led.asked _ m).5,
+      )
+
+  -- the transaction's view is the one that it was asked for in
+  view_of : (t : Live) (q from : ℕ) (view : ViewId) (number : ℕ) → Has x.live t → IsAsked w q from t.txn view number → (t.view ≡ view) × (from ≢ t.txn.site)
+  view_of t q from view number h (IsAsked.to_read rec m) = ((known.shares.says _ m).live x t (up_there t h) h refl, (known.led.asked _ m).5)
+  view_of t q from view number h (IsAsked.to_write rec m) = ((known.shares.says _ m).live x t (up_there t h) h refl, (known.led.asked _ m).5)
+  view_of t q from view number h (IsAsked.to_prepare reads writes m) = ((known.shares.says _ m).live x t (up_there t h) h refl, (known.led.asked _ m).5)
+
+  begun_now : (t : Live) → Has x.live t → WasBegun now t.txn t.view
+  begun_now t h = begun_more past (m0 ∷ []) t.txn t.view (fair.live s x t up h)
+
+  -- a lock that another site named
+  there_fair : (t : Live) (p : Pending) (from : ℕ) (name : List ℕ) (exclusive : Bool) (holder : Owner) (k : ℕ) → Awaits x t p → Operates p.call name exclusive → refused_in now t.txn ≡ Some p.number → p.number ≤ k → RefuseFair catalogue w past from t.txn p.number (obstacle.Held holder) → Fair catalogue now (answer.LockHeld t.txn k name from holder)
+  there_fair t p from name exclusive holder k a op first up_to (RefuseFair.blocked view rec flag held_by q asked m h f) =
+      let n = named_there t p from q view rec flag exclusive name a asked op in
+      record { refused = p.number; first = first; up_to = up_to; once = any_of (was_blocked catalogue t.txn p.number name from holder) now m (has_left past (m0 ∷ []) m h) (f name n.0 n.1) }
+
+  -- another view that another site named
+  view_fair : (t : Live) (p : Pending) (from : ℕ) (held_now : Option ViewId) (k : ℕ) → Awaits x t p → refused_in now t.txn ≡ Some p.number → p.number ≤ k → RefuseFair catalogue w past from t.txn p.number (obstacle.OtherView held_now) → Fair catalogue now (answer.ViewChanged t.txn k from t.view held_now)
+  view_fair t p from held_now k a first up_to (RefuseFair.elsewhere view w_now q asked e once) =
+      let n = view_of t q from view p.number a.live asked in
+      let e_now : is_view held_now t.view ≡ false = rw n.0 e in
+      let once_now : Once past (held_other catalogue t.txn p.number from t.view held_now) = rw n.0 once in (
+        begun_now t a.live,
+        OtherView.other held_now n.1 e_now (record {
+          refused = p.number;
+          first = first;
+          up_to = up_to;
+          once = any_of (held_other catalogue t.txn p.number from t.view held_now) now once_now.moment (has_left past (m0 ∷ []) once_now.moment once_now.has) once_now.passes;
+        }),
+      )
+
+  -- a lock here, of a call that comes in this step
+  here_fair : (was : Live) (p : Pending) (name : List ℕ) (rec : ℕ) (exclusive : Bool) (holder : Owner) (k : ℕ) → Takes x given was p → Operates p.call name exclusive → find_record catalogue name ≡ Some rec → conflict rec exclusive was.txn x.locks ≡ Some holder → refused_in now was.txn ≡ Some p.number → p.number ≤ k → Has (answers_in m0.line) (answer.LockHeld was.txn p.number name x.id holder) → Fair catalogue now (answer.LockHeld was.txn k name x.id holder)
+  here_fair was p name rec exclusive holder k at op f n first up_to told =
+      let told_here : Has (answers_in m0.line) (answer.LockHeld was.txn p.number name s holder) = rw (← d.here.id) told in
+      let blocked = blocked_here catalogue m0 world s x given o is was p name rec exclusive holder at.called op f n (own_site was at.live) told_here in
+      rw d.here.id (record { refused = p.number; first = first; up_to = up_to; once = any_of (was_blocked catalogue was.txn p.number name s holder) now m0 here blocked })
+
+  -- where the site holds no view it has no live transaction
+  none_left : o.site.held ≡ None → (txn : TxnId) → is_live txn o.site.live ≡ false
+  none_left gone txn = go (is_live txn o.site.live) refl
+    where
+      led_now : Led o.site
+      led_now = inv_now.known.led.site s o.site d.st.now
+
+      go : (b : Bool) → is_live txn o.site.live ≡ b → b ≡ false
+      go false e = refl
+      go true e = let r = any_true (λ (t : Live). same_txn t.txn txn) o.site.live e in let v = led_now.live r.0 r.1 in let z = v.1 in cc
+
+  left_fair : (t : Live) (k : ℕ) → Has x.live t → o.site.held ≡ None → Fair catalogue now (answer.ViewChanged t.txn k x.id t.view None)
+  left_fair t k h gone =
+      let v = d.led.live t h in
+      let was : is_live t.txn x.live ≡ true = any_of (λ (u : Live). same_txn u.txn t.txn) x.live t h (same_txn-self t.txn) in
+      let left : left_and_closed t.txn t.view m0 ≡ true = rw (← v.2) (left_and_closed_now catalogue m0 world s x given o is t.txn v.0 (own_site t h) v.1 gone was (none_left gone t.txn)) in
+      (begun_now t h, OtherView.left (d.here.id ∙ sym (own_site t h)) (record { moment = m0; has = here; passes = left }))
+
+  why_fair : (t : Live) (why : Ending) (k : ℕ) → Handled x t → Why catalogue x given o.site t why → ((p : Pending) → t.pending ≡ Some p → Has (answers_in m0.line) (answer_of t.txn p.number why)) → ((p : Pending) → t.pending ≡ Some p → length t.answers + 1 ≤ k) → Fair catalogue now (answer_of t.txn k why)
+  why_fair t why k handled (Why.aborted was p at e) told up_to = tt
+  why_fair t why k handled (Why.held_here was p name rec exclusive holder at e op f n) told up_to =
+      let pending : t.pending ≡ Some p = ap (λ (t : Live). t.pending) e in
+      let same : t.txn ≡ was.txn = ap (λ (t : Live). t.txn) e in
+      let next : p.number ≡ length t.answers + 1 = number_of t (LockHeld name x.id holder) p (Why.held_here was p name rec exclusive holder at e op f n) pending in
+      let number : p.number ≤ k = at_most_of p.number (length t.answers) k next (up_to p pending) in
+      let first : refused_in now t.txn ≡ Some p.number = refused_first t p _ handled next (own_held t.txn p.number name x.id holder) (told p pending) in
+      rw same (here_fair was p name rec exclusive holder k at op f n (rw same at first) number (rw same at (told p pending)))
+  why_fair t why k handled (Why.held_there p from name exclusive holder a n op) told up_to =
+      let next = next_number t p a.live a.pending in
+      let first : refused_in now t.txn ≡ Some p.number = refused_first t p _ handled next (own_held t.txn p.number name from holder) (told p a.pending) in
+      there_fair t p from name exclusive holder k a op first (at_most_of p.number (length t.answers) k next (up_to p a.pending)) (fair.sent _ (came from _ n))
+  why_fair t why k handled (Why.other_view p from held_now a n) told up_to =
+      let next = next_number t p a.live a.pending in
+      let first : refused_in now t.txn ≡ Some p.number = refused_first t p _ handled next (own_view t.txn p.number from t.view held_now) (told p a.pending) in
+      view_fair t p from held_now k a first (at_most_of p.number (length t.answers) k next (up_to p a.pending)) (fair.sent _ (came from _ n))
+  why_fair t why k handled (Why.left h gone) told up_to = left_fair t k h gone
+  why_fair t why k handled (Why.timed_out missing h) told up_to = tt
+
+  told_of : (t : Live) (why : Ending) → ((p : Pending) → t.pending ≡ Some p → Has o.effects.replies (told_to p.port (answer_of t.txn p.number why))) → (p : Pending) → t.pending ≡ Some p → Has (answers_in m0.line) (answer_of t.txn p.number why)
+  told_of t why told p e = replied catalogue m0 world s x given o is p.port (answer_of t.txn p.number why) (told p e)
+
+  -- the weights that an answer names
+  weighs_x : (t : Live) (name : List ℕ) (rec : ℕ) → Has x.live t → find_record catalogue name ≡ Some rec → is_usable_in catalogue x.held rec ≡ false → weighs catalogue name (inside catalogue rec (members_in x.held)) (total catalogue rec) x ≡ true
+  weighs_x t name rec h found e =
+      let v = d.led.live t h in
+      let up_to : nat_le (2 * inside catalogue rec (members_in x.held)) (total catalogue rec) ≡ true = not_more (total catalogue rec) (2 * inside catalogue rec (members_in x.held)) e in
+      some_held v.0 v.1 (rw (found, eq_self (inside catalogue rec (members_in x.held)), eq_self (total catalogue rec), up_to) refl)
+    where
+      not_more : (a b : ℕ) → nat_lt a b ≡ false → nat_le b a ≡ true
+      not_more a b e = grind (arith, nat_tests, e)
+
+      some_held : {b : Bool} (v : View) → x.held ≡ Some v → b ≡ true → (is_some x.held && b) ≡ true
+      some_held v e f = rw (e, f) refl
+
+  end_justified : (a : Answer) → Fair catalogue now a → justified catalogue now m0 a ≡ true
+  end_justified a f = fair_justified catalogue now m0 a f
+
+  reply_justified : (a : Answer) → Has (answers_in m0.line) a → ReplyFrom catalogue x given o.site a → justified catalogue now m0 a ≡ true
+  reply_justified a h (ReplyFrom.free b e) = free_justified catalogue now m0 b e
+  reply_justified a h (ReplyFrom.inaccessible t p name rec at found e) =
+      let named : site_named m0.before m0.line.event ≡ Some s = rw is.before (named_site m0.line.event world s given is.gives) in
+      rw named (tested_x catalogue m0 world s x given o is (weighs catalogue name (inside catalogue rec (members_in x.held)) (total catalogue rec)) (weighs_x t name rec at.live found e))
+  reply_justified a h (ReplyFrom.repeated f b k q) = end_justified b (fair_more catalogue past (m0 ∷ []) b ((fair.finished s x f up k).answers b q))
+  reply_justified a h (ReplyFrom.ended f number k e) = end_justified _ (fair_more catalogue past (m0 ∷ []) _ ((fair.finished s x f up k).later number (below_of number (length f.answers) e)))
+  reply_justified a h (ReplyFrom.closed t why p n w e) =
+      end_justified _ (why_fair t why p.number n w (λ q g. let same : p ≡ q = cc in subst (λ (q : Pending). Has (answers_in m0.line) (answer_of t.txn q.number why)) same h) (λ q g. same_at_most p.number (length t.answers + 1) (number_of t why p w e)))
+
+  pub replies_justified : (a : Answer) → Has (answers_in m0.line) a → justified catalogue now m0 a ≡ true
+  replies_justified a h =
+      let z : Has (map (λ (r : Reply). r.answer) o.effects.replies) a = rw is.shown at h in
+      let r = map_has (λ (r : Reply). r.answer) o.effects.replies a z in
+      reply_justified a h (subst (ReplyFrom catalogue x given o.site) r.2 (c.says r.0 r.1))
+
+  -- what a transaction that ends in this step keeps
+  ends_fair : (t : Live) (why : Ending) → Handled x t → ((k : ℕ) → ((p : Pending) → t.pending ≡ Some p → length t.answers + 1 ≤ k) → Fair catalogue now (answer_of t.txn k why)) → ((p : Pending) → t.pending ≡ Some p → p.number ≡ length t.answers + 1) → FairEnd catalogue now (finished_as t why)
+  ends_fair t why n fair_at number = record {
+    answers = λ a h. ⊎_elim (λ old. report_fair catalogue now a (reports a old)) (λ new. last t.pending refl a new) (has_cases t.answers _ a h);
+    later = λ k h. fair_at k (λ p e. longer k p e h);
+  }
+    where
+      reports : (a : Answer) → Has t.answers a → is_report a ≡ true
+      reports a h = (known.repeated.site s x up).live n.was n.live a (rw (ap (λ (t : Live). t.answers) n.same) at h)
+
+      last : (q : Option Pending) → t.pending ≡ q → (a : Answer) → Has (option_to_list (option_map (λ p. answer_of t.txn p.number why) q)) a → Fair catalogue now a
+      last None e a k = absurd (has_none a k)
+      last (Some p) e a k = subst (Fair catalogue now) (has_one_is (answer_of t.txn p.number why) a k) (fair_at p.number (λ q g. same_at_most p.number (length t.answers + 1) (number p e)))
+
+      longer : (k : ℕ) (p : Pending) → t.pending ≡ Some p → length (answers_after t why) ≤ k → length t.answers + 1 ≤ k
+      longer k p e h = let size : length (answers_after t why) ≡ length t.answers + 1 = rw e (length-append t.answers (answer_of t.txn p.number why ∷ [])) in rw size at h
+
+  finished_now : (f : Finished) → FinishedFrom catalogue x given o.site o.effects.replies f → FairEnd catalogue now f
+  finished_now f (FinishedFrom.was g h) = end_more catalogue past (m0 ∷ []) g (fair.finished s x g up h)
+  finished_now f (FinishedFrom.committed t n) = committed t n
+    where
+      committed : (t : Live) → Handled x t → FairEnd catalogue now (finished_as t Committed)
+      committed t n = record {
+        answers = λ a h. ⊎_elim (λ old. report_fair catalogue now a ((known.repeated.site s x up).live n.was n.live a (rw (ap (λ (t : Live). t.answers) n.same) at old))) (λ new. last t.pending a new) (has_cases t.answers _ a h);
+        later = λ k h. tt;
+      }
+        where
+          last : (q : Option Pending) → (a : Answer) → Has (option_to_list (option_map (λ p. answer_of t.txn p.number Committed) q)) a → Fair catalogue now a
+          last None a k = absurd (has_none a k)
+          last (Some p) a k = subst (Fair catalogue now) (has_one_is (answer_of t.txn p.number Committed) a k) tt
+  finished_now f (FinishedFrom.closed t why n w told) = ends_fair t why n (λ k up_to. why_fair t why k n w (told_of t why told) up_to) (λ p e. number_of t why p w e)
+
+  live_now : (t : Live) → LiveFrom x o.effects.replies t → WasBegun now t.txn t.view
+  live_now t (LiveFrom.was u h e f) = rw (← e, ← f) (begun_now u h)
+  live_now t (LiveFrom.begins port h) = record {
+    moment = m0;
+    has = here;
+    told = any_of (is_begun t.txn t.view) (answers_in m0.line) (answer.Begun t.txn t.view) (replied catalogue m0 world s x given o is port (answer.Begun t.txn t.view) h) (rw (same_txn-self t.txn, same_view-self t.view) refl);
+  }
+
+  -- a refusal that this step sends
+  abbrev new : Scene
+  new = acted w s x o
+
+  came_on : (from : ℕ) (m : Message) → Comes given from m → Has new.sent (letter from s m)
+  came_on from m e = d.st.moved.sent (letter from s m) (came from m e)
+
+  was_requested : (q : ℕ) (txn : TxnId) (view : ViewId) (number rec : ℕ) (exclusive : Bool) → Requests given q txn view number rec exclusive → HasRequest new q s txn view number rec exclusive
+  was_requested q txn view number rec exclusive (Requests.reads e) = HasRequest.to_read (came_on q _ e)
+  was_requested q txn view number rec exclusive (Requests.writes e) = HasRequest.to_write (came_on q _ e)
+
+  was_asked : (q : ℕ) (txn : TxnId) (view : ViewId) (number : ℕ) → Asks given q txn view number → IsAsked new q s txn view number
+  was_asked q txn view number (Asks.reads rec e) = IsAsked.to_read rec (came_on q _ e)
+  was_asked q txn view number (Asks.writes rec e) = IsAsked.to_write rec (came_on q _ e)
+  was_asked q txn view number (Asks.prepares reads writes e) = IsAsked.to_prepare reads writes (came_on q _ e)
+
+  refused_now : (to : ℕ) (txn : TxnId) (number : ℕ) (why : Obstacle) → Has o.effects.messages (letter s to (message.Refuse txn number why)) → Refused x given to txn number why → RefuseFair catalogue new now s txn number why
+  refused_now to txn number why sent (Refused.held view rec exclusive holder asks e) =
+      RefuseFair.blocked view rec exclusive holder to (was_requested to txn view number rec exclusive asks) m0 here
+      (λ name found away. blocked_there catalogue m0 world s x given o is to txn view number rec exclusive holder name asks e sent found away)
+  refused_now to txn number why sent (Refused.other view asks e) =
+      RefuseFair.elsewhere view (held_id x) to (was_asked to txn view number asks) e (record { moment = m0; has = here; passes = other_there catalogue m0 world s x given o is to txn view number asks sent })
+
+  sent_ok : (from to : ℕ) (m : Message) → Has o.effects.messages (letter from to m) → RefuseSays x given from to m → RefuseOk catalogue new now from m
+  sent_ok from to (message.Refuse txn number why) h r =
+      let at : from ≡ s = r.0 ∙ d.here.id in
+      subst (λ (from : ℕ). RefuseFair catalogue new now from txn number why) (sym at) (refused_now to txn number why (subst (λ (from : ℕ). Has o.effects.messages (letter from to (message.Refuse txn number why))) at h) r.1)
+  sent_ok from to m h r = tt
+
+  told_now : (m : Moment) → m0 ≡ m → (a : Answer) → Has (answers_in m.line) a → (txn : TxnId) (n : ℕ) → refused_number txn a ≡ Some n → EndedAt new txn
+  told_now m same = subst (λ (m : Moment). (a : Answer) → Has (answers_in m.line) a → (txn : TxnId) (n : ℕ) → refused_number txn a ≡ Some n → EndedAt new txn) same told_here
+    where
+      told_here : (a : Answer) → Has (answers_in m0.line) a → (txn : TxnId) (n : ℕ) → refused_number txn a ≡ Some n → EndedAt new txn
+      told_here a h txn n e =
+          let r = map_has (λ (r : Reply). r.answer) o.effects.replies a (rw is.shown at h) in
+          said_refused catalogue w new s x given o known inv_now.known d fair.inv.own_ends r.0.answer txn n (d.replying.said r.0 r.1) (ap (refused_number txn) r.2 ∙ e)
+
+  pub step_fair : FairAt catalogue new now
+  step_fair = record {
+    inv = inv_now;
+    told = λ m h a q txn n e. ⊎_elim (λ old. ended_step catalogue w new s x given o known inv_now.known d txn (fair.told m old a q txn n e)) (λ last. told_now m (has_one_is m0 m last) a q txn n e) (has_cases past (m0 ∷ []) m h);
+    sent = λ m h. ⊎_elim (λ old. refuse_on catalogue w new past (m0 ∷ []) d.st.moved.sent m.from m.message (fair.sent m old))
+        (λ more. sent_ok m.from m.to m.message more ((refusals-step catalogue x given).sent m more)) (d.st.sent m h);
+    live = λ k y t h g. live_at y t g (now_is w new s x o d.st k y h);
+    finished = λ k y f h g. finished_at y f g (now_is w new s x o d.st k y h);
+  }
+    where
+      live_at : {k : ℕ} (y : SiteState) (t : Live) → Has y.live t → NowIs w s o.site k y → WasBegun now t.txn t.view
+      live_at {k} y t g (NowIs.other n old) = begun_more past (m0 ∷ []) t.txn t.view (fair.live k y t old g)
+      live_at y t g (NowIs.here e same) = live_now t (c.live t (subst (λ (y : SiteState). Has y.live t) (sym same) g))
+
+      finished_at : {k : ℕ} (y : SiteState) (f : Finished) → Has y.finished f → NowIs w s o.site k y → FairEnd catalogue now f
+      finished_at {k} y f g (NowIs.other n old) = end_more catalogue past (m0 ∷ []) f (fair.finished k y f old g)
+      finished_at y f g (NowIs.here e same) = finished_now f (c.finished f (subst (λ (y : SiteState). Has y.finished f) (sym same) g))
+
+-- no moment tells an answer
+abbrev pub Silent : List Moment → Type 0
+Silent more = (m : Moment) → Has more m → (a : Answer) → Has (answers_in m.line) a → ⊥
+
+-- an event that is no step
+pub quiet_fair : (catalogue : Catalogue) (w new : Scene) (past more : List Moment) (s : ℕ) → Quiet catalogue w new s → Invariant catalogue new → Silent more → FairAt catalogue w past → FairAt catalogue new (past ++ more)
+quiet_fair catalogue w new past more s q inv silent fair = record {
+  inv = inv;
+  told = λ m h a k txn n e. ⊎_elim (λ old. ended_quiet catalogue w new s q txn (fair.told m old a k txn n e)) (λ last. absurd (silent m last a k)) (has_cases past more m h);
+  sent = λ m h. refuse_on catalogue w new past more (λ m h. rw q.sent h) m.from m.message (fair.sent m (rw q.sent at h));
+  live = λ k y t h g. live_at y t g (quiet_is catalogue w new s q k y h);
+  finished = λ k y f h g. finished_at y f g (quiet_is catalogue w new s q k y h);
+}
+  where
+    live_at : {k : ℕ} (y : SiteState) (t : Live) → Has y.live t → QuietIs catalogue w s k y → WasBegun (past ++ more) t.txn t.view
+    live_at {k} y t g (QuietIs.other n old) = begun_more past more t.txn t.view (fair.live k y t old g)
+    live_at y t g (QuietIs.here e same) = absurd (no_live catalogue s (kept_at w s) t (subst (λ (y : SiteState). Has y.live t) (sym same) g))
+
+    finished_at : {k : ℕ} (y : SiteState) (f : Finished) → Has y.finished f → QuietIs catalogue w s k y → FairEnd catalogue (past ++ more) f
+    finished_at {k} y f g (QuietIs.other n old) = end_more catalogue past more f (fair.finished k y f old g)
+    finished_at y f g (QuietIs.here e same) = absurd (no_finished catalogue s (kept_at w s) f (subst (λ (y : SiteState). Has y.finished f) (sym same) g))
+
+-- nothing but the moments
+pub same_fair : (catalogue : Catalogue) (w : Scene) (past more : List Moment) → Silent more → FairAt catalogue w past → FairAt catalogue w (past ++ more)
+same_fair catalogue w past more silent fair = record {
+  inv = fair.inv;
+  told = λ m h a k txn n e. ⊎_elim (λ old. fair.told m old a k txn n e) (λ last. absurd (silent m last a k)) (has_cases past more m h);
+  sent = λ m h. refuse_on catalogue w w past more (λ m h. h) m.from m.message (fair.sent m h);
+  live = λ k y t h g. begun_more past more t.txn t.view (fair.live k y t h g);
+  finished = λ k y f h g. end_more catalogue past more f (fair.finished k y f h g);
+}

@@ -1,0 +1,115 @@
+-- The refusals that clients are told are justified, in every schedule.
+use Rattle.std.proofs.Common.{◌≡◌, ap, sym, subst, ℕ, true, false, List, [], ◌∷◌, ◌++◌, map, refl, append_assoc}
+use Rattle.std.specs.Prelude.{Some}
+use Rattle.vp_model.specs.Types.{Event, Input, Answer, Reply}
+use Rattle.vp_model.specs.Catalogue.{Catalogue, start_copies}
+use Rattle.vp_model.specs.Durable.{empty_durable}
+use Rattle.vp_model.specs.Site.{SiteState}
+use Rattle.vp_model.specs.Step.{step}
+use Rattle.vp_model.specs.Told.{is_step, answers_in}
+use Rattle.vp_model.specs.Justified.{justified, all_justified}
+use Rattle.vp_model.specs.Headline.{RefusalsAreJustified}
+use Rattle.vp_model.specs.World.{WorldState, Moved, Moment, Run, Schedule, moment, next, one_step, site_of, site_step, start_world}
+use Rattle.vp_laws.proofs.Lists.Members.{Has, has_none, has_one_is}
+use Rattle.vp_laws.proofs.Lists.Changes.{all_from}
+use Rattle.vp_laws.proofs.Worlds.Scenes.{Scene, scene_of, plain_at, acted}
+use Rattle.vp_laws.proofs.Worlds.Events.{Arrives, crashed, restarted}
+use Rattle.vp_laws.proofs.Worlds.Sites.{crash_quiet, restart_quiet, started, start_sent, no_finished, started_idle}
+use Rattle.vp_laws.proofs.Worlds.Occurs.{no_replies, Gives, Occurs, occurs, run-keeps}
+use Rattle.vp_laws.proofs.Replies.FairStep.{IsStep}
+use Rattle.vp_laws.proofs.Replies.FairAt.{FairAt}
+use Rattle.vp_laws.proofs.Replies.FairMoves.{Silent, step_fair, replies_justified, quiet_fair, same_fair}
+use Rattle.std.proofs.lemmas.Bool.{and_parts}
+use Rattle.std.specs.List.{list_all}
+use Rattle.vp_laws.proofs.Keeping.Does.{Does, does}
+use Rattle.vp_laws.proofs.Order.Invariant.{invariant_last}
+
+-- a moment is judged by what came before it
+all_justified-last : (catalogue : Catalogue) (past moments : List Moment) (m : Moment) → all_justified catalogue past moments ≡ true → list_all (justified catalogue (past ++ (moments ++ m ∷ [])) m) (answers_in m.line) ≡ true → all_justified catalogue past (moments ++ m ∷ []) ≡ true
+all_justified-last catalogue past [] m h e = rw e refl
+all_justified-last catalogue past (x ∷ moments) m h e =
+    let p = and_parts (list_all (justified catalogue (past ++ x ∷ []) x) (answers_in x.line)) (all_justified catalogue (past ++ x ∷ []) moments) h in
+    rw p.0 (all_justified-last catalogue (past ++ x ∷ []) moments m p.1 (rw (append_assoc past (x ∷ []) (moments ++ m ∷ [])) e))
+
+-- one more moment: what is refused is justified by then, and so are its answers
+pub record Justifies (catalogue : Catalogue) (past : List Moment) (m : Moment) (new : Scene) : Type 0 where
+  pub at : FairAt catalogue new (past ++ m ∷ [])
+  pub answers : (a : Answer) → Has (answers_in m.line) a → justified catalogue (past ++ m ∷ []) m a ≡ true
+
+no_answer : (m : Moment) → is_step m.line.shown ≡ false → (a : Answer) → Has (answers_in m.line) a → ⊥
+no_answer m none a h = has_none a (rw (ap (map (λ (r : Reply). r.answer)) (no_replies m.line.shown none)) at h)
+
+none_in : (m : Moment) → is_step m.line.shown ≡ false → Silent (m ∷ [])
+none_in m none x h = subst (λ (m : Moment). (a : Answer) → Has (answers_in m.line) a → ⊥) (has_one_is m x h) (no_answer m none)
+
+silent : (catalogue : Catalogue) (past : List Moment) (m : Moment) (new : Scene) → is_step m.line.shown ≡ false → FairAt catalogue new (past ++ m ∷ []) → Justifies catalogue past m new
+silent catalogue past m new none at = record {
+  at = at;
+  answers = λ a h. absurd (no_answer m none a h);
+}
+
+-- the moment of a step
+stepped : (catalogue : Catalogue) (past : List Moment) (number : ℕ) (e : Event) (w v : WorldState) (s : ℕ) (x : SiteState) (given : Input) → scene_of v ≡ scene_of w → site_of w s ≡ Some x → Arrives (scene_of w) s given → Gives e w s given → FairAt catalogue (scene_of w) past → Justifies catalogue past (moment number w e (site_step catalogue s x given v)) (scene_of (site_step catalogue s x given v).world)
+unfolding site_step
+stepped catalogue past number e w v s x given same up arrives gives fair =
+    subst (λ (z : Scene). Justifies catalogue past m0 (acted z s x (step catalogue x given))) (sym same) (record {
+      at = step_fair catalogue w past m0 s x given up arrives is fair;
+      answers = replies_justified catalogue w past m0 s x given up arrives is fair;
+    })
+  where
+    m0 : Moment
+    m0 = moment number w e (site_step catalogue s x given v)
+
+    d : Does catalogue (scene_of w) (acted (scene_of w) s x (step catalogue x given)) s x given (step catalogue x given)
+    d = does catalogue (scene_of w) s x given up arrives fair.inv.known
+
+    is : IsStep m0 w s x given (step catalogue x given)
+    is = record {
+      before = refl;
+      first = _;
+      shown = refl;
+      gives = gives;
+      up = up;
+      after = subst (λ (z : Scene). plain_at (acted z s x (step catalogue x given)) s ≡ Some (step catalogue x given).site) (sym same) d.st.now;
+    }
+
+justifies : (catalogue : Catalogue) (past : List Moment) (number : ℕ) (e : Event) (w : WorldState) (m : Moved) → FairAt catalogue (scene_of w) past → Occurs catalogue e w m → Justifies catalogue past (moment number w e m) (scene_of m.world)
+justifies catalogue past number e w m fair (Occurs.stands same none) =
+    silent catalogue past (moment number w e m) (scene_of m.world) none (rw same (same_fair catalogue (scene_of w) past (moment number w e m ∷ []) (none_in (moment number w e m) none) fair))
+justifies catalogue past number e w m fair (Occurs.crashes s same none) =
+    silent catalogue past (moment number w e m) (scene_of m.world) none (rw same (quiet_fair catalogue (scene_of w) (crashed (scene_of w) s) past (moment number w e m ∷ []) s (crash_quiet catalogue (scene_of w) s) ((invariant_last catalogue).crashes (scene_of w) s fair.inv) (none_in (moment number w e m) none) fair))
+justifies catalogue past number e w m fair (Occurs.restarts s place at down id same none) =
+    silent catalogue past (moment number w e m) (scene_of m.world) none (rw same (quiet_fair catalogue (scene_of w) (restarted catalogue (scene_of w) s) past (moment number w e m ∷ []) s (restart_quiet catalogue (scene_of w) s place at id) ((invariant_last catalogue).restarts (scene_of w) s place at down id fair.inv) (none_in (moment number w e m) none) fair))
+justifies catalogue past number e w m fair (Occurs.acts s x given v same up arrives gives is) =
+    subst (λ (m : Moved). Justifies catalogue past (moment number w e m) (scene_of m.world)) (sym is) (stepped catalogue past number e w v s x given same up arrives gives fair)
+
+-- of a run so far
+pub record FairHold (catalogue : Catalogue) (run : Run) : Type 0 where
+  pub at : FairAt catalogue (scene_of run.world) run.moments
+  pub justified : all_justified catalogue [] run.moments ≡ true
+
+one_step-fair : (catalogue : Catalogue) (number : ℕ) (e : Event) (run : Run) → FairHold catalogue run → FairHold catalogue (one_step catalogue number e run)
+unfolding one_step
+one_step-fair catalogue number e run h =
+    let moved = next catalogue e run.world in
+    let m0 = moment number run.world e moved in
+    let j = justifies catalogue run.moments number e run.world moved h.at (occurs catalogue e run.world) in
+    record {
+      at = j.at;
+      justified = all_justified-last catalogue [] run.moments m0 h.justified (all_from (justified catalogue (run.moments ++ m0 ∷ []) m0) (answers_in m0.line) j.answers);
+    }
+
+start_fair : (catalogue : Catalogue) → FairAt catalogue (scene_of (start_world catalogue)) []
+start_fair catalogue = record {
+  inv = (invariant_last catalogue).starts;
+  told = λ m h. absurd (has_none m h);
+  sent = λ m h. absurd (start_sent catalogue m h);
+  live = λ s x t h k. absurd (started_idle catalogue s x t h k);
+  finished = λ s x f h k. absurd (no_finished catalogue s (empty_durable (start_copies catalogue s)) f (subst (λ (x : SiteState). Has x.finished f) (sym (started catalogue s x h)) k));
+}
+
+pub refusals_justified : (s : Schedule) → RefusalsAreJustified s
+refusals_justified s = (run-keeps s.catalogue (FairHold s.catalogue) (record {
+  starts = record { at = start_fair s.catalogue; justified = refl };
+  steps = λ number e run h. one_step-fair s.catalogue number e run h;
+}) s.events).justified

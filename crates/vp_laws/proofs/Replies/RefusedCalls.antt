@@ -1,0 +1,122 @@
+-- The number of the call of a transaction that was refused: it is that of the first reply that tells of it, and stays so.
+use Rattle.std.proofs.Common.{◌≡◌, ◌∙◌, ◌≤◌, ap, ℕ, Bool, true, false, cond, List, [], ◌∷◌, ◌++◌, refl, append-nil, ⊎_elim}
+use Rattle.std.specs.Prelude.{Option, Some, None, ◌||◌, nat_le, filter_map, flat_map}
+use Rattle.std.specs.List.{list_any}
+use Rattle.std.proofs.lemmas.Bool.{le-leb}
+use Rattle.std.proofs.lemmas.Grind.{flat_map-append}
+use Rattle.std.proofs.lemmas.List.Elements.{filter_map-append}
+use Rattle.std.proofs.lemmas.List.Folds.{list_any-append}
+use Rattle.vp_model.specs.Types.{TxnId, Answer, Ending}
+use Rattle.vp_base.specs.declared.site.Ending.TheVariants.{Committed, Aborted, LockHeld, ViewChanged, TimedOut}
+use Rattle.vp_model.specs.Words.{first, same_txn}
+use Rattle.vp_model.specs.Transactions.{answer_of}
+use Rattle.vp_model.specs.World.{Moment}
+use Rattle.vp_model.specs.Told.{answers_in}
+use Rattle.vp_model.specs.Justified.{refused_number, refused_in, refused_once}
+use Rattle.vp_laws.proofs.Lists.Members.{Has, has_none, has_first, has_more, has_cons}
+use Rattle.vp_laws.proofs.Lists.Names.{same_txn-is}
+
+-- the first of two lists
+first_left : (xs ys : List ℕ) (n : ℕ) → first xs ≡ Some n → first (xs ++ ys) ≡ Some n
+first_left [] ys n e = cc
+first_left (x ∷ xs) ys n e = e
+
+first_right : (xs ys : List ℕ) → first xs ≡ None → first (xs ++ ys) ≡ first ys
+first_right [] ys e = refl
+first_right (x ∷ xs) ys e = cc
+
+numbers : TxnId → List Moment → List ℕ
+numbers txn moments = filter_map (refused_number txn) (flat_map (λ (m : Moment). answers_in m.line) moments)
+
+numbers_append : (txn : TxnId) (moments more : List Moment) → numbers txn (moments ++ more) ≡ numbers txn moments ++ numbers txn more
+unfolding numbers
+numbers_append txn moments more =
+    ap (filter_map (refused_number txn)) (flat_map-append (λ (m : Moment). answers_in m.line) moments more)
+    ∙ filter_map-append (refused_number txn) (flat_map (λ (m : Moment). answers_in m.line) moments) (flat_map (λ (m : Moment). answers_in m.line) more)
+
+pub refused_more : (txn : TxnId) (moments more : List Moment) (n : ℕ) → refused_in moments txn ≡ Some n → refused_in (moments ++ more) txn ≡ Some n
+unfolding numbers
+refused_more txn moments more n e = ap first (numbers_append txn moments more) ∙ first_left (numbers txn moments) (numbers txn more) n e
+
+-- no reply so far, and the first of the last moment
+pub refused_last : (txn : TxnId) (moments : List Moment) (m : Moment) → refused_in moments txn ≡ None → refused_in (moments ++ m ∷ []) txn ≡ first (filter_map (refused_number txn) (answers_in m.line))
+unfolding numbers
+refused_last txn moments m e =
+    ap first (numbers_append txn moments (m ∷ []))
+    ∙ first_right (numbers txn moments) (numbers txn (m ∷ [])) e
+    ∙ ap (λ (answers : List Answer). first (filter_map (refused_number txn) answers)) (append-nil (answers_in m.line))
+
+-- no reply tells of it
+none_told : (txn : TxnId) (answers : List Answer) → ((a : Answer) → Has answers a → (n : ℕ) → refused_number txn a ≡ Some n → ⊥) → filter_map (refused_number txn) answers ≡ []
+none_told txn [] none = refl
+none_told txn (a ∷ answers) none = go (refused_number txn a) refl (none_told txn answers (λ b h. none b (has_more a answers b h)))
+  where
+    go : (o : Option ℕ) → refused_number txn a ≡ o → filter_map (refused_number txn) answers ≡ [] → filter_map (refused_number txn) (a ∷ answers) ≡ []
+    go None e rest = rw e rest
+    go (Some n) e rest = absurd (none a (has_first a answers) n e)
+
+pub none_refused : (txn : TxnId) (moments : List Moment) → ((m : Moment) → Has moments m → (a : Answer) → Has (answers_in m.line) a → (n : ℕ) → refused_number txn a ≡ Some n → ⊥) → refused_in moments txn ≡ None
+unfolding numbers
+none_refused txn moments none = ap first (go moments none)
+  where
+    go : (moments : List Moment) → ((m : Moment) → Has moments m → (a : Answer) → Has (answers_in m.line) a → (n : ℕ) → refused_number txn a ≡ Some n → ⊥) → numbers txn moments ≡ []
+    go [] none = refl
+    go (m ∷ moments) none =
+        filter_map-append (refused_number txn) (answers_in m.line) (flat_map (λ (m : Moment). answers_in m.line) moments)
+        ∙ ap (λ (ns : List ℕ). ns ++ numbers txn moments) (none_told txn (answers_in m.line) (none m (has_first m moments)))
+        ∙ go moments (λ x h. none x (has_more m moments x h))
+
+-- the refusal as a record
+pub record Refusal (moments : List Moment) (txn : TxnId) (number : ℕ) (test : ℕ → Moment → Bool) : Type 0 where
+  -- the number of the refused call
+  pub refused : ℕ
+  -- it is the first
+  pub first : refused_in moments txn ≡ Some refused
+  -- the reply's number is not lower
+  pub up_to : refused ≤ number
+  -- a moment passes the test
+  pub once : list_any (test refused) moments ≡ true
+
+pub refusal_is : (moments : List Moment) (txn : TxnId) (number : ℕ) (test : ℕ → Moment → Bool) → Refusal moments txn number test → refused_once moments txn number test ≡ true
+refusal_is moments txn number test r = let z : nat_le r.refused number ≡ true = le-leb r.refused number r.up_to in rw (r.first, z) r.once
+
+or_left : (a b : Bool) → a ≡ true → (a || b) ≡ true
+or_left true b e = refl
+or_left false b e = cc
+
+pub refusal_more : (moments more : List Moment) (txn : TxnId) (number : ℕ) (test : ℕ → Moment → Bool) → Refusal moments txn number test → Refusal (moments ++ more) txn number test
+refusal_more moments more txn number test r = record {
+  refused = r.refused;
+  first = refused_more txn moments more r.refused r.first;
+  up_to = r.up_to;
+  once = list_any-append (test r.refused) moments more ∙ or_left _ _ r.once;
+}
+
+-- a reply that tells of the transaction is its own, with its number
+its_own : (t txn : TxnId) (number n : ℕ) → cond (same_txn t txn) (Some number) None ≡ Some n → t ≡ txn
+its_own t txn number n e = go (same_txn t txn) refl e
+  where
+    go : (b : Bool) → same_txn t txn ≡ b → cond b (Some number) None ≡ Some n → t ≡ txn
+    go true q e = same_txn-is t txn q
+    go false q e = cc
+
+its_number : (b : Bool) (number n : ℕ) → cond b (Some number) None ≡ Some n → number ≡ n
+its_number true number n e = cc
+its_number false number n e = cc
+
+-- an end that tells of a refused call
+pub refused_of : (u txn : TxnId) (number : ℕ) (why : Ending) (n : ℕ) → refused_number txn (answer_of u number why) ≡ Some n → (u ≡ txn) × (number ≡ n)
+refused_of u txn number Committed n e = cc
+refused_of u txn number Aborted n e = cc
+refused_of u txn number (LockHeld name at holder) n e = (its_own u txn number n e, its_number (same_txn u txn) number n e)
+refused_of u txn number (ViewChanged at held now) n e = (its_own u txn number n e, its_number (same_txn u txn) number n e)
+refused_of u txn number (TimedOut at) n e = cc
+
+-- where each reply that tells of it has this number, so has the first
+pub first_told : (txn : TxnId) (answers : List Answer) (n : ℕ) → ((a : Answer) → Has answers a → (k : ℕ) → refused_number txn a ≡ Some k → k ≡ n) → (a : Answer) → Has answers a → refused_number txn a ≡ Some n → first (filter_map (refused_number txn) answers) ≡ Some n
+first_told txn [] n same a h e = absurd (has_none a h)
+first_told txn (b ∷ answers) n same a h e = go (refused_number txn b) refl (λ more. first_told txn answers n (λ c k. same c (has_more b answers c k)) a more e)
+  where
+    go : (o : Option ℕ) → refused_number txn b ≡ o → (Has answers a → first (filter_map (refused_number txn) answers) ≡ Some n) → first (filter_map (refused_number txn) (b ∷ answers)) ≡ Some n
+    go None q rest = rw q (⊎_elim (λ (one : b ≡ a). absurd (let z = ap (refused_number txn) one in cc)) (λ more. rest more) (has_cons b answers a h))
+    go (Some k) q rest = rw q (ap (λ (n : ℕ). Some n) (same b (has_first b answers) k q))

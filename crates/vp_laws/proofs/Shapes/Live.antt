@@ -1,0 +1,154 @@
+-- Live and finished transactions after the coordinator's moves.
+use Rattle.std.proofs.Common.{◌≡◌, ◌≤◌, ◌<◌, ℕ, suc, ◌+◌, ◌^◌, true, false, List, [], ◌∷◌, ◌++◌, refl, arith, length}
+use Rattle.std.specs.Prelude.{Option, Some, None, IfSome, filter, option_map, option_to_list, is_some, ◌==◌, nat_lt}
+use Rattle.std.specs.List.{AllByRecursion}
+use Rattle.std.proofs.lemmas.List.{length-append}
+use Rattle.vp_base.specs.Identifiers.{IsView, IsTxn}
+use Rattle.vp_base.specs.Calls.{IsCall}
+use Rattle.vp_bytes.specs.Fields.{IsSite, IsRecord, IsSites, IsRecs, IsAscending, IsCallNumber}
+use Rattle.vp_wire.specs.Grammar.{IsAnswer}
+use Rattle.vp_model.specs.Types.{ViewId, TxnId, Op, Answer, Call, Pending, Live, Ending}
+use Rattle.vp_base.specs.declared.site.Ending.TheVariants.{Committed, Aborted, LockHeld, ViewChanged, TimedOut}
+use Rattle.vp_model.specs.Types.call
+use Rattle.vp_model.specs.Words.{same_txn, put_number, for_each}
+use Rattle.vp_model.specs.Site.{CoordinatorState}
+use Rattle.vp_model.specs.Transactions.{put_live, answer_of, answers_after, with_finished}
+use Rattle.vp_model.specs.Calls.{begun, with_begun, handling, records_read_at}
+use Rattle.vp_model.specs.Step.{marked_call, mark, with_marks, least_of, least_missing, is_marked_call}
+use Rattle.vp_laws.specs.Shapes.{IsOp, IsPending, operates, asked, IsLive, IsEnding, IsFinished, IsCoordinator}
+use Rattle.vp_laws.proofs.Lists.Items.{all_and_one, all_append, all_change, all_without, all_most, all_map, all_filter}
+use Rattle.vp_laws.proofs.Shapes.Numbers.{ascending_put, length_put, length_filter}
+
+-- ---- in the coordinator's state
+
+pub puts_live : (t : Live) (c : CoordinatorState) → IsLive t → IsCoordinator c → IsCoordinator (put_live t c)
+puts_live t c i h = record { seq_fits = h.seq_fits; live_are = all_change IsLive (λ u. same_txn u.txn t.txn) t c.live i h.live_are; finished_are = h.finished_are; decisions_are = h.decisions_are }
+
+begun_is : (txn : TxnId) (view : ViewId) → IsTxn txn → IsView view → IsLive (begun txn view)
+begun_is txn view t v = record { txn_is = t; view_is = v; ops_are = tt; few = omega arith; remote_are = tt; remote_few = omega arith; parts_are = (omega arith, omega arith, tt); answers_are = tt; answers_few = omega arith; pending_is = tt }
+
+pub begins_one : (txn : TxnId) (view : ViewId) (c : CoordinatorState) → IsTxn txn → IsView view → c.seq + 1 < 2 ^ 32 → IsCoordinator c → IsCoordinator (with_begun (begun txn view) c)
+begins_one txn view c t v s h = record { seq_fits = s; live_are = all_and_one IsLive c.live (begun txn view) h.live_are (begun_is txn view t v); finished_are = h.finished_are; decisions_are = h.decisions_are }
+
+-- ---- marks
+
+marked_is : (o : Option Pending) → IfSome o IsPending → IfSome (marked_call o) IsPending
+marked_is None i = tt
+marked_is (Some p) i = record { number_is = i.number_is; port_fits = i.port_fits; words_are = i.words_are; missing_are = i.missing_are }
+
+marked_asked : (o : Option Pending) → asked (marked_call o) ≡ asked o
+marked_asked None = refl
+marked_asked (Some p) = refl
+
+mark_is : (t : Live) → IsLive t → IsLive (mark t)
+mark_is t i = let same = marked_asked t.pending in record { txn_is = i.txn_is; view_is = i.view_is; ops_are = i.ops_are; few = rw same i.few; remote_are = i.remote_are; remote_few = rw same i.remote_few; parts_are = i.parts_are; answers_are = i.answers_are; answers_few = i.answers_few; pending_is = marked_is t.pending i.pending_is }
+
+pub marks_are : (c : CoordinatorState) → IsCoordinator c → IsCoordinator (with_marks c)
+marks_are c h = record { seq_fits = h.seq_fits; live_are = all_map IsLive IsLive mark mark_is c.live h.live_are; finished_are = h.finished_are; decisions_are = h.decisions_are }
+
+-- ---- an operation is done
+
+pub asked_few : (o : Option Pending) → asked o ≤ 1
+asked_few None = omega arith
+asked_few (Some p) = go p.call
+  where
+    go : (words : Call) → operates words ≤ 1
+    go (call.Read txn number name) = omega arith
+    go (call.Write txn number name value) = omega arith
+    go (call.Commit txn number) = omega arith
+    go (call.Abort txn number) = omega arith
+    go call.Begin = omega arith
+    go call.Regroup = omega arith
+
+pub idle_asked : (o : Option Pending) → is_some o ≡ false → asked o ≡ 0
+idle_asked None e = refl
+idle_asked (Some p) e = cc
+
+pub done_is : (t : Live) (o : Op) (words : Answer) → IsLive t → length t.ops + 1 ≤ 64 → IsOp o → IsAnswer words → IsLive (record t { ops = t.ops ++ o ∷ []; answers = t.answers ++ words ∷ []; pending = None })
+done_is t o words i room op said =
+    let ops = length-append t.ops (o ∷ []) in
+    let answers = length-append t.answers (words ∷ []) in
+    let one = asked_few t.pending in
+    let remote = i.remote_few in
+    let few = i.answers_few in
+    record { txn_is = i.txn_is; view_is = i.view_is; ops_are = all_and_one IsOp t.ops o i.ops_are op; few = omega (arith, ops, room); remote_are = i.remote_are; remote_few = omega (arith, ops, one, remote); parts_are = i.parts_are; answers_are = all_and_one IsAnswer t.answers words i.answers_are said; answers_few = omega (arith, ops, answers, few); pending_is = tt }
+
+-- ---- a call waits
+
+pub waiting_is : (t : Live) (p : Pending) (remote : List (ℕ × ℕ)) (parts sites : List ℕ) → IsLive t → length t.ops + operates p.call ≤ 64 → AllByRecursion (λ (r : ℕ × ℕ). IsRecord r.1) remote → length remote ≤ length t.ops + operates p.call → IsSites 0 parts → IsCallNumber p.number → p.port < 2 ^ 16 → IsCall p.call → IsSites 1 sites
+    → IsLive (record t { remote = remote; parts = parts; pending = Some (record p { missing = sites }) })
+waiting_is t p remote parts sites i room r few q n port words s = record {
+  txn_is = i.txn_is;
+  view_is = i.view_is;
+  ops_are = i.ops_are;
+  few = room;
+  remote_are = r;
+  remote_few = few;
+  parts_are = q;
+  answers_are = i.answers_are;
+  answers_few = i.answers_few;
+  pending_is = record { number_is = n; port_fits = port; words_are = words; missing_are = s };
+}
+
+-- ---- a transaction that ends
+
+pub record IsOver (t : Live) : Type 0 where
+  pub txn_is : IsTxn t.txn
+  pub view_is : IsView t.view
+  pub ops_are : AllByRecursion IsOp t.ops
+  pub ops_few : length t.ops ≤ 64
+  pub parts_are : IsSites 0 t.parts
+  pub answers_are : AllByRecursion IsAnswer t.answers
+  pub pending_is : IfSome t.pending (λ p. (p.port < 2 ^ 16) × IsCallNumber p.number)
+
+over_pending : (o : Option Pending) → IfSome o IsPending → IfSome o (λ p. (p.port < 2 ^ 16) × IsCallNumber p.number)
+over_pending None i = tt
+over_pending (Some p) i = (i.port_fits, i.number_is)
+
+pub live_over : (t : Live) → IsLive t → IsOver t
+live_over t i = let few = i.few in record { txn_is = i.txn_is; view_is = i.view_is; ops_are = i.ops_are; ops_few = omega (arith, few); parts_are = i.parts_are; answers_are = i.answers_are; pending_is = over_pending t.pending i.pending_is }
+
+pub handled_over : (t : Live) (p : Pending) → IsLive t → p.port < 2 ^ 16 → IsCallNumber p.number → IsOver (handling t p)
+handled_over t p i port n = let few = i.few in record { txn_is = i.txn_is; view_is = i.view_is; ops_are = i.ops_are; ops_few = omega (arith, few); parts_are = i.parts_are; answers_are = i.answers_are; pending_is = (port, n) }
+
+pub end_said : (txn : TxnId) (number : ℕ) (why : Ending) → IsTxn txn → IsCallNumber number → IsEnding why → IsAnswer (answer_of txn number why)
+end_said txn number Committed t n e = record { txn_is = t; some = n.0; fits = n.1 }
+end_said txn number Aborted t n e = record { txn_is = t; some = n.0; fits = n.1 }
+end_said txn number (LockHeld name at owner) t n e = (record { txn_is = t; some = n.0; fits = n.1 }, e.0, e.1, e.2)
+end_said txn number (ViewChanged at held now) t n e = (record { txn_is = t; some = n.0; fits = n.1 }, e.0, e.1, e.2)
+end_said txn number (TimedOut at) t n e = (record { txn_is = t; some = n.0; fits = n.1 }, e)
+
+last_said : (txn : TxnId) (why : Ending) (o : Option Pending) → IsTxn txn → IsEnding why → IfSome o (λ p. (p.port < 2 ^ 16) × IsCallNumber p.number) → AllByRecursion IsAnswer (option_to_list (option_map (λ p. answer_of txn p.number why) o))
+last_said txn why None t e i = tt
+last_said txn why (Some p) t e i = (end_said txn p.number why t i.1 e, tt)
+
+pub finishes : (t : Live) (why : Ending) (c : CoordinatorState) → IsOver t → IsEnding why → IsCoordinator c → IsCoordinator (with_finished t why c)
+finishes t why c i e h =
+    let said = all_append IsAnswer t.answers (option_to_list (option_map (λ p. answer_of t.txn p.number why) t.pending)) i.answers_are (last_said t.txn why t.pending i.txn_is e i.pending_is) in
+    record { seq_fits = h.seq_fits; live_are = all_without IsLive (λ u. same_txn u.txn t.txn) c.live h.live_are; finished_are = all_most IsFinished 1024 _ (all_and_one IsFinished c.finished (record { txn = t.txn; answers = answers_after t why; ending = why }) h.finished_are (i.txn_is, said, e)); decisions_are = h.decisions_are }
+
+-- a call that waits names a site
+pub missing_is : (o : Option Pending) → IfSome o IsPending → is_marked_call o ≡ true → IsSite (least_missing o)
+missing_is None i e = cc
+missing_is (Some p) i e = least_is p.missing i.missing_are
+  where
+    least_is : (sites : List ℕ) → IsSites 1 sites → IsSite (least_of sites)
+    least_is [] h = absurd (omega (arith, h.0))
+    least_is (n ∷ sites) h = (h.2.0, h.2.1)
+
+-- ---- the records that a part is asked to vote on
+
+recs_from : (asked : List (ℕ × ℕ)) (recs : List ℕ) → AllByRecursion (λ (r : ℕ × ℕ). IsRecord r.1) asked → IsAscending 0 255 recs → IsAscending 0 255 (for_each asked (λ (a : ℕ × ℕ) (recs : List ℕ). put_number a.1 recs) recs)
+recs_from [] recs i h = h
+recs_from (a ∷ asked) recs i h = let fits = i.0 in recs_from asked (put_number a.1 recs) i.1 (ascending_put 0 255 a.1 recs (omega arith) (omega (arith, fits)) h)
+
+recs_length : (asked : List (ℕ × ℕ)) (recs : List ℕ) → length (for_each asked (λ (a : ℕ × ℕ) (recs : List ℕ). put_number a.1 recs) recs) ≤ length asked + length recs
+recs_length [] recs = omega arith
+recs_length (a ∷ asked) recs = let rest = recs_length asked (put_number a.1 recs) in let one : length (put_number a.1 recs) ≤ suc (length recs) = length_put (λ (m : ℕ) (n : ℕ). m == n) (λ (m : ℕ) (n : ℕ). nat_lt m n) a.1 recs in omega (arith, rest, one)
+
+pub recs_are : (q : ℕ) (remote : List (ℕ × ℕ)) → AllByRecursion (λ (r : ℕ × ℕ). IsRecord r.1) remote → length remote ≤ 64 → IsRecs (records_read_at q remote)
+recs_are q remote i few =
+    let chosen = filter (λ (asked : ℕ × ℕ). asked.0 == q) remote in
+    let many = recs_length chosen [] in
+    let less = length_filter (λ (asked : ℕ × ℕ). asked.0 == q) remote in
+    (omega (arith, few, many, less), recs_from chosen [] (all_filter (λ (r : ℕ × ℕ). IsRecord r.1) _ remote i) tt)

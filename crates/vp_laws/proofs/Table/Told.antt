@@ -1,0 +1,275 @@
+-- What a step tells of operations: where each live transaction comes from, with what is reported of it, and that all other reports repeat
+-- kept answers.
+use Rattle.std.proofs.Common.{◌≡◌, ◌≢◌, ◌⊎◌, ◌∙◌, ap, sym, subst, ℕ, true, false, List, [], ◌∷◌, ◌++◌, map, refl, inl, inr, ⊎_elim}
+use Rattle.std.specs.Prelude.{Option, Some, None, option_map, option_to_list, filter_map}
+use Rattle.std.proofs.lemmas.List.{map-append, append-nil}
+use Rattle.std.proofs.lemmas.List.Elements.{filter_map-append}
+use Rattle.vp_model.specs.Types.{TxnId, View, Op, Answer, Reply, Commit, Input, Pending, Live, Ending, Finished}
+use Rattle.vp_base.specs.declared.site.Ending.TheVariants.{Committed, Aborted, LockHeld, ViewChanged, TimedOut}
+use Rattle.vp_model.specs.Types.answer
+use Rattle.vp_model.specs.Types.call
+use Rattle.vp_model.specs.Types.input
+use Rattle.vp_model.specs.Types.op
+use Rattle.vp_model.specs.Catalogue.{Catalogue}
+use Rattle.vp_model.specs.Site.{CoordinatorState, SiteState, Lent}
+use Rattle.vp_model.specs.Transactions.{answer_of, put_live, with_finished}
+use Rattle.vp_model.specs.Calls.{begun}
+use Rattle.vp_model.specs.Answers.{with_acknowledged}
+use Rattle.vp_model.specs.Step.{mark, step}
+use Rattle.vp_model.specs.Told.{reported, is_early_refusal, told_by}
+use Rattle.vp_laws.proofs.Table.ToldLines.{Report}
+use Rattle.vp_laws.specs.Reports.{is_of_kind}
+use Rattle.vp_laws.proofs.Lists.Members.{Has, has_none, has_first, has_more, has_one_is, has_cases, map_has}
+use Rattle.vp_laws.proofs.Lists.Changes.{without_first_has}
+use Rattle.vp_laws.proofs.Lists.Names.{Apart, named, change_cases, same_txn-self, same_txn-other}
+use Rattle.vp_laws.proofs.Moves.Table.{next_view, next_name, Reads, Writes, Completes}
+use Rattle.vp_laws.proofs.Table.Kept.{kept_has}
+use Rattle.vp_laws.proofs.Table.Endings.{NotLive}
+use Rattle.vp_laws.proofs.Moves.Reasons.{Takes, Tells, is_plain, told_to, last_reply, IsDone, Goes, Front}
+use Rattle.vp_laws.proofs.Moves.FrontSteps.{step-front}
+use Rattle.vp_laws.proofs.Table.ToldCalls.{SameCall}
+use Rattle.vp_laws.proofs.Moves.Calls.{done, waiting}
+
+-- what an operation that is done is told: its report, which with the call tells the operation
+pub record SaysDone (catalogue : Catalogue) (txn : TxnId) (p : Pending) (operation : Op) (words : Answer) : Type 0 where
+  pub report : Option (List ℕ)
+  pub reports : reported txn words ≡ Some (p.number, report)
+  pub others : (u : TxnId) → txn ≢ u → reported u words ≡ None
+  pub tells : told_by catalogue report p.call ≡ Some operation
+  pub late : is_early_refusal words ≡ false
+  pub kind : is_of_kind report p.call ≡ true
+
+-- an end reports nothing
+pub end_unreported : (u txn : TxnId) (k : ℕ) (why : Ending) → reported u (answer_of txn k why) ≡ None
+end_unreported u txn k Committed = refl
+end_unreported u txn k Aborted = refl
+end_unreported u txn k (LockHeld name at holder) = refl
+end_unreported u txn k (ViewChanged at held now) = refl
+end_unreported u txn k (TimedOut at) = refl
+
+pub end_late : (txn : TxnId) (k : ℕ) (why : Ending) → is_early_refusal (answer_of txn k why) ≡ false
+end_late txn k Committed = refl
+end_late txn k Aborted = refl
+end_late txn k (LockHeld name at holder) = refl
+end_late txn k (ViewChanged at held now) = refl
+end_late txn k (TimedOut at) = refl
+
+read_says : (catalogue : Catalogue) (txn : TxnId) (p : Pending) (rec : ℕ) (value : List ℕ) (operation : Op) (words : Answer) → Reads catalogue p rec → operation ≡ op.Read rec value → words ≡ answer.Value txn p.number value → SaysDone catalogue txn p operation words
+read_says catalogue txn p rec value operation words r e f =
+    let self = same_txn-self txn in
+    record {
+      report = Some value;
+      reports = ap (reported txn) f ∙ rw self refl;
+      others = λ u n. let other = same_txn-other txn u n in ap (reported u) f ∙ rw other refl;
+      tells = rw (r.words, r.found, e) refl;
+      late = rw f refl;
+      kind = rw r.words refl;
+    }
+
+write_says : (catalogue : Catalogue) (txn : TxnId) (p : Pending) (rec : ℕ) (value : List ℕ) (operation : Op) (words : Answer) → Writes catalogue p rec value → operation ≡ op.Write rec value → words ≡ answer.Written txn p.number → SaysDone catalogue txn p operation words
+write_says catalogue txn p rec value operation words r e f =
+    let self = same_txn-self txn in
+    record {
+      report = None;
+      reports = ap (reported txn) f ∙ rw self refl;
+      others = λ u n. let other = same_txn-other txn u n in ap (reported u) f ∙ rw other refl;
+      tells = rw (r.words, r.found, e) refl;
+      late = rw f refl;
+      kind = rw r.words refl;
+    }
+
+pub completed_says : (catalogue : Catalogue) (x : SiteState) (given : Input) (t : Live) (p : Pending) (operation : Op) (words : Answer) (l : Lent) → Completes catalogue x given t p operation words l → SaysDone catalogue t.txn p operation words
+completed_says catalogue x given t p operation words l (Completes.own_write rec value next r a v e f g) = read_says catalogue t.txn p rec value operation words r e f
+completed_says catalogue x given t p operation words l (Completes.own_copy rec stored next r a v c free e f g) = read_says catalogue t.txn p rec stored.value operation words r e f
+completed_says catalogue x given t p operation words l (Completes.write_again rec before value next r a v e f g) = write_says catalogue t.txn p rec value operation words r e f
+completed_says catalogue x given t p operation words l (Completes.write_alone rec value next r a v none e f g) = write_says catalogue t.txn p rec value operation words r e f
+completed_says catalogue x given t p operation words l (Completes.read_answered from rec value c last r e f g) = read_says catalogue t.txn p rec value operation words r e f
+completed_says catalogue x given t p operation words l (Completes.write_answered from rec value c last r e f g) = write_says catalogue t.txn p rec value operation words r e f
+
+-- the reports of a transaction among the replies
+abbrev pub told_of : TxnId → List Reply → List Report
+told_of u rs = filter_map (reported u) (map (λ (r : Reply). r.answer) rs)
+
+-- the site keeps the answer
+pub data IsKept (x : SiteState) (a : Answer) : Type 0 where
+  live : (t : Live) → Has x.live t → Has t.answers a → IsKept x a
+  finished : (f : Finished) → Has x.finished f → Has f.answers a → IsKept x a
+
+-- each reply reports nothing of the transaction, or was given before
+abbrev pub Repeats : SiteState → TxnId → List Reply → Type 0
+Repeats x u rs = (r : Reply) → Has rs r → (reported u r.answer ≡ None) ⊎ IsKept x r.answer
+
+-- no reply is an early refusal
+abbrev pub AreLate : List Reply → Type 0
+AreLate rs = (r : Reply) → Has rs r → is_early_refusal r.answer ≡ false
+
+pub data LiveTold (catalogue : Catalogue) (x : SiteState) (given : Input) (rs : List Reply) (t : Live) : Type 0 where
+  was : (u : Live) → Has x.live u → u.txn ≡ t.txn → u.ops ≡ t.ops → u.answers ≡ t.answers → SameCall u.pending t.pending → Repeats x t.txn rs → LiveTold catalogue x given rs t
+  goes : (u : Live) (p q : Pending) → Takes x given u p → u.txn ≡ t.txn → u.ops ≡ t.ops → u.answers ≡ t.answers → t.pending ≡ Some q → p.call ≡ q.call → Repeats x t.txn rs → AreLate rs → LiveTold catalogue x given rs t
+  completed : (u : Live) (p : Pending) (operation : Op) (words : Answer) (l : Lent) → Has x.live u → IsDone x given u p → Completes catalogue x given u p operation words l → done u operation words ≡ t → told_of u.txn rs ≡ told_of u.txn (told_to p.port words ∷ []) → AreLate rs → LiveTold catalogue x given rs t
+  begins : (port : ℕ) (view : View) → given ≡ input.Call port call.Begin → begun (next_name x) view.id ≡ t → Repeats x t.txn rs → LiveTold catalogue x given rs t
+
+pub record ToldNow (catalogue : Catalogue) (x : SiteState) (given : Input) (c : CoordinatorState) (rs : List Reply) (cs : List Commit) : Type 0 where
+  pub live : (t : Live) → Has c.live t → LiveTold catalogue x given rs t
+  pub others : (u : TxnId) → NotLive x.live u → Repeats x u rs
+  pub entered : (e : Commit) → Has cs e → Repeats x e.txn rs
+
+pub plain_unreported : (u : TxnId) (a : Answer) → is_plain a ≡ true → reported u a ≡ None
+plain_unreported u (answer.Value txn number value) e = cc
+plain_unreported u (answer.Written txn number) e = cc
+plain_unreported u _ e = refl
+
+-- what reports nothing of any transaction, and refuses nothing early
+pub record IsSilent (rs : List Reply) : Type 0 where
+  pub reports : (u : TxnId) (r : Reply) → Has rs r → reported u r.answer ≡ None
+  pub late : AreLate rs
+
+none_told : (u : TxnId) (rs : List Reply) → ((r : Reply) → Has rs r → reported u r.answer ≡ None) → told_of u rs ≡ []
+none_told u [] h = refl
+none_told u (r ∷ rs) h = rw (h r (has_first r rs)) (none_told u rs (λ q k. h q (has_more r rs q k)))
+
+told_more : (u : TxnId) (rs more : List Reply) → ((r : Reply) → Has more r → reported u r.answer ≡ None) → told_of u (rs ++ more) ≡ told_of u rs
+told_more u rs more h =
+    ap (filter_map (reported u)) (map-append (λ (r : Reply). r.answer) rs more)
+    ∙ filter_map-append (reported u) (map (λ (r : Reply). r.answer) rs) (map (λ (r : Reply). r.answer) more)
+    ∙ ap (λ (l : List Report). told_of u rs ++ l) (none_told u more h)
+    ∙ append-nil (told_of u rs)
+
+module _ (catalogue : Catalogue) (x : SiteState) (given : Input) where
+  repeats_more : (u : TxnId) (rs more : List Reply) → IsSilent more → Repeats x u rs → Repeats x u (rs ++ more)
+  repeats_more u rs more s h r k = ⊎_elim (λ old. h r old) (λ new. inl (s.reports u r new)) (has_cases rs more r k)
+
+  pub late_more : (rs more : List Reply) → IsSilent more → AreLate rs → AreLate (rs ++ more)
+  late_more rs more s h r k = ⊎_elim (λ old. h r old) (λ new. s.late r new) (has_cases rs more r k)
+
+  live_more : (rs more : List Reply) (t : Live) → IsSilent more → LiveTold catalogue x given rs t → LiveTold catalogue x given (rs ++ more) t
+  live_more rs more t s (LiveTold.was u h a b c d e) = LiveTold.was u h a b c d (repeats_more t.txn rs more s e)
+  live_more rs more t s (LiveTold.goes u p q at a b c d e f g) = LiveTold.goes u p q at a b c d e (repeats_more t.txn rs more s f) (late_more rs more s g)
+  live_more rs more t s (LiveTold.completed u p operation words l h d c is e g) = LiveTold.completed u p operation words l h d c is (told_more u.txn rs more (s.reports u.txn) ∙ e) (late_more rs more s g)
+  live_more rs more t s (LiveTold.begins port view c is e) = LiveTold.begins port view c is (repeats_more t.txn rs more s e)
+
+  pub last_silent : (t : Live) (why : Ending) → IsSilent (last_reply t why)
+  last_silent t why = record { reports = λ u r h. rw (← (last t.pending r h).1) (end_unreported u t.txn (last t.pending r h).0 why); late = λ r h. rw (← (last t.pending r h).1) (end_late t.txn (last t.pending r h).0 why) }
+    where
+      last : (q : Option Pending) (r : Reply) → Has (option_to_list (option_map (λ p. told_to p.port (answer_of t.txn p.number why)) q)) r → (number : ℕ) × (answer_of t.txn number why ≡ r.answer)
+      last None r h = absurd (has_none r h)
+      last (Some p) r h = (p.number, ap (λ (r : Reply). r.answer) (has_one_is _ r h))
+
+  module _ (after : SiteState) (apart : Apart x.live) where
+    abbrev G : CoordinatorState → List Reply → List Commit → Type 0
+    G = ToldNow catalogue x given
+
+    no_replies : (u : TxnId) → Repeats x u []
+    no_replies u r h = absurd (has_none r h)
+
+    none_early : AreLate []
+    none_early r h = absurd (has_none r h)
+
+    same_call : (o : Option Pending) → SameCall o o
+    same_call None = SameCall.none refl refl
+    same_call (Some p) = SameCall.same p p refl refl refl
+
+    as_was : (rs : List Reply) (t : Live) → Has x.live t → Repeats x t.txn rs → LiveTold catalogue x given rs t
+    as_was rs t h e = LiveTold.was t h refl refl refl (same_call t.pending) e
+
+    starts : G x.coordinator [] []
+    starts = record { live = λ t h. as_was [] t h (no_replies t.txn); others = λ u n. no_replies u; entered = λ e h. absurd (has_none e h) }
+
+    -- one reply
+    one_reply : (u : TxnId) (port : ℕ) (a : Answer) → (reported u a ≡ None) ⊎ IsKept x a → Repeats x u (told_to port a ∷ [])
+    one_reply u port a h r k = subst (λ (r : Reply). (reported u r.answer ≡ None) ⊎ IsKept x r.answer) (has_one_is (told_to port a) r k) h
+
+    tells : (u : TxnId) (words : Answer) → Tells catalogue x given words → (reported u words ≡ None) ⊎ IsKept x words
+    tells u words (Tells.plain w e) = inl (plain_unreported u w e)
+    tells u words (Tells.inaccessible t p name rec at f a) = inl refl
+    tells u words (Tells.again t number w h e) = inr (IsKept.live t h (kept_has number t.answers w e))
+    tells u words (Tells.finished_again f number w h e) = inr (IsKept.finished f h (kept_has number f.answers w e))
+    tells u words (Tells.ended f number h e) = inl (end_unreported u f.txn number f.ending)
+
+    -- nothing is replied
+    silent : (c : CoordinatorState) → ((t : Live) → Has c.live t → LiveTold catalogue x given [] t) → G c [] []
+    silent c all = record { live = all; others = λ u n. no_replies u; entered = λ e h. absurd (has_none e h) }
+
+    -- the transaction goes on as u
+    moved : (u : Live) → LiveTold catalogue x given [] u → (a : Live) → Has (put_live u x.coordinator).live a → LiveTold catalogue x given [] a
+    moved u new a k = ⊎_elim (λ (is : a ≡ u). subst (LiveTold catalogue x given []) (sym is) new) (λ old. as_was [] a old.0 (no_replies a.txn)) (change_cases u x.live apart a k)
+
+    goes_on : (t u : Live) (p : Pending) → Takes x given t p → Goes t p u → LiveTold catalogue x given [] u
+    goes_on t u p at (Goes.reads rec q) = LiveTold.goes t p (record p { missing = q ∷ [] }) at refl refl refl refl refl (no_replies t.txn) none_early
+    goes_on t u p at (Goes.writes sites) = LiveTold.goes t p (record p { missing = sites }) at refl refl refl refl refl (no_replies t.txn) none_early
+    goes_on t u p at (Goes.prepares sites) = LiveTold.goes t p (record p { missing = sites }) at refl refl refl refl refl (no_replies t.txn) none_early
+
+    completes : (t : Live) (p : Pending) (operation : Op) (words : Answer) (l : Lent) → Has x.live t → IsDone x given t p → Completes catalogue x given t p operation words l → G (put_live (done t operation words) x.coordinator) (told_to p.port words ∷ []) []
+    completes t p operation words l h d c =
+        let says = completed_says catalogue x given t p operation words l c in
+        record {
+          live = λ a k. ⊎_elim
+              (λ (is : a ≡ done t operation words). LiveTold.completed t p operation words l h d c (sym is) refl (λ r q. subst (λ (r : Reply). is_early_refusal r.answer ≡ false) (has_one_is (told_to p.port words) r q) says.late))
+              (λ old. as_was _ a old.0 (one_reply a.txn p.port words (inl (says.others a.txn (λ e. old.1 (sym e))))))
+              (change_cases (done t operation words) x.live apart a k);
+          others = λ u n. one_reply u p.port words (inl (says.others u (λ e. n t h e)));
+          entered = λ e k. absurd (has_none e k);
+        }
+
+    commits : (t : Live) (c : CoordinatorState) (cs : List Commit) → c.live ≡ x.live → G (with_finished t Committed c) (last_reply t Committed) cs
+    commits t c cs stays =
+        let quiet = last_silent t Committed in
+        record {
+          live = λ a k. as_was _ a (rw stays at (without_first_has (named t.txn) c.live a k)) (λ r q. inl (quiet.reports a.txn r q));
+          others = λ u n r q. inl (quiet.reports u r q);
+          entered = λ e k r q. inl (quiet.reports e.txn r q);
+        }
+
+    more : (c now : CoordinatorState) (rs extra : List Reply) → IsSilent extra → ((t : Live) → Has now.live t → Has c.live t) → G c rs [] → G now (rs ++ extra) []
+    more c now rs extra s sub g = record {
+      live = λ t h. live_more rs extra t s (g.live t (sub t h));
+      others = λ u n. repeats_more u rs extra s (g.others u n);
+      entered = λ e h. absurd (has_none e h);
+    }
+
+    mark_told : (rs : List Reply) (t : Live) → LiveTold catalogue x given rs t → LiveTold catalogue x given rs (mark t)
+    mark_told rs t (LiveTold.was u h a b c d e) = LiveTold.was u h a b c (marked_same d) e
+      where
+        marked_same : SameCall u.pending t.pending → SameCall u.pending (mark t).pending
+        marked_same (SameCall.none e f) = SameCall.none e (rw f refl)
+        marked_same (SameCall.same p q e f g) = SameCall.same p (record q { marked = true }) e (rw f refl) g
+    mark_told rs t (LiveTold.goes u p q at a b c d e f g) = LiveTold.goes u p (record q { marked = true }) at a b c (rw d refl) e f g
+    mark_told rs t (LiveTold.completed u p operation words l h d c is e g) = LiveTold.completed u p operation words l h d c (ap mark is) e g
+    mark_told rs t (LiveTold.begins port view c is e) = LiveTold.begins port view c (ap mark is) e
+
+    inviting_silent : (port : ℕ) → IsSilent (told_to port (answer.Inviting (next_view x)) ∷ [])
+    inviting_silent port = record {
+      reports = λ u r h. subst (λ (r : Reply). reported u r.answer ≡ None) (has_one_is (told_to port (answer.Inviting (next_view x))) r h) refl;
+      late = λ r h. subst (λ (r : Reply). is_early_refusal r.answer ≡ false) (has_one_is (told_to port (answer.Inviting (next_view x))) r h) refl;
+    }
+
+    front : Front catalogue x given after G
+    front = record {
+      begin = λ port view held c.
+          let t = begun (next_name x) view.id in
+          record {
+            live = λ a h. ⊎_elim (λ old. as_was _ a old (one_reply a.txn port _ (inl refl))) (λ (new : Has (t ∷ []) a). LiveTold.begins port view c (has_one_is t a new) (one_reply a.txn port _ (inl refl))) (has_cases x.live (t ∷ []) a h);
+            others = λ u n. one_reply u port _ (inl refl);
+            entered = λ e h. absurd (has_none e h);
+          };
+      tells = λ words port t. record {
+        live = λ a h. as_was _ a h (one_reply a.txn port words (tells a.txn words t));
+        others = λ u n. one_reply u port words (tells u words t);
+        entered = λ e h. absurd (has_none e h);
+      };
+      complete = λ t p operation words l h d c. completes t p operation words l h d c;
+      goes = λ t u p at g. silent (put_live u x.coordinator) (moved u (goes_on t u p at g));
+      still = λ t p sites a. silent (put_live (waiting t p sites) x.coordinator) (moved (waiting t p sites) (LiveTold.was t a.live refl refl refl (SameCall.same p (record p { missing = sites }) a.pending refl refl) (no_replies t.txn)));
+      decide = λ t c n d v f s. commits t c _ v;
+      close = λ t why c rs n w g. more c (with_finished t why c) rs (last_reply t why) (last_silent t why) (λ a h. without_first_has (named t.txn) c.live a h) g;
+      marks = λ c rs g. record {
+        live = λ a h. let r = map_has mark c.live a h in subst (LiveTold catalogue x given rs) r.2 (mark_told rs r.0 (g.live r.0 r.1));
+        others = g.others;
+        entered = λ e h. absurd (has_none e h);
+      };
+      acknowledge = λ txn from. silent (with_acknowledged txn from x.coordinator) (λ t h. as_was [] t h (no_replies t.txn));
+      inviting = λ c rs port g. more c c rs _ (inviting_silent port) (λ t h. h) g;
+    }
+
+pub told-step : (catalogue : Catalogue) (x : SiteState) (given : Input) → Apart x.live → let o = step catalogue x given in ToldNow catalogue x given o.site.coordinator o.effects.replies o.effects.commits
+told-step catalogue x given apart = step-front catalogue x given (ToldNow catalogue x given) (front catalogue x given (step catalogue x given).site apart) (starts catalogue x given (step catalogue x given).site apart)
