@@ -1,7 +1,6 @@
 -- In every world of every schedule all that the sites know of are sites of the catalogue, and so are those between whom messages go.
 use Rattle.std.proofs.Common.{◌≡◌, ◌∙◌, ap, sym, subst, ℕ, ◌≤◌, true, List, [], ◌∷◌, map, refl, arith, ⊎_elim}
 use Rattle.std.specs.Prelude.{Option, Some, None, nat_eq, nat_lt, flat_map, ◌==◌}
-use Rattle.std.proofs.lemmas.Bool.Decides.{nat_tests}
 use Rattle.vp_catalog.specs.Document.{IsCatalogue}
 use Rattle.vp_model.specs.Types.{ViewId, TxnId, Message, Sent, Input, Lock, Live, Doubt, Decision}
 use Rattle.vp_model.specs.Types.owner
