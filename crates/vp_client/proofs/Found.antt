@@ -1,7 +1,6 @@
 -- The answer that bytes have, by what decoding says of them.
-use Rattle.std.proofs.Common.{◌≡◌, ℕ, ◌∙◌, true, false, List, refl, arith, Ok, Err, if◌then◌else◌, ◌==◌}
+use Rattle.std.proofs.Common.{◌≡◌, ℕ, ◌∙◌, true, false, List, refl, Ok, Err, if◌then◌else◌, ◌==◌}
 use Rattle.std.specs.Prelude.{None}
-use Rattle.std.proofs.lemmas.Bool.Decides.{nat_tests}
 use Rattle.vp_text.specs.Meaning.{Answers}
 use Rattle.vp_model.specs.Types.{Call}
 use Rattle.vp_runs.specs.Asking.{answer_in, answer_of}
@@ -10,15 +9,20 @@ use Rattle.vp_decoding.specs.declared.fault.WireFault.TheVariants as faults
 use Rattle.vp_decoding.specs.Decoded.{read_frame}
 use Rattle.vp_decoding.specs.Faults.{wire_place}
 use Rattle.vp_wire.specs.Grammar.{IsSpelling}
+<<<<<<< HEAD
 use Rattle.vp_decoding.proofs.Decoded.{answers_are_read}
 
 same_number : (n : ℕ) → (n == n) ≡ true
 same_number n = grind (arith, nat_tests)
+=======
+use Rattle.vp_wire.proofs.Decoded.{answers_are_read}
+use Rattle.vp_laws.proofs.Lists.Numbers.{eq_self}
+>>>>>>> a12b35c4870b579d2455b87c2018ff7d76477b39
 
 in_frame : (port site : ℕ) (words : Call) (bytes : List ℕ) (f : Frame) → IsSpelling f bytes
     → answer_of port site words (record { port = port; bytes = bytes }) ≡ (if f.from == site then answer_in words f.body else None)
 unfolding answer_of
-in_frame port site words bytes f h = let e : read_frame bytes ≡ Ok f = answers_are_read bytes (Ok f) h in rw (same_number port, e) refl
+in_frame port site words bytes f h = let e : read_frame bytes ≡ Ok f = answers_are_read bytes (Ok f) h in rw (eq_self port, e) refl
 
 pub found_in : (port site : ℕ) (words : Call) (bytes : List ℕ) (f : Frame) → IsSpelling f bytes → (f.from == site) ≡ true
     → answer_of port site words (record { port = port; bytes = bytes }) ≡ answer_in words f.body
@@ -31,4 +35,4 @@ stray_in port site words bytes f h e = in_frame port site words bytes f h ∙ rw
 pub bad_in : (port site : ℕ) (words : Call) (bytes : List ℕ) (at : ℕ) → Answers IsSpelling (λ (f : Frame). f) wire_place bytes (Err (faults.BadFrame at))
     → answer_of port site words (record { port = port; bytes = bytes }) ≡ None
 unfolding answer_of
-bad_in port site words bytes at h = let e : read_frame bytes ≡ Err at = answers_are_read bytes (Err (faults.BadFrame at)) h in rw (same_number port, e) refl
+bad_in port site words bytes at h = let e : read_frame bytes ≡ Err at = answers_are_read bytes (Err (faults.BadFrame at)) h in rw (eq_self port, e) refl

@@ -22,7 +22,7 @@ use Rattle.vp_runs.specs.Arrivals.{arrival, site_at}
 use Rattle.vp_runs.specs.Asking.{call_frame}
 use Rattle.vp_runs.specs.Turns.{datagram_to}
 use Rattle.vp_runs.proofs.Arriving.{messages_arrive, calls_arrive, reads_again}
-use Rattle.vp_kept.proofs.Happened.{same_number}
+use Rattle.vp_laws.proofs.Lists.Numbers.{eq_self}
 
 -- ---- the catalogue
 
@@ -63,11 +63,11 @@ module _ (catalogue : Catalogue) (k : IsCatalogue catalogue) (id : ℕ) (listed 
 
   pub tick_comes : arrival catalogue id (datagram_to 0 (frame_of 0 id body.Tick)) ≡ arrives.Gives input.Tick
   unfolding arrival
-  tick_comes = rw (reads_again (frame_of 0 id body.Tick) (refl, own), same_number id, no_port) refl
+  tick_comes = rw (reads_again (frame_of 0 id body.Tick) (refl, own), eq_self id, no_port) refl
 
   pub probe_comes : arrival catalogue id (datagram_to 0 (frame_of 0 id body.ProbeNow)) ≡ arrives.Gives input.Probe
   unfolding arrival
-  probe_comes = rw (reads_again (frame_of 0 id body.ProbeNow) (refl, own), same_number id, no_port) refl
+  probe_comes = rw (reads_again (frame_of 0 id body.ProbeNow) (refl, own), eq_self id, no_port) refl
 
   pub comes : (e : Event) (w : WorldState) (given : Input) → IsEvent e → ((m : Sent) → Has w.sent m → IsFrame (message_frame m) × Has (sites_of catalogue) m.from) → Gives e w id given
       → (d : Datagram) × (arrival catalogue id d ≡ arrives.Gives given)

@@ -1,7 +1,6 @@
 -- What one step of a schedule does, and what that is to the place of each site and to its log.
-use Rattle.std.proofs.Common.{◌≡◌, ◌≢◌, ◌∙◌, ap, sym, subst, ℕ, ◌+◌, ◌-◌, ◌^◌, Bool, true, false, cond, List, ◌∷◌, [], ◌++◌, length, refl, arith, ⊎_elim}
+use Rattle.std.proofs.Common.{◌≡◌, ◌≢◌, ◌∙◌, ap, sym, subst, ℕ, ◌+◌, ◌-◌, ◌^◌, Bool, true, false, cond, List, ◌∷◌, [], ◌++◌, length, refl, ⊎_elim}
 use Rattle.std.specs.Prelude.{⊤, Option, Some, None, ◌==◌, option_map, option_and_then}
-use Rattle.std.proofs.lemmas.Bool.Decides.{nat_tests}
 use Rattle.std.proofs.lemmas.Bool.{eqb-true}
 use Rattle.vp_model.specs.Types.{LogRecord, Event, Input, Sent, Shown}
 use Rattle.vp_model.specs.Types.event
@@ -19,6 +18,7 @@ use Rattle.vp_laws.proofs.Worlds.Scenes.{place-same, place-other, place-id}
 use Rattle.vp_laws.proofs.Worlds.Occurs.{Gives}
 use Rattle.vp_runs.specs.Keeping.{kept_with}
 use Rattle.vp_kept.specs.Kept.{input_of, is_restart_of, with_life, with_start, kept_after}
+use Rattle.vp_laws.proofs.Lists.Numbers.{eq_self, eq_not}
 
 -- ---- what a moment does
 
@@ -67,12 +67,6 @@ pub data Effect (catalogue : Catalogue) (m : Moment) : Type 0 where
       → LeavesOthers catalogue m s → Effect catalogue m
   restarts : (s : ℕ) → m.line.event ≡ event.Restart s → m.after.sent ≡ m.before.sent → ((old : Place) → place_of s m.before.places ≡ Some old → RestartEffect catalogue m s old) → LeavesOthers catalogue m s → Effect catalogue m
   stands : IsPlain m.line.event → is_step m.line.shown ≡ false → m.after.sent ≡ m.before.sent → ((id : ℕ) → LeavesIt catalogue m id) → Effect catalogue m
-
-pub same_number : (n : ℕ) → (n == n) ≡ true
-same_number n = grind (arith, nat_tests)
-
-pub other_number : (n m : ℕ) → n ≢ m → (n == m) ≡ false
-other_number n m h = grind (arith, nat_tests, h)
 
 no_restart : (id : ℕ) (e : Event) → IsPlain e → is_restart_of id e ≡ false
 no_restart id (event.Crash s) plain = absurd plain
@@ -126,11 +120,11 @@ module _ (catalogue : Catalogue) (number : ℕ) (e : Event) (w : WorldState) whe
           sent_is = refl;
           here = λ old at.
               let now : place_of s (change_place s (after_step o) w.places) ≡ Some (after_step o old) = place-same s (after_step o) w.places (λ p. refl) ∙ ap (option_map (after_step o)) at in
-              record { place_is = now; log_is = λ batches. rw (n.1, n.2, now, up, same_number s) refl };
+              record { place_is = now; log_is = λ batches. rw (n.1, n.2, now, up, eq_self s) refl };
         })
         (λ id other. record {
           place_is = place-other s id (after_step o) w.places (λ p. refl) other;
-          log_is = λ batches. rw (n.1, other_number s id (λ same. other (sym same)), no_restart id e n.0) refl;
+          log_is = λ batches. rw (n.1, eq_not s id (λ same. other (sym same)), no_restart id e n.0) refl;
         })
 
   at_sites : (s : ℕ) (given : Input) → Gives e w s given → D (at_site catalogue s given counted)
@@ -189,8 +183,8 @@ module _ (catalogue : Catalogue) (number : ℕ) (e : Event) (w : WorldState) whe
       (λ old at.
       let same : place ≡ old = (let z = sym there ∙ at in cc) in
       RestartEffect.starts (ap (λ (p : Place). p.up) (sym same) ∙ down) (λ spent. left (ap (λ (p : Place). p.durable.life) same ∙ spent))
-      (record { place_is = place-same s (restart_place catalogue) w.places (λ p. refl) ∙ ap (option_map (restart_place catalogue)) at; log_is = λ batches. rw (is, same_number s, same) refl }))
-      (λ id other. record { place_is = place-other s id (restart_place catalogue) w.places (λ p. refl) other; log_is = λ batches. rw (is, other_number s id (λ same. other (sym same))) refl })
+      (record { place_is = place-same s (restart_place catalogue) w.places (λ p. refl) ∙ ap (option_map (restart_place catalogue)) at; log_is = λ batches. rw (is, eq_self s, same) refl }))
+      (λ id other. record { place_is = place-other s id (restart_place catalogue) w.places (λ p. refl) other; log_is = λ batches. rw (is, eq_not s id (λ same. other (sym same))) refl })
 
   restarts_from : (s : ℕ) (place : Place) → e ≡ event.Restart s → place_of s w.places ≡ Some place → place.id ≡ s → D (restart_from catalogue place counted)
   restarts_from s place is there i = go place.up refl
@@ -202,7 +196,7 @@ module _ (catalogue : Catalogue) (number : ℕ) (e : Event) (w : WorldState) whe
       is_spent n t = eqb-true n (2 ^ 32 - 1) t
 
       is_left : (n : ℕ) → (n == 2 ^ 32 - 1) ≡ false → n ≢ 2 ^ 32 - 1
-      is_left n t same = let z : (n == n) ≡ false = ap (λ m. n == m) same ∙ t in let y = same_number n in cc
+      is_left n t same = let z : (n == n) ≡ false = ap (λ m. n == m) same ∙ t in let y = eq_self n in cc
 
       go : (up : Option SiteState) → place.up ≡ up → D (restart_from catalogue place counted)
       go (Some x) u = rw u (unstarted s (shown.Up place.id) is refl (λ batches. refl) (λ old at stays. RestartEffect.is_up x (ap (λ (p : Place). p.up) (sym (it old at)) ∙ u) stays))

@@ -12,7 +12,8 @@ use Rattle.vp_laws.proofs.Worlds.Occurs.{run-keeps}
 use Rattle.vp_laws.proofs.Invariant.Views.{InvViews}
 use Rattle.vp_laws.proofs.Keeping.Views.{views_last}
 use Rattle.vp_kept.specs.Kept.{with_life, kept_after, kept_in}
-use Rattle.vp_kept.proofs.Happened.{Effect, effect, Happened, happened, same_number}
+use Rattle.vp_kept.proofs.Happened.{Effect, effect, Happened, happened}
+use Rattle.vp_laws.proofs.Lists.Numbers.{eq_self}
 
 -- these moments follow each other from one world to another
 abbrev pub Follow : Catalogue → WorldState → List Moment → WorldState → Type 0
@@ -53,7 +54,7 @@ module _ (catalogue : Catalogue) where
 
   started : (id : ℕ) (sites : List ℕ) → Has sites id → place_of id (map (start_place catalogue) sites) ≡ Some (start_place catalogue id)
   started id [] h = absurd (has_none id h)
-  started id (s ∷ sites) h = ⊎_elim (λ (same : s ≡ id). rw (same, same_number id) refl) (λ (more : Has sites id). go (s == id) refl (started id sites more)) (has_cons s sites id h)
+  started id (s ∷ sites) h = ⊎_elim (λ (same : s ≡ id). rw (same, eq_self id) refl) (λ (more : Has sites id). go (s == id) refl (started id sites more)) (has_cons s sites id h)
     where
       is_same : (s == id) ≡ true → s ≡ id
       is_same e = grind (arith, nat_tests, e)

@@ -1,7 +1,6 @@
 -- In every world of every schedule all that the sites know of are sites of the catalogue, and so are those between whom messages go.
 use Rattle.std.proofs.Common.{◌≡◌, ◌∙◌, ap, sym, subst, ℕ, ◌≤◌, true, List, [], ◌∷◌, map, refl, arith, ⊎_elim}
 use Rattle.std.specs.Prelude.{Option, Some, None, nat_eq, nat_lt, flat_map, ◌==◌}
-use Rattle.std.proofs.lemmas.Bool.Decides.{nat_tests}
 use Rattle.vp_catalog.specs.Document.{IsCatalogue}
 use Rattle.vp_model.specs.Types.{ViewId, TxnId, Message, Sent, Input, Lock, Live, Doubt, Decision}
 use Rattle.vp_model.specs.Types.owner
@@ -29,9 +28,7 @@ use Rattle.vp_laws.proofs.Shapes.Catalogue.{listed_is}
 use Rattle.vp_laws.proofs.Moves.Table.{Comes}
 use Rattle.vp_routes.proofs.Holders.{other_holders_stand}
 use Rattle.vp_routes.proofs.TableRoutes.{OfSite, AnyView, Routed, routes-step}
-
-same_number : (n : ℕ) → (n == n) ≡ true
-same_number n = grind (arith, nat_tests)
+use Rattle.vp_laws.proofs.Lists.Numbers.{eq_self}
 
 put_each : {P : ℕ → Type 0} (ns ms : List ℕ) → ((n : ℕ) → Has ns n → P n) → ((n : ℕ) → Has ms n → P n) → (q : ℕ) → Has (for_each ns put_number ms) q → P q
 put_each [] ms new old q h = old q h
@@ -167,7 +164,7 @@ module _ (catalogue : Catalogue) (k : IsCatalogue catalogue) where
     invited b i q h =
         let ok = views.site s x up in
         let own : b.0.site ≡ x.id = (ok.tidy.inviting b i).3 in
-        let some : 1 ≤ b.0.site = rw own (listed_is catalogue k x.id (any_of (λ (m : ℕ). m == x.id) (sites_of catalogue) x.id here (same_number x.id))).0 in
+        let some : 1 ≤ b.0.site = rw own (listed_is catalogue k x.id (any_of (λ (m : ℕ). m == x.id) (sites_of catalogue) x.id here (eq_self x.id))).0 in
         is_known w views b.0 some q (ok.acceptors b q i h)
 
     routed : Routed catalogue k o
@@ -242,4 +239,4 @@ messages_go_between_sites s k =
     all_of (IsBetweenSites s.catalogue) (run_of s).world.sent (λ m h. let z = inv.more.sent m h in record { from_is = listed m.from z.0; to_is = listed m.to z.1 })
   where
     listed : (q : ℕ) → Has (sites_of s.catalogue) q → has (sites_of s.catalogue) q ≡ true
-    listed q h = any_of (λ (m : ℕ). m == q) (sites_of s.catalogue) q h (same_number q)
+    listed q h = any_of (λ (m : ℕ). m == q) (sites_of s.catalogue) q h (eq_self q)

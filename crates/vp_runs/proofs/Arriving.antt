@@ -15,6 +15,7 @@ use Rattle.vp_decoding.proofs.Told.{one_frame}
 use Rattle.vp_runs.specs.Arrivals.{arrival}
 use Rattle.vp_runs.specs.Asking.{answer_of, call_frame}
 use Rattle.vp_runs.specs.Laws.{MessagesArrive, CallsArrive, RepliesArrive}
+use Rattle.vp_laws.proofs.Lists.Numbers.{eq_self}
 
 -- what was encoded is read
 pub reads_again : (f : Frame) → IsFrame f → read_frame (frame_bytes f) ≡ Ok f
@@ -25,9 +26,6 @@ reads_again f h = go (read_frame (frame_bytes f)) (bytes_are_read (frame_bytes f
     go (Err at) a = absurd (a.none f (record { is = refl; allowed = h }))
 
 -- ---- ports
-
-same_number : (n : ℕ) → (n == n) ≡ true
-same_number n = grind (arith, nat_tests)
 
 abbrev at_port : ℕ → List (ℕ × ℕ) → ℕ
 at_port port sites = option_map_or (λ (site : ℕ × ℕ). site.0) (find (λ (site : ℕ × ℕ). site.1 == port) sites) 0
@@ -51,7 +49,7 @@ owner_of from port (s ∷ sites) h e = go (s.0 == from) refl (λ f. owner_of fro
     go true f more other =
         let same : s.1 ≡ port = cc in
         let it : s.0 ≡ from = grind (arith, nat_tests, f) in
-        let found : (s.1 == port) ≡ true = rw same (same_number port) in
+        let found : (s.1 == port) ≡ true = rw same (eq_self port) in
         rw found it
     go false f more other =
         let rest : value_at from sites ≡ Some port = cc in
@@ -60,12 +58,12 @@ owner_of from port (s ∷ sites) h e = go (s.0 == from) refl (λ f. owner_of fro
 pub messages_arrive : MessagesArrive
 unfolding arrival
 messages_arrive catalogue sent port k h e =
-    rw (reads_again (message_frame sent) h, same_number sent.to, owner_of sent.from port catalogue.sites k.so_far.ports_differ e, same_number sent.from) refl
+    rw (reads_again (message_frame sent) h, eq_self sent.to, owner_of sent.from port catalogue.sites k.so_far.ports_differ e, eq_self sent.from) refl
 
 pub calls_arrive : CallsArrive
 unfolding arrival
-calls_arrive catalogue site own words s h e = rw (reads_again (call_frame site words) (refl, s, h), same_number site, e) refl
+calls_arrive catalogue site own words s h e = rw (reads_again (call_frame site words) (refl, s, h), eq_self site, e) refl
 
 pub replies_arrive : RepliesArrive
 unfolding answer_of
-replies_arrive port site words reply s h e = rw (same_number port, reads_again (reply_frame site reply) (s, refl, h), same_number site, e) refl
+replies_arrive port site words reply s h e = rw (eq_self port, reads_again (reply_frame site reply) (s, refl, h), eq_self site, e) refl

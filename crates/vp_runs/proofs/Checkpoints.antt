@@ -11,6 +11,7 @@ use Rattle.vp_records.proofs.Held.{applied_keys}
 use Rattle.vp_stable.specs.Halves.{folded, due, saved, checkpointed, is_last, generation_of}
 use Rattle.vp_runs.specs.Keeping.{durable_in, kept_with, saved_if_due}
 use Rattle.vp_runs.specs.Laws.{CheckpointsFold, StepsFold}
+use Rattle.vp_laws.proofs.Lists.Numbers.{eq_self}
 
 abbrev Pair : Type 0
 Pair = ℕ × Stored
@@ -51,9 +52,6 @@ folded_keys (batch ∷ batches) d = folded_keys batches (apply_all batch d) ∙ 
 
 -- ---- setting all of them
 
-same_number : (n : ℕ) → (n == n) ≡ true
-same_number n = grind (arith, nat_tests)
-
 not_below : (m n : ℕ) → m < n → (m == n) ≡ false
 not_below m n lt = grind (arith, nat_tests)
 
@@ -82,7 +80,7 @@ filled (x ∷ xs) (y ∷ ys) e h =
     let head : y.0 ≡ x.0 = cc in
     let tail : keys ys ≡ keys xs = cc in
     let above : Above x.0 (keys ys) = rw tail h.0 in
-    let first : set_copy x (y ∷ ys) ≡ x ∷ ys = rw (head, same_number x.0, set_none x ys above) refl in
+    let first : set_copy x (y ∷ ys) ≡ x ∷ ys = rw (head, eq_self x.0, set_none x ys above) refl in
     ap (for_each xs set_copy) first ∙ stays x xs ys h.0 ∙ ap (λ (l : List Pair). x ∷ l) (filled xs ys tail h.1)
 
 -- ---- the laws

@@ -1,8 +1,7 @@
 -- A step keeps the invariant of copies.
-use Rattle.std.proofs.Common.{◌≡◌, ◌≢◌, ◌∙◌, ap, sym, subst, ℕ, Bool, true, false, List, [], ◌∷◌, ◌++◌, refl, arith, ⊎_elim, cond}
+use Rattle.std.proofs.Common.{◌≡◌, ◌≢◌, ◌∙◌, ap, sym, subst, ℕ, Bool, true, false, List, [], ◌∷◌, ◌++◌, refl, ⊎_elim, cond}
 use Rattle.std.specs.Prelude.{Option, Some, None, find, ◌==◌}
 use Rattle.std.proofs.lemmas.Bool.{eqb-true}
-use Rattle.std.proofs.lemmas.Bool.Decides.{nat_tests}
 use Rattle.vp_model.specs.Types.{ViewId, View, Commit, Input, Stored, Refreshing, Doubt}
 use Rattle.vp_model.specs.Words.{value_at}
 use Rattle.vp_model.specs.Catalogue.{Catalogue, holders, accessible}
@@ -37,18 +36,16 @@ use Rattle.vp_laws.proofs.Invariant.Refresh.{InvRefresh}
 use Rattle.vp_laws.proofs.Keeping.Listed.{not_below_itself}
 use Rattle.vp_laws.proofs.Invariant.Known.{Known}
 use Rattle.vp_laws.proofs.Invariant.Closed.{Closed, Open}
+use Rattle.vp_laws.proofs.Lists.Numbers.{unequal}
 
 -- what is not found is not listed, and the other way round
 pub unlisted_from : (rec : ℕ) (refresh : List Refreshing) → refreshing_of rec refresh ≡ None → IsUnlisted refresh rec
 unlisted_from rec [] e r h is = has_none r h
 unlisted_from rec (a ∷ refresh) e r h is = go (a.rec == rec) refl e (λ q more. unlisted_from rec refresh q r more is)
   where
-    differs : (b c : ℕ) → (b == c) ≡ false → b ≢ c
-    differs b c e = grind (arith, nat_tests, e)
-
     go : (b : Bool) → (a.rec == rec) ≡ b → cond b (Some a) (find (λ (r : Refreshing). r.rec == rec) refresh) ≡ None → (refreshing_of rec refresh ≡ None → Has refresh r → ⊥) → ⊥
     go true t q rest = cc
-    go false t q rest = ⊎_elim (λ (one : a ≡ r). differs a.rec rec t (ap (λ (r : Refreshing). r.rec) one ∙ is)) (λ more. rest q more) (has_cons a refresh r h)
+    go false t q rest = ⊎_elim (λ (one : a ≡ r). unequal a.rec rec t (ap (λ (r : Refreshing). r.rec) one ∙ is)) (λ more. rest q more) (has_cons a refresh r h)
 
 pub unlisted_none : (rec : ℕ) (refresh : List Refreshing) → IsUnlisted refresh rec → refreshing_of rec refresh ≡ None
 unlisted_none rec [] none = refl

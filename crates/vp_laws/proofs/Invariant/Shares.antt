@@ -18,6 +18,9 @@ use Rattle.vp_laws.proofs.Invariant.Endings.{HasEntry}
 abbrev pub HasVote : Scene → ℕ → TxnId → Type 0
 HasVote w from txn = (to : ℕ) × Has w.sent (letter from to (message.Vote txn))
 
+pub vote_more : (w new : Scene) → ((m : Sent) → Has w.sent m → Has new.sent m) → (q : ℕ) (txn : TxnId) → HasVote w q txn → HasVote new q txn
+vote_more w new on q txn h = (h.0, on _ h.1)
+
 -- a prepare was sent to the site, with these writes
 abbrev pub HasPrepare : Scene → ℕ → TxnId → ViewId → List (ℕ × Change) → Type 0
 HasPrepare w to txn view writes = (from : ℕ) × (number : ℕ) × (reads : List ℕ) × Has w.sent (letter from to (message.Prepare txn view number reads writes))
@@ -26,6 +29,10 @@ HasPrepare w to txn view writes = (from : ℕ) × (number : ℕ) × (reads : Lis
 pub data HasRequest (w : Scene) (from to : ℕ) (txn : TxnId) (view : ViewId) (number rec : ℕ) : Bool → Type 0 where
   to_read : Has w.sent (letter from to (message.ReadRequest txn view number rec)) → HasRequest w from to txn view number rec false
   to_write : Has w.sent (letter from to (message.WriteRequest txn view number rec)) → HasRequest w from to txn view number rec true
+
+pub request_more : (w new : Scene) → ((m : Sent) → Has w.sent m → Has new.sent m) → (from to : ℕ) (txn : TxnId) (view : ViewId) (number rec : ℕ) (exclusive : Bool) → HasRequest w from to txn view number rec exclusive → HasRequest new from to txn view number rec exclusive
+request_more w new on from to txn view number rec exclusive (HasRequest.to_read h) = HasRequest.to_read (on _ h)
+request_more w new on from to txn view number rec exclusive (HasRequest.to_write h) = HasRequest.to_write (on _ h)
 
 -- the live transaction of that name, and its entry, are of that view
 pub record OneView (w : Scene) (txn : TxnId) (view : ViewId) : Type 0 where

@@ -20,15 +20,15 @@ use Rattle.vp_laws.proofs.Moves.OnlyCoordinator.{is_aside}
 use Rattle.vp_laws.proofs.Invariant.Names.{UsedTxn, InvNames}
 use Rattle.vp_laws.proofs.Invariant.Shares.{InvShares}
 use Rattle.vp_laws.proofs.Invariant.Ops.{HasWritten, LiveOk}
-use Rattle.vp_laws.proofs.Worlds.Scenes.{Scene, plain_at, kept_at, Acted, scene_of}
-use Rattle.vp_laws.proofs.Worlds.Events.{Arrives}
-use Rattle.vp_laws.proofs.Worlds.Sites.{NowIs, now_is, Quiet, QuietIs, quiet_is, start_sent, no_live, started_idle}
+use Rattle.vp_laws.proofs.Worlds.Scenes.{Scene, plain_at, Acted, scene_of}
+use Rattle.vp_laws.proofs.Worlds.Events.{Arrives, came_in}
+use Rattle.vp_laws.proofs.Worlds.Sites.{NowIs, now_is, Quiet, QuietIs, quiet_is, start_sent, started_idle, live_still}
 use Rattle.vp_laws.proofs.Lists.Numbers.{one_above, not_same}
 use Rattle.vp_laws.proofs.Lists.Changes.{longer, is_none, empty_not}
 use Rattle.vp_laws.proofs.Moves.Calls.{waiting, done, reading, writing, read_not_write, reads_same, writes_same, unmarked, no_commit_reads, no_commit_writes, same_writes}
 use Rattle.vp_laws.proofs.Invariant.Answers.{Current, Asks, HasRead, AnswersOk, InvAnswers, WritesTo, HasWrote, AskSays}
 use Rattle.vp_laws.proofs.Keeping.Endings.{fresh}
-use Rattle.vp_laws.proofs.Lists.Pairs.{last_written, value_key}
+use Rattle.vp_laws.proofs.Lists.Pairs.{last_written, value_key, read_no_write, write_of_one}
 use Rattle.vp_model.specs.World.{start_world}
 
 up_to_next : (a b c : ℕ) → a ≡ b + 1 → c ≡ b + 1 → a ≤ c
@@ -52,9 +52,6 @@ marked_current Asked stable number u h = ⊎_elim (λ old. inl old)
 module _ (catalogue : Catalogue) (w new : Scene) (s : ℕ) (x : SiteState) (given : Input) (o : Stepped) (up : plain_at w s ≡ Some x) (id : x.id ≡ s) (arrives : Arrives w s given) (names : InvNames w) (owned : (t : Live) → Has x.live t → t.txn.site ≡ x.id) (shares : InvShares catalogue w) (ops : (u : Live) → Has x.live u → LiveOk catalogue x.id x.held u) (inv : InvAnswers catalogue w) (c : Steps catalogue x given o.site.coordinator o.effects.messages o.effects.commits) (st : Acted w new s x o) where
   stays : (m : Sent) → Has w.sent m → Has new.sent m
   stays = st.moved.sent
-
-  came : (from : ℕ) (m : Message) → Comes given from m → Has w.sent (letter from s m)
-  came from m e = rw e at arrives
 
   module _ (Asked : Pending → Type 0) (stable : Stable Asked) where
     -- the request is current still, for what the transaction has become
@@ -118,7 +115,7 @@ module _ (catalogue : Catalogue) (w new : Scene) (s : ℕ) (x : SiteState) (give
   -- the site that answers the pending call has answered for the record
   wrote_now : (u : Live) (p : Pending) (from rec : ℕ) (value : List ℕ) → Has x.live u → u.pending ≡ Some p → Writes catalogue p rec value → Comes given from (message.WriteAnswer u.txn p.number) → HasWrote new from u.txn rec
   wrote_now u p from rec value h e r g =
-      let sent = came from (message.WriteAnswer u.txn p.number) g in
+      let sent = came_in w s given arrives from (message.WriteAnswer u.txn p.number) g in
       let q = shares.says _ sent in
       let k : Current (WritesTo catalogue q.1) p.number u = inv.asks _ q.2 x u (rw (owned u h ∙ id) up) h refl in
       ⊎_elim (λ low. absurd (one_above p.number (length u.answers) low ((ops u h).next p e)))
@@ -129,7 +126,7 @@ module _ (catalogue : Catalogue) (w new : Scene) (s : ℕ) (x : SiteState) (give
 
   read_now : (u : Live) (p : Pending) (from rec : ℕ) (value : List ℕ) → Has x.live u → u.pending ≡ Some p → Reads catalogue p rec → Comes given from (message.ReadAnswer u.txn p.number value) → HasRead new from u.txn rec
   read_now u p from rec value h e r g =
-      let sent = came from (message.ReadAnswer u.txn p.number value) g in
+      let sent = came_in w s given arrives from (message.ReadAnswer u.txn p.number value) g in
       let q = shares.says _ sent in
       let k : Current (λ p. Reads catalogue p q.1) p.number u = inv.asks _ q.2 x u (rw (owned u h ∙ id) up) h refl in
       ⊎_elim (λ low. absurd (one_above p.number (length u.answers) low ((ops u h).next p e)))
@@ -202,30 +199,24 @@ module _ (catalogue : Catalogue) (w new : Scene) (s : ℕ) (x : SiteState) (give
   idle_reads : (u : Live) (p : Pending) → IsNext given u p → (a : Pending) (r : ℕ × ℕ) → u.pending ≡ Some a → Reads catalogue a r.1 → Has a.missing r.0 → HasRead new r.0 u.txn r.1
   idle_reads u p next a r e k m = absurd (some_not u.pending a e next.idle)
 
-  no_write : {C : Type 0} (operation : Op) (rec other : ℕ) (value v : List ℕ) → operation ≡ op.Read rec value → operation ≡ op.Write other v → C
-  no_write operation rec other value v e f = cc
-
-  one_record : (operation : Op) (rec other : ℕ) (value v : List ℕ) → operation ≡ op.Write rec value → operation ≡ op.Write other v → rec ≡ other
-  one_record operation rec other value v e f = cc
-
   completed_fine : (u : Live) (p : Pending) (operation : Op) (words : Answer) (l : Lent) → Has x.live u → Completes catalogue x given u p operation words l → Fine (done u operation words)
-  completed_fine u p operation words l h (Completes.own_write rec value next r a v o z e) = done_fine u operation words h (λ n b f. no_write operation rec n value b o f) (idle_reads u p next)
-  completed_fine u p operation words l h (Completes.own_copy rec stored next r a v k f o z e) = done_fine u operation words h (λ n b g. no_write operation rec n stored.value b o g) (idle_reads u p next)
+  completed_fine u p operation words l h (Completes.own_write rec value next r a v o z e) = done_fine u operation words h (λ n b f. read_no_write operation rec n value b o f) (idle_reads u p next)
+  completed_fine u p operation words l h (Completes.own_copy rec stored next r a v k f o z e) = done_fine u operation words h (λ n b g. read_no_write operation rec n stored.value b o g) (idle_reads u p next)
   completed_fine u p operation words l h (Completes.write_again rec value v next r a wrote o z e) = done_fine u operation words h
       (λ n b f q k.
       let first = value_key rec (last_writes u.ops) value wrote in
       let was = last_written u.ops first.0 first.1 in
-      (before u h).wrote n (was.0, subst (λ (m : ℕ). Has u.ops (op.Write m was.0)) (first.2 ∙ one_record operation rec n v b o f) was.1) q k) (idle_reads u p next)
+      (before u h).wrote n (was.0, subst (λ (m : ℕ). Has u.ops (op.Write m was.0)) (first.2 ∙ write_of_one operation rec n v b o f) was.1) q k) (idle_reads u p next)
   completed_fine u p operation words l h (Completes.write_alone rec value next r a v none o z e) = done_fine u operation words h
-      (λ n b f q k. absurd (empty_not (other_holders_in catalogue x.id x.held n) q (rw (← (one_record operation rec n value b o f)) none) k)) (idle_reads u p next)
-  completed_fine u p operation words l h (Completes.read_answered from rec value g last r o z e) = done_fine u operation words h (λ n b f. no_write operation rec n value b o f)
+      (λ n b f q k. absurd (empty_not (other_holders_in catalogue x.id x.held n) q (rw (← (write_of_one operation rec n value b o f)) none) k)) (idle_reads u p next)
+  completed_fine u p operation words l h (Completes.read_answered from rec value g last r o z e) = done_fine u operation words h (λ n b f. read_no_write operation rec n value b o f)
       (λ a k f reads m.
       let same : a ≡ p = (let b = last.pending in cc) in
       let it : k.0 ≡ from = only_from p from k.0 last.last (rw (ap (λ (p : Pending). p.missing) (sym same)) m) in
       rw it (read_now u p from k.1 value h last.pending (same_reads catalogue p a k.1 (ap (λ (p : Pending). p.call) (sym same)) reads) g))
   completed_fine u p operation words l h (Completes.write_answered from rec value g last r o z e) = done_fine u operation words h
       (λ n b f q k.
-      let is : rec ≡ n = one_record operation rec n value b o f in
+      let is : rec ≡ n = write_of_one operation rec n value b o f in
       subst (HasWrote new q u.txn) is (⊎_elim
       (λ still. rw (only_from p from q last.last still) (wrote_now u p from rec value h last.pending r g))
       (λ done. done) ((before u h).writing p rec value last.pending r q (rw is k))))
@@ -286,11 +277,7 @@ module _ (catalogue : Catalogue) (w new : Scene) (s : ℕ) (q : Quiet catalogue 
   sent_on m h = rw q.sent h
 
   asks_on : (Asked : Pending → Type 0) (txn : TxnId) (number : ℕ) → AskSays w txn number Asked → AskSays new txn number Asked
-  asks_on Asked txn number h = λ y t g k e. go y t (quiet_is catalogue w new s q txn.site y g) k e
-    where
-      go : (y : SiteState) (t : Live) → QuietIs catalogue w s txn.site y → Has y.live t → t.txn ≡ txn → Current Asked number t
-      go y t (QuietIs.other n g) k e = h y t g k e
-      go y t (QuietIs.here z same) k e = absurd (no_live catalogue s (kept_at w s) t (subst (λ (y : SiteState). Has y.live t) (sym same) k))
+  asks_on Asked txn number h = λ y t g k e. h y t (live_still catalogue w s txn.site y t k (quiet_is catalogue w new s q txn.site y g)) k e
 
   message_on : (m : Message) → Asks catalogue w m → Asks catalogue new m
   message_on (message.ReadRequest txn view number rec) h = asks_on (λ p. Reads catalogue p rec) txn number h
@@ -298,8 +285,7 @@ module _ (catalogue : Catalogue) (w new : Scene) (s : ℕ) (q : Quiet catalogue 
   message_on m h = tt
 
   live_on : (k : ℕ) (y : SiteState) (t : Live) → Has y.live t → QuietIs catalogue w s k y → AnswersOk catalogue new y.id y.held t
-  live_on k y t g (QuietIs.here e same) = absurd (no_live catalogue s (kept_at w s) t (subst (λ (y : SiteState). Has y.live t) (sym same) g))
-  live_on k y t g (QuietIs.other n old) = let h = inv.live k y t old g in record {
+  live_on k y t g is = let h = inv.live k y t (live_still catalogue w s k y t g is) g in record {
     wrote = λ rec a b z. let f = h.wrote rec a b z in (f.0, f.1, f.2, sent_on _ f.3, sent_on _ f.4);
     writing = λ p rec value e r b z. ⊎_elim (λ still. inl still) (λ (f : HasWrote w b t.txn rec). inr (f.0, f.1, f.2, sent_on _ f.3, sent_on _ f.4)) (h.writing p rec value e r b z);
     remote = λ r z. ⊎_elim (λ (f : HasRead w r.0 t.txn r.1). inl (f.0, f.1, f.2, f.3, sent_on _ f.4, sent_on _ f.5)) (λ still. inr still) (h.remote r z);

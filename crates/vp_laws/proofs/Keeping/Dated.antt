@@ -1,7 +1,7 @@
 -- Each date stays that of an entry, and each kept answer to a refresh was sent.
 use Rattle.std.proofs.Common.{◌≡◌, ◌∙◌, ap, sym, subst, ℕ, true, List, refl, inl, inr, ⊎_elim}
 use Rattle.std.specs.Prelude.{Option, Some, not, ◌==◌, ◌&&◌}
-use Rattle.vp_model.specs.Types.{ViewId, View, Sent, Commit, Message, Input, Stored, Refreshing}
+use Rattle.vp_model.specs.Types.{ViewId, View, Sent, Commit, Input, Stored, Refreshing}
 use Rattle.vp_model.specs.Types.message
 use Rattle.vp_model.specs.Words.{has, keys}
 use Rattle.vp_model.specs.Catalogue.{Catalogue, holders, start_copies}
@@ -13,14 +13,13 @@ use Rattle.vp_model.specs.Transactions.{last_changes, writes_held}
 use Rattle.vp_laws.proofs.Lists.Members.{Has, has_from_test, filter_has, both_true}
 use Rattle.vp_laws.proofs.Lists.Changes.{mapped_has}
 use Rattle.vp_laws.proofs.Moves.LocalViews.{letter}
-use Rattle.vp_laws.proofs.Moves.Table.{Comes}
 use Rattle.vp_laws.proofs.Worlds.Scenes.{Scene, plain_at, kept_at, Acted, scene_of}
 use Rattle.vp_laws.proofs.Table.Shares.{ReplyTo, is_reply, Shares}
 use Rattle.vp_laws.proofs.Table.Copies.{AnswerNow, CopyNow, Copies, value_pair}
 use Rattle.vp_laws.proofs.Invariant.Endings.{InvEndings}
 use Rattle.vp_laws.proofs.Invariant.Shares.{InvShares}
-use Rattle.vp_laws.proofs.Worlds.Events.{Arrives}
-use Rattle.vp_laws.proofs.Worlds.Sites.{NowIs, now_is, KeptIs, kept_is, Quiet, QuietIs, quiet_is, quiet_kept, started, start_kept, start_sent, no_refresh}
+use Rattle.vp_laws.proofs.Worlds.Events.{Arrives, came_in}
+use Rattle.vp_laws.proofs.Worlds.Sites.{NowIs, now_is, KeptIs, kept_is, Quiet, quiet_is, quiet_kept, started, start_kept, start_sent, no_refresh, refresh_still}
 use Rattle.vp_laws.proofs.Lists.Numbers.{differs}
 use Rattle.vp_laws.proofs.Invariant.Dated.{InvDated, IsDated, WasSent}
 use Rattle.vp_laws.proofs.Keeping.Settled.{holding}
@@ -28,9 +27,6 @@ use Rattle.vp_model.specs.World.{start_world}
 use Rattle.vp_laws.proofs.Journal.ValuesAfter.{Wrote}
 
 module _ (catalogue : Catalogue) (w new : Scene) (s : ℕ) (x : SiteState) (given : Input) (o : Stepped) (up : plain_at w s ≡ Some x) (arrives : Arrives w s given) (id : x.id ≡ s) (was_kept : durable_of x ≡ kept_at w s) (ends : InvEndings w) (shares : InvShares catalogue w) (inv : InvDated catalogue w) (c : Copies catalogue x given o) (p : Shares x given o) (st : Acted w new s x o) where
-  came : (from : ℕ) (m : Message) → Comes given from m → Has w.sent (letter from s m)
-  came from m e = rw e at arrives
-
   dated_on : (rec : ℕ) (date : ViewId) → IsDated w rec date → IsDated new rec date
   dated_on rec date (inl e) = inl e
   dated_on rec date (inr (e, h, wrote, same)) = inr (e, st.moved.journal e h, wrote, same)
@@ -43,7 +39,7 @@ module _ (catalogue : Catalogue) (w new : Scene) (s : ℕ) (x : SiteState) (give
 
   answer_dated : (rec : ℕ) (k : ℕ × Stored) → AnswerNow catalogue x given rec k → IsDated w rec k.1.date
   answer_dated rec k (AnswerNow.was r h e a) = let q = inv.kept s x r k up h a in subst (λ (n : ℕ). IsDated w n k.1.date) e (inv.sent k.0 s r.rec q.0.id k.1 q.2.0)
-  answer_dated rec k (AnswerNow.came from view r stored comes is held h e u) = subst (λ (k : ℕ × Stored). IsDated w rec k.1.date) is (inv.sent from s rec view stored (came from _ comes))
+  answer_dated rec k (AnswerNow.came from view r stored comes is held h e u) = subst (λ (k : ℕ × Stored). IsDated w rec k.1.date) is (inv.sent from s rec view stored (came_in w s given arrives from _ comes))
 
   -- the records that an entry wrote, among those that a site holds
   wrote_held : (e : Commit) (k : ℕ) (a : ℕ × List ℕ) → Has (writes_held catalogue k (last_changes e)) a → Wrote e a.0
@@ -52,7 +48,7 @@ module _ (catalogue : Catalogue) (w new : Scene) (s : ℕ) (x : SiteState) (give
   copy_now : (a : ℕ × Stored) → CopyNow catalogue x given o.effects.commits a → IsDated new a.0 a.1.date
   copy_now a (CopyNow.still h) = dated_on a.0 a.1.date (copy_was a h)
   copy_now a (CopyNow.outcome from d b comes h there is) =
-      let e = (ends.told (letter from s (message.Outcome d.txn true)) (came from _ comes)).1 in
+      let e = (ends.told (letter from s (message.Outcome d.txn true)) (came_in w s given arrives from _ comes)).1 in
       let q = shares.doubts s d (subst (λ (k : DurableState). Has k.doubts d) was_kept h) in
       let says = shares.entry e.0 e.1 q.0.0 s d.view q.0.1 q.0.2 d.writes (rw e.2 q.0.3) in
       subst (λ (a : ℕ × Stored). IsDated new a.0 a.1.date) is (inr (e.0, st.moved.journal e.0 e.1, wrote_held e.0 s b (rw says.1 there), says.0))
@@ -85,7 +81,7 @@ module _ (catalogue : Catalogue) (w new : Scene) (s : ℕ) (x : SiteState) (give
         v.0,
         v.1,
         subst (WasSent catalogue w s rec v.0) is (
-          rw v.2 (came from _ comes),
+          rw v.2 (came_in w s given arrives from _ comes),
           has_from_test v.0.members from (subst (λ (held : Option View). has (members_in held) from ≡ true) v.1 b.0),
           subst (λ (n : ℕ). Has (holders catalogue n) from) e f.0,
           (λ z. differs from x.id b.1 (z ∙ sym id)),
@@ -121,12 +117,13 @@ pub dated_quiet : (catalogue : Catalogue) (w new : Scene) (s : ℕ) → Quiet ca
 dated_quiet catalogue w new s q inv = record {
   copies = λ k a h. dated_on w new s q a (inv.copies k a (subst (λ (cs : List (ℕ × Stored)). Has cs a) (quiet_kept catalogue w new s q (λ (d : DurableState). d.copies) q.copies k) h));
   sent = λ p to rec view stored h. rw q.journal (inv.sent p to rec view stored (rw q.sent at h));
-  kept = λ k y r a g h z. kept_quiet w new s q inv k y r a h z (quiet_is catalogue w new s q k y g);
+  kept = λ k y r a up h z.
+      let was = inv.kept k y r a (refresh_still catalogue w s k y r h (quiet_is catalogue w new s q k y up)) h z in
+      (was.0, was.1, still_sent w new s q k r.rec was.0 a was.2);
 }
   where
     dated_on : (w new : Scene) (s : ℕ) → Quiet catalogue w new s → (a : ℕ × Stored) → IsDated w a.0 a.1.date → IsDated new a.0 a.1.date
     dated_on w new s q a h = rw q.journal h
 
-    kept_quiet : (w new : Scene) (s : ℕ) → Quiet catalogue w new s → InvDated catalogue w → (k : ℕ) (y : SiteState) (r : Refreshing) (a : ℕ × Stored) → Has y.refresh r → Has r.answers a → QuietIs catalogue w s k y → (v : View) × (y.held ≡ Some v) × WasSent catalogue new k r.rec v a
-    kept_quiet w new s q inv k y r a h z (QuietIs.here e same) = absurd (no_refresh catalogue s (kept_at w s) r (subst (λ (y : SiteState). Has y.refresh r) (sym same) h))
-    kept_quiet w new s q inv k y r a h z (QuietIs.other n old) = let g = inv.kept k y r a old h z in (g.0, g.1, (rw q.sent g.2.0, g.2.1, g.2.2, g.2.3))
+    still_sent : (w new : Scene) (s : ℕ) → Quiet catalogue w new s → (k rec : ℕ) (v : View) (a : ℕ × Stored) → WasSent catalogue w k rec v a → WasSent catalogue new k rec v a
+    still_sent w new s q k rec v a h = (rw q.sent h.0, h.1, h.2, h.3)

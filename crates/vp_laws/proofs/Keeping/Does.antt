@@ -27,16 +27,17 @@ use Rattle.vp_laws.proofs.Table.Copies.{Copies, copies-step}
 use Rattle.vp_laws.proofs.Table.Unlisted.{IsUnlisted, Unlisting, unlisting-step}
 use Rattle.vp_laws.proofs.Table.Covered.{Quits, quits}
 use Rattle.vp_laws.proofs.Worlds.Scenes.{Scene, plain_at, Acted, acted, stepping}
-use Rattle.vp_laws.proofs.Worlds.Events.{Arrives}
+use Rattle.vp_laws.proofs.Worlds.Events.{Arrives, came_in}
 use Rattle.vp_laws.proofs.Worlds.Sites.{NowIs}
 use Rattle.vp_laws.proofs.Invariant.Views.{SiteOk}
 use Rattle.vp_laws.proofs.Invariant.Names.{UsedTxn}
 use Rattle.vp_laws.proofs.Invariant.Used.{HasAnswered}
 use Rattle.vp_laws.proofs.Keeping.Endings.{fresh}
 use Rattle.vp_laws.proofs.Keeping.Guards.{outcomes, awaited, invited}
-use Rattle.vp_laws.proofs.Keeping.Names.{Grows, at_most_equal}
+use Rattle.vp_laws.proofs.Keeping.Names.{Grows}
 use Rattle.vp_laws.proofs.Keeping.Used.{Was, Split, was, split, owned}
 use Rattle.vp_laws.proofs.Invariant.Known.{Known}
+use Rattle.vp_laws.proofs.Lists.Numbers.{at_most_equal}
 
 -- one step of the site s, which was x and has done o, from w to new
 pub record Does (catalogue : Catalogue) (w new : Scene) (s : ℕ) (x : SiteState) (given : Input) (o : Stepped) : Type 0 where
@@ -86,9 +87,6 @@ pub record Does (catalogue : Catalogue) (w new : Scene) (s : ℕ) (x : SiteState
   pub split : (j : ℕ) (y : SiteState) (t : Live) → NowIs w s o.site j y → Has y.live t → (q rec : ℕ) (exclusive : Bool) → HasAnswered new q t.txn rec exclusive → Split w s x given o j t q rec exclusive
   -- what the step changes of the world
   pub st : Acted w new s x o
-
-came_in : (w : Scene) (s : ℕ) (given : Input) → Arrives w s given → (from : ℕ) (m : Message) → Comes given from m → Has w.sent (letter from s m)
-came_in w s given r from m e = rw e at r
 
 pub does : (catalogue : Catalogue) (w : Scene) (s : ℕ) (x : SiteState) (given : Input) → plain_at w s ≡ Some x → Arrives w s given → Known catalogue w → Does catalogue w (acted w s x (step catalogue x given)) s x given (step catalogue x given)
 does catalogue w s x given up r k =

@@ -17,7 +17,7 @@ use Rattle.vp_laws.proofs.Invariant.Names.{UsedTxn, InvNames}
 use Rattle.vp_laws.proofs.Invariant.Views.{Used}
 use Rattle.vp_laws.proofs.Table.Names.{Named}
 use Rattle.vp_laws.proofs.Table.Endings.{Settled, NotLive, WasLive, WasDecided, IsEntered, Says, FinishedFrom, Endings}
-use Rattle.vp_laws.proofs.Worlds.Sites.{NowIs, now_is, KeptIs, kept_is, Quiet, QuietIs, quiet_is, quiet_kept, started, start_kept, start_sent, start_entered, start_journal, no_finished}
+use Rattle.vp_laws.proofs.Worlds.Sites.{NowIs, now_is, KeptIs, kept_is, Quiet, QuietIs, quiet_is, quiet_kept, started, start_kept, start_sent, start_entered, start_journal, no_finished, finished_still}
 use Rattle.vp_laws.proofs.Lists.Numbers.{one_above}
 use Rattle.vp_laws.proofs.Invariant.Endings.{Over, InvEndings, HasEntry, Reported, Told}
 use Rattle.vp_laws.proofs.Journal.Places.{Once}
@@ -176,7 +176,7 @@ endings_quiet catalogue w new s q inv = record {
   told = λ m h. told_on w new s q m.message (inv.told m (rw q.sent at h));
   entry = λ e h. over_on w new s q e.txn (inv.entry e (rw q.journal at h));
   once = subst Once (sym q.journal) inv.once;
-  finished = λ k y f h z. finished_on w new s q inv k y f z (quiet_is catalogue w new s q k y h);
+  finished = λ k y f h z. finished_on w new s f q (inv.finished k y f (finished_still catalogue w s k y f z (quiet_is catalogue w new s q k y h)) z);
 }
   where
     entry_on : (w new : Scene) (s : ℕ) → Quiet catalogue w new s → (txn : TxnId) → HasEntry w txn → HasEntry new txn
@@ -198,9 +198,8 @@ endings_quiet catalogue w new s q inv = record {
     settled_now w new s q inv k y (QuietIs.here e same) = subst (λ (y : SiteState). Settled y.id y.life y.coordinator) same (settled_none catalogue s (kept_at w s) (λ d h. (inv.decisions s d h).0))
     settled_now w new s q inv k y (QuietIs.other n old) = inv.settled k y old
 
-    finished_on : (w new : Scene) (s : ℕ) → Quiet catalogue w new s → InvEndings w → (k : ℕ) (y : SiteState) (f : Finished) → Has y.finished f → QuietIs catalogue w s k y → Reported new f
-    finished_on w new s q inv k y f h (QuietIs.here e same) = absurd (no_finished catalogue s (kept_at w s) f (subst (λ (y : SiteState). Has y.finished f) (sym same) h))
-    finished_on w new s q inv k y f h (QuietIs.other n old) = ⊎_elim
+    finished_on : (w new : Scene) (s : ℕ) (f : Finished) → Quiet catalogue w new s → Reported w f → Reported new f
+    finished_on w new s f q h = ⊎_elim
         (λ (c : (f.ending ≡ Committed) × HasEntry w f.txn). inl (c.0, entry_on w new s q f.txn c.1))
         (λ (a : (is_abort f.ending ≡ true) × ((e : Commit) → Has w.journal e → e.txn ≢ f.txn)). inr (a.0, (λ e z. a.1 e (rw q.journal at z))))
-        (inv.finished k y f old h)
+        h

@@ -2,7 +2,7 @@
 use Rattle.std.proofs.Common.{◌≡◌, ◌≢◌, ◌∙◌, ap, sym, subst, ℕ, Bool, true, false, refl, arith, ⊎_elim}
 use Rattle.std.specs.Prelude.{Option, Some, None, option_map, ◌&&◌, ◌==◌, not}
 use Rattle.std.proofs.lemmas.Bool.Decides.{nat_tests}
-use Rattle.vp_model.specs.Types.{ViewId, TxnId, View, Commit, Message, Input, Live, Doubt}
+use Rattle.vp_model.specs.Types.{ViewId, TxnId, View, Commit, Input, Live, Doubt}
 use Rattle.vp_model.specs.Types.message
 use Rattle.vp_model.specs.Words.{has, is_view}
 use Rattle.vp_model.specs.Catalogue.{Catalogue, holders, start_copies}
@@ -11,8 +11,8 @@ use Rattle.vp_model.specs.Site.{SiteState, Stepped}
 use Rattle.vp_model.specs.Refresh.{other_holders_in}
 use Rattle.vp_laws.proofs.Lists.Members.{Has, has_none, filter_keeps, has_test}
 use Rattle.vp_laws.proofs.Lists.Views.{AtMost, Precedes, not_both, AtMost-same, same_site}
-use Rattle.vp_laws.proofs.Moves.LocalViews.{letter, Local, InviteComes}
-use Rattle.vp_laws.proofs.Moves.Table.{Comes, remaining, Decides}
+use Rattle.vp_laws.proofs.Moves.LocalViews.{Local, InviteComes}
+use Rattle.vp_laws.proofs.Moves.Table.{remaining, Decides}
 use Rattle.vp_laws.proofs.Worlds.Scenes.{Scene, plain_at, kept_at, promise_at, Acted, scene_of}
 use Rattle.vp_laws.proofs.Table.Led.{IsOf, Led}
 use Rattle.vp_laws.proofs.Table.Below.{Below}
@@ -20,9 +20,9 @@ use Rattle.vp_laws.proofs.Table.Steps.{EnteredFor, Steps}
 use Rattle.vp_laws.proofs.Table.Shares.{DoubtNow, Shares}
 use Rattle.vp_laws.proofs.Invariant.Views.{InvViews}
 use Rattle.vp_laws.proofs.Invariant.Led.{InvLed}
-use Rattle.vp_laws.proofs.Invariant.Shares.{HasVote, InvShares}
+use Rattle.vp_laws.proofs.Invariant.Shares.{HasVote, InvShares, vote_more}
 use Rattle.vp_laws.proofs.Invariant.Ops.{LiveOk}
-use Rattle.vp_laws.proofs.Worlds.Events.{Arrives}
+use Rattle.vp_laws.proofs.Worlds.Events.{Arrives, came_in}
 use Rattle.vp_laws.proofs.Worlds.Sites.{NowIs, now_is, QuietIs, quiet_is, started, start_entered, none_waiting, Quiet}
 use Rattle.vp_laws.proofs.Lists.Numbers.{not_same}
 use Rattle.vp_laws.proofs.Lists.Changes.{is_none}
@@ -44,12 +44,6 @@ above_is_other : (a b c : ViewId) → AtMost a b → Precedes b c → a ≢ c
 above_is_other a b c h p e = not_both b c p (rw (← e) h)
 
 module _ (catalogue : Catalogue) (w new : Scene) (s : ℕ) (x : SiteState) (given : Input) (o : Stepped) (up : plain_at w s ≡ Some x) (arrives : Arrives w s given) (id : x.id ≡ s) (promise : x.promise ≡ promise_at w s) (views : InvViews catalogue w) (views_now : InvViews catalogue new) (led : Led x) (asked : InvLed w) (below : Below x) (shares : InvShares catalogue w) (ops : (u : Live) → Has x.live u → LiveOk catalogue x.id x.held u) (inv : InvEntered catalogue w) (l : Local x given o) (c : Steps catalogue x given o.site.coordinator o.effects.messages o.effects.commits) (p : Shares x given o) (st : Acted w new s x o) where
-  came : (from : ℕ) (m : Message) → Comes given from m → Has w.sent (letter from s m)
-  came from m e = rw e at arrives
-
-  vote_stays : (q : ℕ) (txn : TxnId) → HasVote w q txn → HasVote new q txn
-  vote_stays q txn h = (h.0, st.moved.sent _ h.1)
-
   -- an entry's view was agreed before the step, where the entry was there
   view_was : (e : Commit) (v : View) → Has w.journal e → AgreedAs new e.view v → AgreedAs w e.view v
   view_was e v h a =
@@ -72,10 +66,10 @@ module _ (catalogue : Catalogue) (w new : Scene) (s : ℕ) (x : SiteState) (give
   part_voted t (Decides.alone was p here next commit alone same) q h = absurd (has_none q (rw (is_none was.parts alone) at (rw (ap (λ (t : Live). t.parts) same) at h)))
   part_voted t (Decides.voted p from here last comes commit) q h = ⊎_elim
       (λ missing. ⊎_elim
-      (λ (it : q ≡ from). (s, rw it (st.moved.sent _ (came from (message.Vote t.txn) comes))))
+      (λ (it : q ≡ from). (s, rw it (st.moved.sent _ (came_in w s given arrives from (message.Vote t.txn) comes))))
       (λ (n : q ≢ from). absurd (has_none q (rw (is_none (remaining from p) last.last) at (filter_keeps (λ (a : ℕ). not (a == from)) p.missing q missing (not_same q from n)))))
       (same_site q from))
-      (λ v. vote_stays q t.txn v)
+      (λ v. vote_more w new st.moved.sent q t.txn v)
       (shares.awaits s x t up here p last.pending commit q h)
 
   voted_new : (e : Commit) (k : ℕ) → EnteredFor catalogue x given e → Affected catalogue new e k → k ≢ e.txn.site → HasVote new k e.txn
@@ -132,7 +126,7 @@ module _ (catalogue : Catalogue) (w new : Scene) (s : ℕ) (x : SiteState) (give
 
   pub entered_keep : InvEntered catalogue new
   entered_keep = record {
-    voted = λ e k h a n. ⊎_elim (λ old. vote_stays k e.txn (inv.voted e k old (affected_was e k old a) n)) (λ more. voted_new e k (c.entered e more) a n) (st.entered e h);
+    voted = λ e k h a n. ⊎_elim (λ old. vote_more w new st.moved.sent k e.txn (inv.voted e k old (affected_was e k old a) n)) (λ more. voted_new e k (c.entered e more) a n) (st.entered e h);
     no_doubt = λ k y i d h f q. doubt_at k y i d f q (now_is w new s x o st k y h);
     no_entry = λ k y i e h f q site. entry_at k y i e f q site (now_is w new s x o st k y h);
   }

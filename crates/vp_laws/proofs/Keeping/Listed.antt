@@ -10,7 +10,7 @@ use Rattle.vp_model.specs.Transactions.{last_changes, writes_held}
 use Rattle.vp_model.specs.Site.{SiteState, Stepped}
 use Rattle.vp_laws.proofs.Lists.Members.{Has, map_has, filter_keeps, has_test}
 use Rattle.vp_laws.proofs.Lists.Changes.{mapped_has, some_not_empty}
-use Rattle.vp_laws.proofs.Lists.Views.{Precedes}
+use Rattle.vp_laws.proofs.Lists.Views.{Precedes, same_site}
 use Rattle.vp_laws.proofs.Moves.LocalViews.{letter}
 use Rattle.vp_laws.proofs.Table.Led.{IsOf, Led}
 use Rattle.vp_laws.proofs.Table.Steps.{Steps}
@@ -26,7 +26,7 @@ use Rattle.vp_laws.proofs.Invariant.Settled.{InvSettled, HasEnded}
 use Rattle.vp_laws.proofs.Invariant.Guards.{InvGuards}
 use Rattle.vp_laws.proofs.Invariant.HasLeft.{HasLeft}
 use Rattle.vp_laws.proofs.Invariant.Held.{InvHeld, copy_held}
-use Rattle.vp_laws.proofs.Worlds.Sites.{NowIs, now_is, QuietIs, quiet_is, started, start_entered, no_refresh, Quiet}
+use Rattle.vp_laws.proofs.Worlds.Sites.{NowIs, now_is, quiet_is, started, start_entered, no_refresh, Quiet, refresh_still}
 use Rattle.vp_laws.proofs.Invariant.Listed.{InvListed}
 use Rattle.vp_laws.proofs.Lists.Pairs.{written_op}
 use Rattle.vp_model.specs.World.{start_world}
@@ -125,11 +125,8 @@ module _ (catalogue : Catalogue) (w new : Scene) (s : ℕ) (x : SiteState) (give
   joined_awaited e v rec h a wrote awaits is = ⊎_elim
       (λ (own : s ≡ e.txn.site). entered.no_entry s x v.id e up awaits h (sym own) is)
       (λ (other : s ≢ e.txn.site). ⊎_elim left ended (settled.ended e s h a other none))
-      (grind_site s e.txn.site)
+      (same_site s e.txn.site)
     where
-      grind_site : (a b : ℕ) → (a ≡ b) ⊎ (a ≢ b)
-      grind_site a b = grind arith
-
       none : InDoubt w s e.txn → ⊥
       none (d, there, named) =
           let q = (shares.doubts s d there).0 in
@@ -206,14 +203,6 @@ listed_starts catalogue = record {
 
 pub listed_quiet : (catalogue : Catalogue) (w new : Scene) (s : ℕ) → Quiet catalogue w new s → InvListed catalogue w → InvListed catalogue new
 listed_quiet catalogue w new s q inv = record {
-  listed = λ k y r at_k h. listed_at w s inv k y r h (quiet_is catalogue w new s q k y at_k);
-  unwritten = λ k y v r e at_k held h there wrote is. unwritten_at w s inv k y v r e held h (rw q.journal at there) wrote is (quiet_is catalogue w new s q k y at_k);
+  listed = λ k y r up h. inv.listed k y r (refresh_still catalogue w s k y r h (quiet_is catalogue w new s q k y up)) h;
+  unwritten = λ k y v r e up held h there wrote is. inv.unwritten k y v r e (refresh_still catalogue w s k y r h (quiet_is catalogue w new s q k y up)) held h (rw q.journal at there) wrote is;
 }
-  where
-    listed_at : (w : Scene) (s : ℕ) → InvListed catalogue w → (k : ℕ) (y : SiteState) (r : Refreshing) → Has y.refresh r → QuietIs catalogue w s k y → IsListed catalogue (keys y.copies) y r.rec
-    listed_at w s inv k y r h (QuietIs.here e same) = absurd (no_refresh catalogue s (kept_at w s) r (subst (λ (y : SiteState). Has y.refresh r) (sym same) h))
-    listed_at w s inv k y r h (QuietIs.other n old) = inv.listed k y r old h
-
-    unwritten_at : (w : Scene) (s : ℕ) → InvListed catalogue w → (k : ℕ) (y : SiteState) (v : View) (r : Refreshing) (e : Commit) → y.held ≡ Some v → Has y.refresh r → Has w.journal e → Wrote e r.rec → e.view ≡ v.id → QuietIs catalogue w s k y → ⊥
-    unwritten_at w s inv k y v r e held h there wrote is (QuietIs.here z same) = no_refresh catalogue s (kept_at w s) r (subst (λ (y : SiteState). Has y.refresh r) (sym same) h)
-    unwritten_at w s inv k y v r e held h there wrote is (QuietIs.other n old) = inv.unwritten k y v r e old held h there wrote is

@@ -24,6 +24,7 @@ use Rattle.vp_laws.proofs.Invariant.Names.{KeptNamed, UsedTxn, InvNames}
 use Rattle.vp_laws.proofs.Keeping.Views.{above}
 use Rattle.vp_laws.proofs.Worlds.Sites.{Quiet, QuietIs, quiet_is, quiet_kept, start_dated, start_entered, start_kept, start_sent, started}
 use Rattle.vp_laws.proofs.Invariant.Led.{InvLed}
+use Rattle.vp_laws.proofs.Lists.Numbers.{at_most_equal, at_most_trans}
 
 -- what is named stays named, as more is
 module _ (N M : TxnId → Type 0) (A B : ViewId → Type 0) (n : (t : TxnId) → N t → M t) (a : (v : ViewId) → A v → B v) where
@@ -79,9 +80,6 @@ pub record Grows (w new : Scene) (s : ℕ) : Type 0 where
   pub life : (kept_at w s).life ≤ (kept_at new s).life
   pub seq : (y : SiteState) → plain_at new s ≡ Some y → ((x : SiteState) × (plain_at w s ≡ Some x) × (y.life ≡ x.life) × (x.seq ≤ y.seq)) ⊎ ((kept_at w s).life < y.life)
 
-at_most_trans : (a b c : ℕ) → a ≤ b → b ≤ c → a ≤ c
-at_most_trans a b c h k = omega arith
-
 not_above : (a b : ℕ) → a ≤ b → b < a → ⊥
 not_above a b h k = omega arith
 
@@ -109,15 +107,9 @@ own_used w s x up id life led t h =
     let n = led.names t h in
     let here : t.txn.site ≡ s = n.0 ∙ id in
     record {
-      life = rw here (at_most_same t.txn.life (kept_at w s).life (n.1 ∙ sym life));
+      life = rw here (at_most_equal t.txn.life (kept_at w s).life (n.1 ∙ sym life));
       seq = λ y g e. let same : x ≡ y = (let z = rw here at g in cc) in subst (λ (y : SiteState). t.txn.seq ≤ y.seq) same n.2;
     }
-  where
-    at_most_same : (a b : ℕ) → a ≡ b → a ≤ b
-    at_most_same a b e = omega arith
-
-pub at_most_equal : (a b : ℕ) → a ≡ b → a ≤ b
-at_most_equal a b e = omega arith
 
 pub names_acts : (catalogue : Catalogue) (w : Scene) (s : ℕ) (x : SiteState) (given : Input) → plain_at w s ≡ Some x → Arrives w s given → InvViews catalogue w → InvLed w → InvNames w → InvNames (acted w s x (step catalogue x given))
 names_acts catalogue w s x given up a known asked inv =

@@ -19,11 +19,11 @@ use Rattle.vp_laws.proofs.Table.Led.{Led}
 use Rattle.vp_laws.proofs.Moves.OnlyCoordinator.{OnCoordinator}
 use Rattle.vp_laws.proofs.Invariant.Views.{InvViews}
 use Rattle.vp_laws.proofs.Invariant.Led.{InvLed}
-use Rattle.vp_laws.proofs.Worlds.Scenes.{Scene, plain_at, kept_at, Acted, scene_of}
-use Rattle.vp_laws.proofs.Worlds.Sites.{NowIs, now_is, QuietIs, quiet_is, no_live, started_idle, Quiet}
+use Rattle.vp_laws.proofs.Worlds.Scenes.{Scene, plain_at, Acted, scene_of}
+use Rattle.vp_laws.proofs.Worlds.Sites.{NowIs, now_is, quiet_is, started_idle, Quiet, live_still}
 use Rattle.vp_laws.proofs.Moves.Calls.{waiting, done, reading, writing, read_not_write, writes_same, no_commit_writes, unmarked}
 use Rattle.vp_laws.proofs.Invariant.Ops.{HasWritten, LiveOk, InvOps}
-use Rattle.vp_laws.proofs.Lists.Pairs.{last_written, value_key}
+use Rattle.vp_laws.proofs.Lists.Pairs.{last_written, value_key, read_no_write, write_of_one}
 use Rattle.vp_model.specs.World.{start_world}
 
 -- parts
@@ -72,25 +72,19 @@ module _ (catalogue : Catalogue) (x : SiteState) (given : Input) (all : (u : Liv
     writing = λ p rec value e r. cc;
   }
 
-  not_write : {C : Type 0} (operation : Op) (rec r : ℕ) (value v : List ℕ) → operation ≡ op.Read rec value → operation ≡ op.Write r v → C
-  not_write operation rec r value v e f = cc
-
-  same_record : (operation : Op) (rec r : ℕ) (value v : List ℕ) → operation ≡ op.Write rec value → operation ≡ op.Write r v → rec ≡ r
-  same_record operation rec r value v e f = cc
-
   completed_ok : (u : Live) (p : Pending) (operation : Op) (words : Answer) (l : Lent) → LiveOk catalogue x.id x.held u → Completes catalogue x given u p operation words l → LiveOk catalogue x.id x.held (done u operation words)
-  completed_ok u p operation words l h (Completes.own_write rec value next r a v o w e) = done_ok u operation words h (λ r v f. not_write operation rec r value v o f)
-  completed_ok u p operation words l h (Completes.own_copy rec stored next r a v c f o w e) = done_ok u operation words h (λ r v f. not_write operation rec r stored.value v o f)
+  completed_ok u p operation words l h (Completes.own_write rec value next r a v o w e) = done_ok u operation words h (λ r v f. read_no_write operation rec r value v o f)
+  completed_ok u p operation words l h (Completes.own_copy rec stored next r a v c f o w e) = done_ok u operation words h (λ r v f. read_no_write operation rec r stored.value v o f)
   completed_ok u p operation words l h (Completes.write_again rec before value next r a v o w e) = done_ok u operation words h
       (λ r z f q k.
       let b = value_key rec (last_writes u.ops) before v in
       let was = last_written u.ops b.0 b.1 in
-      h.written r (was.0, subst (λ (n : ℕ). Has u.ops (op.Write n was.0)) (b.2 ∙ same_record operation rec r value z o f) was.1) q k)
+      h.written r (was.0, subst (λ (n : ℕ). Has u.ops (op.Write n was.0)) (b.2 ∙ write_of_one operation rec r value z o f) was.1) q k)
   completed_ok u p operation words l h (Completes.write_alone rec value next r a v n o w e) = done_ok u operation words h
-      (λ r v f q k. absurd (empty_not (other_holders_in catalogue x.id x.held r) q (rw (← (same_record operation rec r value v o f)) n) k))
-  completed_ok u p operation words l h (Completes.read_answered from rec value c last r o w e) = done_ok u operation words h (λ r v f. not_write operation rec r value v o f)
+      (λ r v f q k. absurd (empty_not (other_holders_in catalogue x.id x.held r) q (rw (← (write_of_one operation rec r value v o f)) n) k))
+  completed_ok u p operation words l h (Completes.read_answered from rec value c last r o w e) = done_ok u operation words h (λ r v f. read_no_write operation rec r value v o f)
   completed_ok u p operation words l h (Completes.write_answered from rec value c last r o w e) =
-      done_ok u operation words h (λ z v f a k. h.writing p rec value last.pending r a (rw (same_record operation rec z value v o f) k))
+      done_ok u operation words h (λ z v f a k. h.writing p rec value last.pending r a (rw (write_of_one operation rec z value v o f) k))
 
   -- more parts
   wider : (u now : Live) → LiveOk catalogue x.id x.held u → now.ops ≡ u.ops → ((q : ℕ) → Has u.parts q → Has now.parts q) → (rec : ℕ) → HasWritten now rec → (q : ℕ) → Has (other_holders_in catalogue x.id x.held rec) q → Has now.parts q
@@ -180,8 +174,4 @@ ops_acts catalogue w new s x given o up before after led led_now inv c st = reco
         (subst (λ (i : ℕ). LiveOk catalogue i o.site.held t) (sym c.id) (subst (λ (v : Option View). LiveOk catalogue x.id v t) held (live_ok catalogue x given (λ u k. inv.live s x u up k) t from)))
 
 pub ops_quiet : (catalogue : Catalogue) (w new : Scene) (s : ℕ) → Quiet catalogue w new s → InvOps catalogue w → InvOps catalogue new
-ops_quiet catalogue w new s q inv = record { live = λ k y t h z. live_at w s inv k y t z (quiet_is catalogue w new s q k y h) }
-  where
-    live_at : (w : Scene) (s : ℕ) → InvOps catalogue w → (k : ℕ) (y : SiteState) (t : Live) → Has y.live t → QuietIs catalogue w s k y → LiveOk catalogue y.id y.held t
-    live_at w s inv k y t q (QuietIs.other n old) = inv.live k y t old q
-    live_at w s inv k y t q (QuietIs.here e same) = absurd (no_live catalogue s (kept_at w s) t (subst (λ (y : SiteState). Has y.live t) (sym same) q))
+ops_quiet catalogue w new s q inv = record { live = λ k y t h z. inv.live k y t (live_still catalogue w s k y t z (quiet_is catalogue w new s q k y h)) z }

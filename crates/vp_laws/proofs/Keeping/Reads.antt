@@ -14,9 +14,9 @@ use Rattle.vp_laws.proofs.Table.Steps.{LiveNow, Steps}
 use Rattle.vp_laws.proofs.Table.Copies.{value_pair}
 use Rattle.vp_laws.proofs.Table.Locks.{Guards}
 use Rattle.vp_laws.proofs.Lists.Changes.{mapped_has}
-use Rattle.vp_laws.proofs.Worlds.Scenes.{Scene, kept_at, Acted, acted, scene_of}
+use Rattle.vp_laws.proofs.Worlds.Scenes.{Scene, Acted, acted, scene_of}
 use Rattle.vp_laws.proofs.Invariant.Ops.{HasWritten}
-use Rattle.vp_laws.proofs.Worlds.Sites.{NowIs, now_is, QuietIs, quiet_is, no_live, started_idle, Quiet}
+use Rattle.vp_laws.proofs.Worlds.Sites.{NowIs, now_is, quiet_is, started_idle, Quiet, live_still}
 use Rattle.vp_laws.proofs.Moves.Calls.{reads_same, same_call, unmarked_call}
 use Rattle.vp_laws.proofs.Invariant.Reads.{HasAsked, ReadsOk, InvReads}
 use Rattle.vp_laws.proofs.Lists.Pairs.{last_written, value_key}
@@ -94,8 +94,4 @@ reads_acts catalogue w s x given o ok c g st inv = record { live = λ k y t h q.
     go k y t q (NowIs.here e same) = subst (λ (y : SiteState). ReadsOk catalogue (keys y.copies) t) same (rw g.copied (ok t (c.live t (subst (λ (y : SiteState). Has y.live t) (sym same) q))))
 
 pub reads_quiet : (catalogue : Catalogue) (w new : Scene) (s : ℕ) → Quiet catalogue w new s → InvReads catalogue w → InvReads catalogue new
-reads_quiet catalogue w new s q inv = record { live = λ k y t g h. reads_at w s inv k y t h (quiet_is catalogue w new s q k y g) }
-  where
-    reads_at : (w : Scene) (s : ℕ) → InvReads catalogue w → (k : ℕ) (y : SiteState) (t : Live) → Has y.live t → QuietIs catalogue w s k y → ReadsOk catalogue (keys y.copies) t
-    reads_at w s inv k y t h (QuietIs.other n old) = inv.live k y t old h
-    reads_at w s inv k y t h (QuietIs.here e same) = absurd (no_live catalogue s (kept_at w s) t (subst (λ (y : SiteState). Has y.live t) (sym same) h))
+reads_quiet catalogue w new s q inv = record { live = λ k y t g h. inv.live k y t (live_still catalogue w s k y t h (quiet_is catalogue w new s q k y g)) h }

@@ -1,7 +1,7 @@
 -- A holder that an entry affects stays in doubt and waited for until it has applied it, or has left the view.
 use Rattle.std.proofs.Common.{◌≡◌, ◌≢◌, ◌⊎◌, ◌∙◌, ap, sym, subst, ℕ, Bool, true, false, List, refl, inl, inr, ⊎_elim}
 use Rattle.std.specs.Prelude.{Option, Some, None, option_map}
-use Rattle.vp_model.specs.Types.{Change, ViewId, TxnId, View, Sent, Commit, Message, Input, Part, Live, Doubt, Decision}
+use Rattle.vp_model.specs.Types.{Change, ViewId, TxnId, View, Sent, Commit, Input, Part, Live, Doubt, Decision}
 use Rattle.vp_model.specs.Types.message
 use Rattle.vp_model.specs.Words.{same_txn, has_txn, is_empty, is_view, has}
 use Rattle.vp_model.specs.Catalogue.{Catalogue, holders}
@@ -17,7 +17,7 @@ use Rattle.vp_laws.proofs.Lists.Changes.{mapped_has, some_first, some_not_empty}
 use Rattle.vp_laws.proofs.Lists.Names.{same_txn-is, same_txn-not}
 use Rattle.vp_laws.proofs.Lists.Views.{AtMost, Precedes, not_both, same_is, same_site}
 use Rattle.vp_laws.proofs.Moves.LocalViews.{letter}
-use Rattle.vp_laws.proofs.Moves.Table.{Comes, Handled}
+use Rattle.vp_laws.proofs.Moves.Table.{Handled}
 use Rattle.vp_laws.proofs.Worlds.Scenes.{Scene, kept_in, up_in, plain_at, kept_at, promise_at, Acted, scene_of}
 use Rattle.vp_laws.proofs.Table.Led.{IsOf, Led}
 use Rattle.vp_laws.proofs.Table.Endings.{MayAbort, Endings}
@@ -34,7 +34,7 @@ use Rattle.vp_laws.proofs.Invariant.Ops.{LiveOk}
 use Rattle.vp_laws.proofs.Invariant.Entered.{AgreedAs, Affected, InvEntered}
 use Rattle.vp_laws.proofs.Invariant.Lived.{InvLived}
 use Rattle.vp_laws.proofs.Invariant.HasLeft.{HasLeft}
-use Rattle.vp_laws.proofs.Worlds.Events.{Arrives}
+use Rattle.vp_laws.proofs.Worlds.Events.{Arrives, came_in}
 use Rattle.vp_laws.proofs.Worlds.Sites.{KeptIs, kept_is, Quiet, quiet_kept, start_sent, start_entered}
 use Rattle.vp_laws.proofs.Invariant.Settled.{InvSettled, HasEnded}
 use Rattle.vp_laws.proofs.Keeping.Entered.{other_holder}
@@ -85,9 +85,6 @@ module _ (catalogue : Catalogue) (w : Scene) (asked : InvLed w) (shares : InvSha
       prepared_affected e q.0.0 k d.txn d.view q.0.1 q.0.2 d.writes there named q.1 q.0.3
 
 module _ (catalogue : Catalogue) (w new : Scene) (s : ℕ) (x : SiteState) (given : Input) (o : Stepped) (up : plain_at w s ≡ Some x) (arrives : Arrives w s given) (id : x.id ≡ s) (kept : durable_of x ≡ kept_at w s) (views : InvViews catalogue w) (views_now : InvViews catalogue new) (led : Led x) (asked : InvLed w) (ends : InvEndings w) (shares : InvShares catalogue w) (ops : (u : Live) → Has x.live u → LiveOk catalogue x.id x.held u) (entered : InvEntered catalogue w) (entered_now : InvEntered catalogue new) (below_now : InvBelow new) (inv : InvSettled catalogue w) (c : Waits catalogue x given o.site.coordinator o.effects.messages o.effects.commits) (ec : Endings x given o.site.coordinator o.effects.messages o.effects.commits) (steps : Steps catalogue x given o.site.coordinator o.effects.messages o.effects.commits) (p : Shares x given o) (v : Leaves x given o) (st : Acted w new s x o) where
-  came : (from : ℕ) (m : Message) → Comes given from m → Has w.sent (letter from s m)
-  came from m e = rw e at arrives
-
   promise : x.promise ≡ promise_at w s
   promise = ap (λ (d : DurableState). d.promise) kept
 
@@ -110,7 +107,7 @@ module _ (catalogue : Catalogue) (w new : Scene) (s : ℕ) (x : SiteState) (give
   -- no prepare makes a doubt about a transaction with an entry
   no_new : (e : Commit) → Has w.journal e → (from : ℕ) (part : Part) (reads : List ℕ) (writes : List (ℕ × Change)) → Prepared x given from part reads writes → is_empty writes ≡ false → part.txn ≡ e.txn → ⊥
   no_new e there from part reads writes q some named =
-      let a = prepared_affected catalogue w asked shares e from s part.txn q.view q.number reads writes there named some (came from _ q.comes) in
+      let a = prepared_affected catalogue w asked shares e from s part.txn q.view q.number reads writes there named some (came_in w s given arrives from _ q.comes) in
       let h = holding x q.view q.held in
       ⊎_elim
       (λ (l : HasLeft w s e.view). l.unused x up (Uses.held h.0 h.1 (h.2 ∙ sym a.1)))
@@ -170,7 +167,7 @@ module _ (catalogue : Catalogue) (w new : Scene) (s : ℕ) (x : SiteState) (give
     where
       go : KeptIs w new s (durable_of o.site) e.txn.site → IsWaited (kept_at new e.txn.site).decisions e.txn k
       go (KeptIs.other n same) = rw same h
-      go (KeptIs.here z same) = rw same (⊎_elim (λ now. now) (λ ack. absurd (inv.acknowledged k s e.txn (came k (message.Ack e.txn) ack) d))
+      go (KeptIs.here z same) = rw same (⊎_elim (λ now. now) (λ ack. absurd (inv.acknowledged k s e.txn (came_in w s given arrives k (message.Ack e.txn) ack) d))
           (c.kept e.txn k (subst (λ (d : DurableState). IsWaited d.decisions e.txn k) (ap (kept_at w) z ∙ sym kept) h)))
 
   waited_new : (e : Commit) (k : ℕ) → Has o.effects.commits e → Affected catalogue new e k → InDoubt new k e.txn → IsWaited (kept_at new e.txn.site).decisions e.txn k

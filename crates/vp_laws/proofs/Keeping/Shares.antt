@@ -26,11 +26,11 @@ use Rattle.vp_laws.proofs.Moves.OnlyCoordinator.{is_aside}
 use Rattle.vp_laws.proofs.Table.Steps.{LiveNow, Only, SentFor, EnteredFor, Steps}
 use Rattle.vp_laws.proofs.Table.Shares.{is_reply, PartNow, DoubtNow, OutcomeComes, ReplyTo, Shares}
 use Rattle.vp_laws.proofs.Invariant.Endings.{HasEntry, InvEndings}
-use Rattle.vp_laws.proofs.Worlds.Events.{Arrives}
-use Rattle.vp_laws.proofs.Worlds.Sites.{NowIs, now_is, KeptIs, kept_is, Quiet, QuietIs, quiet_is, quiet_kept, started, start_kept, start_sent, start_entered, no_live, started_idle}
+use Rattle.vp_laws.proofs.Worlds.Events.{Arrives, came_in}
+use Rattle.vp_laws.proofs.Worlds.Sites.{NowIs, now_is, KeptIs, kept_is, Quiet, QuietIs, quiet_is, quiet_kept, started, start_kept, start_sent, start_entered, started_idle, live_still}
 use Rattle.vp_laws.proofs.Lists.Numbers.{not_same}
 use Rattle.vp_laws.proofs.Lists.Changes.{is_none}
-use Rattle.vp_laws.proofs.Invariant.Shares.{Says, Awaits, HasVote, InDoubt, HasRequest, DoubtSays, InvShares, HasPrepare, PartSays, EntrySays, OneView, VoteSays}
+use Rattle.vp_laws.proofs.Invariant.Shares.{Says, Awaits, HasVote, InDoubt, HasRequest, DoubtSays, InvShares, HasPrepare, PartSays, EntrySays, OneView, VoteSays, vote_more, request_more}
 use Rattle.vp_laws.proofs.Keeping.Endings.{fresh}
 use Rattle.vp_model.specs.World.{start_world}
 use Rattle.vp_laws.proofs.Moves.Calls.{waiting, reading, writing}
@@ -95,9 +95,6 @@ module _ (catalogue : Catalogue) (w new : Scene) (s : ℕ) (x : SiteState) (give
   stays : (m : Sent) → Has w.sent m → Has new.sent m
   stays = st.moved.sent
 
-  came : (from : ℕ) (m : Message) → Comes given from m → Has w.sent (letter from s m)
-  came from m e = rw e at arrives
-
   -- a live transaction now of a name that was used: at another site, or it was live here
   view_lasts : (txn : TxnId) (view : ViewId) → UsedTxn w txn → OneView w txn view → OneView new txn view
   view_lasts txn view used h = record {
@@ -155,8 +152,8 @@ module _ (catalogue : Catalogue) (w new : Scene) (s : ℕ) (x : SiteState) (give
           (p.stays d (rw kept (rw z at there)))
         where
           over : (from : ℕ) (commit : Bool) → Comes given from (message.Outcome d.txn commit) → ⊥
-          over from true q = (ends.told _ (came from (message.Outcome d.txn true) q)).0 y (rw of live) u h (e ∙ sym of)
-          over from false q = ends.told _ (came from (message.Outcome d.txn false) q) y (rw of live) u h (e ∙ sym of)
+          over from true q = (ends.told _ (came_in w s given arrives from (message.Outcome d.txn true) q)).0 y (rw of live) u h (e ∙ sym of)
+          over from false q = ends.told _ (came_in w s given arrives from (message.Outcome d.txn false) q) y (rw of live) u h (e ∙ sym of)
 
   vote_lasts : (from to : ℕ) (txn : TxnId) → Has w.sent (letter from to (message.Vote txn)) → VoteSays catalogue w from txn → VoteSays catalogue new from txn
   vote_lasts from to txn sent h = λ y t g k e writes. go y t (now_is w new s x o st txn.site y g) k e writes
@@ -186,7 +183,7 @@ module _ (catalogue : Catalogue) (w new : Scene) (s : ℕ) (x : SiteState) (give
       absurd (nothing_there s txn says.1.0 says.0 says.1.1 says.1.2 [] refl (stays _ says.1.3) y t g k q writes)
   vote_new txn m (ReplyTo.vote_reading part reads writes a none h f) e = λ y t g k q some.
       let is : part.txn ≡ txn = vote_is part.txn txn (f ∙ sym e) in
-      let sent : Has new.sent (letter m.to s (message.Prepare txn a.view a.number reads writes)) = subst (λ (u : TxnId). Has new.sent (letter m.to s (message.Prepare u a.view a.number reads writes))) is (stays _ (came m.to (message.Prepare part.txn a.view a.number reads writes) a.comes)) in
+      let sent : Has new.sent (letter m.to s (message.Prepare txn a.view a.number reads writes)) = subst (λ (u : TxnId). Has new.sent (letter m.to s (message.Prepare u a.view a.number reads writes))) is (stays _ (came_in w s given arrives m.to (message.Prepare part.txn a.view a.number reads writes) a.comes)) in
       absurd (nothing_there s txn m.to a.view a.number reads writes none sent y t g k q some)
   vote_new txn m (ReplyTo.vote_writing part reads writes a some h f) e = λ y t g k q more. doubt_here txn (record { txn = part.txn; view = part.view; writes = writes }) h (vote_is part.txn txn (f ∙ sym e))
   vote_new txn m (ReplyTo.acks t a n f) e = absurd (let z = f ∙ sym e in cc)
@@ -194,19 +191,12 @@ module _ (catalogue : Catalogue) (w new : Scene) (s : ℕ) (x : SiteState) (give
   vote_new txn m (ReplyTo.write_answer t number rec stored a f) e = absurd (let z = f ∙ sym e in cc)
   vote_new txn m (ReplyTo.refresh_answer view rec stored a h d v f) e = absurd (let z = f ∙ sym e in cc)
 
-  vote_stays : (q : ℕ) (txn : TxnId) → HasVote w q txn → HasVote new q txn
-  vote_stays q txn h = (h.0, stays _ h.1)
-
   prepare_stays : (to : ℕ) (txn : TxnId) (view : ViewId) (writes : List (ℕ × Change)) → HasPrepare w to txn view writes → HasPrepare new to txn view writes
   prepare_stays to txn view writes h = (h.0, h.1, h.2, stays _ h.3)
 
-  request_stays : (from to : ℕ) (txn : TxnId) (view : ViewId) (number rec : ℕ) (exclusive : Bool) → HasRequest w from to txn view number rec exclusive → HasRequest new from to txn view number rec exclusive
-  request_stays from to txn view number rec false (HasRequest.to_read h) = HasRequest.to_read (stays _ h)
-  request_stays from to txn view number rec true (HasRequest.to_write h) = HasRequest.to_write (stays _ h)
-
   part_stays : (k : ℕ) (a : Part) → PartSays w k a → PartSays new k a
   part_stays k a h = record {
-    asked = let q = h.asked in (q.0, q.1, q.2, q.3, request_stays q.0 k a.txn a.view q.1 q.2 q.3 q.4);
+    asked = let q = h.asked in (q.0, q.1, q.2, q.3, request_more w new stays q.0 k a.txn a.view q.1 q.2 q.3 q.4);
     voted = λ v. let q = h.voted v in (q.0, prepare_stays k a.txn q.0 [] q.1);
   }
 
@@ -219,8 +209,8 @@ module _ (catalogue : Catalogue) (w new : Scene) (s : ℕ) (x : SiteState) (give
       go (Some v) f t = let same : v ≡ (part_views a h).0 = cc in ap (λ (v : View). v.id) (sym same) ∙ same_is v.id view t
 
   requested : (from : ℕ) (txn : TxnId) (view : ViewId) (number rec : ℕ) (exclusive : Bool) → Requests given from txn view number rec exclusive → HasRequest new from s txn view number rec exclusive
-  requested from txn view number rec false (Requests.reads e) = HasRequest.to_read (stays _ (came from (message.ReadRequest txn view number rec) e))
-  requested from txn view number rec true (Requests.writes e) = HasRequest.to_write (stays _ (came from (message.WriteRequest txn view number rec) e))
+  requested from txn view number rec false (Requests.reads e) = HasRequest.to_read (stays _ (came_in w s given arrives from (message.ReadRequest txn view number rec) e))
+  requested from txn view number rec true (Requests.writes e) = HasRequest.to_write (stays _ (came_in w s given arrives from (message.WriteRequest txn view number rec) e))
 
   part_now : (a : Part) → PartNow x given a → PartSays new s a
   part_now a (PartNow.still h) = part_stays s a (inv.parts s x a up h)
@@ -228,7 +218,7 @@ module _ (catalogue : Catalogue) (w new : Scene) (s : ℕ) (x : SiteState) (give
       let before = part_stays s part (inv.parts s x part up q.part_here) in
       subst (PartSays new s) e (record {
         asked = before.asked;
-        voted = λ v. (q.view, (from, q.number, reads, rw (is_none writes none) at (stays _ (came from (message.Prepare part.txn q.view q.number reads writes) q.comes))));
+        voted = λ v. (q.view, (from, q.number, reads, rw (is_none writes none) at (stays _ (came_in w s given arrives from (message.Prepare part.txn q.view q.number reads writes) q.comes))));
       })
   part_now a (PartNow.fresh from txn number rec exclusive stored g e) = subst (PartSays new s) e (record {
     asked = (from, number, rec, exclusive, requested from txn g.view number rec exclusive g.comes);
@@ -238,7 +228,7 @@ module _ (catalogue : Catalogue) (w new : Scene) (s : ℕ) (x : SiteState) (give
   doubt_now : (d : Doubt) → DoubtNow x given d → DoubtSays new s d
   doubt_now d (DoubtNow.still h) = let q = inv.doubts s d (rw (← kept) h) in (prepare_stays s d.txn d.view d.writes q.0, q.1)
   doubt_now d (DoubtNow.fresh from part reads writes q some e) =
-      subst (DoubtSays new s) e ((from, q.number, reads, rw (held_view part q.view q.part_here q.held) (stays _ (came from (message.Prepare part.txn q.view q.number reads writes) q.comes))), some)
+      subst (DoubtSays new s) e ((from, q.number, reads, rw (held_view part q.view q.part_here q.held) (stays _ (came_in w s given arrives from (message.Prepare part.txn q.view q.number reads writes) q.comes))), some)
 
   -- messages
   says_lasts : (m : Sent) → Has w.sent m → (from to : ℕ) (words : Message) → letter from to words ≡ m → Says catalogue w from to words → Says catalogue new from to words
@@ -258,9 +248,9 @@ module _ (catalogue : Catalogue) (w new : Scene) (s : ℕ) (x : SiteState) (give
   reply_says m (ReplyTo.vote_again part a was h v g) e f = subst (Says catalogue new m.from m.to) g (rw f (vote_new part.txn m (ReplyTo.vote_again part a was h v g) g))
   reply_says m (ReplyTo.vote_reading part reads writes a none h g) e f = subst (Says catalogue new m.from m.to) g (rw f (vote_new part.txn m (ReplyTo.vote_reading part reads writes a none h g) g))
   reply_says m (ReplyTo.vote_writing part reads writes a some h g) e f = subst (Says catalogue new m.from m.to) g (rw f (vote_new part.txn m (ReplyTo.vote_writing part reads writes a some h g) g))
-  reply_says m (ReplyTo.acks t a n g) e f = subst (Says catalogue new m.from m.to) g (entry_stays t (ends.told _ (came m.to (message.Outcome t true) a)).1)
-  reply_says m (ReplyTo.read_answer t number rec stored a g) e f = subst (Says catalogue new m.from m.to) g (a.view, rec, rw f (stays _ (came m.to (message.ReadRequest t a.view number rec) (read_comes t a.view number rec m.to a.comes))))
-  reply_says m (ReplyTo.write_answer t number rec stored a g) e f = subst (Says catalogue new m.from m.to) g (a.view, rec, rw f (stays _ (came m.to (message.WriteRequest t a.view number rec) (write_comes t a.view number rec m.to a.comes))))
+  reply_says m (ReplyTo.acks t a n g) e f = subst (Says catalogue new m.from m.to) g (entry_stays t (ends.told _ (came_in w s given arrives m.to (message.Outcome t true) a)).1)
+  reply_says m (ReplyTo.read_answer t number rec stored a g) e f = subst (Says catalogue new m.from m.to) g (a.view, rec, rw f (stays _ (came_in w s given arrives m.to (message.ReadRequest t a.view number rec) (read_comes t a.view number rec m.to a.comes))))
+  reply_says m (ReplyTo.write_answer t number rec stored a g) e f = subst (Says catalogue new m.from m.to) g (a.view, rec, rw f (stays _ (came_in w s given arrives m.to (message.WriteRequest t a.view number rec) (write_comes t a.view number rec m.to a.comes))))
   reply_says m (ReplyTo.refresh_answer view rec stored a h d v g) e f = subst (Says catalogue new m.from m.to) g tt
 
   says_new : (m : Sent) → SentFor catalogue x given o.site.live m → ReplyTo x given o.site.participant m → m.from ≡ s → Says catalogue new m.from m.to m.message
@@ -272,7 +262,7 @@ module _ (catalogue : Catalogue) (w new : Scene) (s : ℕ) (x : SiteState) (give
 
   -- the votes that a pending commit waits for
   awaits_stay : (t : Live) → Awaits w t → Awaits new t
-  awaits_stay t h = λ p e g q k. ⊎_elim (λ still. inl still) (λ v. inr (vote_stays q t.txn v)) (h p e g q k)
+  awaits_stay t h = λ p e g q k. ⊎_elim (λ still. inl still) (λ v. inr (vote_more w new stays q t.txn v)) (h p e g q k)
 
   awaits_now : (t : Live) → LiveNow catalogue x given t → Awaits new t
   awaits_now t (LiveNow.still h) = awaits_stay t (inv.awaits s x t up h)
@@ -285,12 +275,12 @@ module _ (catalogue : Catalogue) (w new : Scene) (s : ℕ) (x : SiteState) (give
       (λ (it : q ≡ from). inr (counted u p from k (ap is_commit same ∙ commit) q it))
       (λ (n : q ≢ from). inl (rw (← missing) (filter_keeps (λ (a : ℕ). not (a == from)) p.missing q still (not_same q from n))))
       (same_site q from))
-      (λ v. inr (vote_stays q u.txn v)) (inv.awaits s x u up h p f (ap is_commit same ∙ commit) q part))
+      (λ v. inr (vote_more w new stays q u.txn v)) (inv.awaits s x u up h p f (ap is_commit same ∙ commit) q part))
     where
       counted : (u : Live) (p : Pending) (from : ℕ) → Counts catalogue given u p from → is_commit p.call ≡ true → (q : ℕ) → q ≡ from → HasVote new q u.txn
       counted u p from (Counts.read rec value g r) commit q it = absurd (let a = ap is_commit r.words in cc)
       counted u p from (Counts.written rec value g r) commit q it = absurd (let a = ap is_commit r.words in cc)
-      counted u p from (Counts.voted g k) commit q it = (s, rw it (stays _ (came from (message.Vote u.txn) g)))
+      counted u p from (Counts.voted g k) commit q it = (s, rw it (stays _ (came_in w s given arrives from (message.Vote u.txn) g)))
   awaits_now t (LiveNow.completed u p operation words l h g e) = subst (Awaits new) e (λ a f commit q part. cc)
   awaits_now t (LiveNow.reads u p rec k h g e) = subst (Awaits new) e (λ a f commit q part. absurd (let is : record p { missing = k ∷ [] } ≡ a = cc in let z = ap (λ (p : Pending). is_commit p.call) is in let r = ap is_commit g.reads.words in cc))
   awaits_now t (LiveNow.writes u p rec value h g e) = subst (Awaits new) e (λ a f commit q part. absurd (let is : record p { missing = other_holders catalogue x rec } ≡ a = cc in let z = ap (λ (p : Pending). is_commit p.call) is in let r = ap is_commit g.writes.words in cc))
@@ -300,7 +290,7 @@ module _ (catalogue : Catalogue) (w new : Scene) (s : ℕ) (x : SiteState) (give
   -- entries
   entry_lasts : (e : Commit) → Has w.journal e → EntrySays catalogue w e → EntrySays catalogue new e
   entry_lasts e there h from to view number readings writings sent = ⊎_elim
-      (λ old. let q = h from to view number readings writings old in (q.0, q.1, vote_stays to e.txn q.2))
+      (λ old. let q = h from to view number readings writings old in (q.0, q.1, vote_more w new stays to e.txn q.2))
       (λ more. absurd (none (letter from to (message.Prepare e.txn view number readings writings)) (c.sent _ more) refl))
       (st.sent _ sent)
     where
@@ -349,10 +339,10 @@ module _ (catalogue : Catalogue) (w new : Scene) (s : ℕ) (x : SiteState) (give
           voted : Has t.parts to → HasVote new to txn
           voted part = ⊎_elim
               (λ missing. ⊎_elim
-              (λ (it : to ≡ sender). (s, rw (it, ← named) (stays _ (came sender (message.Vote t.txn) comes))))
+              (λ (it : to ≡ sender). (s, rw (it, ← named) (stays _ (came_in w s given arrives sender (message.Vote t.txn) comes))))
               (λ (n : to ≢ sender). absurd (has_none to (rw (is_none (remaining sender p) last.last) at (filter_keeps (λ (a : ℕ). not (a == sender)) p.missing to missing (not_same to sender n)))))
               (same_site to sender))
-              (λ v. rw (← named) (vote_stays to t.txn v))
+              (λ v. rw (← named) (vote_more w new stays to t.txn v))
               (inv.awaits s x t up here p last.pending commit to part)
 
   pub shares_keep : InvShares catalogue new
@@ -384,35 +374,20 @@ module _ (catalogue : Catalogue) (w new : Scene) (s : ℕ) (q : Quiet catalogue 
   sent_on : (m : Sent) → Has w.sent m → Has new.sent m
   sent_on m h = rw q.sent h
 
-  vote_on : (k : ℕ) (txn : TxnId) → HasVote w k txn → HasVote new k txn
-  vote_on k txn h = (h.0, sent_on _ h.1)
-
   prepare_on : (to : ℕ) (txn : TxnId) (view : ViewId) (writes : List (ℕ × Change)) → HasPrepare w to txn view writes → HasPrepare new to txn view writes
   prepare_on to txn view writes h = (h.0, h.1, h.2, sent_on _ h.3)
 
-  request_on : (from to : ℕ) (txn : TxnId) (view : ViewId) (number rec : ℕ) (exclusive : Bool) → HasRequest w from to txn view number rec exclusive → HasRequest new from to txn view number rec exclusive
-  request_on from to txn view number rec false (HasRequest.to_read h) = HasRequest.to_read (sent_on _ h)
-  request_on from to txn view number rec true (HasRequest.to_write h) = HasRequest.to_write (sent_on _ h)
-
   view_on : (txn : TxnId) (view : ViewId) → OneView w txn view → OneView new txn view
   view_on txn view h = record {
-    live = λ y t g k e. live_now y t (quiet_is catalogue w new s q txn.site y g) k e;
+    live = λ y t g k e. h.live y t (live_still catalogue w s txn.site y t k (quiet_is catalogue w new s q txn.site y g)) k e;
     entry = λ e g same. h.entry e (rw q.journal at g) same;
   }
-    where
-      live_now : (y : SiteState) (t : Live) → QuietIs catalogue w s txn.site y → Has y.live t → t.txn ≡ txn → t.view ≡ view
-      live_now y t (QuietIs.other n g) k e = h.live y t g k e
-      live_now y t (QuietIs.here z same) k e = absurd (no_live catalogue s (kept_at w s) t (subst (λ (y : SiteState). Has y.live t) (sym same) k))
 
   doubts_on : (k : ℕ) → (kept_at new k).doubts ≡ (kept_at w k).doubts
   doubts_on k = quiet_kept catalogue w new s q (λ (d : DurableState). d.doubts) q.doubts k
 
   vote_says_on : (from : ℕ) (txn : TxnId) → VoteSays catalogue w from txn → VoteSays catalogue new from txn
-  vote_says_on from txn h = λ y t g k e some. go y t (quiet_is catalogue w new s q txn.site y g) k e some
-    where
-      go : (y : SiteState) (t : Live) → QuietIs catalogue w s txn.site y → Has y.live t → t.txn ≡ txn → is_empty (writes_held catalogue from (last_changes (entry_of t))) ≡ false → InDoubt new from txn
-      go y t (QuietIs.other n g) k e some = let d = h y t g k e some in (d.0, rw (doubts_on from) d.1, d.2)
-      go y t (QuietIs.here z same) k e some = absurd (no_live catalogue s (kept_at w s) t (subst (λ (y : SiteState). Has y.live t) (sym same) k))
+  vote_says_on from txn h = λ y t g k e some. let d = h y t (live_still catalogue w s txn.site y t k (quiet_is catalogue w new s q txn.site y g)) k e some in (d.0, rw (doubts_on from) d.1, d.2)
 
   says_on : (from to : ℕ) (m : Message) → Says catalogue w from to m → Says catalogue new from to m
   says_on from to (message.ReadRequest txn view number rec) h = view_on txn view h
@@ -430,19 +405,18 @@ module _ (catalogue : Catalogue) (w new : Scene) (s : ℕ) (q : Quiet catalogue 
     doubts = λ k d h. let g = inv.doubts k d (rw (doubts_on k) at h) in (prepare_on k d.txn d.view d.writes g.0, g.1);
     says = λ m h. says_on m.from m.to m.message (inv.says m (rw q.sent at h));
     awaits = λ k y t h g. awaits_at k y t g (quiet_is catalogue w new s q k y h);
-    entry = λ e h from to view number readings writings sent. let g = inv.entry e (rw q.journal at h) from to view number readings writings (rw q.sent at sent) in (g.0, g.1, vote_on to e.txn g.2);
+    entry = λ e h from to view number readings writings sent. let g = inv.entry e (rw q.journal at h) from to view number readings writings (rw q.sent at sent) in (g.0, g.1, vote_more w new sent_on to e.txn g.2);
   }
     where
       part_at : (k : ℕ) (y : SiteState) (a : Part) → Has y.parts a → QuietIs catalogue w s k y → PartSays new k a
       part_at k y a g (QuietIs.here e same) = absurd (no_parts catalogue s (kept_at w s) a (subst (λ (y : SiteState). Has y.parts a) (sym same) g))
       part_at k y a g (QuietIs.other n old) = let h = inv.parts k y a old g in record {
-        asked = let z = h.asked in (z.0, z.1, z.2, z.3, request_on z.0 k a.txn a.view z.1 z.2 z.3 z.4);
+        asked = let z = h.asked in (z.0, z.1, z.2, z.3, request_more w new sent_on z.0 k a.txn a.view z.1 z.2 z.3 z.4);
         voted = λ v. let z = h.voted v in (z.0, prepare_on k a.txn z.0 [] z.1);
       }
 
       awaits_at : (k : ℕ) (y : SiteState) (t : Live) → Has y.live t → QuietIs catalogue w s k y → Awaits new t
-      awaits_at k y t g (QuietIs.here e same) = absurd (no_live catalogue s (kept_at w s) t (subst (λ (y : SiteState). Has y.live t) (sym same) g))
-      awaits_at k y t g (QuietIs.other n old) = λ p e commit a part. ⊎_elim (λ still. inl still) (λ v. inr (vote_on a t.txn v)) (inv.awaits k y t old g p e commit a part)
+      awaits_at k y t g is = λ p e commit a part. ⊎_elim (λ still. inl still) (λ v. inr (vote_more w new sent_on a t.txn v)) (inv.awaits k y t (live_still catalogue w s k y t g is) g p e commit a part)
 
 pub shares_starts : (catalogue : Catalogue) → InvShares catalogue (scene_of (start_world catalogue))
 shares_starts catalogue = record {

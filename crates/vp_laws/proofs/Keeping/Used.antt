@@ -1,7 +1,7 @@
 -- What other sites have answered for live transactions stays locked there until they leave the view.
 use Rattle.std.proofs.Common.{◌≡◌, ◌≢◌, ◌⊎◌, ◌∙◌, ap, sym, subst, ℕ, Bool, true, false, List, [], ◌∷◌, refl, inl, inr, ⊎_elim, length}
 use Rattle.std.specs.Prelude.{Some, None}
-use Rattle.vp_model.specs.Types.{ViewId, TxnId, Sent, Message, Input, Stored, Pending, Live}
+use Rattle.vp_model.specs.Types.{ViewId, TxnId, Sent, Input, Stored, Pending, Live}
 use Rattle.vp_model.specs.Types.message
 use Rattle.vp_model.specs.Types.owner
 use Rattle.vp_model.specs.Locks.{conflict}
@@ -25,11 +25,11 @@ use Rattle.vp_laws.proofs.Invariant.Views.{InvViews}
 use Rattle.vp_laws.proofs.Invariant.Led.{InvLed}
 use Rattle.vp_laws.proofs.Invariant.Names.{UsedTxn, InvNames}
 use Rattle.vp_laws.proofs.Invariant.Endings.{InvEndings}
-use Rattle.vp_laws.proofs.Invariant.Shares.{HasRequest, InvShares}
+use Rattle.vp_laws.proofs.Invariant.Shares.{HasRequest, InvShares, request_more}
 use Rattle.vp_laws.proofs.Invariant.Answers.{InvAnswers}
 use Rattle.vp_laws.proofs.Invariant.Lived.{InvLived}
 use Rattle.vp_laws.proofs.Invariant.HasLeft.{HasLeft}
-use Rattle.vp_laws.proofs.Worlds.Events.{Arrives}
+use Rattle.vp_laws.proofs.Worlds.Events.{Arrives, came_in}
 use Rattle.vp_laws.proofs.Worlds.Sites.{NowIs, now_is, Quiet, quiet_is, started_idle, live_still}
 use Rattle.vp_laws.proofs.Lists.Numbers.{one_above}
 use Rattle.vp_laws.proofs.Moves.Calls.{reading, writing, reads_same, writes_same}
@@ -139,9 +139,6 @@ module _ (catalogue : Catalogue) (w new : Scene) (s : ℕ) (x : SiteState) (give
   abbrev o : Stepped
   o = step catalogue x given
 
-  came : (from : ℕ) (m : Message) → Comes given from m → Has w.sent (letter from s m)
-  came from m e = rw e at arrives
-
   pub was : (k : ℕ) (y : SiteState) (t : Live) → UsedTxn w t.txn → Has y.live t → NowIs w s (step catalogue x given).site k y → Was w k t
   was k y t used h (NowIs.other n old) = record { site = y; up_then = old; u = t; here = h; named = refl; viewed = refl }
   was k y t used h (NowIs.here e same) = ⊎_elim
@@ -226,8 +223,8 @@ module _ (catalogue : Catalogue) (w new : Scene) (s : ℕ) (x : SiteState) (give
       gone e (Gone.over (from, commit, comes)) = absurd (ended commit comes)
         where
           ended : (commit : Bool) → Comes given from (message.Outcome t.txn commit) → ⊥
-          ended true comes = (ends.told (letter from s (message.Outcome t.txn true)) (came from _ comes)).0 old.site (rw at_k old.up_then) old.u old.here old.named
-          ended false comes = ends.told (letter from s (message.Outcome t.txn false)) (came from _ comes) old.site (rw at_k old.up_then) old.u old.here old.named
+          ended true comes = (ends.told (letter from s (message.Outcome t.txn true)) (came_in w s given arrives from _ comes)).0 old.site (rw at_k old.up_then) old.u old.here old.named
+          ended false comes = ends.told (letter from s (message.Outcome t.txn false)) (came_in w s given arrives from _ comes) old.site (rw at_k old.up_then) old.u old.here old.named
       gone e (Gone.left f) = rw e (left_here w new s x o st t.view (above catalogue w new s st.moved t.view s (rw e at promised)) (λ u. not_both x.promise t.view (f t.view u) (rw promise (rw e at promised))))
       gone e (Gone.ended u there named none) = absurd (none t (here_if k y t u n h there named) refl)
 
@@ -281,12 +278,8 @@ module _ (catalogue : Catalogue) (w new : Scene) (s : ℕ) (x : SiteState) (give
   write_answered m (ReplyTo.refresh_answer view rec stored a b i j f) q txn number is = absurd (let z = f ∙ is in cc)
 
   request_came : (to : ℕ) (txn : TxnId) (view : ViewId) (number rec : ℕ) (exclusive : Bool) → Requests given to txn view number rec exclusive → HasRequest w to s txn view number rec exclusive
-  request_came to txn view number rec false (Requests.reads e) = HasRequest.to_read (came to _ e)
-  request_came to txn view number rec true (Requests.writes e) = HasRequest.to_write (came to _ e)
-
-  request_stays : (a b : ℕ) (txn : TxnId) (view : ViewId) (number rec : ℕ) (exclusive : Bool) → HasRequest w a b txn view number rec exclusive → HasRequest new a b txn view number rec exclusive
-  request_stays a b txn view number rec false (HasRequest.to_read h) = HasRequest.to_read (st.moved.sent _ h)
-  request_stays a b txn view number rec true (HasRequest.to_write h) = HasRequest.to_write (st.moved.sent _ h)
+  request_came to txn view number rec false (Requests.reads e) = HasRequest.to_read (came_in w s given arrives to _ e)
+  request_came to txn view number rec true (Requests.writes e) = HasRequest.to_write (came_in w s given arrives to _ e)
 
   used_now : (k : ℕ) (y : SiteState) (t : Live) → NowIs w s o.site k y → Has y.live t → (q rec : ℕ) (exclusive : Bool) → HasAnswered new q t.txn rec exclusive → HasLeft new q t.view ⊎ LockedAt new q t.txn rec exclusive
   used_now k y t n h q rec false (HasAnswered.read r) = ⊎_elim
@@ -295,7 +288,7 @@ module _ (catalogue : Catalogue) (w new : Scene) (s : ℕ) (x : SiteState) (give
       answered_old k y t n h (was k y t (named_read r.0 q r.1 a.1 t.txn a.0 a.2) h n) q rec false (HasAnswered.read (rw (← same) (r.0, r.1, a.0, r.3, old, a.2))))
       (λ more. let a = read_answered _ (p.replies (letter q r.0 (message.ReadAnswer t.txn r.1 r.3)) more) q t.txn r.1 r.3 refl in
       let at = p.from (letter q r.0 (message.ReadAnswer t.txn r.1 r.3)) more ∙ id in
-      let request = request_stays r.0 s t.txn a.granted.view r.1 a.rec false (request_came r.0 t.txn a.granted.view r.1 a.rec false a.granted.comes) in
+      let request = request_more w new st.moved.sent r.0 s t.txn a.granted.view r.1 a.rec false (request_came r.0 t.txn a.granted.view r.1 a.rec false a.granted.comes) in
       let same : a.rec ≡ rec = one_now k y t r.0 s r.0 q r.1 a.rec rec a.granted.view r.2 false n h request (HasRequest.to_read r.5) in
       inr (subst (λ (rec : ℕ). LockedAt new q t.txn rec false) same (granted_now q r.0 t.txn r.1 a.rec false a.stored at a.granted)))
       (st.sent (letter q r.0 (message.ReadAnswer t.txn r.1 r.3)) r.4)
@@ -305,7 +298,7 @@ module _ (catalogue : Catalogue) (w new : Scene) (s : ℕ) (x : SiteState) (give
       answered_old k y t n h (was k y t (named_write r.0 q r.1 a.1 t.txn a.0 a.2) h n) q rec true (HasAnswered.wrote (rw (← same) (r.0, r.1, a.0, old, a.2))))
       (λ more. let a = write_answered _ (p.replies (letter q r.0 (message.WriteAnswer t.txn r.1)) more) q t.txn r.1 refl in
       let at = p.from (letter q r.0 (message.WriteAnswer t.txn r.1)) more ∙ id in
-      let request = request_stays r.0 s t.txn a.granted.view r.1 a.rec true (request_came r.0 t.txn a.granted.view r.1 a.rec true a.granted.comes) in
+      let request = request_more w new st.moved.sent r.0 s t.txn a.granted.view r.1 a.rec true (request_came r.0 t.txn a.granted.view r.1 a.rec true a.granted.comes) in
       let same : a.rec ≡ rec = one_now k y t r.0 s r.0 q r.1 a.rec rec a.granted.view r.2 true n h request (HasRequest.to_write r.4) in
       inr (subst (λ (rec : ℕ). LockedAt new q t.txn rec true) same (granted_now q r.0 t.txn r.1 a.rec true a.stored at a.granted)))
       (st.sent (letter q r.0 (message.WriteAnswer t.txn r.1)) r.3)
@@ -333,7 +326,7 @@ module _ (catalogue : Catalogue) (w new : Scene) (s : ℕ) (x : SiteState) (give
       Split.before (was k y t (named_read r.0 q r.1 a.1 t.txn a.0 a.2) h n) (HasAnswered.read (rw (← same) (r.0, r.1, a.0, r.3, old, a.2))))
       (λ more. let a = read_answered _ (p.replies (letter q r.0 (message.ReadAnswer t.txn r.1 r.3)) more) q t.txn r.1 r.3 refl in
       let old = was k y t (used_name r.0 s r.1 a.rec t.txn a.granted.view false (request_came r.0 t.txn a.granted.view r.1 a.rec false a.granted.comes)) h n in
-      let request = request_stays r.0 s t.txn a.granted.view r.1 a.rec false (request_came r.0 t.txn a.granted.view r.1 a.rec false a.granted.comes) in
+      let request = request_more w new st.moved.sent r.0 s t.txn a.granted.view r.1 a.rec false (request_came r.0 t.txn a.granted.view r.1 a.rec false a.granted.comes) in
       let at = p.from (letter q r.0 (message.ReadAnswer t.txn r.1 r.3)) more ∙ id in
       let same : a.rec ≡ rec = one_now k y t r.0 s r.0 q r.1 a.rec rec a.granted.view r.2 false n h request (HasRequest.to_read r.5) in
       Split.now old at (in_use k t r.0 r.1 false old q a) r.0 r.1 a.stored (subst (λ (rec : ℕ). Granted x given r.0 t.txn r.1 rec false a.stored) same a.granted))
@@ -344,7 +337,7 @@ module _ (catalogue : Catalogue) (w new : Scene) (s : ℕ) (x : SiteState) (give
       Split.before (was k y t (named_write r.0 q r.1 a.1 t.txn a.0 a.2) h n) (HasAnswered.wrote (rw (← same) (r.0, r.1, a.0, old, a.2))))
       (λ more. let a = write_answered _ (p.replies (letter q r.0 (message.WriteAnswer t.txn r.1)) more) q t.txn r.1 refl in
       let old = was k y t (used_name r.0 s r.1 a.rec t.txn a.granted.view true (request_came r.0 t.txn a.granted.view r.1 a.rec true a.granted.comes)) h n in
-      let request = request_stays r.0 s t.txn a.granted.view r.1 a.rec true (request_came r.0 t.txn a.granted.view r.1 a.rec true a.granted.comes) in
+      let request = request_more w new st.moved.sent r.0 s t.txn a.granted.view r.1 a.rec true (request_came r.0 t.txn a.granted.view r.1 a.rec true a.granted.comes) in
       let at = p.from (letter q r.0 (message.WriteAnswer t.txn r.1)) more ∙ id in
       let same : a.rec ≡ rec = one_now k y t r.0 s r.0 q r.1 a.rec rec a.granted.view r.2 true n h request (HasRequest.to_write r.4) in
       Split.now old at (in_use k t r.0 r.1 true old q a) r.0 r.1 a.stored (subst (λ (rec : ℕ). Granted x given r.0 t.txn r.1 rec true a.stored) same a.granted))
@@ -383,8 +376,7 @@ module _ (catalogue : Catalogue) (w new : Scene) (s : ℕ) (x : SiteState) (give
 
 -- the same messages were sent
 pub request_on : (w new : Scene) → new.sent ≡ w.sent → (a b : ℕ) (txn : TxnId) (view : ViewId) (number rec : ℕ) (exclusive : Bool) → HasRequest new a b txn view number rec exclusive → HasRequest w a b txn view number rec exclusive
-request_on w new same a b txn view number rec false (HasRequest.to_read h) = HasRequest.to_read (rw same at h)
-request_on w new same a b txn view number rec true (HasRequest.to_write h) = HasRequest.to_write (rw same at h)
+request_on w new same a b txn view number rec exclusive h = request_more new w (λ m k. rw same at k) a b txn view number rec exclusive h
 
 pub answered_on : (w new : Scene) → new.sent ≡ w.sent → (k : ℕ) (txn : TxnId) (rec : ℕ) (exclusive : Bool) → HasAnswered new k txn rec exclusive → HasAnswered w k txn rec exclusive
 answered_on w new same k txn rec false (HasAnswered.read r) = HasAnswered.read (r.0, r.1, r.2, r.3, rw same at r.4, rw same at r.5)

@@ -1,12 +1,12 @@
 -- What holds of each item of a list, and the order of its items, after a change.
-use Rattle.std.proofs.Common.{◌≡◌, ⊎_elim, ℕ, Bool, true, false, cond, List, [], ◌∷◌, ◌++◌, map, refl, arith, length}
+use Rattle.std.proofs.Common.{◌≡◌, ⊎_elim, ℕ, Bool, true, false, cond, List, [], ◌∷◌, ◌++◌, map, length}
 use Rattle.std.specs.Prelude.{filter, drop, nat_lt}
 use Rattle.std.specs.List.{AllByRecursion}
-use Rattle.std.proofs.lemmas.Bool.Decides.{nat_tests}
-use Rattle.vp_model.specs.Words.{put, change_first, without_first, at_most, replace_at, keys}
+use Rattle.vp_model.specs.Words.{put, change_first, without_first, at_most}
 use Rattle.vp_laws.specs.Shapes.{Ascends}
 use Rattle.vp_laws.proofs.Lists.Members.{Has, has_none, has_cons}
 use Rattle.vp_laws.proofs.Lists.Keeps.{by_test}
+use Rattle.vp_text.proofs.Items.{all_each}
 
 module _ {X : Type 0} (P : X → Type 0) where
   pub all_at : (xs : List X) → AllByRecursion P xs → (x : X) → Has xs x → P x
@@ -49,10 +49,6 @@ pub all_map : {X Y : Type 0} (P : X → Type 0) (Q : Y → Type 0) (f : X → Y)
 all_map P Q f each [] h = tt
 all_map P Q f each (x ∷ xs) h = (each x h.0, all_map P Q f each xs h.1)
 
-pub all_each : {X : Type 0} (P Q : X → Type 0) → ((x : X) → P x → Q x) → (xs : List X) → AllByRecursion P xs → AllByRecursion Q xs
-all_each P Q each [] h = tt
-all_each P Q each (x ∷ xs) h = (each x h.0, all_each P Q each xs h.1)
-
 module _ {X : Type 0} (same before : X → X → Bool)
     (alike : (x y z : X) → same x y ≡ true → before y z ≡ true → before x z ≡ true)
     (onward : (x y z : X) → before x y ≡ true → before y z ≡ true → before x z ≡ true)
@@ -74,8 +70,3 @@ ascends_filter before test (x ∷ xs) h = by_test (Ascends before) (test x) (x �
 pub ascends_map : {X : Type 0} (before : X → X → Bool) (f : X → X) → ((x y : X) → before x y ≡ true → before (f x) (f y) ≡ true) → (xs : List X) → Ascends before xs → Ascends before (map f xs)
 ascends_map before f each [] h = tt
 ascends_map before f each (x ∷ xs) h = (all_map (λ y. before x y ≡ true) (λ y. before (f x) y ≡ true) f (λ y b. each x y b) xs h.0, ascends_map before f each xs h.1)
-
--- an entry that is replaced keeps its number
-pub replace_keys : {V : Type 0} (n : ℕ) (v : V) (pairs : List (ℕ × V)) → keys (replace_at n v pairs) ≡ keys pairs
-replace_keys n v [] = refl
-replace_keys {V} n v (p ∷ pairs) = let rest = replace_keys n v pairs in grind (arith, nat_tests, rest)

@@ -7,7 +7,7 @@ use Rattle.vp_model.specs.Types.{TxnId, Owner, Lock}
 use Rattle.vp_model.specs.Types.owner
 use Rattle.vp_model.specs.Words.{same_owner, owner_before}
 use Rattle.vp_model.specs.Locks.{conflicting, lesser, least_owner, conflict, holds, raised, with_lock, without_owner}
-use Rattle.vp_laws.proofs.Lists.Members.{Has, has_none, has_left, has_right, has_cases, has_one, has_one_is, filter_has, filter_keeps, map_has, any_true}
+use Rattle.vp_laws.proofs.Lists.Members.{Has, has_none, has_left, has_right, has_cases, has_one, has_one_is, filter_has, filter_keeps, map_has, any_true, or_left, or_right}
 use Rattle.vp_laws.proofs.Lists.Changes.{mapped_has}
 use Rattle.vp_laws.proofs.Lists.Names.{same_txn-is, same_txn-self}
 use Rattle.vp_laws.proofs.Lists.Keeps.{by_test}
@@ -130,14 +130,6 @@ lock_origin rec exclusive o locks a h = go (source rec exclusive o locks a h)
 pub locked : (rec : ℕ) (exclusive : Bool) (txn : TxnId) (locks : List Lock) → IsFree rec exclusive (owner.Txn txn) locks → NoConflict locks → NoConflict (with_lock rec exclusive (owner.Txn txn) locks)
 locked rec exclusive txn locks free n a b t u h k r x f g = go (source rec exclusive (owner.Txn txn) locks a h) (source rec exclusive (owner.Txn txn) locks b k)
   where
-    or_right : (y z : Bool) → z ≡ true → (y || z) ≡ true
-    or_right true z q = refl
-    or_right false z q = q
-
-    or_left : (y z : Bool) → y ≡ true → (y || z) ≡ true
-    or_left true z q = refl
-    or_left false z q = cc
-
     go : Source rec exclusive (owner.Txn txn) locks a → Source rec exclusive (owner.Txn txn) locks b → a.owner ≡ b.owner
     go (Source.old p) (Source.old q) = n a b t u p q r x f g
     go (Source.old p) (Source.mine at by strong) = free a p (r ∙ at) (or_right exclusive a.exclusive x) ∙ sym by
@@ -172,10 +164,6 @@ lock_taken rec exclusive o locks = by_test (HasLock rec exclusive o) (holds rec 
     three : (a b : Bool) → (a && true && b) ≡ true → (a && b) ≡ true
     three true b q = q
     three false b q = q
-
-    or_right : (y z : Bool) → z ≡ true → (y || z) ≡ true
-    or_right true z q = refl
-    or_right false z q = q
 
     mine : (l : Lock) → Has locks l → ((l.rec == rec) && same_owner l.owner o) ≡ true → HasLock rec exclusive o (map (raised rec exclusive o) locks)
     mine l h e =

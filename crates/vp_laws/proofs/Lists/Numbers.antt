@@ -17,3 +17,17 @@ differs a b e same = grind (arith, nat_tests, e, same)
 
 pub from_first : (i : ℕ) → 0 + i ≡ i
 from_first i = omega arith
+
+-- a number is itself, by its test
+pub eq_self : (n : ℕ) → (n == n) ≡ true
+eq_self n = grind (arith, nat_tests)
+
+-- and no other one
+pub unequal : (a b : ℕ) → (a == b) ≡ false → a ≢ b
+unequal a b e = grind (arith, nat_tests, e)
+
+pub at_most_equal : (a b : ℕ) → a ≡ b → a ≤ b
+at_most_equal a b e = omega arith
+
+pub at_most_trans : (a b c : ℕ) → a ≤ b → b ≤ c → a ≤ c
+at_most_trans a b c h k = omega arith

@@ -1,14 +1,14 @@
 -- What is found in a list of pairs by its number, and the last writes of operations.
-use Rattle.std.proofs.Common.{◌≡◌, ◌⊎◌, ap, sym, subst, ℕ, Bool, true, false, cond, List, [], ◌∷◌, refl, inl, inr, ⊎_elim, ◌≢◌, arith}
+use Rattle.std.proofs.Common.{◌≡◌, ◌⊎◌, ap, sym, subst, ℕ, Bool, true, false, cond, List, [], ◌∷◌, refl, inl, inr, ⊎_elim, ◌∙◌}
 use Rattle.std.specs.Prelude.{Some, fold, ◌==◌, nat_lt, find, option_map, None}
 use Rattle.vp_model.specs.Types.{Change, Op}
 use Rattle.std.proofs.lemmas.Bool.{eqb-true}
 use Rattle.vp_model.specs.Types.op
-use Rattle.vp_model.specs.Words.{keys, put_at, value_at}
+use Rattle.vp_model.specs.Words.{keys, put_at, value_at, replace_at}
 use Rattle.vp_model.specs.Transactions.{with_op, last_writes}
 use Rattle.vp_laws.proofs.Lists.Members.{map_has, Has, has_none, has_first, has_more, has_cons}
 use Rattle.vp_laws.proofs.Lists.Changes.{put_has, mapped_has}
-use Rattle.std.proofs.lemmas.Bool.Decides.{nat_tests}
+use Rattle.vp_laws.proofs.Lists.Numbers.{eq_self, unequal}
 
 -- what stands among the last values was written
 last_from : (ops : List Op) (writes : List (ℕ × Change)) (p : ℕ × List ℕ) → Has (fold with_op writes ops) p → Has writes p ⊎ ((value : List ℕ) × Has ops (op.Write p.0 value))
@@ -46,11 +46,8 @@ pub pair_value : {V : Type 0} (pairs : List (ℕ × V)) (n : ℕ) (v : V) → Di
 pair_value {V} [] n v d h = absurd (has_none (n, v) h)
 pair_value {V} (p ∷ pairs) n v d h = ⊎_elim first (λ more. later (pair_value pairs n v d.1 more) more) (has_cons p pairs (n, v) h)
   where
-    itself : (a : ℕ) → (a == a) ≡ true
-    itself a = grind (arith, nat_tests)
-
     first : p ≡ (n, v) → value_at n (p ∷ pairs) ≡ Some v
-    first one = let t = itself n in rw (one, t) refl
+    first one = let t = eq_self n in rw (one, t) refl
 
     there : Has pairs (n, v) → Has (keys pairs) n
     there more = mapped_has (λ (q : ℕ × V). q.0) pairs (n, v) more
@@ -66,9 +63,22 @@ pub not_copied : {K : Type 0} (n : ℕ) (pairs : List (ℕ × K)) → value_at n
 not_copied {K} n [] e h = has_none n h
 not_copied {K} n (p ∷ pairs) e h = go (p.0 == n) refl e (λ q more. not_copied n pairs q more)
   where
-    differs : (a b : ℕ) → (a == b) ≡ false → a ≢ b
-    differs a b e = grind (arith, nat_tests, e)
-
     go : (b : Bool) → (p.0 == n) ≡ b → option_map (λ (p : ℕ × K). p.1) (cond b (Some p) (find (λ (p : ℕ × K). p.0 == n) pairs)) ≡ None → (value_at n pairs ≡ None → Has (keys pairs) n → ⊥) → ⊥
     go true t q rest = cc
-    go false t q rest = ⊎_elim (λ (one : p.0 ≡ n). differs p.0 n t one) (λ more. rest q more) (has_cons p.0 (keys pairs) n h)
+    go false t q rest = ⊎_elim (λ (one : p.0 ≡ n). unequal p.0 n t one) (λ more. rest q more) (has_cons p.0 (keys pairs) n h)
+
+-- an entry that is replaced keeps its number
+pub replaced_keys : {K : Type 0} (n : ℕ) (v : K) (pairs : List (ℕ × K)) → keys (replace_at n v pairs) ≡ keys pairs
+replaced_keys {K} n v [] = refl
+replaced_keys {K} n v (p ∷ pairs) = ap (λ (k : ℕ). k ∷ keys (replace_at n v pairs)) (go (p.0 == n) refl) ∙ ap (λ (ks : List ℕ). p.0 ∷ ks) (replaced_keys n v pairs)
+  where
+    go : (b : Bool) → (p.0 == n) ≡ b → (cond b (n, v) p).0 ≡ p.0
+    go true e = sym (eqb-true p.0 n e)
+    go false e = refl
+
+-- an operation does one thing to one record
+pub read_no_write : {C : Type 0} (operation : Op) (rec other : ℕ) (value v : List ℕ) → operation ≡ op.Read rec value → operation ≡ op.Write other v → C
+read_no_write operation rec other value v e f = cc
+
+pub write_of_one : (operation : Op) (rec other : ℕ) (value v : List ℕ) → operation ≡ op.Write rec value → operation ≡ op.Write other v → rec ≡ other
+write_of_one operation rec other value v e f = cc

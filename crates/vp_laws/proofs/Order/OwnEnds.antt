@@ -11,8 +11,8 @@ use Rattle.vp_laws.proofs.Moves.Table.{is_end}
 use Rattle.vp_laws.proofs.Table.Steps.{LiveNow}
 use Rattle.vp_laws.proofs.Table.Replies.{completed_words}
 use Rattle.vp_laws.proofs.Table.Finished.{EndsNow}
-use Rattle.vp_laws.proofs.Worlds.Scenes.{Scene, plain_at, kept_at, scene_of}
-use Rattle.vp_laws.proofs.Worlds.Sites.{NowIs, now_is, QuietIs, quiet_is, started, started_idle, live_still, no_finished, Quiet}
+use Rattle.vp_laws.proofs.Worlds.Scenes.{Scene, scene_of}
+use Rattle.vp_laws.proofs.Worlds.Sites.{NowIs, now_is, quiet_is, started, started_idle, live_still, no_finished, Quiet, finished_still}
 use Rattle.vp_laws.proofs.Keeping.Does.{Does}
 use Rattle.vp_laws.proofs.Invariant.OwnEnds.{IsOwnEnd, InvOwnEnds}
 use Rattle.vp_laws.proofs.Invariant.Known.{Known}
@@ -71,9 +71,5 @@ own_ends_starts catalogue = record {
 pub own_ends_quiet : (catalogue : Catalogue) (w new : Scene) (s : ℕ) → Quiet catalogue w new s → InvOwnEnds w → InvOwnEnds new
 own_ends_quiet catalogue w new s q inv = record {
   live = λ j y t a up h there. inv.live j y t a (live_still catalogue w s j y t h (quiet_is catalogue w new s q j y up)) h there;
-  finished = λ j y f a up h there. inv.finished j y f a (still_finished w s j y f h (quiet_is catalogue w new s q j y up)) h there;
+  finished = λ j y f a up h there. inv.finished j y f a (finished_still catalogue w s j y f h (quiet_is catalogue w new s q j y up)) h there;
 }
-  where
-    still_finished : (w : Scene) (s j : ℕ) (y : SiteState) (f : Finished) → Has y.finished f → QuietIs catalogue w s j y → plain_at w j ≡ Some y
-    still_finished w s j y f h (QuietIs.other n old) = old
-    still_finished w s j y f h (QuietIs.here z same) = absurd (no_finished catalogue s (kept_at w s) f (subst (λ (y : SiteState). Has y.finished f) (sym same) h))

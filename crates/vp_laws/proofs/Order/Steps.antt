@@ -1,6 +1,6 @@
 -- What a live transaction has done goes through also with the operation of a step, on the entries before it; and an answer that is given
 -- has the value after them.
-use Rattle.std.proofs.Common.{◌≡◌, ◌≢◌, ◌∙◌, ap, sym, subst, ℕ, ◌+◌, ◌≤◌, Bool, true, false, List, [], ◌∷◌, ◌++◌, refl, arith, ⊎_elim, length}
+use Rattle.std.proofs.Common.{◌≡◌, ◌≢◌, ◌∙◌, ap, sym, subst, ℕ, Bool, true, false, List, [], ◌∷◌, ◌++◌, refl, ⊎_elim, length}
 use Rattle.std.specs.Prelude.{Option, Some, None, is_some, option_and_then, slice_get, slice_set, ◌||◌}
 use Rattle.vp_model.specs.Types.{ViewId, TxnId, View, Sent, Commit, Input, Op, Answer, Stored, Pending, Live, Doubt}
 use Rattle.vp_model.specs.Types.message
@@ -45,6 +45,7 @@ use Rattle.vp_laws.proofs.Invariant.Refresh.{InvRefresh}
 use Rattle.vp_laws.proofs.Keeping.Guards.{txn_same}
 use Rattle.vp_laws.proofs.Keeping.Settled.{holding}
 use Rattle.vp_laws.proofs.Invariant.Known.{Known}
+use Rattle.vp_laws.proofs.Lists.Numbers.{one_above}
 
 -- the value of a record after operations: the last one that they wrote, or the one before
 
@@ -127,12 +128,9 @@ module _ (catalogue : Catalogue) (w new : Scene) (s : ℕ) (x : SiteState) (give
       request : (view : ViewId) × (other : ℕ) × Has w.sent (letter s from (message.ReadRequest u.txn view a.number other))
       request = k.shares.says _ sent
 
-      above_number : (m n : ℕ) → m ≤ n → m ≡ n + 1 → ⊥
-      above_number m n h e = omega arith
-
       other_is : request.1 ≡ r
       other_is = ⊎_elim
-          (λ low. absurd (above_number a.number (length u.answers) low ((k.ops.live s x u d.up h).next a last.pending)))
+          (λ low. absurd (one_above a.number (length u.answers) low ((k.ops.live s x u d.up h).next a last.pending)))
           (λ (q : (b : Pending) × (u.pending ≡ Some b) × (b.number ≡ a.number) × Reads catalogue b request.1).
           let one : q.0 ≡ a = (let y = q.1 in let z = last.pending in cc) in
           reads_same catalogue a request.1 r (subst (λ (p : Pending). Reads catalogue p request.1) one q.3) reads)

@@ -25,7 +25,7 @@ use Rattle.vp_laws.proofs.Table.Endings.{NotLive, WasLive}
 use Rattle.vp_laws.proofs.Table.Replies.{Said}
 use Rattle.vp_laws.proofs.Worlds.Scenes.{Scene, scene_of, kept_at, acted}
 use Rattle.vp_laws.proofs.Worlds.Events.{in_each}
-use Rattle.vp_laws.proofs.Worlds.Sites.{now_is, Quiet, QuietIs, quiet_is, no_live}
+use Rattle.vp_laws.proofs.Worlds.Sites.{now_is, Quiet, quiet_is, live_still}
 use Rattle.vp_laws.proofs.Invariant.Names.{UsedTxn}
 use Rattle.vp_laws.proofs.Invariant.Endings.{HasEntry, Over}
 use Rattle.vp_laws.proofs.Keeping.NewEntries.{entering}
@@ -36,6 +36,7 @@ use Rattle.vp_laws.proofs.Keeping.Names.{used_lasts, own_used, quiet_grows}
 use Rattle.vp_laws.proofs.Invariant.Known.{Known}
 use Rattle.vp_laws.proofs.Invariant.Invariant.{Invariant}
 use Rattle.vp_laws.proofs.Order.Invariant.{invariant_last}
+use Rattle.vp_laws.proofs.Lists.Numbers.{at_most_equal}
 
 -- tests of the journal
 
@@ -102,13 +103,9 @@ module _ (catalogue : Catalogue) where
   pub ended_quiet : (w new : Scene) (s : ℕ) → Quiet catalogue w new s → (txn : TxnId) → EndedAt w txn → EndedAt new txn
   ended_quiet w new s q txn h = record {
     used = used_lasts w new s q.moved (quiet_grows catalogue w new s q) txn h.used;
-    over = λ y up. over_at y (quiet_is catalogue w new s q txn.site y up);
+    over = λ y up t live same. h.over y (live_still catalogue w s txn.site y t live (quiet_is catalogue w new s q txn.site y up)) t live same;
     none = λ e there. h.none e (rw q.journal at there);
   }
-    where
-      over_at : (y : SiteState) → QuietIs catalogue w s txn.site y → NotLive y.live txn
-      over_at y (QuietIs.other m old) t live same = h.over y old t live same
-      over_at y (QuietIs.here z is) t live same = no_live catalogue s (kept_at w s) t (subst (λ (y : SiteState). Has y.live t) (sym is) live)
 
   pub ended_keeps : (txn : TxnId) (w : Scene) (what : Shown) (new : Scene) → MomentOf catalogue w what new → I w → I new → EndedAt w txn → EndedAt new txn
   ended_keeps txn w what new (MomentOf.same e rs cs) inv now h = subst (λ (w : Scene). EndedAt w txn) (sym e) h
@@ -127,15 +124,12 @@ module _ (catalogue : Catalogue) where
         let at : f.txn.site ≡ s = names.0 ∙ d.here.id in
         record {
           used = record {
-            life = rw at (same_life f.txn.life (kept_at w s).life (names.1 ∙ ap (λ (d : DurableState). d.life) d.here.kept));
+            life = rw at (at_most_equal f.txn.life (kept_at w s).life (names.1 ∙ ap (λ (d : DurableState). d.life) d.here.kept));
             seq = λ y up e. let same : x ≡ y = (let z = rw at at up in let q = d.up in cc) in subst (λ (y : SiteState). f.txn.seq ≤ y.seq) same names.2;
           };
           over = λ y up t live same. let is : x ≡ y = (let z = rw at at up in let q = d.up in cc) in (k.ends.settled s x d.up).finished f t h (subst (λ (y : SiteState). Has y.live t) (sym is) live) same;
           none = none;
         }
-      where
-        same_life : (a b : ℕ) → a ≡ b → a ≤ b
-        same_life a b e = omega arith
 
     -- one that is closed now
     closed_ended : (txn : TxnId) → WasLive x txn → NotLive o.site.live txn → o.effects.commits ≡ [] → EndedAt new txn

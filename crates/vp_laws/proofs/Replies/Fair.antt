@@ -14,7 +14,7 @@ use Rattle.vp_model.specs.Told.{answers_in}
 use Rattle.vp_model.specs.Justified.{was_blocked, held_other, left_and_closed, is_begun, begun_in, refused_once, justified}
 use Rattle.vp_laws.proofs.Replies.RefusedCalls.{Refusal, refusal_is, refusal_more}
 use Rattle.vp_laws.proofs.Lists.Members.{Has, has_left, any_of}
-use Rattle.vp_laws.proofs.Lists.Numbers.{eq_not}
+use Rattle.vp_laws.proofs.Lists.Numbers.{eq_not, at_most_trans}
 
 -- the transaction was begun in the view
 pub record WasBegun (past : List Moment) (txn : TxnId) (view : ViewId) : Type 0 where
@@ -57,10 +57,7 @@ fair_more catalogue past more a h = tt
 
 -- a later call is refused for the same
 refusal_larger : (past : List Moment) (txn : TxnId) (k n : ℕ) (test : ℕ → Moment → Bool) → k ≤ n → Refusal past txn k test → Refusal past txn n test
-refusal_larger past txn k n test h r = record { refused = r.refused; first = r.first; up_to = more r.refused k n r.up_to h; once = r.once }
-  where
-    more : (a b c : ℕ) → a ≤ b → b ≤ c → a ≤ c
-    more a b c s t = omega arith
+refusal_larger past txn k n test h r = record { refused = r.refused; first = r.first; up_to = at_most_trans r.refused k n r.up_to h; once = r.once }
 
 pub fair_larger : (catalogue : Catalogue) (past : List Moment) (txn : TxnId) (k n : ℕ) (why : Ending) → k ≤ n → Fair catalogue past (answer_of txn k why) → Fair catalogue past (answer_of txn n why)
 fair_larger catalogue past txn k n Committed h f = tt

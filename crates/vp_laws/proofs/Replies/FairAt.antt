@@ -15,7 +15,7 @@ use Rattle.vp_model.specs.Justified.{justified, was_blocked, held_other, refused
 use Rattle.vp_laws.proofs.Lists.Members.{Has, has_left}
 use Rattle.vp_laws.proofs.Moves.LocalViews.{letter}
 use Rattle.vp_laws.proofs.Worlds.Scenes.{Scene, plain_at}
-use Rattle.vp_laws.proofs.Invariant.Shares.{HasRequest}
+use Rattle.vp_laws.proofs.Invariant.Shares.{HasRequest, request_more}
 use Rattle.vp_laws.proofs.Replies.EndsTrue.{EndedAt}
 use Rattle.vp_laws.proofs.Table.Fair.{is_free}
 use Rattle.vp_laws.proofs.Replies.Fair.{WasBegun, Once, Fair, fair_more}
@@ -59,10 +59,6 @@ asked_more : (w new : Scene) → ((m : Sent) → Has w.sent m → Has new.sent m
 asked_more w new on q from txn view number (IsAsked.to_read rec h) = IsAsked.to_read rec (on _ h)
 asked_more w new on q from txn view number (IsAsked.to_write rec h) = IsAsked.to_write rec (on _ h)
 asked_more w new on q from txn view number (IsAsked.to_prepare reads writes h) = IsAsked.to_prepare reads writes (on _ h)
-
-request_more : (w new : Scene) → ((m : Sent) → Has w.sent m → Has new.sent m) → (q from : ℕ) (txn : TxnId) (view : ViewId) (number rec : ℕ) (exclusive : Bool) → HasRequest w q from txn view number rec exclusive → HasRequest new q from txn view number rec exclusive
-request_more w new on q from txn view number rec exclusive (HasRequest.to_read h) = HasRequest.to_read (on _ h)
-request_more w new on q from txn view number rec exclusive (HasRequest.to_write h) = HasRequest.to_write (on _ h)
 
 refuse_more : (catalogue : Catalogue) (w new : Scene) (past more : List Moment) → ((m : Sent) → Has w.sent m → Has new.sent m) → (from : ℕ) (txn : TxnId) (number : ℕ) (why : Obstacle) → RefuseFair catalogue w past from txn number why → RefuseFair catalogue new (past ++ more) from txn number why
 refuse_more catalogue w new past more on from txn number why (RefuseFair.blocked view rec exclusive holder q asked m h f) = RefuseFair.blocked view rec exclusive holder q (request_more w new on q from txn view number rec exclusive asked) m (has_left past more m h) f

@@ -24,22 +24,22 @@ use Rattle.vp_laws.proofs.Replies.RefusedCalls.{refused_last, none_refused, firs
 use Rattle.vp_laws.proofs.Lists.Members.{Has, has_none, has_one, has_left, has_right, has_cases, has_one_is, map_has, any_true, any_of}
 use Rattle.vp_laws.proofs.Moves.Table.{Comes, Handled, Reads, Writes, Requests, Asks}
 use Rattle.vp_laws.proofs.Moves.LocalViews.{letter}
-use Rattle.vp_laws.proofs.Worlds.Scenes.{Scene, scene_of, plain_at, kept_at, acted}
+use Rattle.vp_laws.proofs.Worlds.Scenes.{Scene, scene_of, plain_at, acted}
 use Rattle.vp_laws.proofs.Worlds.Events.{Arrives}
 use Rattle.vp_laws.proofs.Invariant.Shares.{HasRequest}
 use Rattle.vp_laws.proofs.Invariant.Answers.{Current}
 use Rattle.vp_laws.proofs.Table.Led.{Led}
 use Rattle.vp_laws.proofs.Lists.Names.{apart_unique, same_txn-self}
 use Rattle.vp_laws.proofs.Replies.EndsTrue.{EndedAt, ended_step, ended_quiet, said_refused}
-use Rattle.vp_laws.proofs.Worlds.Sites.{NowIs, now_is, Quiet, QuietIs, quiet_is, no_finished, no_live}
+use Rattle.vp_laws.proofs.Worlds.Sites.{NowIs, now_is, Quiet, quiet_is, live_still, finished_still}
 use Rattle.vp_laws.proofs.Moves.Reasons.{Operates, Takes, Awaits, Why, told_to}
 use Rattle.vp_laws.proofs.Table.Refusals.{Refused, RefuseSays, refusals-step}
 use Rattle.vp_laws.proofs.Table.Fair.{is_free, finished_as, LiveFrom, FinishedFrom, ReplyFrom, Causes, causes-step}
 use Rattle.vp_laws.proofs.Replies.Fair.{WasBegun, Once, OtherView, Fair, begun_more, fair_more, fair_justified}
-use Rattle.vp_laws.proofs.Replies.FairStep.{IsStep, named_site, tested_x, replied, blocked_here, blocked_there, other_there, left_and_closed_now, same_view-self, eq_self}
+use Rattle.vp_laws.proofs.Replies.FairStep.{IsStep, named_site, tested_x, replied, blocked_here, blocked_there, other_there, left_and_closed_now, same_view-self}
 use Rattle.vp_laws.proofs.Replies.FairAt.{IsAsked, RefuseFair, RefuseOk, FairEnd, FairAt, refuse_on, end_more, free_justified, report_fair}
 use Rattle.vp_laws.proofs.Table.Kept.{is_report}
-use Rattle.vp_laws.proofs.Lists.Numbers.{one_above}
+use Rattle.vp_laws.proofs.Lists.Numbers.{one_above, eq_self}
 use Rattle.vp_laws.proofs.Keeping.Does.{Does, does}
 use Rattle.vp_laws.proofs.Invariant.Known.{Known}
 use Rattle.vp_laws.proofs.Invariant.Invariant.{Invariant}
@@ -147,9 +147,6 @@ module _ (catalogue : Catalogue) (world : WorldState) (past : List Moment) (m0 :
       refused_last t.txn past m0 (never_told t.txn at.was at.live (ap (λ (t : Live). t.txn) (sym at.same)))
       ∙ first_told t.txn (answers_in m0.line) p.number (λ b q n e. number_in t at b q n e ∙ sym number) a h own
 
-  came : (from : ℕ) (m : Message) → Comes given from m → Has w.sent (letter from s m)
-  came from m e = rw e at arrives
-
   -- the request that was refused is of the pending call, and of another site
   current : (t : Live) (p : Pending) (Asked : Pending → Type 0) → Has x.live t → t.pending ≡ Some p → Current Asked p.number t → Asked p
   current t p Asked h e cur = ⊎_elim
@@ -245,11 +242,11 @@ module _ (catalogue : Catalogue) (world : WorldState) (past : List Moment) (m0 :
   why_fair t why k handled (Why.held_there p from name exclusive holder a n op) told up_to =
       let next = next_number t p a.live a.pending in
       let first : refused_in now t.txn ≡ Some p.number = refused_first t p _ handled next (own_held t.txn p.number name from holder) (told p a.pending) in
-      there_fair t p from name exclusive holder k a op first (at_most_of p.number (length t.answers) k next (up_to p a.pending)) (fair.sent _ (came from _ n))
+      there_fair t p from name exclusive holder k a op first (at_most_of p.number (length t.answers) k next (up_to p a.pending)) (fair.sent _ (d.came from _ n))
   why_fair t why k handled (Why.other_view p from held_now a n) told up_to =
       let next = next_number t p a.live a.pending in
       let first : refused_in now t.txn ≡ Some p.number = refused_first t p _ handled next (own_view t.txn p.number from t.view held_now) (told p a.pending) in
-      view_fair t p from held_now k a first (at_most_of p.number (length t.answers) k next (up_to p a.pending)) (fair.sent _ (came from _ n))
+      view_fair t p from held_now k a first (at_most_of p.number (length t.answers) k next (up_to p a.pending)) (fair.sent _ (d.came from _ n))
   why_fair t why k handled (Why.left h gone) told up_to = left_fair t k h gone
   why_fair t why k handled (Why.timed_out missing h) told up_to = tt
 
@@ -333,7 +330,7 @@ module _ (catalogue : Catalogue) (world : WorldState) (past : List Moment) (m0 :
   new = acted w s x o
 
   came_on : (from : ℕ) (m : Message) → Comes given from m → Has new.sent (letter from s m)
-  came_on from m e = d.st.moved.sent (letter from s m) (came from m e)
+  came_on from m e = d.st.moved.sent (letter from s m) (d.came from m e)
 
   was_requested : (q : ℕ) (txn : TxnId) (view : ViewId) (number rec : ℕ) (exclusive : Bool) → Requests given q txn view number rec exclusive → HasRequest new q s txn view number rec exclusive
   was_requested q txn view number rec exclusive (Requests.reads e) = HasRequest.to_read (came_on q _ e)
@@ -393,17 +390,9 @@ quiet_fair catalogue w new past more s q inv silent fair = record {
   inv = inv;
   told = λ m h a k txn n e. ⊎_elim (λ old. ended_quiet catalogue w new s q txn (fair.told m old a k txn n e)) (λ last. absurd (silent m last a k)) (has_cases past more m h);
   sent = λ m h. refuse_on catalogue w new past more (λ m h. rw q.sent h) m.from m.message (fair.sent m (rw q.sent at h));
-  live = λ k y t h g. live_at y t g (quiet_is catalogue w new s q k y h);
-  finished = λ k y f h g. finished_at y f g (quiet_is catalogue w new s q k y h);
+  live = λ k y t h g. begun_more past more t.txn t.view (fair.live k y t (live_still catalogue w s k y t g (quiet_is catalogue w new s q k y h)) g);
+  finished = λ k y f h g. end_more catalogue past more f (fair.finished k y f (finished_still catalogue w s k y f g (quiet_is catalogue w new s q k y h)) g);
 }
-  where
-    live_at : {k : ℕ} (y : SiteState) (t : Live) → Has y.live t → QuietIs catalogue w s k y → WasBegun (past ++ more) t.txn t.view
-    live_at {k} y t g (QuietIs.other n old) = begun_more past more t.txn t.view (fair.live k y t old g)
-    live_at y t g (QuietIs.here e same) = absurd (no_live catalogue s (kept_at w s) t (subst (λ (y : SiteState). Has y.live t) (sym same) g))
-
-    finished_at : {k : ℕ} (y : SiteState) (f : Finished) → Has y.finished f → QuietIs catalogue w s k y → FairEnd catalogue (past ++ more) f
-    finished_at {k} y f g (QuietIs.other n old) = end_more catalogue past more f (fair.finished k y f old g)
-    finished_at y f g (QuietIs.here e same) = absurd (no_finished catalogue s (kept_at w s) f (subst (λ (y : SiteState). Has y.finished f) (sym same) g))
 
 -- nothing but the moments
 pub same_fair : (catalogue : Catalogue) (w : Scene) (past more : List Moment) → Silent more → FairAt catalogue w past → FairAt catalogue w (past ++ more)

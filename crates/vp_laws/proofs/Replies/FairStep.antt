@@ -29,7 +29,7 @@ use Rattle.vp_laws.proofs.Moves.LocalViews.{letter}
 use Rattle.vp_laws.proofs.Worlds.Occurs.{Gives}
 use Rattle.vp_laws.proofs.Moves.Reasons.{Called, Operates, told_to}
 use Rattle.vp_laws.proofs.Lists.LockTables.{same_owner-self, least_any}
-use Rattle.vp_laws.proofs.Lists.Numbers.{eq_not}
+use Rattle.vp_laws.proofs.Lists.Numbers.{eq_not, eq_self}
 
 -- the moment is a step of the site s, from x to o
 pub record IsStep (m : Moment) (w : WorldState) (s : ℕ) (x : SiteState) (given : Input) (o : Stepped) : Type 0 where
@@ -39,9 +39,6 @@ pub record IsStep (m : Moment) (w : WorldState) (s : ℕ) (x : SiteState) (given
   pub gives : Gives m.line.event w s given
   pub up : site_of w s ≡ Some x
   pub after : site_of m.after s ≡ Some o.site
-
-pub eq_self : (n : ℕ) → (n == n) ≡ true
-eq_self n = grind (arith, nat_tests)
 
 pub same_view-self : (v : ViewId) → same_view v v ≡ true
 same_view-self v = grind (arith, nat_tests)

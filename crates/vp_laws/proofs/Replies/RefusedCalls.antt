@@ -1,6 +1,6 @@
 -- The number of the call of a transaction that was refused: it is that of the first reply that tells of it, and stays so.
 use Rattle.std.proofs.Common.{◌≡◌, ◌∙◌, ◌≤◌, ap, ℕ, Bool, true, false, cond, List, [], ◌∷◌, ◌++◌, refl, append-nil, ⊎_elim}
-use Rattle.std.specs.Prelude.{Option, Some, None, ◌||◌, nat_le, filter_map, flat_map}
+use Rattle.std.specs.Prelude.{Option, Some, None, nat_le, filter_map, flat_map}
 use Rattle.std.specs.List.{list_any}
 use Rattle.std.proofs.lemmas.Bool.{le-leb}
 use Rattle.std.proofs.lemmas.Grind.{flat_map-append}
@@ -13,7 +13,7 @@ use Rattle.vp_model.specs.Transactions.{answer_of}
 use Rattle.vp_model.specs.World.{Moment}
 use Rattle.vp_model.specs.Told.{answers_in}
 use Rattle.vp_model.specs.Justified.{refused_number, refused_in, refused_once}
-use Rattle.vp_laws.proofs.Lists.Members.{Has, has_none, has_first, has_more, has_cons}
+use Rattle.vp_laws.proofs.Lists.Members.{Has, has_none, has_first, has_more, has_cons, or_left}
 use Rattle.vp_laws.proofs.Lists.Names.{same_txn-is}
 
 -- the first of two lists
@@ -79,10 +79,6 @@ pub record Refusal (moments : List Moment) (txn : TxnId) (number : ℕ) (test : 
 
 pub refusal_is : (moments : List Moment) (txn : TxnId) (number : ℕ) (test : ℕ → Moment → Bool) → Refusal moments txn number test → refused_once moments txn number test ≡ true
 refusal_is moments txn number test r = let z : nat_le r.refused number ≡ true = le-leb r.refused number r.up_to in rw (r.first, z) r.once
-
-or_left : (a b : Bool) → a ≡ true → (a || b) ≡ true
-or_left true b e = refl
-or_left false b e = cc
 
 pub refusal_more : (moments more : List Moment) (txn : TxnId) (number : ℕ) (test : ℕ → Moment → Bool) → Refusal moments txn number test → Refusal (moments ++ more) txn number test
 refusal_more moments more txn number test r = record {

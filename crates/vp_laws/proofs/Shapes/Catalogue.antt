@@ -37,7 +37,7 @@ module _ (c : Catalogue) (k : IsCatalogue c) where
   weights_ascend above [] h = tt
   weights_ascend above (w ∷ ws) h = (omega (arith, h.0.higher), (listed_is w.0 h.0.stands).1, weights_ascend w.0 ws h.1)
 
-  weights_at : (rec : ℕ) → AreWeights (sites_of c) 0 (weights_of c rec)
+  pub weights_at : (rec : ℕ) → AreWeights (sites_of c) 0 (weights_of c rec)
   weights_at rec = go c.records rec k.so_far.records_are
     where
       go : (records : List RecordEntry) (rec : ℕ) → AllByRecursion (IsEntry (sites_of c)) records → AreWeights (sites_of c) 0 (weights_in (slice_get records rec))

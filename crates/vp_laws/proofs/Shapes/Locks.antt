@@ -13,7 +13,8 @@ use Rattle.vp_model.specs.Locks.{holds, with_lock}
 use Rattle.vp_model.specs.Step.{locks_in_doubt}
 use Rattle.vp_laws.specs.Shapes.{AreDoubts, doubt_before, Above, Ascends}
 use Rattle.vp_laws.specs.ShapeLaws.{take_all, take_doubts}
-use Rattle.vp_laws.proofs.Lists.Items.{all_append, all_and_one, all_each}
+use Rattle.vp_laws.proofs.Lists.Items.{all_append, all_and_one}
+use Rattle.vp_text.proofs.Items.{all_each}
 
 abbrev lock_of : TxnId → ℕ × List ℕ → Lock
 lock_of txn w = record { rec = w.0; exclusive = true; owner = owner.Txn txn }

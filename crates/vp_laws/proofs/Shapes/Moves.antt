@@ -19,8 +19,9 @@ use Rattle.vp_model.specs.Step.{known}
 use Rattle.vp_laws.proofs.Lists.Members.{find_has}
 use Rattle.vp_laws.proofs.Lists.Changes.{value_has}
 use Rattle.vp_laws.specs.Shapes.{IsStored, AreCopies, AreDoubts, AreViews, IsLock, IsPart, IsRefreshing, IsCoordinator, IsShaped, IsSent, IsReply, AreShaped}
-use Rattle.vp_laws.proofs.Lists.Items.{all_at, all_append, all_and_one, all_filter, all_put, all_map, replace_keys}
+use Rattle.vp_laws.proofs.Lists.Items.{all_at, all_append, all_and_one, all_filter, all_put, all_map}
 use Rattle.vp_laws.proofs.Lists.Keeps.{by_test}
+use Rattle.vp_laws.proofs.Lists.Pairs.{replaced_keys}
 
 pub record Forms (catalogue : Catalogue) (x : SiteState) (o : Stepped) : Type 0 where
   pub site_is : IsShaped catalogue o.site
@@ -114,20 +115,17 @@ least_is : (best : Option Owner) (locks : List Lock) → IfSome best IsOwner →
 least_is best [] b h = b
 least_is best (lock ∷ locks) b h = least_is (Some (lesser best lock.owner)) locks (lesser_is best lock.owner b h.0) h.1
 
-some_is : {A : Type 0} (P : A → Type 0) (o : Option A) (a : A) → IfSome o P → o ≡ Some a → P a
-some_is P o a h e = rw e at h
-
 pub some_at : {A : Type 0} (P : A → Type 0) (o : Option A) (a : A) → IfSome o P → o ≡ Some a → P a
-some_at P o a h e = some_is P o a h e
+some_at P o a h e = rw e at h
 
 pub conflict_is : (rec : ℕ) (exclusive : Bool) (txn : TxnId) (locks : List Lock) (holder : Owner) → AllByRecursion IsLock locks → conflict rec exclusive txn locks ≡ Some holder → IsOwner holder
-conflict_is rec exclusive txn locks holder h e = some_is IsOwner _ holder (least_is None _ tt (all_filter IsLock _ locks h)) e
+conflict_is rec exclusive txn locks holder h e = some_at IsOwner _ holder (least_is None _ tt (all_filter IsLock _ locks h)) e
 
 -- ---- copies
 
 pub replace_is : (catalogue : Catalogue) (id rec : ℕ) (stored : Stored) (copies : List (ℕ × Stored)) → IsStored stored → AreCopies catalogue id copies → AreCopies catalogue id (replace_at rec stored copies)
 replace_is catalogue id rec stored copies i a = record {
-  held = replace_keys rec stored copies ∙ a.held;
+  held = replaced_keys rec stored copies ∙ a.held;
   stored = all_map (λ (c : ℕ × Stored). IsStored c.1) (λ (c : ℕ × Stored). IsStored c.1) (λ (p : ℕ × Stored). cond (p.0 == rec) (rec, stored) p) (λ p h. by_test (λ (c : ℕ × Stored). IsStored c.1) (p.0 == rec) (rec, stored) p (λ e. i) (λ e. h)) copies a.stored;
 }
 

@@ -20,11 +20,13 @@ use Rattle.vp_laws.specs.ShapeLaws.{message_frame, IsEvent, IsPlace, IsWorld}
 use Rattle.vp_laws.proofs.Lists.Members.{Has, has_of, has_none, has_cases, has_one_is, find_has, map_has, any_of, all_of}
 use Rattle.vp_laws.proofs.Lists.Keeps.{for_some-keeps, by_option, by_test}
 use Rattle.vp_laws.proofs.Worlds.Scenes.{place-id, message_at-has}
-use Rattle.vp_laws.proofs.Lists.Items.{all_at, all_append, all_each}
+use Rattle.vp_laws.proofs.Lists.Items.{all_at, all_append}
 use Rattle.vp_laws.proofs.Shapes.Moves.{Forms, some_at}
 use Rattle.vp_laws.proofs.Shapes.Steps.{step_forms, starts_are_shaped}
 use Rattle.vp_laws.proofs.Shapes.Log.{fresh_is_durable, sent_is_frame}
 use Rattle.vp_laws.proofs.Shapes.Fold.{all_applied}
+use Rattle.vp_laws.proofs.Lists.Numbers.{eq_self}
+use Rattle.vp_text.proofs.Items.{all_each}
 
 -- the first item that passes is the one that is found
 all_change_found : {X : Type 0} (P : X → Type 0) (test : X → Bool) (f : X → X) (xs : List X) (a : X) → find test xs ≡ Some a → P (f a) → AllByRecursion P xs → AllByRecursion P (change_first test f xs)
@@ -38,9 +40,6 @@ all_change_found {X} P test f (x ∷ xs) a e p h = go (test x) e (λ q. all_chan
 placed : (o : Option Place) (x : SiteState) → option_and_then (λ place. place.up) o ≡ Some x → (p : Place) × (o ≡ Some p) × (p.up ≡ Some x)
 placed None x e = cc
 placed (Some p) x e = (p, refl, e)
-
-same_number : (n : ℕ) → (n == n) ≡ true
-same_number n = grind (arith, nat_tests)
 
 module _ (catalogue : Catalogue) (k : IsCatalogue catalogue) where
   start-id : (s : ℕ) (d : DurableState) → (start catalogue s d).id ≡ s
@@ -60,7 +59,7 @@ module _ (catalogue : Catalogue) (k : IsCatalogue catalogue) where
 
   start_place_is : (s : ℕ) → Has (sites_of catalogue) s → IsPlace catalogue (start_place catalogue s)
   start_place_is s h =
-      let listed = any_of (λ m. m == s) (sites_of catalogue) s h (same_number s) in
+      let listed = any_of (λ m. m == s) (sites_of catalogue) s h (eq_self s) in
       let fresh = fresh_is_durable catalogue s k in
       let empty = empty_durable (start_copies catalogue s) in
       record { listed = listed; durable_is = all_applied catalogue s (start_record empty ∷ []) empty (omega arith, tt) fresh; up_is = (start-id s empty, starts_are_shaped catalogue s empty k listed fresh (omega arith)) }

@@ -20,7 +20,7 @@ use Rattle.vp_model.specs.Calls.{start_txn, take_lock, read_at, write_at, prepar
 use Rattle.vp_model.specs.Messages.{holds_view, with_answer, accept, on_accept, on_stale, grant, end_here}
 use Rattle.vp_model.specs.Step.{fix, mark_calls, ask_again, resend_one, inquire, step}
 use Rattle.vp_laws.proofs.Lists.Members.{Has, has_none, has_one, has_one_is, has_first, has_more, has_cons, map_has, filter_has, find_has, find_true, any_false, both_true, has_test}
-use Rattle.vp_laws.proofs.Lists.Names.{same_txn-is}
+use Rattle.vp_laws.proofs.Lists.Names.{same_txn-is, same_txn-clash}
 use Rattle.vp_laws.proofs.Lists.Changes.{put_has}
 use Rattle.vp_laws.proofs.Lists.Views.{AtMost, AtMost-refl, AtMost-trans, Precedes-at_most, from_before, is_view_is}
 use Rattle.vp_laws.proofs.Moves.Frames.{close-ends, close-commits, decided-ends, decided-commits, decide-cases}
@@ -246,11 +246,8 @@ module _ (catalogue : Catalogue) (x : SiteState) (given : Input) (tidy : Tidy x)
       is_named : d.txn ≡ txn
       is_named = same_txn-is d.txn txn (find_true (λ (d : Doubt). same_txn d.txn txn) x.doubts d f)
 
-      other_name : (t u : TxnId) → not (same_txn t u) ≡ true → t ≢ u
-      other_name t u e same = grind (arith, nat_tests, e, same)
-
       gone : (u : Doubt) → Has (without_doubt txn x.doubts) u → u.txn ≢ d.txn
-      gone u h same = other_name u.txn txn (filter_has (λ (d : Doubt). not (same_txn d.txn txn)) x.doubts u h).1 (same ∙ is_named)
+      gone u h same = same_txn-clash u.txn txn (filter_has (λ (d : Doubt). not (same_txn d.txn txn)) x.doubts u h).1 (same ∙ is_named)
 
       only : (u : Doubt) (other : ℕ) → Comes given other (message.Outcome u.txn true) → doubt_of u.txn x.doubts ≡ Some u → u ≡ d
       only u other k g =

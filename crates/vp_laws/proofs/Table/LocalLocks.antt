@@ -1,6 +1,6 @@
 -- The locks of one site: whose they are, what a doubt, a refresh and a live transaction here have, and what keeps it so.
 use Rattle.std.proofs.Common.{◌≡◌, ◌≢◌, ◌⊎◌, ◌∙◌, sym, subst, ℕ, Bool, true, false, cond, List, [], ◌∷◌, refl, arith, inl, inr, ⊎_elim}
-use Rattle.std.specs.Prelude.{Option, Some, None, filter, not, ◌==◌, ◌&&◌, ◌||◌}
+use Rattle.std.specs.Prelude.{Option, Some, None, filter, not, ◌==◌, ◌&&◌}
 use Rattle.std.specs.List.{list_any}
 use Rattle.std.proofs.lemmas.Bool.Decides.{nat_tests}
 use Rattle.vp_model.specs.Types.{ViewId, TxnId, View, Lock, Part, Pending, Live, Refreshing, Doubt}
@@ -12,7 +12,7 @@ use Rattle.vp_model.specs.Durable.{without_doubt}
 use Rattle.vp_model.specs.Locks.{with_lock, with_guard, without_guard, without_owner}
 use Rattle.vp_model.specs.Site.{ParticipantState}
 use Rattle.vp_model.specs.Views.{has_part, has_doubt, outlasts_for, outlasts}
-use Rattle.vp_laws.proofs.Lists.Members.{Has, has_none, has_first, has_more, has_cons, filter_has, filter_keeps, any_true, any_false}
+use Rattle.vp_laws.proofs.Lists.Members.{Has, has_none, has_first, has_more, has_cons, filter_has, filter_keeps, any_true, any_false, or_right}
 use Rattle.vp_laws.proofs.Lists.Names.{Apart, named, same_txn-is, same_txn-not, without_gone, same_txn-self, same_txn-other, same_txn-clash}
 use Rattle.vp_laws.proofs.Lists.Changes.{without_first_has}
 use Rattle.vp_laws.proofs.Lists.LockTables.{NoConflict, IsFree, HasLock, lock_origin, locked, guarded, lock_kept, lock_taken, fewer_locks, lock_stays}
@@ -79,10 +79,6 @@ module _ (catalogue : Catalogue) (live : List Live) (parts : List Part) (doubts 
   not_listed rec exclusive txn free r h e =
       let g = ok.listed r h in
       let z = sym g.by ∙ free g.lock g.has (g.on ∙ sym e) (or_right exclusive g.lock.exclusive (g.strong refl)) in cc
-    where
-      or_right : (y z : Bool) → z ≡ true → (y || z) ≡ true
-      or_right true z q = refl
-      or_right false z q = q
 
   -- a transaction that is known takes a lock
   pub takes : (rec : ℕ) (exclusive : Bool) (txn : TxnId) → IsFree rec exclusive (owner.Txn txn) locks → IsKnown live parts doubts txn → LocksOk catalogue live parts doubts refresh held copied (with_lock rec exclusive (owner.Txn txn) locks)

@@ -39,7 +39,7 @@ use Rattle.vp_laws.proofs.Table.Shares.{OutcomeComes}
 use Rattle.vp_laws.proofs.Table.Leaves.{Uses, unused, uses_same, invites_only, accepts_only}
 use Rattle.vp_laws.proofs.Lists.Numbers.{one_above}
 use Rattle.vp_laws.proofs.Moves.Calls.{reads_same, writes_same, read_not_write}
-use Rattle.vp_laws.proofs.Lists.Pairs.{last_written, value_key, not_copied}
+use Rattle.vp_laws.proofs.Lists.Pairs.{last_written, value_key, not_copied, replaced_keys}
 
 -- why a transaction's lock is gone: its outcome came, the site has left its view, or it was of this site and is not live
 pub data Gone (x : SiteState) (given : Input) (o : Stepped) (txn : TxnId) : Type 0 where
@@ -57,14 +57,6 @@ pub record Guards (catalogue : Catalogue) (x : SiteState) (given : Input) (o : S
   pub copied : keys o.site.copies ≡ keys x.copies
   -- a lock of a transaction stays, or is gone for a reason
   pub stays : (rec : ℕ) (exclusive : Bool) (txn : TxnId) → HasLock rec exclusive (owner.Txn txn) x.locks → HasLock rec exclusive (owner.Txn txn) o.site.locks ⊎ Gone x given o txn
-
-pub replaced_keys : {K : Type 0} (n : ℕ) (v : K) (pairs : List (ℕ × K)) → keys (replace_at n v pairs) ≡ keys pairs
-replaced_keys {K} n v [] = refl
-replaced_keys {K} n v (p ∷ pairs) = ap (λ (k : ℕ). k ∷ keys (replace_at n v pairs)) (go (p.0 == n) refl) ∙ ap (λ (ks : List ℕ). p.0 ∷ ks) (replaced_keys n v pairs)
-  where
-    go : (b : Bool) → (p.0 == n) ≡ b → (cond b (n, v) p).0 ≡ p.0
-    go true e = sym (eqb-true p.0 n e)
-    go false e = refl
 
 pub written_keys : (date : ViewId) (writes : List (ℕ × Change)) (copies : List (ℕ × Stored)) → keys (with_writes date writes copies) ≡ keys copies
 written_keys date [] copies = refl

@@ -8,7 +8,8 @@ use Rattle.vp_model.specs.Types.{TxnId, Op, Call, Line, Pending}
 use Rattle.vp_model.specs.Words.{value_at, put_at}
 use Rattle.vp_model.specs.Catalogue.{Catalogue}
 use Rattle.vp_model.specs.Told.{put_first, reports, takes, taken_call, call_in, told_by}
-use Rattle.vp_laws.proofs.Table.ToldLines.{Report, find_last, Tells, tells_on, find_kept, IsUnheard, tell, all_taken, told_same}
+use Rattle.vp_laws.proofs.Table.ToldLines.{Report, find_last, Tells, tells_on, IsUnheard, tell, all_taken, told_same, taken_on}
+use Rattle.vp_text.proofs.Items.{all_push, all_each}
 
 -- the last number that a call has taken
 abbrev pub reach : ℕ → Option Pending → ℕ
@@ -32,26 +33,18 @@ begins catalogue lines u h = record {
   untaken = λ k l. h.untaken k;
 }
 
--- a number that was taken stays so
-pub taken_on : (lines : List Line) (l : Line) (u : TxnId) (k : ℕ) (words : Call) → taken_call lines u k ≡ Some words → taken_call (lines ++ l ∷ []) u k ≡ Some words
-taken_on lines l u k words h = go (find (takes u k) lines) refl h
-  where
-    go : (o : Option Line) → find (takes u k) lines ≡ o → option_and_then (λ (line : Line). call_in line.event) o ≡ Some words → taken_call (lines ++ l ∷ []) u k ≡ Some words
-    go None e q = cc
-    go (Some x) e q = ap (option_and_then (λ (line : Line). call_in line.event)) (find_kept (takes u k) lines (l ∷ []) x e) ∙ q
-
 -- no call is pending before and after, or the same one
 pub data SameCall (a b : Option Pending) : Type 0 where
   none : a ≡ None → b ≡ None → SameCall a b
   same : (p q : Pending) → a ≡ Some p → b ≡ Some q → p.call ≡ q.call → SameCall a b
 
+call_is : (q r : Pending) → Some q ≡ Some r → q.call ≡ r.call
+call_is q r e = let same : q ≡ r = cc in ap (λ (p : Pending). p.call) same
+
 pub as_pending : (catalogue : Catalogue) (ls : List Line) (txn : TxnId) (last : ℕ) (ops : List Op) (p q : Option Pending) → SameCall p q → TellsCall catalogue ls txn last p ops → TellsCall catalogue ls txn last q ops
 as_pending catalogue ls txn last ops p q (SameCall.none e f) h = subst (λ (o : Option Pending). TellsCall catalogue ls txn last o ops) (e ∙ sym f) h
 as_pending catalogue ls txn last ops p q (SameCall.same a b e f g) h = subst (λ (o : Option Pending). TellsCall catalogue ls txn last o ops) (sym f) (going_on a b g (subst (λ (o : Option Pending). TellsCall catalogue ls txn last o ops) e h))
   where
-    call_is : (q r : Pending) → Some q ≡ Some r → q.call ≡ r.call
-    call_is q r e = let same : q ≡ r = cc in ap (λ (p : Pending). p.call) same
-
     going_on : (a b : Pending) → a.call ≡ b.call → TellsCall catalogue ls txn last (Some a) ops → TellsCall catalogue ls txn last (Some b) ops
     going_on a b alike h = record {
       so_far = h.so_far;
@@ -84,12 +77,9 @@ module _ (catalogue : Catalogue) (lines : List Line) (l : Line) (u : TxnId) (las
   call_taken p h e call now n = record {
     so_far = tells_on catalogue lines l u ops h.so_far e;
     below = rw e h.below;
-    taken = λ q same. taken_now lines l u (last + 1) p.call (h.untaken (last + 1) (omega arith)) now call ∙ ap (λ (c : Call). Some c) (call_of p q same);
+    taken = λ q same. taken_now lines l u (last + 1) p.call (h.untaken (last + 1) (omega arith)) now call ∙ ap (λ (c : Call). Some c) (call_is p q same);
     untaken = λ k q. find_last (takes u k) lines l (h.untaken k (omega arith)) ∙ rw (n k q) refl;
   }
-    where
-      call_of : (q r : Pending) → Some q ≡ Some r → q.call ≡ r.call
-      call_of q r e = let same : q ≡ r = cc in ap (λ (p : Pending). p.call) same
 
 -- a report under a number beyond all others
 none_above : (n : ℕ) (rs : List Report) → AllByRecursion (λ (p : Report). p.0 ≤ n) rs → value_at (n + 1) rs ≡ None
@@ -107,13 +97,8 @@ put_above n v (r ∷ rs) h =
 put_last : (n : ℕ) (v : Option (List ℕ)) (rs : List Report) → AllByRecursion (λ (p : Report). p.0 ≤ n) rs → put_first (n + 1, v) rs ≡ rs ++ (n + 1, v) ∷ []
 put_last n v rs h = rw (none_above n rs h) (put_above n v rs h)
 
-all_append : {X : Type 0} (P : X → Type 0) (xs : List X) (x : X) → AllByRecursion P xs → P x → AllByRecursion P (xs ++ x ∷ [])
-all_append P [] x h p = (p, tt)
-all_append P (y ∷ xs) x h p = (h.0, all_append P xs x h.1 p)
-
-all_weaker : (n : ℕ) (rs : List Report) → AllByRecursion (λ (p : Report). p.0 ≤ n) rs → AllByRecursion (λ (p : Report). p.0 ≤ n + 1) rs
-all_weaker n [] h = tt
-all_weaker n (r ∷ rs) h = let l = h.0 in (omega arith, all_weaker n rs h.1)
+one_more : (a n : ℕ) → a ≤ n → a ≤ n + 1
+one_more a n h = omega arith
 
 one_told : (f : Report → Option Op) (r : Report) (operation : Op) → f r ≡ Some operation → filter_map f (r ∷ []) ≡ operation ∷ []
 one_told f r operation e = rw e refl
@@ -138,14 +123,14 @@ module _ (catalogue : Catalogue) (lines : List Line) (l : Line) (u : TxnId) wher
       let now : reports (lines ++ l ∷ []) u ≡ reports lines u ++ (last + 1, d.report) ∷ [] = d.reports ∙ put_last last d.report (reports lines u) h.below in
       record {
         so_far = record {
-          taken = rw now (all_append (λ (p : Report). is_some (taken_call (lines ++ l ∷ []) u p.0) ≡ true) (reports lines u) (last + 1, d.report) (all_taken catalogue lines l u (reports lines u) h.so_far.taken) (rw d.taken refl));
+          taken = rw now (all_push (λ (p : Report). is_some (taken_call (lines ++ l ∷ []) u p.0) ≡ true) (reports lines u) (last + 1, d.report) (all_taken catalogue lines l u (reports lines u) h.so_far.taken) (rw d.taken refl));
           tells =
               ap (filter_map (tell catalogue (lines ++ l ∷ []) u)) now
               ∙ filter_map-append (tell catalogue (lines ++ l ∷ []) u) (reports lines u) ((last + 1, d.report) ∷ [])
               ∙ ap (λ z. z ++ filter_map (tell catalogue (lines ++ l ∷ []) u) ((last + 1, d.report) ∷ [])) (told_same catalogue lines l u (reports lines u) h.so_far.taken ∙ h.so_far.tells)
               ∙ ap (λ z. ops ++ z) (one_told (tell catalogue (lines ++ l ∷ []) u) (last + 1, d.report) operation (ap (option_and_then (told_by catalogue d.report)) d.taken ∙ d.tells));
         };
-        below = rw now (all_append (λ (p : Report). p.0 ≤ last + 1) (reports lines u) (last + 1, d.report) (all_weaker last (reports lines u) h.below) (omega arith));
+        below = rw now (all_push (λ (p : Report). p.0 ≤ last + 1) (reports lines u) (last + 1, d.report) (all_each (λ (p : Report). p.0 ≤ last) (λ (p : Report). p.0 ≤ last + 1) (λ p h. one_more p.0 last h) (reports lines u) h.below) (omega arith));
         taken = λ q e. cc;
         untaken = d.untaken;
       }

@@ -5,7 +5,7 @@ use Rattle.std.specs.List.{AllByRecursion}
 use Rattle.std.proofs.lemmas.List.Elements.{filter_map-append}
 use Rattle.std.proofs.lemmas.List.Sums.{fold-append}
 use Rattle.std.proofs.lemmas.List.{append-nil}
-use Rattle.vp_model.specs.Types.{TxnId, Op, Answer, Line}
+use Rattle.vp_model.specs.Types.{TxnId, Op, Answer, Line, Call}
 use Rattle.vp_model.specs.Words.{for_each, value_at, put_at}
 use Rattle.vp_model.specs.Catalogue.{Catalogue}
 use Rattle.vp_model.specs.Told.{answers_in, reported, put_first, reports, takes, taken_call, call_in, told_by, told}
@@ -74,12 +74,20 @@ find_last test (y ∷ xs) x e = go (test y) e (λ q. find_last test xs x q)
     go true q i = cc
     go false q i = i q
 
-pub taken_kept : (lines : List Line) (l : Line) (u : TxnId) (k : ℕ) → is_some (taken_call lines u k) ≡ true → taken_call (lines ++ l ∷ []) u k ≡ taken_call lines u k
-taken_kept lines l u k h = go (find (takes u k) lines) refl h
+-- a number that was taken stays so
+pub taken_on : (lines : List Line) (l : Line) (u : TxnId) (k : ℕ) (words : Call) → taken_call lines u k ≡ Some words → taken_call (lines ++ l ∷ []) u k ≡ Some words
+taken_on lines l u k words h = go (find (takes u k) lines) refl h
   where
-    go : (o : Option Line) → find (takes u k) lines ≡ o → is_some (option_and_then (λ (line : Line). call_in line.event) o) ≡ true → taken_call (lines ++ l ∷ []) u k ≡ taken_call lines u k
+    go : (o : Option Line) → find (takes u k) lines ≡ o → option_and_then (λ (line : Line). call_in line.event) o ≡ Some words → taken_call (lines ++ l ∷ []) u k ≡ Some words
     go None e q = cc
-    go (Some x) e q = ap (option_and_then (λ (line : Line). call_in line.event)) (find_kept (takes u k) lines (l ∷ []) x e ∙ sym e)
+    go (Some x) e q = ap (option_and_then (λ (line : Line). call_in line.event)) (find_kept (takes u k) lines (l ∷ []) x e) ∙ q
+
+pub taken_kept : (lines : List Line) (l : Line) (u : TxnId) (k : ℕ) → is_some (taken_call lines u k) ≡ true → taken_call (lines ++ l ∷ []) u k ≡ taken_call lines u k
+taken_kept lines l u k h = go (taken_call lines u k) refl h
+  where
+    go : (o : Option Call) → taken_call lines u k ≡ o → is_some o ≡ true → taken_call (lines ++ l ∷ []) u k ≡ taken_call lines u k
+    go None e q = cc
+    go (Some words) e q = taken_on lines l u k words e ∙ sym e
 
 -- the lines tell of the transaction just these operations
 pub record Tells (catalogue : Catalogue) (lines : List Line) (u : TxnId) (ops : List Op) : Type 0 where

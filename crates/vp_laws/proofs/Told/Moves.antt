@@ -13,7 +13,7 @@ use Rattle.vp_model.specs.Transactions.{answer_of}
 use Rattle.vp_model.specs.Step.{step}
 use Rattle.vp_model.specs.World.{WorldState, Moment}
 use Rattle.vp_model.specs.Told.{answers_in, call_in, reported, put_first, reports, is_call, takes, taken_call}
-use Rattle.vp_laws.proofs.Table.ToldLines.{Report, collected, reports-last, IsReported, reported_lasts, Tells, IsUnheard, tells_on, unheard_on}
+use Rattle.vp_laws.proofs.Table.ToldLines.{Report, collected, reports-last, IsReported, reported_lasts, Tells, IsUnheard, tells_on, unheard_on, taken_on}
 use Rattle.vp_laws.proofs.Journal.Play.{value_put}
 use Rattle.vp_laws.proofs.Lists.Members.{Has, has_none, has_cases, has_one_is, map_has}
 use Rattle.vp_laws.proofs.Lists.Changes.{mapped_has}
@@ -31,7 +31,7 @@ use Rattle.vp_laws.proofs.Invariant.Views.{SiteOk}
 use Rattle.vp_laws.proofs.Invariant.Names.{UsedTxn}
 use Rattle.vp_laws.proofs.Moves.Reasons.{Takes, IsDone, told_to}
 use Rattle.vp_laws.proofs.Replies.FairStep.{IsStep}
-use Rattle.vp_laws.proofs.Table.ToldCalls.{reach, TellsCall, SameCall, as_pending, call_on, call_taken, taken_on, taken_now, untaken_on, done_next, begins}
+use Rattle.vp_laws.proofs.Table.ToldCalls.{reach, TellsCall, SameCall, as_pending, call_on, call_taken, taken_now, untaken_on, done_next, begins}
 use Rattle.vp_laws.proofs.Told.At.{ToldAt, same_reports, taking, takes_now, call_of, gives_call, call_gives, has_holders}
 use Rattle.vp_laws.proofs.Keeping.Does.{Does, does}
 use Rattle.vp_laws.proofs.Keeping.Endings.{fresh}

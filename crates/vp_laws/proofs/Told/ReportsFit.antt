@@ -8,7 +8,7 @@ use Rattle.vp_model.specs.Site.{SiteState, Lent}
 use Rattle.vp_model.specs.Step.{step}
 use Rattle.vp_model.specs.Told.{is_step, answers_in, replies_in, reported, taken_call}
 use Rattle.vp_model.specs.World.{WorldState, Moved, Moment, Run, Schedule, moment, next, one_step, site_step, start_world, moments_of}
-use Rattle.vp_laws.proofs.Table.ToldLines.{Report, lines_in, lines_last}
+use Rattle.vp_laws.proofs.Table.ToldLines.{Report, lines_in, lines_last, taken_on}
 use Rattle.vp_laws.specs.Reports.{is_of_kind, RepliesFitCalls}
 use Rattle.vp_laws.proofs.Lists.Members.{Has, has_of, has_none, has_cases, has_one_is, map_has}
 use Rattle.vp_laws.proofs.Lists.Changes.{mapped_has}
@@ -21,7 +21,6 @@ use Rattle.vp_laws.proofs.Moves.Reasons.{IsDone}
 use Rattle.vp_laws.proofs.Moves.Table.{Completes}
 use Rattle.vp_laws.proofs.Table.Told.{SaysDone, completed_says, IsKept, AreLate}
 use Rattle.vp_laws.proofs.Table.Reports.{Cause, causes-step}
-use Rattle.vp_laws.proofs.Table.ToldCalls.{taken_on}
 use Rattle.vp_laws.proofs.Told.At.{ToldAt}
 use Rattle.vp_laws.proofs.Told.Moves.{same_or_not, done_number, done_call, kept_here}
 use Rattle.vp_laws.proofs.Told.Runs.{RunTold, start_told, one_step-told, starts_none, is_step_of}

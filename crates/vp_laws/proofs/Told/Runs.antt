@@ -16,7 +16,7 @@ use Rattle.vp_laws.specs.Catalogues.{AreApart}
 use Rattle.vp_laws.proofs.Lists.Members.{Has, all_of}
 use Rattle.vp_laws.proofs.Worlds.Scenes.{Scene, scene_of, plain_at, kept_at, acted}
 use Rattle.vp_laws.proofs.Worlds.Events.{Arrives, crashed, restarted}
-use Rattle.vp_laws.proofs.Worlds.Sites.{Quiet, QuietIs, quiet_is, crash_quiet, restart_quiet, started, start_entered, no_live, no_finished, started_idle}
+use Rattle.vp_laws.proofs.Worlds.Sites.{Quiet, QuietIs, quiet_is, crash_quiet, restart_quiet, started, start_entered, no_live, no_finished, started_idle, live_still}
 use Rattle.vp_laws.proofs.Invariant.Names.{UsedTxn}
 use Rattle.vp_laws.proofs.Worlds.Occurs.{no_replies, Gives, Occurs, occurs, run-keeps}
 use Rattle.vp_laws.proofs.Replies.FairStep.{IsStep}
@@ -66,16 +66,12 @@ module _ (catalogue : Catalogue) (w new : Scene) (lines : List Line) (l : Line) 
   quiet_told : (s : ℕ) → Quiet catalogue w new s → Known catalogue new → ToldAt catalogue new more
   quiet_told s q n = record {
     known = n;
-    live = λ j y t up h. live_at j y t h (quiet_is catalogue w new s q j y up);
+    live = λ j y t up h. still_told j y t (live_still catalogue w s j y t h (quiet_is catalogue w new s q j y up)) h;
     entries = λ e h. tells_on catalogue lines l e.txn e.ops (told_so_far.entries e (rw q.journal at h)) (silent e.txn);
     fresh = λ u unused. still_unheard u (λ used. unused (used_lasts w new s q.moved (quiet_grows catalogue w new s q) u used));
     kept = λ j y a up h. kept_at_site j y a h (quiet_is catalogue w new s q j y up);
   }
     where
-      live_at : (j : ℕ) (y : SiteState) (t : Live) → Has y.live t → QuietIs catalogue w s j y → TellsCall catalogue more t.txn (length t.answers) t.pending t.ops
-      live_at j y t h (QuietIs.other n old) = still_told j y t old h
-      live_at j y t h (QuietIs.here e same) = absurd (no_live catalogue s (kept_at w s) t (subst (λ (y : SiteState). Has y.live t) (sym same) h))
-
       kept_at_site : (j : ℕ) (y : SiteState) (a : Answer) → IsKept y a → QuietIs catalogue w s j y → IsReported more a
       kept_at_site j y a h (QuietIs.other n old) = still_kept j y a old h
       kept_at_site j y a h (QuietIs.here e same) = absurd (starts_none catalogue s (kept_at w s) a (subst (λ (y : SiteState). IsKept y a) (sym same) h))

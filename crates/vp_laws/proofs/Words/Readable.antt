@@ -1,11 +1,10 @@
 -- The laws of one copy in the words of the contracts: the entries are a serial run, and each copy that may be read has its content.
-use Rattle.std.proofs.Common.{◌≡◌, ◌≢◌, ◌∙◌, ap, sym, subst, ℕ, Bool, true, false, cond, List, [], ◌∷◌, map, refl, arith, ⊎_elim}
+use Rattle.std.proofs.Common.{◌≡◌, ◌∙◌, ap, sym, subst, ℕ, Bool, true, false, cond, List, [], ◌∷◌, map, refl, ⊎_elim}
 use Rattle.std.specs.Prelude.{Option, Some, None, IsSome, IsTrue, find, option_and_then, slice_get, ◌==◌, not}
 use Rattle.std.specs.List.{list_any}
 use Rattle.std.specs.Option.{option_map_or}
 use Rattle.std.specs.Str.{bytes_eq}
 use Rattle.std.proofs.lemmas.Bool.{eq-eqb, eqb-true}
-use Rattle.std.proofs.lemmas.Bool.Decides.{nat_tests}
 use Rattle.std.proofs.lemmas.Slice.Eq.{bytes_eq-Decides}
 use Rattle.vp_model.specs.Types.{View, Stored, Lock, Doubt}
 use Rattle.vp_model.specs.Words.{keys, change_first}
@@ -33,6 +32,7 @@ use Rattle.vp_laws.proofs.Invariant.Known.{Known}
 use Rattle.vp_laws.proofs.Invariant.Invariant.{Invariant}
 use Rattle.vp_laws.proofs.Order.Invariant.{invariant_last}
 use Rattle.vp_laws.proofs.Lists.Pairs.{Differ}
+use Rattle.vp_laws.proofs.Lists.Numbers.{unequal}
 
 pub serial_played : (s : Schedule) → IsSerial s
 serial_played s = let q = (in_last s.catalogue (Invariant s.catalogue) (invariant_last s.catalogue) s.events).order.serial in is_there (serial (start_values s.catalogue) (order (run_of s).world.journal)) q.0 q.1
@@ -129,16 +129,13 @@ place_found : (places : List Place) (p : Place) → Differ (map (λ (p : Place).
 place_found [] p a h = absurd (has_none p h)
 place_found (q ∷ places) p a h = go (q.id == p.id) refl (λ more. place_found places p a.1 more)
   where
-    differs : (m n : ℕ) → (m == n) ≡ false → m ≢ n
-    differs m n e = grind (arith, nat_tests, e)
-
     go : (b : Bool) → (q.id == p.id) ≡ b → (Has places p → place_of p.id places ≡ Some p) → cond b (Some q) (find (λ (place : Place). place.id == p.id) places) ≡ Some p
     go true e rest = ⊎_elim
         (λ (one : q ≡ p). ap (λ (q : Place). Some q) one)
         (λ more. absurd (a.0 (subst (Has (map (λ (p : Place). p.id) places)) (sym (eqb-true q.id p.id e)) (mapped_has (λ (p : Place). p.id) places p more))))
         (has_cons q places p h)
     go false e rest = ⊎_elim
-        (λ (one : q ≡ p). absurd (differs q.id p.id e (ap (λ (q : Place). q.id) one)))
+        (λ (one : q ≡ p). absurd (unequal q.id p.id e (ap (λ (q : Place). q.id) one)))
         (λ more. rest more)
         (has_cons q places p h)
 

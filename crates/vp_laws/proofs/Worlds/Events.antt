@@ -1,7 +1,7 @@
 -- What each event keeps holds in every world of every schedule: the induction, once for any property of scenes.
 use Rattle.std.proofs.Common.{◌≡◌, ℕ, ◌+◌, ◌-◌, ◌^◌, zero, suc, List, [], ◌∷◌, ◌++◌, refl, ⊎_elim}
 use Rattle.std.specs.Prelude.{Option, Some, None, ◌==◌}
-use Rattle.vp_model.specs.Types.{Event, Input, Sent}
+use Rattle.vp_model.specs.Types.{Event, Input, Sent, Message}
 use Rattle.vp_model.specs.Types.event
 use Rattle.vp_model.specs.Types.input
 use Rattle.vp_model.specs.Types.shown
@@ -12,11 +12,16 @@ use Rattle.vp_model.specs.World.{Place, WorldState, Moved, Run, Moment, place_of
 use Rattle.vp_laws.proofs.Lists.Members.{Has, has_none, has_cases, has_one_is}
 use Rattle.vp_laws.proofs.Lists.Keeps.{for_some-keeps, by_test, by_option}
 use Rattle.vp_laws.proofs.Worlds.Scenes.{Scene, scene_of, plain_at, acted, place-id, message_at-has}
+use Rattle.vp_laws.proofs.Moves.LocalViews.{letter}
+use Rattle.vp_laws.proofs.Moves.Table.{Comes}
 
 -- a message that comes was sent to the site
 abbrev pub Arrives : Scene → ℕ → Input → Type 0
 Arrives w s (input.Message from m) = Has w.sent (record { from = from; to = s; message = m })
 Arrives w s given = Unit {0}
+
+pub came_in : (w : Scene) (s : ℕ) (given : Input) → Arrives w s given → (from : ℕ) (m : Message) → Comes given from m → Has w.sent (letter from s m)
+came_in w s given r from m e = rw e at r
 
 abbrev pub crashed : Scene → ℕ → Scene
 crashed w s = record w { places = change_place s (λ (place : Place). record place { up = None }) w.places }

@@ -153,6 +153,15 @@ pub live_still : (catalogue : Catalogue) (w : Scene) (s k : ℕ) (y : SiteState)
 live_still catalogue w s k y t h (QuietIs.other n old) = old
 live_still catalogue w s k y t h (QuietIs.here z same) = absurd (no_live catalogue s (kept_at w s) t (subst (λ (y : SiteState). Has y.live t) (sym same) h))
 
+-- and so is one that has a finished transaction, or refreshes a copy
+pub finished_still : (catalogue : Catalogue) (w : Scene) (s k : ℕ) (y : SiteState) (f : Finished) → Has y.finished f → QuietIs catalogue w s k y → plain_at w k ≡ Some y
+finished_still catalogue w s k y f h (QuietIs.other n old) = old
+finished_still catalogue w s k y f h (QuietIs.here z same) = absurd (no_finished catalogue s (kept_at w s) f (subst (λ (y : SiteState). Has y.finished f) (sym same) h))
+
+pub refresh_still : (catalogue : Catalogue) (w : Scene) (s k : ℕ) (y : SiteState) (r : Refreshing) → Has y.refresh r → QuietIs catalogue w s k y → plain_at w k ≡ Some y
+refresh_still catalogue w s k y r h (QuietIs.other n old) = old
+refresh_still catalogue w s k y r h (QuietIs.here z same) = absurd (no_refresh catalogue s (kept_at w s) r (subst (λ (y : SiteState). Has y.refresh r) (sym same) h))
+
 -- what it has kept then
 pub record StartKept (d : DurableState) : Type 0 where
   pub doubts : d.doubts ≡ []

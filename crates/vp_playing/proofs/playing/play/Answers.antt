@@ -2,6 +2,9 @@ use Rattle.std.proofs.Common.{rules, refl, sym, subst, ap, ◌+◌, ◌≡◌, R
 use Rattle.vp_world.specs.Known.{Known}
 use Rattle.vp_world.specs.declared.end.WorldEnd.{WorldEnd}
 use Rattle.vp_playing.specs.Played.{Plays, schedule_of}
+use Rattle.vp_world.specs.declared.end.WorldEnd.TheVariants as end
+use Rattle.vp_model.specs.Limits.{world_limits, lines_within}
+use Rattle.vp_playing.proofs.Seen.{sees_none}
 use Rattle.vp_playing.proofs.Turns.{play_starts, play_goes_on, play_is_ended, play_is_over}
 use Rattle.vp_playing.proofs.playing.play.Goals as goal
 
@@ -36,3 +39,11 @@ pub returns : goal.returns
 returns g c =
     let h = c.loop-event.invariant in
     play_is_over g.O.Observer.sees g.O.Observer.begins (schedule_of c.args.catalog c.args.events.now) c.loop-event.event-index c.loop-event.world c.args.observer.now c.loop-event.observer h.catalogue h.so_far (search rules)
+
+pub returns-in_err-world : goal.returns-in_err-world
+returns-in_err-world g c =
+    let s = schedule_of c.args.catalog c.args.events.now in
+    let is : c.from_residual.result ≡ Err end.NoMemory = search rules in
+    subst (λ (r : Result Known WorldEnd). Plays g.O.Observer.sees g.O.Observer.begins s r c.args.observer.now c.args.observer.now)
+    (sym is)
+    (sees_none (g.O.Observer.sees c.args.catalog) (g.O.Observer.begins c.args.catalog) (lines_within world_limits s) c.args.observer.now c.args.observer.now refl)

@@ -1,5 +1,10 @@
-use Rattle.std.proofs.Common.{rules}
-use Rattle.vp_playing.proofs.Turns.{step_ends, step_shows}
+use Rattle.std.proofs.Common.{rules, ◌≡◌, [], sym, subst, Result, Err}
+use Rattle.vp_model.specs.World.{one_step}
+use Rattle.vp_world.specs.Known.{Known}
+use Rattle.vp_world.specs.declared.end.WorldEnd.{WorldEnd}
+use Rattle.vp_world.specs.declared.end.WorldEnd.TheVariants as end
+use Rattle.vp_playing.specs.Played.{Sees, run_in}
+use Rattle.vp_playing.proofs.Turns.{step_ends, step_shows, step_is_left}
 use Rattle.vp_playing.proofs.playing.play_step.Goals as goal
 
 pub returns-in-Err : goal.returns-in-Err
@@ -8,3 +13,10 @@ returns-in-Err g c = step_ends g.O.Observer.sees g.O.Observer.begins c.args.worl
 pub returns-in_ok-see-in-Ok : goal.returns-in_ok-see-in-Ok
 returns-in_ok-see-in-Ok g c =
     step_shows g.O.Observer.sees g.O.Observer.begins c.args.world.catalogue c.args.number c.args.event.now c.args.world.world c.in-Ok.world c.in-Ok.line c.args.observer.now c.see.new.self (search rules) (search rules) (search rules) (search rules)
+
+pub returns-in_err-see-in-Ok : goal.returns-in_err-see-in-Ok
+returns-in_err-see-in-Ok g c =
+    let is : c.from_residual.result ≡ Err end.NoMemory = search rules in
+    subst (λ (r : Result Known WorldEnd). Sees g.O.Observer.sees g.O.Observer.begins c.args.world.catalogue [] (one_step c.args.world.catalogue c.args.number c.args.event.now (run_in c.args.world.world)) r c.args.observer.now c.see.new.self)
+    (sym is)
+    (step_is_left g.O.Observer.sees g.O.Observer.begins c.args.world.catalogue c.args.number c.args.event.now c.args.world.world c.in-Ok.line c.args.observer.now c.see.new.self (search rules) (search rules) (search rules))
