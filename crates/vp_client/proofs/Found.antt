@@ -9,15 +9,8 @@ use Rattle.vp_decoding.specs.declared.fault.WireFault.TheVariants as faults
 use Rattle.vp_decoding.specs.Decoded.{read_frame}
 use Rattle.vp_decoding.specs.Faults.{wire_place}
 use Rattle.vp_wire.specs.Grammar.{IsSpelling}
-<<<<<<< HEAD
 use Rattle.vp_decoding.proofs.Decoded.{answers_are_read}
-
-same_number : (n : ℕ) → (n == n) ≡ true
-same_number n = grind (arith, nat_tests)
-=======
-use Rattle.vp_wire.proofs.Decoded.{answers_are_read}
 use Rattle.vp_laws.proofs.Lists.Numbers.{eq_self}
->>>>>>> a12b35c4870b579d2455b87c2018ff7d76477b39
 
 in_frame : (port site : ℕ) (words : Call) (bytes : List ℕ) (f : Frame) → IsSpelling f bytes
     → answer_of port site words (record { port = port; bytes = bytes }) ≡ (if f.from == site then answer_in words f.body else None)
