@@ -1,5 +1,5 @@
 -- A transaction that is put into its place again, or taken out for good.
-use Rattle.std.proofs.Common.{◌≡◌, Bool, true, if◌then◌else◌, List, [], ◌∷◌, find, Option, Some, None, is_some, IfSome, Bor, ◌∙◌, ap, sym, subst, refl, arith}
+use Rattle.std.proofs.Common.{◌≡◌, Bool, true, List, [], ◌∷◌, find, Option, Some, None, is_some, IfSome, Bor, ◌∙◌, ap, sym, subst, refl, arith}
 use Rattle.std.specs.Prelude.{option_copied}
 use Rattle.std.specs.List.{list_any}
 use Rattle.std.specs.Option.{option_map_or}

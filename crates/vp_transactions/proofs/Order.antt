@@ -1,7 +1,7 @@
 -- The numbers of the live transactions rise, whatever a row does to the list; so a number has one place.
-use Rattle.std.proofs.Common.{◌≡◌, ℕ, zero, suc, ◌+◌, ◌<◌, ◌≤◌, Bool, true, false, List, [], ◌∷◌, ◌++◌, length, get_or, map, cond, if◌then◌else◌, Option, Some, None, Result, Ok, Err, OnOk, OnErr, refl, sym, is_some, ap, ◌∙◌, subst, inl, inr, arith}
+use Rattle.std.proofs.Common.{◌≡◌, ℕ, zero, suc, ◌+◌, ◌<◌, ◌≤◌, Bool, true, false, List, [], ◌∷◌, ◌++◌, length, get_or, map, cond, Option, Some, None, Result, Ok, Err, OnOk, OnErr, refl, sym, is_some, ap, ◌∙◌, subst, inl, inr, arith}
 use Rattle.std.specs.Prelude.{slice_get}
-use Rattle.std.specs.List.{AllByRecursion, position, position_or_len, remove, list_any, find}
+use Rattle.std.specs.List.{AllByRecursion, position, position_or_len, remove, list_any}
 use Rattle.std.specs.Option.{option_map_or}
 use Rattle.std.specs.Bool.{then_some}
 use Rattle.std.proofs.lemmas.Bool.{cases_lt, cases_order}
@@ -9,15 +9,15 @@ use Rattle.std.proofs.lemmas.Bool.Decides.{nat_tests}
 use Rattle.std.proofs.lemmas.List.{get_or-map, length-map}
 use Rattle.std.proofs.lemmas.List.Sums.{position_or_len_is}
 use Rattle.std.proofs.lemmas.Option.{get_or_from_slice_get, slice_get_within, slice_get-get_or}
-use Rattle.vp_model.specs.Types.{TxnId, Live, Pending}
+use Rattle.vp_model.specs.Types.{TxnId, Live}
 use Rattle.vp_model.specs.Words.{same_txn, change_first, without_first}
-use Rattle.vp_model.specs.Step.{marked_call, mark}
+use Rattle.vp_model.specs.Step.{mark}
 use Rattle.vp_model.specs.Calls.{begun}
 use Rattle.vp_base.specs.declared.ids.ViewId.{ViewId}
 use Rattle.vp_lists.proofs.Found.{any_is_found, find_none, find_some, others_some}
 use Rattle.vp_lists.proofs.Named.{same_txn_is}
 use Rattle.vp_transactions.specs.Order.{numbers, AreRising, AreBelow, AreLive, IsPlace}
-use Rattle.vp_transactions.specs.Waiting.{waits, all_wait}
+use Rattle.vp_transactions.specs.Waiting.{waits}
 use Rattle.vp_transactions.proofs.Waiting.{all_wait_more, all_wait_change, all_wait_without, all_wait_marked}
 
 -- of rising numbers a later one is larger

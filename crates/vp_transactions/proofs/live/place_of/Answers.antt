@@ -1,4 +1,4 @@
-use Rattle.std.proofs.Common.{◌∙◌, sym}
+use Rattle.std.proofs.Common.{sym}
 use Rattle.vp_transactions.proofs.Order.{nowhere, place_is}
 use Rattle.vp_transactions.proofs.live.place_of.Goals as goal
 
