@@ -5,9 +5,9 @@ use Rattle.vp_model.specs.Transactions.{close_all}
 use Rattle.vp_endings.proofs.lent.Lent.abort_each.Given as goal
 
 -- to close what is left gives what closing all of them gives
-abbrev pub invariant-loop-live : goal.invariant-loop-live
-invariant-loop-live l =
+abbrev pub invariant-loop-t : goal.invariant-loop-t
+invariant-loop-t l =
     close_all l.id (λ (t : Live). ViewChanged l.id t.view None) l.live l.self ≡ close_all l.id (λ (t : Live). ViewChanged l.id t.view None) l.fn.live l.fn.self
 
-abbrev pub decreases-loop-live : goal.decreases-loop-live
-decreases-loop-live l = length l.live
+abbrev pub decreases-loop-t : goal.decreases-loop-t
+decreases-loop-t l = length l.live
