@@ -5,8 +5,8 @@ ghost use Rattle.vp_runs.specs.Asking.{answer_in, answer_of, answers, answers_be
 
 use std::alloc::Global;
 use vp_base::{Answer, Call, CallNo, NoMemory, SiteId, TxnId};
-use vp_lists::is_same_txn;
 use vp_decoding::{WireFault, decode};
+use vp_lists::is_same_txn;
 use vp_wire::Body;
 
 /// The answer to the call that a datagram of the site has which came from its port.

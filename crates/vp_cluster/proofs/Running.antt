@@ -4,7 +4,7 @@ use Rattle.std.specs.Prelude.{Result, Ok, Err}
 use Rattle.std.specs.Result.{IsErrAnd}
 use Rattle.std.specs.List.{AllByRecursion, flat_map}
 use Rattle.vp_text.specs.Printing.{is_begun}
-use Rattle.vp_text.proofs.Printing.{begun_none, begun_first, begun_then}
+use Rattle.vp_text.proofs.Printing.{begun_none, begun_first, begun_then, begun_whole}
 use Rattle.vp_catalog.specs.Document.{IsCatalogue}
 use Rattle.vp_model.specs.Catalogue.{Catalogue, sites_of}
 use Rattle.vp_model.specs.Types.{Event, Line}
@@ -102,6 +102,10 @@ some_begun catalogue (line ∷ lines) old new (inr (inr (mid, h, rest))) =
 pub same_plays : (s t : Schedule) (result : Result Known WorldEnd) (old new : Cluster) → s ≡ t → Plays SeesLine BeginsLine s result old new → Plays SeesLine BeginsLine t result old new
 same_plays s t result old new e = subst (λ (s : Schedule). Plays SeesLine BeginsLine s result old new) e
 
+-- nothing is played
+pub runs_nothing : (s : Schedule) (result : Result Ran WorldEnd) (text : List ℕ) → result ≡ Err end.NoMemory → Runs s result text text
+runs_nothing s result text e = rw e (begun_none text (trace_text_within world_limits s) text refl)
+
 module _ (s : Schedule) (is : IsSchedule s) (old new : Cluster) where
   both : SeesAll (SeesLine s.catalogue) (lines_within world_limits s) old new → FollowAll (lines_within world_limits s) old.nodes new.nodes × (new.trace ≡ old.trace ++ trace_text_within world_limits s)
   both h =
@@ -112,6 +116,10 @@ module _ (s : Schedule) (is : IsSchedule s) (old new : Cluster) where
   pub run_is_cut : (why : WorldEnd) (result : Result Ran WorldEnd) → Plays SeesLine BeginsLine s (Err why) old new → result ≡ Err why → Runs s result old.trace new.trace
   run_is_cut (end.Limit what limit) result plays e = rw e (plays.0, plays.1, (both plays.2).1)
   run_is_cut end.NoMemory result plays e = rw e (some_begun s.catalogue (lines_within world_limits s) old new plays)
+
+  -- it is played, and there is no memory for what it leaves
+  pub run_is_left : (known : Known) (result : Result Ran WorldEnd) → Plays SeesLine BeginsLine s (Ok known) old new → result ≡ Err end.NoMemory → Runs s result old.trace new.trace
+  run_is_left known result plays e = rw e (begun_whole old.trace (trace_text_within world_limits s) new.trace (both plays.2).1)
 
   -- it is done
   pub run_is_done : (known : Known) → Plays SeesLine BeginsLine s (Ok known) old new → Begin s.catalogue old.nodes → AreHosts new.nodes.catalogue new.nodes.hosts

@@ -43,6 +43,7 @@ impl Observer for Cluster {
 
     ghost flows = { λ _. tt };
 
+    #[tactic(auto, using(vp_text::proofs::Printing::printing))]
     fn see(&mut self, number: u32, line: &Line, catalog: &Catalog) -> Result<(), NoMemory> {
         self.nodes.follow(line)?;
         self.trace.see(number, line, catalog)

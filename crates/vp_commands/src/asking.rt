@@ -10,8 +10,8 @@ use std::alloc::Global;
 use vp_base::{Answer, Call, NoMemory, SiteId};
 use vp_client::{AskFault, ask};
 use vp_outside::Link;
-use vp_trace::print_answer;
 use vp_status::{Defined, Status};
+use vp_trace::print_answer;
 
 /// Binds the client's own port, asks the site at its port, and defines the line of the answer, which may be any reply. At most `turns`
 /// datagrams are waited for.

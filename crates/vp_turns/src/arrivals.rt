@@ -7,8 +7,8 @@ ghost use Rattle.vp_wire.specs.Grammar.{IsFrame};
 use std::alloc::Global;
 use vp_base::{Input, NoMemory, SiteId};
 use vp_catalog::Catalog;
-use vp_runs::Arrival;
 use vp_decoding::{WireFault, decode, frames_are_read};
+use vp_runs::Arrival;
 use vp_wire::{Body, Frame};
 
 /// The site whose port it is.
