@@ -1,4 +1,5 @@
 """Nodes as processes of their own, and sockets that speak their frames. All traffic stays on 127.0.0.1."""
+import contextlib
 import os
 import random
 import shutil
@@ -63,8 +64,9 @@ class Life:
         with open(self.path, "wb") as recording:
             words = [*node.program, "node", str(node.site), node.log, str(turns)]
             self.process = subprocess.Popen(words, stdin=subprocess.PIPE, stdout=recording)
-        self.process.stdin.write(node.catalogue)
-        self.process.stdin.close()
+        with contextlib.suppress(BrokenPipeError):  # of one that ends without reading it
+            self.process.stdin.write(node.catalogue)
+            self.process.stdin.close()
 
     def lines(self):
         """The whole lines of the recording. What a kill cut off within a line is left out."""
