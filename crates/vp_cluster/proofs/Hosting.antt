@@ -3,7 +3,7 @@ use Rattle.std.proofs.Common.{◌≡◌, ◌∙◌, inr, inl, ℕ, ◌<◌, ◌^
 use Rattle.std.specs.declared.option.Option.{Option}
 use Rattle.std.specs.declared.option.Option.TheVariants.{Some, None}
 use Rattle.std.specs.Prelude.{is_some, IfSome}
-use Rattle.vp_records.proofs.Held.{listed}
+use Rattle.vp_records.proofs.Held.{is_there}
 use Rattle.vp_catalog.specs.Document.{IsCatalogue}
 use Rattle.vp_model.specs.Types.{LogRecord}
 use Rattle.vp_model.specs.Words.{has, value_at, keys}
@@ -27,6 +27,10 @@ use Rattle.vp_turns.specs.declared.turned.Turned.{Turned}
 use Rattle.vp_node.proofs.Kept.{has as have}
 use Rattle.vp_node.proofs.Turning.{same_id}
 use Rattle.vp_cluster.specs.Hosts.{HostValue, IsHost, IsAt, Takes, Crashes, Restarts, Begins, is_spent, log_in, told, node_at, turn_at}
+
+-- a site with a port is a site
+pub listed : (id port : ℕ) (sites : List (ℕ × ℕ)) → value_at id sites ≡ Some port → has (keys sites) id ≡ true
+listed id port sites is = sym (is_there id sites) ∙ ap is_some is
 
 -- an empty log has no batches
 pub no_batches : HaveBatches [] ([], [])

@@ -11,7 +11,6 @@ ghost use Rattle.vp_endings.specs.Ends.{waits_at, timed_out};
 use crate::around::first_of;
 use crate::lent::Lent;
 use vp_base::{Ending, Live, NoMemory, SiteId};
-use vp_transactions::LiveTxns;
 
 /// The least site that the transaction's call waits for.
 fn waits_at(t: &Live) -> Option<SiteId>
@@ -53,16 +52,16 @@ impl Lent {
     }
 
     /// These transactions end, as the site leaves their view.
-    fn abort_each(&mut self, id: SiteId, mut live: LiveTxns) -> Result<(), NoMemory>
-        ensures { OnOk result (self.new ≡ close_all id (λ t. ending.ViewChanged id t.view None) live self.old) }
+    fn abort_each(&mut self, id: SiteId, live: &mut [Live]) -> Result<(), NoMemory>
+        ensures { OnOk result (self.new ≡ close_all id (λ t. ending.ViewChanged id t.view None) live.old self.old) }
     {
-        while let Some(mut t) = live.take_first() {
+        for t in live.iter_mut() {
             let why = Ending::ViewChanged {
                 at: id,
                 held: t.view,
                 now: None,
             };
-            self.close(id, &mut t, why)?;
+            self.close(id, t, why)?;
         }
         Ok(())
     }
@@ -72,7 +71,7 @@ impl Lent {
     pub fn leave(&mut self, id: SiteId) -> Result<(), NoMemory>
         ensures { OnOk result (self.new ≡ abandon id self.old) }
     {
-        let live = self.coordinator.take_all();
-        self.abort_each(id, live)
+        let mut live = self.coordinator.take_all();
+        self.abort_each(id, &mut live)
     }
 }

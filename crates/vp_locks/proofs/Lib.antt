@@ -1,3 +1,1 @@
-pub mod InSlots
-pub mod Indexes
-pub mod Lists
+pub mod Records

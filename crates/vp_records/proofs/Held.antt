@@ -50,10 +50,6 @@ pub is_there : {V : Type 0} (n : ℕ) (pairs : List (ℕ × V)) → is_some (val
 is_there {V} n [] = refl
 is_there {V} n (p ∷ pairs) = let rest = is_there n pairs in grind (arith, nat_tests, rest)
 
--- a site with a port is a site
-pub listed : (site port : ℕ) (sites : List (ℕ × ℕ)) → value_at site sites ≡ Some port → has (keys sites) site ≡ true
-listed site port sites is = sym (is_there site sites) ∙ ap is_some is
-
 copied_there : {V : Type 0} (found : Option (Bor V)) → is_some found ≡ is_some (option_copied found)
 copied_there (Some v) = refl
 copied_there None = refl

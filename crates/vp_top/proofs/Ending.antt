@@ -7,6 +7,7 @@ use Rattle.vp_model.specs.Types.{Answer}
 use Rattle.vp_model.specs.Words.{has, keys, value_at}
 use Rattle.vp_catalog.specs.declared.fault.CatalogFault.{CatalogFault}
 use Rattle.vp_catalog.specs.declared.fault.CatalogFault.TheVariants as faults
+use Rattle.vp_records.proofs.Held.{is_there}
 use Rattle.vp_outside.specs.Input.{SourceState, IsEnded}
 use Rattle.vp_outside.specs.Links.{LinkState}
 use Rattle.vp_outside.specs.Output.{SinkState}
@@ -147,3 +148,9 @@ module _ (words : List (List ℕ)) (source source' : SourceState) (link link' : 
       ⊎_elim (λ all. subst Text (sym all.0) (whole end text has d all.1))
       (λ part. ⊎_elim (λ failed. subst Text (sym failed.0) (failed.2, record { end = end; text = text; defines = d; appended = failed.1 }))
       (λ none. subst Text (sym none.0) (inl (record { end = end; text = text; defines = d; appended = none.1 }))) part) p
+
+-- ---- a site of a catalogue
+
+-- a site with a port is a site
+pub listed : (site port : ℕ) (sites : List (ℕ × ℕ)) → value_at site sites ≡ Some port → has (keys sites) site ≡ true
+listed site port sites is = sym (is_there site sites) ∙ ap is_some is

@@ -1,3 +1,2 @@
 pub mod Hands
-pub mod Order
 pub mod Waiting

@@ -103,8 +103,8 @@ impl Place {
         ensures { BeginsLife catalog.now self.old self.new result }
     {
         let (site, entry) = Site::start(catalog, self.id, self.durable.copy_of()?)?;
-        self.up = Some(site);
         self.durable.apply(&entry)?;
+        self.up = Some(site);
         Ok(())
     }
 

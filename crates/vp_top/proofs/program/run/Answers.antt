@@ -1,6 +1,5 @@
 use Rattle.std.proofs.Common.{inl, inr}
-use Rattle.vp_records.proofs.Held.{listed}
-use Rattle.vp_top.proofs.Ending.{printed}
+use Rattle.vp_top.proofs.Ending.{listed, printed}
 use Rattle.vp_top.proofs.program.run.Goals as goal
 
 pub serve_log-requires-clause-id : goal.serve_log-requires-clause-id

@@ -1,5 +1,4 @@
-use Rattle.vp_records.proofs.Held.{listed}
-use Rattle.vp_cluster.proofs.Hosting.{begins}
+use Rattle.vp_cluster.proofs.Hosting.{listed, begins}
 use Rattle.vp_cluster.proofs.host.Host.begin.Goals as goal
 
 pub start-requires-clause-id : goal.start-requires-clause-id
