@@ -82,9 +82,11 @@ def without_shapes(copy):
     crate = copy / "crates/vp_laws"
     for path in [*crate.glob("specs/Shape*.antt"), crate / "src/shaped.rt"]:
         path.unlink()
-    (crate / "proofs/Shapes.antt").unlink()
+    for name in ("Shapes", "Lists/Items"):
+        (crate / f"proofs/{name}.antt").unlink()
     for name in ("Shapes", "shaped"):
         shutil.rmtree(crate / "proofs" / name)
+    replaced(crate / "proofs/Lists.antt", "pub mod Items\n", "")
     shutil.rmtree(crate / "must-fail", ignore_errors=True)
     for path, word in [("proofs/Lib.antt", "Shape"), ("specs/Lib.antt", "Shape"), ("src/lib.rt", "shaped")]:
         kept = [line for line in (crate / path).read_text().splitlines() if word not in line]
