@@ -163,8 +163,13 @@ pub enum Shown {
 }
 
 /// An event and what the trace shows under it.
-#[derive(Drop)]
 pub struct Line {
     pub event: Event,
     pub shown: Shown,
+}
+
+impl Drop for Line {
+    fn drop(self) {
+        let Line { event: _, shown: _ } = self;
+    }
 }

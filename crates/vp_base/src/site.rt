@@ -25,14 +25,18 @@ pub struct Part {
 }
 
 /// A copy under refresh, with the copies of other sites that have come, ascending by site.
-#[derive(Drop)]
 pub struct Refreshing {
     pub rec: RecId,
     pub answers: Seq<(SiteId, Stored)>,
 }
 
+impl Drop for Refreshing {
+    fn drop(self) {
+        let Refreshing { rec: _, answers: _ } = self;
+    }
+}
+
 /// A call that is not answered yet: the sites that it waits for, and whether a tick has seen it.
-#[derive(Drop)]
 pub struct Pending {
     pub number: CallNo,
     pub port: u16,
@@ -41,8 +45,19 @@ pub struct Pending {
     pub marked: bool,
 }
 
+impl Drop for Pending {
+    fn drop(self) {
+        let Pending {
+            number: _,
+            port: _,
+            call: _,
+            missing: _,
+            marked: _,
+        } = self;
+    }
+}
+
 /// A transaction of this site. The answer to call N is the Nth. The remote reads are pairs of a site and a record.
-#[derive(Drop)]
 pub struct Live {
     pub txn: TxnId,
     pub view: ViewId,
@@ -51,6 +66,20 @@ pub struct Live {
     pub parts: Sites,
     pub answers: Seq<Answer>,
     pub pending: Option<Pending>,
+}
+
+impl Drop for Live {
+    fn drop(self) {
+        let Live {
+            txn: _,
+            view: _,
+            ops: _,
+            remote: _,
+            parts: _,
+            answers: _,
+            pending: _,
+        } = self;
+    }
 }
 
 /// What a client of a site would call next: its newest live transaction, the number of the next call, from 1, and whether a
@@ -83,9 +112,18 @@ pub enum Ending {
 }
 
 /// A transaction of this site that has ended, with the answers that it gave.
-#[derive(Drop)]
 pub struct Finished {
     pub txn: TxnId,
     pub answers: Seq<Answer>,
     pub ending: Ending,
+}
+
+impl Drop for Finished {
+    fn drop(self) {
+        let Finished {
+            txn: _,
+            answers: _,
+            ending: _,
+        } = self;
+    }
 }

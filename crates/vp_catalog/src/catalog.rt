@@ -20,11 +20,20 @@ use vp_base::{
 };
 
 /// Sites with their ports, ascending by site, and at most 256 records, which are known by their places.
-#[derive(Drop)]
 pub struct Catalog {
     sites: Sites,
     ports: Vec<(SiteId, u16)>,
     records: Vec<Placed>,
+}
+
+impl Drop for Catalog {
+    fn drop(self) {
+        let Catalog {
+            sites: _,
+            ports: _,
+            records: _,
+        } = self;
+    }
 }
 
 impl Model for Catalog {

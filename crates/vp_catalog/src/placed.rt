@@ -10,12 +10,22 @@ use std::marker::Model;
 use vp_base::{CopyOf, Name, NoMemory, SiteId, Sites, Value};
 
 /// A record: its name, the value that each copy starts with, and the weights of the copies, ascending by holder.
-#[derive(Drop)]
 pub struct Placed {
     pub name: Name,
     pub start: Value,
     holders: Sites,
     weights: Vec<(SiteId, u16)>,
+}
+
+impl Drop for Placed {
+    fn drop(self) {
+        let Placed {
+            name: _,
+            start: _,
+            holders: _,
+            weights: _,
+        } = self;
+    }
 }
 
 impl Model for Placed {

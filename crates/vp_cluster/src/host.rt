@@ -22,12 +22,22 @@ pub type SiteLog = (SiteId, Word, Word);
 pub type Logs = Seq<SiteLog>;
 
 /// A site with its port: its node while it is up, and the disk that keeps its log.
-#[derive(Drop)]
 pub struct Host {
     id: SiteId,
     port: u16,
     disk: SureDisk,
     node: Option<Node>,
+}
+
+impl Drop for Host {
+    fn drop(self) {
+        let Host {
+            id: _,
+            port: _,
+            disk: _,
+            node: _,
+        } = self;
+    }
 }
 
 impl Model for Host {

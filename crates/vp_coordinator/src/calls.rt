@@ -56,7 +56,8 @@ fn next_txn(transactions: &Transactions, at: &Around<'_>) -> TxnId
 
 #[tactic(auto, unfolding(vp_model::specs::Calls::start_txn))]
 fn start_txn(lent: &mut Lent, txn: &TxnId, port: u16, view: ViewId) -> Result<(), NoMemory>
-    requires { lent.old.seq < 2 ^ 32 - 1 }
+    requires left { lent.old.seq < 2 ^ 32 - 1 }
+    requires next { txn.now.seq ≡ lent.old.seq + 1 }
     ensures { OnOk result (lent.new ≡ start_txn txn.now port view lent.old) }
 {
     lent.coordinator.begin(txn, view)?;

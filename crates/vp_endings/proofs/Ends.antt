@@ -1,5 +1,6 @@
 -- Several transactions end, one after the other.
-use Rattle.std.proofs.Common.{◌≡◌, ◌∙◌, ◌&&◌, ℕ, Bool, true, not, List, [], ◌∷◌, filter, Option, Some, None, sym, ap, refl, arith}
+use Rattle.std.proofs.Common.{◌≡◌, ◌∙◌, ◌&&◌, ◌<◌, ℕ, Bool, true, not, List, [], ◌∷◌, drop, filter, length, Option, Some, None, sym, ap, refl, arith}
+use Rattle.std.specs.Prelude.{slice_get}
 use Rattle.std.specs.List.{list_all}
 use Rattle.std.specs.Option.{option_map_or}
 use Rattle.std.proofs.lemmas.Bool.Decides.{nat_tests}
@@ -34,6 +35,19 @@ module _ (id : ℕ) (why : Live → Ending) where
   out_goes : (live : List Live) (l : Lent) → close_all id why live (with_live [] l) ≡ with_live [] (close_all id why live l)
   out_goes [] l = refl
   out_goes (t ∷ live) l = rw (close_with t [] l) (out_goes live (close id t (why t) l))
+
+-- the first transaction is closed, and then those behind it
+pub closed_first : (id : ℕ) (why : Live → Ending) (live rest : List Live) (t : Live) (l m : Lent) → Some t ≡ slice_get live 0 → rest ≡ drop 1 live → m ≡ close id t (why t) l → close_all id why rest m ≡ close_all id why live l
+closed_first id why [] rest t l m e r h = absurd (cc)
+closed_first id why (u ∷ live) rest t l m e r h = let same : t ≡ u = cc in rw (r, h, same) refl
+
+pub fewer_left : (live rest : List Live) (t : Live) → Some t ≡ slice_get live 0 → rest ≡ drop 1 live → length rest < length live
+fewer_left [] rest t e r = absurd (cc)
+fewer_left (u ∷ live) rest t e r = rw r (omega arith)
+
+pub all_closed : (id : ℕ) (why : Live → Ending) (live : List Live) (l : Lent) → None ≡ slice_get live 0 → l ≡ close_all id why live l
+all_closed id why [] l e = refl
+all_closed id why (t ∷ live) l e = absurd (cc)
 
 pub all_left : (id : ℕ) (l : Lent) → abandon id l ≡ close_all id (λ t. ViewChanged id t.view None) l.live (with_live [] l)
 unfolding abandon

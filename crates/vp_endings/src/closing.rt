@@ -11,6 +11,7 @@ ghost use Rattle.vp_endings.specs.Ends.{waits_at, timed_out};
 use crate::around::first_of;
 use crate::lent::Lent;
 use vp_base::{Ending, Live, NoMemory, SiteId};
+use vp_transactions::LiveTxns;
 
 /// The least site that the transaction's call waits for.
 fn waits_at(t: &Live) -> Option<SiteId>
@@ -52,16 +53,16 @@ impl Lent {
     }
 
     /// These transactions end, as the site leaves their view.
-    fn abort_each(&mut self, id: SiteId, live: &mut [Live]) -> Result<(), NoMemory>
-        ensures { OnOk result (self.new ≡ close_all id (λ t. ending.ViewChanged id t.view None) live.old self.old) }
+    fn abort_each(&mut self, id: SiteId, mut live: LiveTxns) -> Result<(), NoMemory>
+        ensures { OnOk result (self.new ≡ close_all id (λ t. ending.ViewChanged id t.view None) live self.old) }
     {
-        for t in live.iter_mut() {
+        while let Some(mut t) = live.take_first() {
             let why = Ending::ViewChanged {
                 at: id,
                 held: t.view,
                 now: None,
             };
-            self.close(id, t, why)?;
+            self.close(id, &mut t, why)?;
         }
         Ok(())
     }
@@ -71,7 +72,7 @@ impl Lent {
     pub fn leave(&mut self, id: SiteId) -> Result<(), NoMemory>
         ensures { OnOk result (self.new ≡ abandon id self.old) }
     {
-        let mut live = self.coordinator.take_all();
-        self.abort_each(id, &mut live)
+        let live = self.coordinator.take_all();
+        self.abort_each(id, live)
     }
 }

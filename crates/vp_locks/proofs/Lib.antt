@@ -1,1 +1,3 @@
-pub mod Records
+pub mod InSlots
+pub mod Indexes
+pub mod Lists

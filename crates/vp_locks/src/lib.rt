@@ -1,18 +1,26 @@
 //! The lock table of a site. A contract sees the list of its locks, in the order in which they were taken.
 #![tactic(auto)]
 
-ghost use Rattle.std.specs.Prelude.{◌≡◌, ◌++◌, ◌∷◌, ◌≤◌, [], is_ok, length, slice_get, not, ◌&&◌, ◌||◌, Some, option_copied, if◌then◌else◌, map, filter, true, false};
+ghost use Rattle.std.specs.Prelude.{◌≡◌, ◌==◌, ◌++◌, ◌∷◌, [], is_ok, not, ◌&&◌, ◌||◌, Some, None, option_copied, if◌then◌else◌, filter, map, fold, true, false};
 ghost use Rattle.std.specs.Option.{option_map_or};
 ghost use Rattle.vp_base.specs.declared.entry.Owner.TheVariants as owner;
 ghost use Rattle.vp_locks.specs.Faults.{holder_in};
 ghost use Rattle.vp_model.specs.Locks.{conflict, conflicting, least_owner, holds, with_lock, with_guard, without_owner, without_guard, without_shared, lesser, raised};
+ghost use Rattle.vp_locks.specs.Staying.{stays};
 ghost use Rattle.vp_model.specs.Words.{same_owner, owner_before};
 
-use memchr::memchr_iter;
+mod keeps;
+mod places;
+mod slots;
+
+pub use keeps::Keeps;
+use keeps::Staying;
+use places::{OwnerKey, Places, owner_key};
+use slots::{lock_at, raise, sweep, sweep_all};
 use std::alloc::Global;
 use std::marker::Model;
 use vp_base::{CopyOf, Lock, NoMemory, Owner, RecId, TxnId};
-use vp_lists::{copy_all, is_same_owner, owner_comes_before};
+use vp_lists::{is_same_owner, owner_comes_before};
 
 /// Why a lock is not taken: another owner has one that forbids it, or there is no memory.
 #[derive(Clone, Copy, Drop)]
@@ -31,17 +39,6 @@ impl From<NoMemory> for LockFault {
     }
 }
 
-/// What decides which locks stay.
-pub trait Keeps {
-    ghost use Rattle.std.specs.Prelude.{Bool};
-    ghost use Rattle.vp_base.specs.declared.site.Lock.{Lock};
-
-    ghost keeps: { Self → Lock → Bool };
-
-    fn keeps(&self, lock: &Lock) -> bool
-        ensures { result ≡ keeps self.now lock.now };
-}
-
 /// The lesser of the best owner so far and another.
 fn lesser_of(best: Option<Owner>, owner: &Owner) -> Owner
     ensures { result ≡ lesser best owner.now }
@@ -56,12 +53,6 @@ fn lesser_of(best: Option<Owner>, owner: &Owner) -> Owner
             }
         }
     }
-}
-
-fn lock_at(items: &[Lock], place: usize) -> Option<&Lock>
-    ensures { option_copied result ≡ slice_get items.now place }
-{
-    items.get(place)
 }
 
 /// The least owner so far, or that of a lock of the record which forbids this owner one.
@@ -81,39 +72,64 @@ fn least_with(
     }
 }
 
-/// Whether the lock of the record is this owner's, and exclusive where that is asked.
-fn is_own(lock: Option<&Lock>, exclusive: bool, owner: &Owner) -> bool
-    ensures { result ≡ option_map_or (λ lock. (not exclusive || lock.exclusive) && same_owner lock.owner owner.now) (option_copied lock.entry) false }
+/// Whether the owner's lock is on the record, and exclusive where that is asked.
+fn is_on(lock: Option<&Lock>, rec: RecId, exclusive: bool) -> bool
+    ensures { result ≡ option_map_or (λ lock. (lock.rec == rec) && (not exclusive || lock.exclusive)) (option_copied lock.entry) false }
 {
     match lock {
-        Some(lock) => (!exclusive || lock.exclusive) && is_same_owner(&lock.owner, owner),
+        Some(lock) => lock.rec == rec && (!exclusive || lock.exclusive),
         None => false,
     }
 }
 
-/// The locks at a site. Beside them stands the record of each, so that a search passes quickly over the others.
-#[derive(Drop)]
+/// How many slots a table may use beyond twice the locks that its last copy had.
+const ROOM: usize = 64;
+
+/// The locks at a site, in slots in the order in which they were taken, with the places of each record's locks and of each owner's:
+/// what is asked of a record or of an owner reads no others. A lock that goes leaves an empty slot behind. When the slots reach the
+/// limit, a copy without the empty ones takes the table's place; as many locks were taken by then as it has, so that each
+/// lock costs no more than a constant for this.
 pub struct Locks {
-    items: Vec<Lock>,
-    recs: Vec<u8>,
+    slots: Vec<Option<Lock>>,
+    by_rec: Places<u8>,
+    by_owner: Places<OwnerKey>,
+    limit: usize,
+}
+
+impl Drop for Locks {
+    fn drop(self) {
+        let Locks {
+            slots: _,
+            by_rec: _,
+            by_owner: _,
+            limit: _,
+        } = self;
+    }
 }
 
 impl Model for Locks {
-    ghost use Rattle.std.specs.Prelude.{◌≡◌, List, map};
+    ghost use Rattle.std.specs.Prelude.{List};
     ghost use Rattle.vp_base.specs.declared.site.Lock.{Lock};
+    ghost use Rattle.vp_locks.specs.Index.{IsOwnerIndex, IsRecIndex};
+    ghost use Rattle.vp_locks.specs.Places.{present};
 
     ghost Value = { List Lock };
 
-    ghost view = { λ a. a.items.items };
+    ghost view = { λ a. present a.slots.items };
 
-    ghost invariant = { λ a. a.recs.items ≡ map (λ lock. lock.rec) a.items.items };
+    ghost invariant = { λ a. IsRecIndex a.by_rec.lists a.slots.items × IsOwnerIndex a.by_owner.lists a.slots.items };
 }
 
 impl CopyOf for Locks {
     fn copy_of(&self) -> Result<Locks, NoMemory> {
-        let items = copy_all(*self.items.allocator(), &self.items)?;
-        let recs = self.recs.clone()?;
-        Ok(Locks { items, recs })
+        let mut copy = Locks::new(*self.slots.allocator());
+        for slot in &self.slots {
+            if let Some(lock) = slot {
+                copy.append(lock.rec, lock.exclusive, &lock.owner)?;
+            }
+        }
+        copy.limit = copy.slots.len().saturating_mul(2).saturating_add(ROOM);
+        Ok(copy)
     }
 }
 
@@ -123,8 +139,10 @@ impl Locks {
         ensures { result ≡ [] }
     {
         Locks {
-            items: Vec::new(alloc),
-            recs: Vec::new(alloc),
+            slots: Vec::new(alloc),
+            by_rec: Places::new(alloc),
+            by_owner: Places::new(alloc),
+            limit: ROOM,
         }
     }
 
@@ -133,8 +151,8 @@ impl Locks {
         ensures { result ≡ least_owner (conflicting rec exclusive owner.now self.now) }
     {
         let mut best = None;
-        for place in memchr_iter(rec.get(), &self.recs) {
-            best = least_with(best, lock_at(&self.items, place), exclusive, owner);
+        for place in self.by_rec.of(&rec.get()) {
+            best = least_with(best, lock_at(&self.slots, *place), exclusive, owner);
         }
         best
     }
@@ -142,37 +160,64 @@ impl Locks {
     fn has(&self, rec: RecId, exclusive: bool, owner: &Owner) -> bool
         ensures { result ≡ holds rec exclusive owner.now self.now }
     {
-        for place in memchr_iter(rec.get(), &self.recs) {
-            if is_own(lock_at(&self.items, place), exclusive, owner) {
+        for place in self.by_owner.of(&owner_key(owner)) {
+            if is_on(lock_at(&self.slots, *place), rec, exclusive) {
                 return true;
             }
         }
         false
     }
 
-    #[tactic(auto, using(crate::proofs::Records::raised_records))]
     fn put(&mut self, rec: RecId, exclusive: bool, owner: &Owner) -> Result<(), NoMemory>
         ensures { self.new ≡ (if is_ok result then with_lock rec exclusive owner.now self.old else self.old) }
     {
         if self.has(rec, false, owner) {
-            raise(&mut self.items, rec, exclusive, owner);
+            self.raise(rec, exclusive, owner);
         } else {
             self.add(rec, exclusive, owner)?;
         }
         Ok(())
     }
 
+    /// The owner's lock on the record becomes exclusive where that is asked.
+    fn raise(&mut self, rec: RecId, exclusive: bool, owner: &Owner)
+        ensures { self.new ≡ map (raised rec exclusive owner.now) self.old }
+    {
+        raise(
+            &mut self.slots,
+            self.by_owner.of(&owner_key(owner)),
+            rec,
+            exclusive,
+            owner,
+        );
+    }
+
     /// One more lock, behind the others, whoever has one on the record.
     pub fn add(&mut self, rec: RecId, exclusive: bool, owner: &Owner) -> Result<(), NoMemory>
         ensures { self.new ≡ (if is_ok result then self.old ++ (record { rec = rec; exclusive = exclusive; owner = owner.now }) ∷ [] else self.old) }
     {
-        self.recs.reserve(1)?;
-        self.items.push(Lock {
+        if self.slots.len() >= self.limit {
+            *self = self.copy_of()?;
+        }
+        self.append(rec, exclusive, owner)
+    }
+
+    /// One more lock, in a slot of its own.
+    fn append(&mut self, rec: RecId, exclusive: bool, owner: &Owner) -> Result<(), NoMemory>
+        ensures { self.new ≡ (if is_ok result then self.old ++ (record { rec = rec; exclusive = exclusive; owner = owner.now }) ∷ [] else self.old) }
+    {
+        let place = self.slots.len();
+        self.slots.reserve(1)?;
+        self.by_rec.note(rec.get(), place)?;
+        if let Err(fault) = self.by_owner.note(owner_key(owner), place) {
+            self.by_rec.forget(&rec.get(), place);
+            return Err(fault);
+        }
+        self.slots.push(Some(Lock {
             rec,
             exclusive,
             owner: *owner,
-        })?;
-        self.recs.push(rec.get())?;
+        }))?;
         Ok(())
     }
 
@@ -188,6 +233,19 @@ impl Locks {
                 Ok(())
             }
         }
+    }
+
+    /// Of the owner's locks those go that do not stay.
+    fn sweep(&mut self, owner: &Owner, staying: Staying)
+        ensures { self.new ≡ filter (λ lock. not (same_owner lock.owner owner.now) || stays staying lock) self.old }
+    {
+        sweep(
+            &mut self.slots,
+            &mut self.by_rec,
+            self.by_owner.of(&owner_key(owner)),
+            &staying,
+        );
+        self.by_owner.keep_taken(&owner_key(owner), &self.slots);
     }
 
     /// The least owner whose lock forbids the transaction the lock.
@@ -238,75 +296,27 @@ impl Locks {
     pub fn unguard(&mut self, rec: RecId)
         ensures { self.new ≡ without_guard rec self.old }
     {
-        self.items.retain(|lock| !(lock.rec == rec && is_same_owner(&lock.owner, &Owner::Refresh)));
-        read_records(&mut self.recs, &self.items);
+        self.sweep(&Owner::Refresh, Staying::Elsewhere { rec });
     }
 
     /// All locks of the transaction go.
     pub fn release(&mut self, txn: TxnId)
         ensures { self.new ≡ without_owner (owner.Txn txn) self.old }
     {
-        let owner = Owner::Txn(txn);
-        self.items
-            .retain(|lock| !is_same_owner(&lock.owner, &owner));
-        read_records(&mut self.recs, &self.items);
+        self.sweep(&Owner::Txn(txn), Staying::None);
     }
 
     /// The shared locks of the transaction go, and its exclusive ones stay.
     pub fn release_shared(&mut self, txn: TxnId)
         ensures { self.new ≡ without_shared (owner.Txn txn) self.old }
     {
-        let owner = Owner::Txn(txn);
-        self.items.retain(|lock| lock.exclusive || !is_same_owner(&lock.owner, &owner));
-        read_records(&mut self.recs, &self.items);
+        self.sweep(&Owner::Txn(txn), Staying::Exclusive);
     }
 
     /// The locks that are not kept go.
     pub fn retain<K: Keeps>(&mut self, kept: &K)
         ensures { self.new ≡ filter (K.keeps kept.now) self.old }
     {
-        self.items.retain(|lock| kept.keeps(lock));
-        read_records(&mut self.recs, &self.items);
-    }
-}
-
-/// The records are again those of the locks, some of which went.
-fn read_records(recs: &mut Vec<u8>, items: &[Lock])
-    requires { length items.now ≤ length recs.old.items }
-    ensures { recs.new.items ≡ map (λ lock. lock.rec) items.now }
-{
-    recs.truncate(items.len());
-    write_records(recs, items);
-}
-
-fn write_records(recs: &mut [u8], items: &[Lock])
-    requires { length recs.old ≡ length items.now }
-    ensures { recs.new ≡ map (λ lock. lock.rec) items.now }
-{
-    for (place, lock) in items.iter().enumerate() {
-        recs[place] = lock.rec.get();
-    }
-}
-
-fn raised_one(lock: &mut Lock, rec: RecId, exclusive: bool, owner: &Owner)
-    ensures { lock.new ≡ raised rec exclusive owner.now lock.old }
-{
-    if lock.rec == rec && is_same_owner(&lock.owner, owner) {
-        lock.exclusive = lock.exclusive || exclusive;
-    }
-}
-
-/// The owner's lock on the record becomes exclusive where that is asked.
-fn raise(items: &mut Vec<Lock>, rec: RecId, exclusive: bool, owner: &Owner)
-    ensures { items.new.items ≡ map (raised rec exclusive owner.now) items.old.items }
-{
-    raise_each(items, rec, exclusive, owner);
-}
-
-fn raise_each(items: &mut [Lock], rec: RecId, exclusive: bool, owner: &Owner)
-    ensures { items.new ≡ map (raised rec exclusive owner.now) items.old }
-{
-    for lock in items.iter_mut() {
-        raised_one(lock, rec, exclusive, owner);
+        sweep_all(&mut self.slots, &mut self.by_rec, &mut self.by_owner, kept);
     }
 }

@@ -93,7 +93,7 @@ fn read(
     match own_write(&handled.live, rec)? {
         Some(value) => lent.answer_read(handled, rec, value),
         None => match copy_here(&lent.here, rec)? {
-            Some(stored) => read_here(lent, at.id, handled, name, rec, stored.value),
+            Some(stored) => read_here(lent, at.id, handled, name, rec, stored.into_value()),
             None => read_there(lent, at, handled, rec),
         },
     }

@@ -19,12 +19,21 @@ use vp_base::{NoMemory, Word};
 
 /// A disk in memory, with a plan of the calls that fail. It tells its logs, and keeps a record of the calls that changed them. At first
 /// no log is attached.
-#[derive(Drop)]
 pub struct MemDisk {
     disk: SureDisk,
     attached: bool,
     /// The calls that fail. A call that finds no memory isn't counted there.
     pub plan: FaultPlan,
+}
+
+impl Drop for MemDisk {
+    fn drop(self) {
+        let MemDisk {
+            disk: _,
+            attached: _,
+            plan: _,
+        } = self;
+    }
 }
 
 impl MemDisk {

@@ -18,13 +18,24 @@ use vp_base::{NoMemory, Word};
 
 /// A disk in memory that never fails but for want of it. It tells its logs, and keeps a record of the calls that changed them. It is
 /// made with an empty log attached, which has no name.
-#[derive(Drop)]
 pub struct SureDisk {
     alloc: Global,
     unnamed: LogBytes,
     named: Vec<NamedLog>,
     place: Option<usize>,
     changes: Vec<Change>,
+}
+
+impl Drop for SureDisk {
+    fn drop(self) {
+        let SureDisk {
+            alloc: _,
+            unnamed: _,
+            named: _,
+            place: _,
+            changes: _,
+        } = self;
+    }
 }
 
 impl Model for SureDisk {

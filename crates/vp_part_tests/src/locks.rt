@@ -29,3 +29,19 @@ fn each_call_takes_what_it_names(rt: HostRuntime) {
     locks.unguard(rec);
     assert!(rt; locks.conflict(rec, true, txn(&rt, 2)).is_none());
 }
+
+/// Many more locks are taken and released than the table ever has.
+#[test]
+fn a_table_outlives_its_locks(rt: HostRuntime) {
+    let (often, shared) = (RecId::new(0), RecId::new(1));
+    let mut locks = Locks::new(rt.alloc());
+    assert!(rt; locks.take_shared(shared, txn(&rt, 0)).is_ok());
+    for seq in 1..=500 {
+        assert!(rt; locks.take_exclusive(often, txn(&rt, seq)).is_ok());
+        assert!(rt; locks.take_shared(shared, txn(&rt, seq)).is_ok());
+        locks.release(txn(&rt, seq));
+    }
+    assert!(rt; locks.holds(shared, false, txn(&rt, 0)));
+    assert!(rt; locks.conflict(often, true, txn(&rt, 0)).is_none());
+    assert!(rt; locks.conflict(shared, true, txn(&rt, 501)) == Some(Owner::Txn(txn(&rt, 0))));
+}

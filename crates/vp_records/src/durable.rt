@@ -19,13 +19,24 @@ use vp_lists::{copy_all, find_txn, value_at};
 
 /// What a site has after a crash: its promise, its life, its copies, the transactions in doubt, and the decisions that
 /// some site has not acknowledged.
-#[derive(Drop)]
 pub struct Durable {
     promise: ViewId,
     life: u32,
     copies: Copies,
     doubts: InDoubt,
     decisions: Decisions,
+}
+
+impl Drop for Durable {
+    fn drop(self) {
+        let Durable {
+            promise: _,
+            life: _,
+            copies: _,
+            doubts: _,
+            decisions: _,
+        } = self;
+    }
 }
 
 impl Model for Durable {
@@ -86,7 +97,14 @@ impl Durable {
     pub fn into_copies(self) -> Copies
         ensures { result ≡ self.copies }
     {
-        self.copies
+        let Durable {
+            promise: _,
+            life: _,
+            copies,
+            doubts: _,
+            decisions: _,
+        } = self;
+        copies
     }
 
     /// The highest view that the site has promised to.

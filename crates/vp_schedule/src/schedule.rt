@@ -5,10 +5,18 @@ use vp_base::{CopyOf, Events, NoMemory};
 use vp_catalog::Catalog;
 
 /// What a run is given. A contract sees it as the definitions' schedule.
-#[derive(Drop)]
 pub struct Schedule {
     pub catalog: Catalog,
     pub events: Events,
+}
+
+impl Drop for Schedule {
+    fn drop(self) {
+        let Schedule {
+            catalog: _,
+            events: _,
+        } = self;
+    }
 }
 
 impl Model for Schedule {

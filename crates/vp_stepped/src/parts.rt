@@ -131,7 +131,7 @@ impl Stepped {
         match self.copy_here(request.rec)? {
             None => self.pass_over(request, from),
             Some(stored) => {
-                let value = stored.value;
+                let value = stored.into_value();
                 self.grant(
                     request,
                     false,

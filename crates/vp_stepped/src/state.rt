@@ -8,13 +8,24 @@ use vp_refresh::Refresh;
 use vp_views::Views;
 
 /// What a site keeps while it is up: each part by its own crate.
-#[derive(Drop)]
 pub struct SiteState {
     pub views: Views,
     pub here: Here,
     pub participant: Participant,
     pub refresh: Refresh,
     pub coordinator: Coordinator,
+}
+
+impl Drop for SiteState {
+    fn drop(self) {
+        let SiteState {
+            views: _,
+            here: _,
+            participant: _,
+            refresh: _,
+            coordinator: _,
+        } = self;
+    }
 }
 
 impl Model for SiteState {

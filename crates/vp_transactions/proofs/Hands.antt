@@ -1,5 +1,5 @@
 -- A transaction that is put into its place again, or taken out for good.
-use Rattle.std.proofs.Common.{◌≡◌, Bool, true, if◌then◌else◌, List, [], ◌∷◌, find, Option, Some, None, is_some, IfSome, Bor, ◌∙◌, ap, sym, subst, refl, arith}
+use Rattle.std.proofs.Common.{◌≡◌, Bool, true, List, [], ◌∷◌, find, Option, Some, None, is_some, IfSome, Bor, ◌∙◌, ap, sym, subst, refl, arith}
 use Rattle.std.specs.Prelude.{option_copied}
 use Rattle.std.specs.List.{list_any}
 use Rattle.std.specs.Option.{option_map_or}
@@ -37,15 +37,6 @@ put_none test f (z ∷ zs) h = let rest = put_none test f zs in grind (arith, na
 put_found : {A : Type 0} (test : A → Bool) (t : A) (xs : List A) → Some t ≡ find test xs → change_first test (λ u. t) xs ≡ xs
 put_found test t [] h = refl
 put_found test t (z ∷ zs) h = let rest = put_found test t zs in grind (arith, nat_tests, h, rest)
-
--- nothing goes where nothing is found
-without_none : {A : Type 0} (test : A → Bool) (xs : List A) → None ≡ find test xs → without_first test xs ≡ xs
-without_none test [] h = refl
-without_none test (z ∷ zs) h = let rest = without_none test zs in grind (arith, nat_tests, h, rest)
-
-pub dropped : {A : Type 0} (test : A → Bool) (xs ys : List A) (r : Option A) → r ≡ find test xs → ys ≡ (if is_some r then without_first test xs else xs) → ys ≡ without_first test xs
-dropped test xs ys None f e = rw (without_none test xs f) e
-dropped test xs ys (Some t) f e = e
 
 -- what was lifted goes back, and the list is as it was
 pub back : (txn : TxnId) (h : Live) (xs ys : List Live) (r : Option Live) → h.txn ≡ txn → ys ≡ change_first (λ u. same_txn u.txn txn) (λ u. h) xs → r ≡ find (λ u. same_txn u.txn txn) xs → IfSome r (λ t. t.txn ≡ txn) → option_map_or (λ t. change_first (λ u. same_txn u.txn t.txn) (λ u. t) ys) r ys ≡ xs

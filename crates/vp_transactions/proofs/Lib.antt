@@ -1,2 +1,3 @@
 pub mod Hands
+pub mod Order
 pub mod Waiting

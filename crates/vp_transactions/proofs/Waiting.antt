@@ -1,6 +1,8 @@
 -- The calls of the live transactions wait for some site, whatever a row does to the list.
-use Rattle.std.proofs.Common.{◌≡◌, ◌-◌, Bool, true, List, [], ◌∷◌, ◌++◌, find, map, length, slice_get, Option, Some, None, option_map, IfSome, refl, arith}
+use Rattle.std.proofs.Common.{◌≡◌, ℕ, zero, suc, ◌+◌, ◌-◌, ◌<◌, Bool, if◌then◌else◌, filter, take, get_or, sym, subst, true, List, [], ◌∷◌, ◌++◌, find, map, length, slice_get, Option, Some, None, option_map, IfSome, refl, arith}
 use Rattle.std.proofs.lemmas.Bool.Decides.{nat_tests}
+use Rattle.std.proofs.lemmas.List.Elements.{filter_more}
+use Rattle.std.proofs.lemmas.Option.{get_or_from_slice_get, slice_get_within}
 use Rattle.vp_model.specs.Types.{Live, Pending}
 use Rattle.vp_model.specs.Words.{change_first, without_first}
 use Rattle.vp_model.specs.Step.{marked_call, mark}
@@ -44,3 +46,15 @@ newest_is_last [] = refl
 newest_is_last (x ∷ xs) =
     let e : length (x ∷ xs) - 1 ≡ length xs = omega arith in
     rw e (last_at x xs)
+
+-- one more transaction is late, or is not
+pub late_more : (test : Live → Bool) (live : List Live) (place : ℕ) (t : Live) → Some t ≡ slice_get live place → filter test (take (place + 1) live) ≡ filter test (take place live) ++ (if test t then t ∷ [] else [])
+late_more test live place t e =
+    let here : get_or live place t ≡ t = get_or_from_slice_get live place t t (sym e) in
+    let more = filter_more test live place t (slice_get_within live place t (sym e)) in
+    subst (λ (u : Live). filter test (take (place + 1) live) ≡ filter test (take place live) ++ (if test u then u ∷ [] else [])) here more
+
+pub late_past : (test : Live → Bool) (live : List Live) (place : ℕ) → place < length live → None ≡ slice_get live place → filter test (take (place + 1) live) ≡ filter test (take place live)
+late_past test [] place l e = absurd (omega arith)
+late_past test (t ∷ live) zero l e = absurd (cc)
+late_past test (t ∷ live) (suc place) l e = let rest = late_past test live place (omega arith) e in grind (arith, rest)

@@ -1,6 +1,7 @@
 //! The live transactions of a site.
 
-ghost use Rattle.std.specs.Prelude.{◌≡◌, ◌++◌, ◌∷◌, [], true, OnOk, IfOk, IfSome, filter, map, length, option_copied};
+ghost use Rattle.std.specs.Prelude.{◌≡◌, ◌++◌, ◌∷◌, [], true, OnOk, OnErr, IfOk, IfSome, if◌then◌else◌, filter, map, drop, length, slice_get, slice_index_or};
+ghost use Rattle.std.specs.List.{position};
 ghost use Rattle.std.specs.Option.{option_map_or};
 ghost use Rattle.vp_model.specs.Words.{same_txn, change_first, without_first};
 ghost use Rattle.vp_model.specs.Transactions.{live_of};
@@ -8,29 +9,38 @@ ghost use Rattle.vp_model.specs.Calls.{begun};
 ghost use Rattle.vp_model.specs.Answers.{is_live};
 ghost use Rattle.vp_model.specs.Step.{is_marked_call, mark};
 ghost use Rattle.vp_model.specs.Generated.{newest_of, newest};
+ghost use Rattle.vp_transactions.specs.Order.{numbers, AreBelow, AreRising, AreLive, IsPlace};
 ghost use Rattle.vp_transactions.specs.Waiting.{waits, all_wait};
 
 use std::alloc::Global;
 use std::marker::Model;
+use std::mem;
 use vp_base::{CopyOf, Live, Newest, NoMemory, Ops, Pending, Seq, Sites, TxnId, ViewId};
-use vp_lists::{find_txn, replace_txn, take_txn};
+use vp_lists::is_same_txn;
+use vp_slots::Slots;
 
-/// The live transactions, in the order in which they began. A call of theirs that is not answered yet waits for some site.
-#[derive(Drop)]
+/// The live transactions, in the order in which they began: their numbers rise, so that one is found by halving. A call of theirs that is
+/// not answered yet waits for some site.
 pub struct LiveTxns {
-    items: Vec<Live>,
+    items: Slots<Live>,
+}
+
+impl Drop for LiveTxns {
+    fn drop(self) {
+        let LiveTxns { items: _ } = self;
+    }
 }
 
 impl Model for LiveTxns {
-    ghost use Rattle.std.specs.Prelude.{◌≡◌, List, true};
+    ghost use Rattle.std.specs.Prelude.{List};
     ghost use Rattle.vp_base.specs.declared.site.Live.{Live};
-    ghost use Rattle.vp_transactions.specs.Waiting.{all_wait};
+    ghost use Rattle.vp_transactions.specs.Order.{AreLive};
 
     ghost Value = { List Live };
 
-    ghost view = { λ a. a.items.items };
+    ghost view = { λ a. a.items };
 
-    ghost invariant = { λ a. all_wait a.items.items ≡ true };
+    ghost invariant = { λ a. AreLive a.items };
 }
 
 impl LiveTxns {
@@ -38,12 +48,12 @@ impl LiveTxns {
         ensures { result ≡ [] }
     {
         LiveTxns {
-            items: Vec::new(alloc),
+            items: Slots::new(alloc),
         }
     }
 
     pub fn allocator(&self) -> Global {
-        *self.items.allocator()
+        self.items.allocator()
     }
 
     pub fn len(&self) -> usize
@@ -55,17 +65,17 @@ impl LiveTxns {
     pub fn has(&self, txn: &TxnId) -> bool
         ensures { result ≡ is_live txn.now self.now }
     {
-        find_txn(&self.items, txn).is_some()
+        is_there(&self.items, txn)
     }
 
-    /// The transaction begins.
-    #[tactic(auto, using(crate::proofs::Waiting::all_wait_more))]
+    /// The transaction begins: its number is above those of the live ones. Without memory nothing changes.
     pub fn begin(&mut self, txn: &TxnId, view: ViewId) -> Result<(), NoMemory>
-        ensures { OnOk result (self.new ≡ self.old ++ begun txn.now view ∷ []) }
+        requires { AreBelow txn.now.seq self.old }
+        ensures ok { OnOk result (self.new ≡ self.old ++ begun txn.now view ∷ []) }
+        ensures err { OnErr result (self.new ≡ self.old) }
     {
-        let t = new_live(self.allocator(), txn, view);
-        self.items.push(t)?;
-        Ok(())
+        let t = new_live(self.items.allocator(), txn, view);
+        self.items.push(t)
     }
 
     /// Takes the transaction into the hands of a row, where there is one: an empty one of its name keeps its place.
@@ -91,11 +101,12 @@ impl LiveTxns {
         drop_txn(&mut self.items, txn)
     }
 
-    /// The transactions, out of the list.
-    pub fn into_vec(self) -> Vec<Live>
-        ensures { result.items ≡ self }
+    /// Takes the first transaction out.
+    pub fn take_first(&mut self) -> Option<Live>
+        ensures taken { result ≡ slice_get self.old 0 }
+        ensures rest { self.new ≡ drop 1 self.old }
     {
-        self.items
+        drop_first(&mut self.items)
     }
 
     /// Copies of those whose call was pending at the tick before.
@@ -121,6 +132,66 @@ impl LiveTxns {
     }
 }
 
+/// The number of the transaction at the place; 0 where there is none.
+fn number_at(live: &Slots<Live>, place: usize) -> u32
+    ensures { result ≡ slice_index_or (numbers live.now) place 0 }
+{
+    match live.get(place) {
+        None => 0,
+        Some(t) => t.txn.seq,
+    }
+}
+
+/// Where a transaction of this number stands, or would stand.
+fn place_for(live: &Slots<Live>, number: u32) -> usize
+    requires { AreRising (numbers live.now) }
+    ensures { IsPlace number (numbers live.now) result }
+{
+    let mut low = 0;
+    let mut high = live.len();
+    while low < high {
+        let middle = low + (high - low) / 2;
+        if number_at(live, middle) < number {
+            low = middle + 1;
+        } else {
+            high = middle;
+        }
+    }
+    low
+}
+
+/// The place of the transaction. Its number leads there, and then its whole name has to be the same.
+fn place_of(live: &Slots<Live>, txn: &TxnId) -> Option<usize>
+    requires { AreRising (numbers live.now) }
+    ensures { result ≡ position (λ t. same_txn t.txn txn.now) live.now }
+{
+    let place = place_for(live, txn.seq);
+    match live.get(place) {
+        None => None,
+        Some(t) => is_same_txn(&t.txn, txn).then_some(place),
+    }
+}
+
+fn is_there(live: &Slots<Live>, txn: &TxnId) -> bool
+    requires { AreLive live.now }
+    ensures { result ≡ is_live txn.now live.now }
+{
+    place_of(live, txn).is_some()
+}
+
+/// The transaction goes where the one of this name is, which is given back; nowhere, where there is none.
+fn replace(live: &mut Slots<Live>, name: &TxnId, t: Live) -> Option<Live>
+    requires { AreLive live.old }
+    ensures taken { result ≡ live_of name.now live.old }
+    ensures named { IfSome result (λ t. t.txn ≡ name.now) }
+    ensures rest { live.new ≡ change_first (λ u. same_txn u.txn name.now) (λ u. t) live.old }
+{
+    match place_of(live, name) {
+        None => None,
+        Some(place) => Some(mem::replace(live.item_mut(place), t)),
+    }
+}
+
 /// A transaction without operations.
 pub fn new_live(alloc: Global, txn: &TxnId, view: ViewId) -> Live
     ensures { result ≡ begun txn.now view }
@@ -136,34 +207,44 @@ pub fn new_live(alloc: Global, txn: &TxnId, view: ViewId) -> Live
     }
 }
 
-fn lift(live: &mut Vec<Live>, txn: &TxnId) -> Option<Live>
-    requires { all_wait live.old.items ≡ true }
-    ensures lifted { result ≡ live_of txn.now live.old.items }
-    ensures back { option_map_or (λ t. change_first (λ u. same_txn u.txn t.txn) (λ u. t) live.new.items) result live.new.items ≡ live.old.items }
+fn lift(live: &mut Slots<Live>, txn: &TxnId) -> Option<Live>
+    requires { AreLive live.old }
+    ensures lifted { result ≡ live_of txn.now live.old }
+    ensures back { option_map_or (λ t. change_first (λ u. same_txn u.txn t.txn) (λ u. t) live.new) result live.new ≡ live.old }
     ensures waiting { IfSome result (λ t. waits t ≡ true) }
-    ensures rest { all_wait live.new.items ≡ true }
+    ensures rest { AreLive live.new }
 {
-    let alloc = *live.allocator();
-    let empty = new_live(alloc, txn, ViewId { number: 0, site: 0 });
-    replace_txn(live, txn, empty)
+    let empty = new_live(live.allocator(), txn, ViewId { number: 0, site: 0 });
+    replace(live, txn, empty)
 }
 
-fn lay_down(live: &mut Vec<Live>, t: Live)
-    requires all { all_wait live.old.items ≡ true }
+fn lay_down(live: &mut Slots<Live>, t: Live)
+    requires all { AreLive live.old }
     requires item { waits t ≡ true }
-    ensures placed { live.new.items ≡ change_first (λ u. same_txn u.txn t.txn) (λ u. t) live.old.items }
-    ensures rest { all_wait live.new.items ≡ true }
+    ensures placed { live.new ≡ change_first (λ u. same_txn u.txn t.txn) (λ u. t) live.old }
+    ensures rest { AreLive live.new }
 {
     let txn = t.txn;
-    let _ = replace_txn(live, &txn, t);
+    let _ = replace(live, &txn, t);
 }
 
-fn drop_txn(live: &mut Vec<Live>, txn: &TxnId)
-    requires { all_wait live.old.items ≡ true }
-    ensures dropped { live.new.items ≡ without_first (λ u. same_txn u.txn txn.now) live.old.items }
-    ensures rest { all_wait live.new.items ≡ true }
+fn drop_txn(live: &mut Slots<Live>, txn: &TxnId)
+    requires { AreLive live.old }
+    ensures dropped { live.new ≡ without_first (λ u. same_txn u.txn txn.now) live.old }
+    ensures rest { AreLive live.new }
 {
-    let _ = take_txn(live, txn);
+    if let Some(place) = place_of(live, txn) {
+        let _ = live.remove(place);
+    }
+}
+
+fn drop_first(live: &mut Slots<Live>) -> Option<Live>
+    requires { AreLive live.old }
+    ensures taken { result ≡ slice_get live.old 0 }
+    ensures left { live.new ≡ drop 1 live.old }
+    ensures rest { AreLive live.new }
+{
+    live.remove(0)
 }
 
 /// Whether the transaction's call was pending at the tick before.
@@ -199,13 +280,23 @@ fn copy_of_live(t: &Live) -> Result<Live, NoMemory>
     })
 }
 
-fn late_in(live: &Vec<Live>) -> Result<Vec<Live>, NoMemory>
-    ensures { IfOk result (λ late. late.items ≡ filter (λ t. is_marked_call t.pending) live.now.items) }
+/// A copy of the transaction is added to the late ones, where it is late.
+fn add_late(late: &mut Vec<Live>, t: &Live) -> Result<(), NoMemory>
+    ensures { OnOk result (late.new.items ≡ late.old.items ++ (if is_marked_call t.now.pending then t.now ∷ [] else [])) }
 {
-    let mut late = Vec::new(*live.allocator());
-    for t in live {
-        if is_late(t) {
-            late.push(copy_of_live(t)?)?;
+    if is_late(t) {
+        late.push(copy_of_live(t)?)?;
+    }
+    Ok(())
+}
+
+fn late_in(live: &Slots<Live>) -> Result<Vec<Live>, NoMemory>
+    ensures { IfOk result (λ late. late.items ≡ filter (λ t. is_marked_call t.pending) live.now) }
+{
+    let mut late = Vec::new(live.allocator());
+    for place in 0..live.len() {
+        if let Some(t) = live.get(place) {
+            add_late(&mut late, t)?;
         }
     }
     Ok(late)
@@ -219,17 +310,19 @@ fn mark_one(t: &mut Live)
     }
 }
 
-fn mark_all(live: &mut Vec<Live>)
-    ensures { live.new.items ≡ map mark live.old.items }
+fn mark_all(live: &mut Slots<Live>)
+    requires { AreLive live.old }
+    ensures marked { live.new ≡ map mark live.old }
+    ensures rest { AreLive live.new }
 {
     mark_each(live);
 }
 
-fn mark_each(live: &mut [Live])
+fn mark_each(live: &mut Slots<Live>)
     ensures { live.new ≡ map mark live.old }
 {
-    for t in live.iter_mut() {
-        mark_one(t);
+    for place in 0..live.len() {
+        mark_one(live.item_mut(place));
     }
 }
 
@@ -244,7 +337,7 @@ fn newest_of(t: &Live) -> Newest
 }
 
 #[tactic(auto, using(crate::proofs::Waiting::newest_is_last))]
-fn newest_in(live: &[Live]) -> Option<Newest>
+fn newest_in(live: &Slots<Live>) -> Option<Newest>
     ensures { result ≡ newest live.now }
 {
     match live.last() {

@@ -1,6 +1,6 @@
 //! The transactions that a site began, and how they end.
 
-ghost use Rattle.std.specs.Prelude.{◌≡◌, ◌&&◌, ◌<◌, ◌-◌, ◌^◌, ◌++◌, ◌∷◌, [], OnOk, IfOk, IfSome, true, filter, Some, None, nat_le, if◌then◌else◌, length, option_copied};
+ghost use Rattle.std.specs.Prelude.{◌≡◌, ◌&&◌, ◌<◌, ◌-◌, ◌^◌, ◌++◌, ◌∷◌, ◌+◌, [], OnOk, OnErr, IfOk, IfSome, true, filter, Some, None, nat_le, if◌then◌else◌, length, option_copied};
 ghost use Rattle.std.specs.Option.{option_map_or};
 ghost use Rattle.vp_base.specs.declared.answer.Answer.TheVariants as answer;
 ghost use Rattle.vp_model.specs.Words.{same_txn, has, at_most};
@@ -28,6 +28,7 @@ use vp_lists::{OfTxn, find_txn, is_same_txn, put_in};
 use vp_records::acknowledge;
 
 /// The live transactions, the ends of those that have ended, and the decisions that some site has not acknowledged.
+/// `seq` is the number of the last one that began, so no live one has a number above it.
 #[derive(Drop)]
 pub struct Transactions {
     pub seq: u32,
@@ -37,11 +38,15 @@ pub struct Transactions {
 }
 
 impl Model for Transactions {
+    ghost use Rattle.std.specs.Prelude.{◌+◌};
     ghost use Rattle.vp_model.specs.Site.{CoordinatorState};
+    ghost use Rattle.vp_transactions.specs.Order.{AreBelow};
 
     ghost Value = { CoordinatorState };
 
     ghost view = { λ c. record { seq = c.seq; live = c.live; finished = c.finished.items; decisions = c.decisions } };
+
+    ghost invariant = { λ c. AreBelow (c.seq + 1) c.live };
 }
 
 /// The answer that an ending gives to a call.
@@ -120,10 +125,13 @@ impl Transactions {
         self.live.allocator()
     }
 
-    /// The next transaction begins.
+    /// The next transaction begins. Without memory nothing changes.
+    #[tactic(auto, using(crate::proofs::Order::below_more))]
     pub fn begin(&mut self, txn: &TxnId, view: ViewId) -> Result<(), NoMemory>
-        requires { self.old.seq < 2 ^ 32 - 1 }
-        ensures { OnOk result (self.new ≡ with_begun (begun txn.now view) self.old) }
+        requires left { self.old.seq < 2 ^ 32 - 1 }
+        requires next { txn.now.seq ≡ self.old.seq + 1 }
+        ensures ok { OnOk result (self.new ≡ with_begun (begun txn.now view) self.old) }
+        ensures err { OnErr result (self.new ≡ self.old) }
     {
         self.live.begin(txn, view)?;
         self.seq += 1;
@@ -195,12 +203,12 @@ impl Transactions {
     }
 
     /// Takes all live transactions out.
-    pub fn take_all(&mut self) -> Vec<Live>
-        ensures taken { result.items ≡ self.old.live }
+    pub fn take_all(&mut self) -> LiveTxns
+        ensures taken { result ≡ self.old.live }
         ensures rest { self.new ≡ record self.old { live = [] } }
     {
         let none = LiveTxns::new(self.live.allocator());
-        mem::replace(&mut self.live, none).into_vec()
+        mem::replace(&mut self.live, none)
     }
 
     /// Copies of the live transactions whose calls were pending at the tick before.

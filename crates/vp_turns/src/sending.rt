@@ -40,7 +40,7 @@ fn put_message(catalog: &Catalog, sent: Sent, datagrams: &mut Datagrams) -> Resu
     let frame = Frame {
         from: sent.from.get(),
         to: sent.to.get(),
-        body: Body::Message(sent.message),
+        body: Body::Message(sent.into_message()),
     };
     datagrams.push(datagram_to(datagrams.allocator(), port, &frame)?)
 }
@@ -65,12 +65,13 @@ fn put_reply(id: SiteId, reply: Reply, datagrams: &mut Datagrams) -> Result<(), 
     requires { IsFrame (reply_frame id reply) }
     ensures { OnOk result (datagrams.new ≡ datagrams.old ++ reply_datagram id reply ∷ []) }
 {
+    let port = reply.to;
     let frame = Frame {
         from: id.get(),
         to: 0,
-        body: Body::Reply(reply.answer),
+        body: Body::Reply(reply.into_answer()),
     };
-    datagrams.push(datagram_to(datagrams.allocator(), reply.to, &frame)?)
+    datagrams.push(datagram_to(datagrams.allocator(), port, &frame)?)
 }
 
 /// Puts the datagrams of the replies behind the others.

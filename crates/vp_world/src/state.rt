@@ -31,7 +31,6 @@ use vp_mail::{Cuts, Mail, PAIRS};
 const OPENING: ViewId = ViewId { number: 0, site: 0 };
 
 /// The sites with their messages, and what they have agreed on and committed.
-#[derive(Drop)]
 pub struct State {
     places: Places,
     agreed: Vec<View>,
@@ -39,6 +38,19 @@ pub struct State {
     cuts: Cuts,
     journal: Commits,
     steps: u32,
+}
+
+impl Drop for State {
+    fn drop(self) {
+        let State {
+            places: _,
+            agreed: _,
+            mail: _,
+            cuts: _,
+            journal: _,
+            steps: _,
+        } = self;
+    }
 }
 
 impl Model for State {
@@ -244,7 +256,7 @@ impl State {
             return Ok(Shown::Parted { from, to });
         }
         self.mail.deliver(k, &sent)?;
-        let message = sent.message;
+        let message = sent.into_message();
         self.at_site(catalog, to, &Input::Message { from, message })
     }
 

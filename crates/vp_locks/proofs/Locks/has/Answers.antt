@@ -1,23 +1,28 @@
-use Rattle.std.proofs.Common.{◌≡◌, ◌∙◌, sym, ap, ◌||◌}
-use Rattle.std.specs.List.{slice_get}
-use Rattle.memchr.specs.Find.{is_byte, places}
-use Rattle.vp_locks.proofs.Records.{some_own, holds_found, own_next}
+use Rattle.std.proofs.Common.{◌∙◌, ◌&&◌, ◌||◌, ◌==◌, not, false, get_or, sym, ap, take_all}
+use Rattle.std.specs.List.{list_any}
+use Rattle.std.specs.Option.{option_map_or}
+use Rattle.std.proofs.lemmas.List.Folds.{list_any_at}
+use Rattle.vp_model.specs.Types.{Lock}
+use Rattle.vp_model.specs.Locks.{holds}
+use Rattle.vp_locks.specs.Index.{places_of, key_eq}
+use Rattle.vp_locks.specs.Places.{lock_at}
+use Rattle.vp_locks.proofs.Indexes.{is_on, holds_of}
 use Rattle.vp_locks.proofs.Locks.has.Goals as goal
 
-pub loop-place-init : goal.loop-place-init
-loop-place-init c =
-    let begun : c.into_iter-place-iterator.result ≡ places (is_byte c.args.rec) c.self.inside.recs.items = cc (c.into_iter-place-iterator.ensures.into_iter_gives, c.memchr_iter-place-items.ensures.value, c.deref.ensures.value, c.get.ensures.value) in
-    ap (some_own c.args.exclusive c.args.owner.now c.self.inside.items.items) begun ∙ holds_found c.args.exclusive c.args.owner.now c.self.inside.items.items c.args.rec c.self.inside.recs.items c.self.invariant
+pub returns-then-is_on : goal.returns-then-is_on
+returns-then-is_on c =
+    let slots = c.self.inside.slots.items in
+    let lists = c.self.inside.by_owner.lists in
+    let items = c.of-place-items.result.now in
+    let here = sym c.if-is_on.true ∙ c.is_on.ensures ∙ ap (λ o. option_map_or (λ (lock : Lock). (lock.rec == c.args.rec) && (not c.args.exclusive || lock.exclusive)) o false) (c.lock_at.ensures.lock ∙ ap (λ xs. lock_at xs (get_or items c.loop-place.place-index 0)) c.deref.ensures.value) in
+    sym (list_any_at (is_on c.args.exclusive slots c.args.rec) items c.loop-place.place-index 0 c.loop-place-test.true (sym here))
+    ∙ ap (list_any (is_on c.args.exclusive slots c.args.rec)) (c.of-place-items.ensures ∙ ap (places_of key_eq lists) c.owner_key.ensures)
+    ∙ holds_of c.args.exclusive c.args.owner.now lists slots c.args.rec c.self.invariant.1 ∙ ap (holds c.args.rec c.args.exclusive c.args.owner.now) c.self.view_is
 
-pub returns-then-is_own : goal.returns-then-is_own
-returns-then-is_own c =
-    let at = c.lock_at.ensures ∙ ap (λ locks. slice_get locks c.in-Some.place) c.deref-in-loop-place.ensures.value in
-    let next = own_next c.args.exclusive c.args.owner.now c.self.inside.items.items _ _ c.next.new.self _ c.in-Some.ensures.steps at in
-    let here = ap (λ b. b || some_own c.args.exclusive c.args.owner.now c.self.inside.items.items c.next.new.self) (sym c.if-is_own.true ∙ c.is_own.ensures) ∙ sym next ∙ c.loop-place.invariant in
-    cc (here, c.self.view_is)
-
-pub loop-place-preserved : goal.loop-place-preserved
-loop-place-preserved c =
-    let at = c.lock_at.ensures ∙ ap (λ locks. slice_get locks c.in-Some.place) c.deref-in-loop-place.ensures.value in
-    let next = own_next c.args.exclusive c.args.owner.now c.self.inside.items.items _ _ c.next.new.self _ c.in-Some.ensures.steps at in
-    ap (λ b. b || some_own c.args.exclusive c.args.owner.now c.self.inside.items.items c.next.new.self) (sym c.if-is_own.false ∙ c.is_own.ensures) ∙ sym next ∙ c.loop-place.invariant
+pub returns : goal.returns
+returns c =
+    let slots = c.self.inside.slots.items in
+    let lists = c.self.inside.by_owner.lists in
+    let all = take_all c.loop-place.place-index c.of-place-items.result.now c.loop-place-test.false ∙ c.of-place-items.ensures ∙ ap (places_of key_eq lists) c.owner_key.ensures in
+    sym c.loop-place.invariant ∙ ap (list_any (is_on c.args.exclusive slots c.args.rec)) all
+    ∙ holds_of c.args.exclusive c.args.owner.now lists slots c.args.rec c.self.invariant.1 ∙ ap (holds c.args.rec c.args.exclusive c.args.owner.now) c.self.view_is

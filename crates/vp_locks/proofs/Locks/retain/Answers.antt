@@ -1,6 +1,11 @@
-use Rattle.std.proofs.Common.{rules}
-use Rattle.std.proofs.lemmas.Fn.{filter_same}
+use Rattle.std.proofs.Common.{◌∙◌, map, filter, rules, ap}
+use Rattle.std.proofs.lemmas.List.{with_items_is, places}
+use Rattle.vp_locks.specs.Places.{present}
+use Rattle.vp_locks.proofs.InSlots.{if_kept_there, present_all}
 use Rattle.vp_locks.proofs.Locks.retain.Goals as goal
 
 pub returns : goal.returns
-returns g c = rw (← c.self.view_is) (filter_same _ _ _ (λ x b f' k. search rules) _ _ c.retain.ensures.filtered)
+returns g c =
+    let keeps = g.K.Keeps.keeps c.args.kept.now in
+    ap present (with_items_is c.self.inside.slots c.sweep_all.new.slots (search (rules, places)) ∙ c.sweep_all.ensures.slots ∙ ap (map (if_kept_there keeps)) c.deref_mut.ensures.value)
+    ∙ present_all keeps c.self.inside.slots.items ∙ ap (filter keeps) c.self.view_is

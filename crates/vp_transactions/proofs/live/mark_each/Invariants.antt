@@ -2,5 +2,5 @@ use Rattle.std.proofs.Common.{◌≡◌, ◌++◌, map, take, drop}
 use Rattle.vp_model.specs.Step.{mark}
 use Rattle.vp_transactions.proofs.live.mark_each.Given as goal
 
-abbrev pub invariant-loop-t : goal.invariant-loop-t
-invariant-loop-t l = l.live ≡ map mark (take l.t-index l.fn.live) ++ drop l.t-index l.fn.live
+abbrev pub invariant-loop-place : goal.invariant-loop-place
+invariant-loop-place l = l.live ≡ map mark (take l.place l.fn.live) ++ drop l.place l.fn.live

@@ -1,9 +1,13 @@
-use Rattle.std.proofs.Common.{◌≡◌, None, take, drop}
+use Rattle.std.proofs.Common.{◌≡◌, None, length}
 use Rattle.vp_base.specs.declared.site.Ending.TheVariants.{ViewChanged}
 use Rattle.vp_model.specs.Types.{Live}
 use Rattle.vp_model.specs.Transactions.{close_all}
 use Rattle.vp_endings.proofs.lent.Lent.abort_each.Given as goal
 
+-- to close what is left gives what closing all of them gives
 abbrev pub invariant-loop-t : goal.invariant-loop-t
 invariant-loop-t l =
-    (l.self ≡ close_all l.id (λ (t : Live). ViewChanged l.id t.view None) (take l.t-index l.fn.live) l.initial.self) × (drop l.t-index l.live ≡ drop l.t-index l.fn.live)
+    close_all l.id (λ (t : Live). ViewChanged l.id t.view None) l.live l.self ≡ close_all l.id (λ (t : Live). ViewChanged l.id t.view None) l.fn.live l.fn.self
+
+abbrev pub decreases-loop-t : goal.decreases-loop-t
+decreases-loop-t l = length l.live

@@ -1,0 +1,10 @@
+-- Which locks of an owner stay where others go.
+use Rattle.std.specs.Prelude.{Bool, false, not, ◌==◌}
+use Rattle.vp_base.specs.declared.site.Lock.{Lock}
+use Rattle.vp_locks.specs.declared.keeps.Staying.{Staying}
+use Rattle.vp_locks.specs.declared.keeps.Staying.TheVariants.{None, Exclusive, Elsewhere}
+
+abbrev pub stays : Staying → Lock → Bool
+stays None lock = false
+stays Exclusive lock = lock.exclusive
+stays (Elsewhere rec) lock = not (lock.rec == rec)

@@ -1,0 +1,120 @@
+//! Slots for locks: each has a lock, or had one.
+
+ghost use Rattle.std.specs.Prelude.{◌≡◌, ◌<◌, IfSome, None, Some, fold, if◌then◌else◌, is_some, length, map};
+ghost use Rattle.std.specs.Option.{option_copied, option_map_or};
+ghost use Rattle.vp_locks.specs.Index.{IsOwnerIndex, IsRecIndex};
+ghost use Rattle.vp_locks.specs.Places.{if_kept, lock_at, revised};
+ghost use Rattle.vp_model.specs.Locks.{raised};
+
+use crate::keeps::Keeps;
+use crate::places::{OwnerKey, Places, owner_key};
+use vp_base::{Lock, Owner, RecId};
+use vp_lists::is_same_owner;
+
+/// The lock at a place.
+pub(crate) fn lock_at(slots: &[Option<Lock>], place: usize) -> Option<&Lock>
+    ensures lock { option_copied result ≡ lock_at slots.now place }
+    ensures within { IfSome result (λ _. place < length slots.now) }
+{
+    slots.get(place)?.as_ref()
+}
+
+/// Whether a lock stands at the place.
+pub(crate) fn is_taken(slots: &[Option<Lock>], place: usize) -> bool
+    ensures { result ≡ is_some (lock_at slots.now place) }
+{
+    lock_at(slots, place).is_some()
+}
+
+/// The owner's lock on the record, exclusive where that is asked; any other lock as it is.
+fn raised(lock: &Lock, rec: RecId, exclusive: bool, owner: &Owner) -> Lock
+    ensures { result ≡ raised rec exclusive owner.now lock.now }
+{
+    let is_own = lock.rec == rec && is_same_owner(&lock.owner, owner);
+    Lock {
+        rec: lock.rec,
+        exclusive: lock.exclusive || is_own && exclusive,
+        owner: lock.owner,
+    }
+}
+
+fn raise_at(slots: &mut [Option<Lock>], place: usize, rec: RecId, exclusive: bool, owner: &Owner)
+    ensures { slots.new ≡ revised (λ lock. Some (raised rec exclusive owner.now lock)) slots.old place }
+{
+    if let Some(lock) = lock_at(slots, place) {
+        slots[place] = Some(raised(lock, rec, exclusive, owner));
+    }
+}
+
+/// The owner's lock on the record becomes exclusive where that is asked.
+pub(crate) fn raise(
+    slots: &mut [Option<Lock>],
+    places: &[usize],
+    rec: RecId,
+    exclusive: bool,
+    owner: &Owner,
+)
+    ensures { slots.new ≡ fold (revised (λ lock. Some (raised rec exclusive owner.now lock))) slots.old places.now }
+{
+    for place in places {
+        raise_at(slots, *place, rec, exclusive, owner);
+    }
+}
+
+/// The lock at the place goes if it is not kept. Its owner is given.
+fn sweep_at<K: Keeps>(
+    slots: &mut [Option<Lock>],
+    by_rec: &mut Places<u8>,
+    place: usize,
+    kept: &K,
+) -> Option<Owner>
+    requires index { IsRecIndex by_rec.old.lists slots.old }
+    ensures slots { slots.new ≡ revised (if_kept (K.keeps kept.now)) slots.old place }
+    ensures index { IsRecIndex by_rec.new.lists slots.new }
+    ensures owner { result ≡ option_map_or (λ lock. if K.keeps kept.now lock then None else Some lock.owner) (lock_at slots.old place) None }
+{
+    let lock = lock_at(slots, place)?;
+    if kept.keeps(lock) {
+        return None;
+    }
+    let (rec, owner) = (lock.rec, lock.owner);
+    slots[place] = None;
+    by_rec.forget(&rec.get(), place);
+    Some(owner)
+}
+
+/// Of the locks at the places those go that are not kept.
+pub(crate) fn sweep<K: Keeps>(
+    slots: &mut [Option<Lock>],
+    by_rec: &mut Places<u8>,
+    places: &[usize],
+    kept: &K,
+)
+    requires index { IsRecIndex by_rec.old.lists slots.old }
+    ensures slots { slots.new ≡ fold (revised (if_kept (K.keeps kept.now))) slots.old places.now }
+    ensures index { IsRecIndex by_rec.new.lists slots.new }
+{
+    for place in places {
+        sweep_at(slots, by_rec, *place, kept);
+    }
+}
+
+/// The locks that are not kept go.
+pub(crate) fn sweep_all<K: Keeps>(
+    slots: &mut [Option<Lock>],
+    by_rec: &mut Places<u8>,
+    by_owner: &mut Places<OwnerKey>,
+    kept: &K,
+)
+    requires records { IsRecIndex by_rec.old.lists slots.old }
+    requires owners { IsOwnerIndex by_owner.old.lists slots.old }
+    ensures slots { slots.new ≡ map (λ s. option_map_or (if_kept (K.keeps kept.now)) s None) slots.old }
+    ensures records { IsRecIndex by_rec.new.lists slots.new }
+    ensures owners { IsOwnerIndex by_owner.new.lists slots.new }
+{
+    for place in 0..slots.len() {
+        if let Some(owner) = sweep_at(slots, by_rec, place, kept) {
+            by_owner.forget(&owner_key(&owner), place);
+        }
+    }
+}
