@@ -65,15 +65,15 @@ def replaced(path, old, new):
 
 def without_worked_schedules(copy):
     crate = copy / "crates/vp_model"
-    (crate / "src/lib.rt").write_text((crate / "src/lib.rt").read_text().replace("pub mod rows;", ""))
+    (crate / "src/lib.rt").write_text((crate / "src/lib.rt").read_text().replace("pub mod worked;", ""))
     lib = crate / "proofs/Lib.antt"
     kept = [line for line in lib.read_text().splitlines() if "RunGrows" in line or not line.startswith("pub mod")]
     lib.write_text("\n".join(kept) + "\n")
-    for name in ("rows", "Worked"):
+    for name in ("worked", "Computed"):
         shutil.rmtree(crate / "proofs" / name)
-    for name in ("Worked", "GeneratedRuns", "FinishedCalls", "FalseClaims"):
+    for name in ("Computed", "GeneratedRuns", "FinishedCalls", "FalseClaims"):
         (crate / f"proofs/{name}.antt").unlink()
-    (crate / "src/rows.rt").unlink()
+    (crate / "src/worked.rt").unlink()
     shutil.rmtree(crate / "must-fail", ignore_errors=True)
 
 

@@ -2,9 +2,9 @@
 #![tactic(auto)]
 
 mod laws;
-mod rows;
+mod worked;
 
 pub use laws::{logs_are_kept, logs_are_of_nodes};
-pub use rows::{
+pub use worked::{
     a_checkpoint_behind_a_restart, a_decision_of_two_sites, lives_begin, nothing_is_forced,
 };

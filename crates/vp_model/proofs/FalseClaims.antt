@@ -9,9 +9,9 @@ use Rattle.vp_model.specs.Types.owner
 use Rattle.vp_model.specs.World.{Moment, Schedule, moments_of}
 use Rattle.vp_model.specs.Told.{answers_in}
 use Rattle.vp_model.specs.Headline.{RefusalsAreJustified}
-use Rattle.vp_model.specs.Rows.{view, txn}
-use Rattle.vp_model.specs.Rows.FalseClaims.{is_justified_after, closed_and_left, closed_by_lock, closed_by_leaving, granted_after_all, next_is_done, next_is_refused, closed_idle}
-use Rattle.vp_model.proofs.Worked.{computes}
+use Rattle.vp_model.specs.Worked.{view, txn}
+use Rattle.vp_model.specs.Worked.FalseClaims.{is_justified_after, closed_and_left, closed_by_lock, closed_by_leaving, granted_after_all, next_is_done, next_is_refused, closed_idle}
+use Rattle.vp_model.proofs.Computed.{computes}
 
 -- what the schedule answers, and then this call
 answers_with : Schedule → Event → List (List Answer)

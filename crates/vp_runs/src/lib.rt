@@ -4,8 +4,8 @@
 
 mod arrival;
 mod laws;
-mod rows;
+mod worked;
 
 pub use arrival::Arrival;
 pub use laws::{frames_arrive, logs_fold, runs_are_shaped, runs_go_on};
-pub use rows::{a_begin, a_commit_of_two_sites, an_answer_among_others, what_is_passed_over};
+pub use worked::{a_begin, a_commit_of_two_sites, an_answer_among_others, what_is_passed_over};

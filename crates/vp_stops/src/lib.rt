@@ -2,9 +2,9 @@
 #![tactic(auto)]
 
 mod laws;
-mod rows;
+mod worked;
 
 pub use laws::stopped_runs_are_schedules;
-pub use rows::{
+pub use worked::{
     a_step_that_appends_nothing, a_stop_before_the_decision, a_stop_behind_the_decision,
 };

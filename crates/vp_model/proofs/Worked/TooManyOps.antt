@@ -1,8 +1,0 @@
-use Rattle.std.proofs.Common.{◌≡◌, refl, drop}
-use Rattle.vp_model.specs.World.{numbered_lines}
-use Rattle.vp_model.specs.Rows.TooManyOps.{schedule, last_lines}
-use Rattle.vp_model.proofs.Worked.{computes}
-
-pub too_many_operations : drop 65 (numbered_lines schedule) ≡ last_lines
-unfolding computes
-too_many_operations = refl

@@ -1,8 +1,0 @@
-use Rattle.vp_model.proofs.FalseClaims.{granted-given, granted-another}
-use Rattle.vp_model.proofs.rows.granted_after_all.Goals as goal
-
-pub returns-clause-given : goal.returns-clause-given
-returns-clause-given c = granted-given
-
-pub returns-clause-another : goal.returns-clause-another
-returns-clause-another c = granted-another

@@ -1,5 +1,0 @@
-use Rattle.vp_model.proofs.FinishedCalls.{refusals-are-justified}
-use Rattle.vp_model.proofs.rows.refused_after_its_end.Goals as goal
-
-pub returns : goal.returns
-returns c = refusals-are-justified

@@ -1,0 +1,46 @@
+-- A worked schedule and its lines.
+use Rattle.std.specs.Prelude.{ℕ, List, [], ◌∷◌, false, Some, codes}
+use Rattle.vp_model.specs.Types.{Commit, Line}
+use Rattle.vp_model.specs.Types.message
+use Rattle.vp_model.specs.Types.answer
+use Rattle.vp_model.specs.Types.obstacle
+use Rattle.vp_model.specs.Types.call
+use Rattle.vp_model.specs.Types.event
+use Rattle.vp_model.specs.Types.shown
+use Rattle.vp_model.specs.World.{Schedule}
+use Rattle.vp_model.specs.Worked.{view, txn, sent, reply, line, stored}
+
+abbrev pub schedule : Schedule
+schedule = record {
+  catalogue = record { sites = ((1, 7001) ∷ (2, 7002) ∷ (3, 7003) ∷ []); records = (stored (codes "x") (codes "10") ((1, 1) ∷ (2, 1) ∷ (3, 1) ∷ []) ∷ []) };
+  events =
+      event.Call 1 call.Begin
+      ∷ event.Call 1 (call.Write (txn 1 1 1) 1 (codes "x") (codes "11"))
+      ∷ event.Flow 4
+      ∷ event.Call 3 call.Regroup
+      ∷ event.Tick 3
+      ∷ event.Call 1 (call.Commit (txn 1 1 1) 2)
+      ∷ event.Deliver 8
+      ∷ event.Deliver 9
+      ∷ [];
+}
+
+abbrev pub lines : List (ℕ × Line)
+lines =
+    line 1 (event.Call 1 call.Begin) (shown.Step [] 1 [] (reply (answer.Begun (txn 1 1 1) (view 0 0)) ∷ []))
+    ∷ line 2 (event.Call 1 (call.Write (txn 1 1 1) 1 (codes "x") (codes "11"))) (shown.Step [] 1 (sent 1 2 (message.WriteRequest (txn 1 1 1) (view 0 0) 1 0) ∷ sent 1 3 (message.WriteRequest (txn 1 1 1) (view 0 0) 1 0) ∷ []) [])
+    ∷ line 3 (event.Deliver 1) (shown.Step [] 3 (sent 2 1 (message.WriteAnswer (txn 1 1 1) 1) ∷ []) [])
+    ∷ line 3 (event.Deliver 2) (shown.Step [] 4 (sent 3 1 (message.WriteAnswer (txn 1 1 1) 1) ∷ []) [])
+    ∷ line 3 (event.Deliver 3) (shown.Step [] 5 [] [])
+    ∷ line 3 (event.Deliver 4) (shown.Step [] 5 [] (reply (answer.Written (txn 1 1 1) 1) ∷ []))
+    ∷ line 4 (event.Call 3 call.Regroup) (shown.Step [] 5 (sent 3 1 (message.Invite (view 1 3)) ∷ sent 3 2 (message.Invite (view 1 3)) ∷ []) (reply (answer.Inviting (view 1 3)) ∷ []))
+    ∷ line 5 (event.Tick 3) (shown.Step [] 7 [] [])
+    ∷ line 6 (event.Call 1 (call.Commit (txn 1 1 1) 2)) (shown.Step [] 7 (sent 1 2 (message.Prepare (txn 1 1 1) (view 0 0) 2 [] ((0, codes "11") ∷ [])) ∷ sent 1 3 (message.Prepare (txn 1 1 1) (view 0 0) 2 [] ((0, codes "11") ∷ [])) ∷ []) [])
+    ∷ line 7 (event.Deliver 8) (shown.Step [] 9 (sent 3 1 (message.Refuse (txn 1 1 1) 2 (obstacle.OtherView (Some (view 1 3)))) ∷ []) [])
+    ∷ line 8 (event.Deliver 9) (shown.Step [] 10 (sent 1 2 (message.Outcome (txn 1 1 1) false) ∷ sent 1 3 (message.Outcome (txn 1 1 1) false) ∷ []) (reply (answer.ViewChanged (txn 1 1 1) 2 3 (view 0 0) (Some (view 1 3))) ∷ []))
+    ∷ []
+
+-- the committed transactions, by view and then by moment of commit
+abbrev pub history : List Commit
+history =
+    []

@@ -1,0 +1,235 @@
+//! Worked schedules: the lines of each are exactly these.
+
+ghost use Rattle.std.specs.Prelude.{◌≡◌, true, false, [], ◌++◌, Some, None, codes, drop, take, map};
+ghost use Rattle.vp_model.specs.Types.answer;
+ghost use Rattle.vp_model.specs.Types.call;
+ghost use Rattle.vp_model.specs.Types.counted;
+ghost use Rattle.vp_model.specs.Types.event;
+ghost use Rattle.vp_model.specs.Types.input;
+ghost use Rattle.vp_model.specs.Types.shown;
+ghost use Rattle.vp_model.specs.Step.{step};
+ghost use Rattle.vp_model.specs.World.{numbered_lines, journal_of, lines_of, next};
+ghost use Rattle.vp_model.specs.Told.{told};
+ghost use Rattle.vp_model.specs.OneCopy.{order};
+ghost use Rattle.vp_model.specs.Worked.FirstRun as first_run;
+ghost use Rattle.vp_model.specs.Worked.TwoOfThree as two_of_three;
+ghost use Rattle.vp_model.specs.Worked.ExactlyHalf as exactly_half;
+ghost use Rattle.vp_model.specs.Worked.HeldLock as held_lock;
+ghost use Rattle.vp_model.specs.Worked.Repeats as repeats;
+ghost use Rattle.vp_model.specs.Worked.LostVote as lost_vote;
+ghost use Rattle.vp_model.specs.Worked.ViewChangeBeforeVote as view_change_before_vote;
+ghost use Rattle.vp_model.specs.Worked.LateCommit as late_commit;
+ghost use Rattle.vp_model.specs.Worked.OldViewReadsOn as old_view_reads_on;
+ghost use Rattle.vp_model.specs.Worked.RepeatedViewCommit as repeated_view_commit;
+ghost use Rattle.vp_model.specs.Worked.CrashAfterDecision as crash_after_decision;
+ghost use Rattle.vp_model.specs.Worked.CrashBeforeDecision as crash_before_decision;
+ghost use Rattle.vp_model.specs.Worked.ForgottenDecision as forgotten_decision;
+ghost use Rattle.vp_model.specs.Worked.TwoInitiators as two_initiators;
+ghost use Rattle.vp_model.specs.Worked.OtherRefusals as other_refusals;
+ghost use Rattle.vp_model.specs.Worked.TooManyOps as too_many_ops;
+ghost use Rattle.vp_model.specs.Worked.TooManyLive as many_live;
+ghost use Rattle.vp_model.specs.Worked.LongRun as long_run;
+ghost use Rattle.vp_model.specs.Worked.RefusedAfterEnd as ended;
+ghost use Rattle.vp_model.specs.Worked.FalseClaims as claims;
+ghost use Rattle.vp_model.specs.Worked.Monitor as monitor;
+ghost use Rattle.vp_model.specs.Worked.EarlyInquiry as early_inquiry;
+ghost use Rattle.vp_model.specs.Worked.NoEvents as no_events;
+ghost use Rattle.vp_model.specs.Worked.LastNumbers as last;
+ghost use Rattle.vp_model.specs.Worked.ManyFinished as many_finished;
+ghost use Rattle.vp_model.specs.Worked.Limited as limited;
+ghost use Rattle.vp_model.specs.Texts.Trace.{trace_text, printed_lines};
+ghost use Rattle.vp_model.specs.Texts.History.{history_text};
+ghost use Rattle.vp_model.specs.Limits.{limit_reached, lines_within};
+ghost use Rattle.vp_model.specs.Generated.{made, made_within, limit_made};
+ghost use Rattle.vp_model.specs.Worked.{txn};
+ghost use Rattle.vp_model.specs.Headline.{IsSerial, CopiesAreTrue, EndsAreTrue, RefusalsAreJustified};
+
+/// A first run.
+pub fn first_run()
+    ensures lines { numbered_lines first_run.schedule ≡ first_run.lines }
+    ensures history { order (journal_of first_run.schedule) ≡ first_run.history }
+{}
+
+/// Two of three sites.
+pub fn two_of_three()
+    ensures lines { numbered_lines two_of_three.schedule ≡ two_of_three.lines }
+    ensures history { order (journal_of two_of_three.schedule) ≡ two_of_three.history }
+{}
+
+/// Exactly half of the weight.
+pub fn exactly_half()
+    ensures lines { numbered_lines exactly_half.schedule ≡ exactly_half.lines }
+    ensures history { order (journal_of exactly_half.schedule) ≡ exactly_half.history }
+{}
+
+/// A held lock.
+pub fn held_lock()
+    ensures lines { numbered_lines held_lock.schedule ≡ held_lock.lines }
+    ensures history { order (journal_of held_lock.schedule) ≡ held_lock.history }
+{}
+
+/// Repeats and reversed order.
+pub fn repeats()
+    ensures lines { numbered_lines repeats.schedule ≡ repeats.lines }
+    ensures history { order (journal_of repeats.schedule) ≡ repeats.history }
+{}
+
+/// A lost vote.
+pub fn lost_vote()
+    ensures lines { numbered_lines lost_vote.schedule ≡ lost_vote.lines }
+    ensures history { order (journal_of lost_vote.schedule) ≡ lost_vote.history }
+{}
+
+/// A view change before the vote.
+pub fn view_change_before_vote()
+    ensures lines { numbered_lines view_change_before_vote.schedule ≡ view_change_before_vote.lines }
+    ensures history { order (journal_of view_change_before_vote.schedule) ≡ view_change_before_vote.history }
+{}
+
+/// A late commit.
+pub fn late_commit()
+    ensures lines { numbered_lines late_commit.schedule ≡ late_commit.lines }
+    ensures history { order (journal_of late_commit.schedule) ≡ late_commit.history }
+{}
+
+/// An old view reads on.
+pub fn old_view_reads_on()
+    ensures lines { numbered_lines old_view_reads_on.schedule ≡ old_view_reads_on.lines }
+    ensures history { order (journal_of old_view_reads_on.schedule) ≡ old_view_reads_on.history }
+{}
+
+/// A repeated view commit after a restart.
+pub fn repeated_view_commit()
+    ensures lines { numbered_lines repeated_view_commit.schedule ≡ repeated_view_commit.lines }
+    ensures history { order (journal_of repeated_view_commit.schedule) ≡ repeated_view_commit.history }
+{}
+
+/// A crash after the decision.
+pub fn crash_after_decision()
+    ensures lines { numbered_lines crash_after_decision.schedule ≡ crash_after_decision.lines }
+    ensures history { order (journal_of crash_after_decision.schedule) ≡ crash_after_decision.history }
+{}
+
+/// A crash before the decision.
+pub fn crash_before_decision()
+    ensures lines { numbered_lines crash_before_decision.schedule ≡ crash_before_decision.lines }
+    ensures history { order (journal_of crash_before_decision.schedule) ≡ crash_before_decision.history }
+{}
+
+/// A forgotten decision.
+pub fn forgotten_decision()
+    ensures lines { numbered_lines forgotten_decision.schedule ≡ forgotten_decision.lines }
+    ensures history { order (journal_of forgotten_decision.schedule) ≡ forgotten_decision.history }
+{}
+
+/// Two initiators.
+pub fn two_initiators()
+    ensures lines { numbered_lines two_initiators.schedule ≡ two_initiators.lines }
+    ensures history { order (journal_of two_initiators.schedule) ≡ two_initiators.history }
+{}
+
+/// Other refusals.
+pub fn other_refusals()
+    ensures lines { numbered_lines other_refusals.schedule ≡ other_refusals.lines }
+    ensures history { order (journal_of other_refusals.schedule) ≡ other_refusals.history }
+{}
+
+/// The 65th operation of a transaction is refused, and its commit takes that number.
+pub fn too_many_operations()
+    ensures { drop 65 (numbered_lines too_many_ops.schedule) ≡ too_many_ops.last_lines }
+{}
+
+/// The 1,025th live transaction is refused.
+pub fn too_many_live()
+    ensures { drop 1024 (numbered_lines many_live.schedule) ≡ many_live.last_lines }
+{}
+
+/// A long run of three sites with commits in four views, one of them in a lower view after one in a higher, with refreshes, and
+/// with transactions that were in doubt through a crash: what is committed, and that it is one copy.
+pub fn long_run()
+    ensures commits { map (λ commit. (commit.txn, commit.view)) (journal_of long_run.schedule) ≡ long_run.commits }
+    ensures history { order (journal_of long_run.schedule) ≡ long_run.history }
+    ensures serial { IsSerial long_run.schedule }
+    ensures told { map (λ commit. told long_run.schedule.catalogue (lines_of long_run.schedule) commit.txn) (journal_of long_run.schedule)
+        ≡ map (λ commit. commit.ops) (journal_of long_run.schedule) }
+    ensures copies { CopiesAreTrue long_run.schedule }
+    ensures ends { EndsAreTrue long_run.schedule }
+    ensures refusals { RefusalsAreJustified long_run.schedule }
+{}
+
+/// A finished transaction answers a larger number with its end, and the refusal is justified by the step that made it.
+pub fn refused_after_its_end()
+    ensures { RefusalsAreJustified ended.schedule }
+{}
+
+/// After a transaction was closed for a lock and its site then left the view, its end is justified, and it is not justified that
+/// leaving the view closed it.
+pub fn closed_before_leaving()
+    ensures given { claims.is_justified_after claims.closed_and_left 1 (call.Read (txn 1 1 2) 2 (codes "x")) claims.closed_by_lock ≡ true }
+    ensures another { claims.is_justified_after claims.closed_and_left 1 (call.Read (txn 1 1 2) 2 (codes "x")) claims.closed_by_leaving ≡ false }
+{}
+
+/// After a write was refused in a message that is never delivered, and its repeat was granted, it is not justified that the
+/// next call is refused for the first.
+pub fn granted_after_all()
+    ensures given { claims.is_justified_after claims.granted_after_all 2 (call.Read (txn 2 1 1) 2 (codes "x")) claims.next_is_done ≡ true }
+    ensures another { claims.is_justified_after claims.granted_after_all 2 (call.Read (txn 2 1 1) 2 (codes "x")) claims.next_is_refused ≡ false }
+{}
+
+/// A transaction that is closed with no call pending may answer its end under a number and then under a lower one: both are justified.
+pub fn closed_without_a_call()
+    ensures { RefusalsAreJustified claims.closed_idle }
+{}
+
+/// A site that has not heard a member since its last probes invites to a new view.
+pub fn monitor()
+    ensures { numbered_lines monitor.schedule ≡ monitor.lines }
+{}
+
+/// A coordinator sends nothing to a site that asks about a transaction that is still live.
+pub fn early_inquiry()
+    ensures { numbered_lines early_inquiry.schedule ≡ early_inquiry.lines }
+{}
+
+/// Without events the trace is empty, and the history has the starting values alone.
+pub fn no_events()
+    ensures trace { trace_text no_events.schedule ≡ [] }
+    ensures history { history_text no_events.schedule ≡ no_events.history }
+{}
+
+/// The last 1,024 finished transactions of a site are kept: after 1,025 the first one is unknown, and the second one answers its end.
+pub fn many_finished()
+    ensures { drop 2050 (numbered_lines many_finished.schedule) ≡ many_finished.last_lines }
+{}
+
+/// A site whose places for transactions, or whose numbers of views, are spent answers so and stays as it was.
+pub fn spent()
+    ensures transactions { step last.one_site last.last_transaction (input.Call 0 call.Begin) ≡ last.only_answers last.last_transaction (answer.Spent 4294967295) }
+    ensures views { step last.one_site last.last_view (input.Call 0 call.Regroup) ≡ last.only_answers last.last_view (answer.Spent 18446744073709551615) }
+{}
+
+/// A site whose log has the last life stays down.
+pub fn last_life()
+    ensures { next last.one_site (event.Restart 1) last.last_life ≡ record { world = record last.last_life { steps = 1 }; shown = shown.LivesSpent 4294967295 } }
+{}
+
+/// A flow whose first or second delivery a limit refuses: which limit that is, the steps being tested first, and the trace that is left.
+pub fn limited()
+    ensures none { limit_reached (limited.at_most 5 2) limited.schedule ≡ None }
+    ensures whole { lines_within (limited.at_most 5 2) limited.schedule ≡ printed_lines limited.schedule }
+    ensures steps { limit_reached (limited.at_most 3 2) limited.schedule ≡ Some counted.Steps }
+    ensures one_delivery { lines_within (limited.at_most 3 2) limited.schedule ≡ limited.no_delivery ++ limited.first_delivery }
+    ensures messages { limit_reached (limited.at_most 3 1) limited.schedule ≡ Some counted.Messages }
+    ensures no_delivery { lines_within (limited.at_most 3 1) limited.schedule ≡ limited.no_delivery }
+    ensures both { limit_reached (limited.at_most 2 1) limited.schedule ≡ Some counted.Steps }
+{}
+
+/// A generated schedule that a limit ends holds the events before the one that was refused.
+pub fn limited_generation()
+    ensures whole { made_within (limited.at_most 19 8) 7 14 ≡ made 7 14 }
+    ensures no_limit { limit_made (limited.at_most 19 8) 7 14 ≡ None }
+    ensures few_steps { made_within (limited.at_most 13 8) 7 14 ≡ record (made 7 14) { events = take 11 (made 7 14).events } }
+    ensures steps { limit_made (limited.at_most 13 8) 7 14 ≡ Some counted.Steps }
+    ensures few_messages { made_within (limited.at_most 19 2) 7 14 ≡ record (made 7 14) { events = take 10 (made 7 14).events } }
+    ensures messages { limit_made (limited.at_most 19 2) 7 14 ≡ Some counted.Messages }
+{}

@@ -1,8 +1,0 @@
-use Rattle.std.proofs.Common.{refl}
-use Rattle.vp_model.proofs.Worked.{computes}
-use Rattle.vp_runs.proofs.Worked.{spells, turns}
-use Rattle.vp_runs.proofs.rows.a_begin.Goals as goal
-
-pub returns : goal.returns
-unfolding computes spells turns
-returns c = refl
