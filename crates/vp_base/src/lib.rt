@@ -10,6 +10,7 @@ mod entry;
 mod event;
 mod fault;
 mod ids;
+mod limits;
 mod lists;
 mod memory;
 mod message;
@@ -26,6 +27,10 @@ pub use entry::{Commit, Decision, Doubt, LogRecord, Op, Owner, Stored, View};
 pub use event::{Call, Counted, Effects, Event, Input, Line, Shown};
 pub use fault::{BadName, LineFault, NameFault};
 pub use ids::{CallNo, RecId, SiteId, TxnId, ViewId};
+pub use limits::{
+    LAST_SITE, MOST_EVENTS, MOST_FINISHED, MOST_LIVE, MOST_MESSAGES, MOST_OPS, MOST_RECORDS,
+    MOST_STEPS,
+};
 pub use lists::{
     Batch, Batches, Commits, Copies, Decisions, Events, InDoubt, Messages, Names, Ops, Recs,
     Replies, Sites, Txns, Word, Writes,

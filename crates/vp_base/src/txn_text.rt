@@ -11,6 +11,7 @@ ghost use Rattle.vp_base.specs.Faults.{bad_place};
 
 use crate::fault::BadName;
 use crate::ids::{SiteId, TxnId};
+use crate::limits::LAST_SITE;
 use crate::memory::NoMemory;
 use vp_text::{Cursor, Unexpected, print_number};
 
@@ -19,7 +20,7 @@ impl SiteId {
     pub fn take(cursor: &mut Cursor) -> Result<SiteId, Unexpected>
         ensures { Reads (λ s. s) (λ e. e.left) result cursor.new (number_at 1 16 cursor.old) }
     {
-        let number = cursor.number_u8(1, 16)?;
+        let number = cursor.number_u8(1, LAST_SITE)?;
         Ok(SiteId::of(number))
     }
 

@@ -9,6 +9,7 @@ ghost use Rattle.vp_base.specs.Faults.{bad_place};
 
 use crate::fault::BadName;
 use crate::ids::ViewId;
+use crate::limits::LAST_SITE;
 use crate::memory::NoMemory;
 use vp_text::{Cursor, Unexpected, print_number};
 
@@ -76,7 +77,7 @@ fn take_site(cursor: &mut Cursor, number: u64) -> Result<u8, Unexpected>
     if number == 0 {
         cursor.number_u8(0, 0)
     } else {
-        cursor.number_u8(1, 16)
+        cursor.number_u8(1, LAST_SITE)
     }
 }
 
@@ -85,7 +86,7 @@ fn take_site_from(cursor: &mut Cursor, last: ViewId, number: u64) -> Result<u8, 
     ensures { Reads (λ x. x) (λ e. e.left) result cursor.new
         (number_at (least_site_from last number) (most_site number) cursor.old) }
 {
-    let most = if number == 0 { 0 } else { 16 };
+    let most = if number == 0 { 0 } else { LAST_SITE };
     if number == last.number {
         cursor.number_u8(last.site, most)
     } else if number == 0 {

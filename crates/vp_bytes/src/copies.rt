@@ -15,7 +15,7 @@ use crate::words::take_value;
 use byteorder::{BigEndian, ByteOrder};
 use bytes::BufMut;
 use std::alloc::Global;
-use vp_base::{Copies, LineFault, NoMemory, RecId, Stored};
+use vp_base::{Copies, LineFault, MOST_RECORDS, NoMemory, RecId, Stored};
 use vp_text::Cursor;
 
 /// Takes up to 256 copies, ascending by record, behind their count.
@@ -23,7 +23,7 @@ use vp_text::Cursor;
 pub fn take_copies(alloc: Global, cursor: &mut Cursor) -> Result<Copies, LineFault>
     ensures { Tries (λ c. c) line_left result cursor.new (copies_at cursor.old) }
 {
-    let count = take_u16_within(cursor, 0, 256)?;
+    let count = take_u16_within(cursor, 0, MOST_RECORDS as u16)?;
     take_some_copies(alloc, cursor, count)
 }
 

@@ -8,7 +8,7 @@ ghost use Rattle.vp_bytes.specs.Reading.{ascending_at, recs_at, run_at, sites_at
 use crate::reading::take_byte;
 use crate::words::take_value;
 use std::alloc::Global;
-use vp_base::{LineFault, RecId, Recs, SiteId, Sites, Value, Writes};
+use vp_base::{LAST_SITE, LineFault, MOST_OPS, RecId, Recs, SiteId, Sites, Value, Writes};
 use vp_text::{Cursor, Unexpected};
 
 /// Takes `few` to 16 sites, ascending, behind their count.
@@ -16,7 +16,7 @@ use vp_text::{Cursor, Unexpected};
 pub fn take_sites(alloc: Global, cursor: &mut Cursor, few: u8) -> Result<Sites, LineFault>
     ensures { Tries (λ s. s) line_left result cursor.new (sites_at few cursor.old) }
 {
-    let count = take_byte(cursor, few, 16)?;
+    let count = take_byte(cursor, few, LAST_SITE)?;
     take_some_sites(alloc, cursor, count)
 }
 
@@ -30,7 +30,7 @@ fn take_some_sites(alloc: Global, cursor: &mut Cursor, count: u8) -> Result<Site
     let mut least = 1;
     while left > 0 {
         left -= 1;
-        let site = take_byte(cursor, least, 16 - left)?;
+        let site = take_byte(cursor, least, LAST_SITE - left)?;
         sites.push(SiteId::of(site))?;
         least = site + 1;
     }
@@ -42,7 +42,7 @@ fn take_some_sites(alloc: Global, cursor: &mut Cursor, count: u8) -> Result<Site
 pub fn take_recs(alloc: Global, cursor: &mut Cursor) -> Result<Recs, LineFault>
     ensures { Tries (λ r. r) line_left result cursor.new (recs_at cursor.old) }
 {
-    let count = take_byte(cursor, 0, 64)?;
+    let count = take_byte(cursor, 0, MOST_OPS)?;
     take_some_recs(alloc, cursor, count)
 }
 
@@ -77,7 +77,7 @@ fn take_rec_from(cursor: &mut Cursor, least: u16, behind: u8) -> Result<u8, Unex
 pub fn take_writes(alloc: Global, cursor: &mut Cursor) -> Result<Writes, LineFault>
     ensures { Tries (λ w. w) line_left result cursor.new (writes_at cursor.old) }
 {
-    let count = take_byte(cursor, 0, 64)?;
+    let count = take_byte(cursor, 0, MOST_OPS)?;
     take_some_writes(alloc, cursor, count)
 }
 

@@ -6,7 +6,7 @@ ghost use Rattle.vp_base.specs.Reading.{least_site, most_site};
 ghost use Rattle.vp_bytes.specs.Reading.{byte_at, within, maybe_view_at, numbered_at, outcome_at, owner_at, request_at, some_u32_at, txn_at, u32_at, u64_at, view_at};
 
 use byteorder::{BigEndian, ByteOrder};
-use vp_base::{CallNo, Owner, RecId, SiteId, TxnId, ViewId};
+use vp_base::{CallNo, LAST_SITE, Owner, RecId, SiteId, TxnId, ViewId};
 use vp_text::{Cursor, Unexpected};
 
 /// Takes a byte from `least` to `most`.
@@ -83,7 +83,7 @@ fn take_view_site(cursor: &mut Cursor, number: u64) -> Result<u8, Unexpected>
     if number == 0 {
         take_byte(cursor, 0, 0)
     } else {
-        take_byte(cursor, 1, 16)
+        take_byte(cursor, 1, LAST_SITE)
     }
 }
 
@@ -119,7 +119,7 @@ fn first_some_u32(bytes: &[u8]) -> Result<u32, Unexpected>
 pub fn take_site(cursor: &mut Cursor) -> Result<SiteId, Unexpected>
     ensures { Reads (λ s. s) (λ e. e.left) result cursor.new (byte_at (within 1 16) cursor.old) }
 {
-    let number = take_byte(cursor, 1, 16)?;
+    let number = take_byte(cursor, 1, LAST_SITE)?;
     Ok(SiteId::of(number))
 }
 

@@ -16,7 +16,8 @@ use crate::placed::{Placed, has_site};
 use std::alloc::Global;
 use std::marker::Model;
 use vp_base::{
-    Copies, CopyOf, Name, Names, NoMemory, RecId, SiteId, Sites, Stored, Value, View, ViewId,
+    Copies, CopyOf, MOST_RECORDS, Name, Names, NoMemory, RecId, SiteId, Sites, Stored, Value, View,
+    ViewId,
 };
 
 /// Sites with their ports, ascending by site, and at most 256 records, which are known by their places.
@@ -110,8 +111,11 @@ impl Catalog {
                 Ok(())
             }
             Entry::Record(placed) => {
-                if self.records.len() >= 256 {
-                    return Err(CatalogFault::TooMany { line, limit: 256 });
+                if self.records.len() >= MOST_RECORDS {
+                    return Err(CatalogFault::TooMany {
+                        line,
+                        limit: MOST_RECORDS as u32,
+                    });
                 }
                 if self.has_name(placed.name().as_bytes()) {
                     return Err(CatalogFault::Twice { line });

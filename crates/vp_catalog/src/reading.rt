@@ -10,7 +10,7 @@ use crate::entry::Entry;
 use crate::placed::Placed;
 use crate::site::take_site;
 use std::alloc::Global;
-use vp_base::{LineFault, Name, SiteId, Value};
+use vp_base::{LAST_SITE, LineFault, Name, SiteId, Value};
 use vp_text::{Cursor, Unexpected};
 
 /// A number from 1 to 65535.
@@ -108,7 +108,7 @@ fn take_port(cursor: &mut Cursor, last: u8) -> Result<Entry, Unexpected>
     ensures { Reads (λ e. e) (λ e. e.left) result cursor.new (port_at last cursor.old) }
 {
     cursor.literal(b"site ")?;
-    let site = SiteId::of(cursor.number_u8(last + 1, 16)?);
+    let site = SiteId::of(cursor.number_u8(last + 1, LAST_SITE)?);
     cursor.literal(b" ")?;
     let port = take_u16(cursor)?;
     cursor.literal(b"\n")?;
@@ -147,7 +147,7 @@ pub fn take_entry(alloc: Global, cursor: &mut Cursor, catalog: &Catalog) -> Resu
 {
     let sites = catalog.sites().as_slice();
     let last = catalog.last_site();
-    if catalog.count() > 0 || last >= 16 {
+    if catalog.count() > 0 || last >= LAST_SITE {
         take_record(alloc, cursor, sites)
     } else if sites.is_empty() {
         Ok(take_port(cursor, last)?)

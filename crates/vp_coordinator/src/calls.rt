@@ -13,7 +13,7 @@ ghost use Rattle.vp_coordinator.specs.Lent.{around};
 
 use std::alloc::Global;
 use vp_base::{
-    Answer, Call, CallNo, CopyOf, Ending, NoMemory, Pending, Sites, TxnId, View, ViewId,
+    Answer, Call, CallNo, CopyOf, Ending, MOST_LIVE, NoMemory, Pending, Sites, TxnId, View, ViewId,
 };
 use vp_endings::{Around, Lent};
 use vp_operations::{commit, read_named, write_named};
@@ -69,7 +69,7 @@ fn begin_in(lent: &mut Lent, at: &Around<'_>, port: u16, view: &View) -> Result<
     ensures { OnOk result (lent.new ≡
         begin_in (around at.now.id at.now.life at.now.promise (option_copied at.now.held)) port view.now lent.old) }
 {
-    if lent.coordinator.live.len() >= 1024 {
+    if lent.coordinator.live.len() >= MOST_LIVE {
         return lent.effects.reply(port, Answer::TooManyLive);
     }
     if lent.coordinator.seq == u32::MAX {

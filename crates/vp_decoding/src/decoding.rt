@@ -13,7 +13,7 @@ use crate::read_answers::take_answer;
 use crate::read_calls::take_call;
 use crate::read_messages::take_message;
 use std::alloc::Global;
-use vp_base::LineFault;
+use vp_base::{LAST_SITE, LineFault};
 use vp_bytes::{take_byte, take_coded};
 use vp_text::{Cursor, Unexpected};
 use vp_wire::{AnswerKind, Body, CallKind, Frame, Kind};
@@ -58,7 +58,7 @@ fn take_from(cursor: &mut Cursor, kind: Kind) -> Result<u8, Unexpected>
     ensures { Reads (λ x. x) (λ e. e.left) result cursor.new (byte_at (within (least_from kind) (most_from kind)) cursor.old) }
 {
     match kind {
-        Kind::Message(_) | Kind::Reply => take_byte(cursor, 1, 16),
+        Kind::Message(_) | Kind::Reply => take_byte(cursor, 1, LAST_SITE),
         Kind::Call | Kind::Tick | Kind::ProbeNow | Kind::Stop => take_byte(cursor, 0, 0),
     }
 }
@@ -70,7 +70,7 @@ fn take_to(cursor: &mut Cursor, kind: Kind) -> Result<u8, Unexpected>
     match kind {
         Kind::Reply => take_byte(cursor, 0, 0),
         Kind::Message(_) | Kind::Call | Kind::Tick | Kind::ProbeNow | Kind::Stop => {
-            take_byte(cursor, 1, 16)
+            take_byte(cursor, 1, LAST_SITE)
         }
     }
 }

@@ -12,4 +12,4 @@ mod queue;
 
 pub use cuts::Cuts;
 pub use fault::SendFault;
-pub use mail::{MESSAGES, Mail, PAIRS};
+pub use mail::{Mail, PAIRS, SITES};

@@ -10,13 +10,10 @@ use crate::fault::SendFault;
 use crate::queue::Queue;
 use std::alloc::Global;
 use std::marker::Model;
-use vp_base::{CopyOf, NoMemory, Sent, SiteId};
+use vp_base::{CopyOf, LAST_SITE, MOST_MESSAGES, NoMemory, Sent, SiteId};
 
-/// How many messages there may be.
-pub const MESSAGES: u32 = 2_000_000;
-
-/// There are 16 sites at most.
-const SITES: usize = 16;
+/// How many sites there are at most.
+pub const SITES: usize = LAST_SITE as usize;
 
 /// How many pairs of a sender and a receiver there are.
 pub const PAIRS: usize = SITES * SITES;
@@ -140,7 +137,7 @@ impl Mail {
         ensures refused { Refuses (are_too_many (self.old.sent ++ messages.now)) result }
     {
         let count = self.sent.len();
-        if messages.len() > MESSAGES as usize - count {
+        if messages.len() > MOST_MESSAGES as usize - count {
             return Err(SendFault::TooMany);
         }
         self.post_all(messages)?;

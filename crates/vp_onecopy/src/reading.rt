@@ -10,7 +10,9 @@ ghost use Rattle.vp_onecopy.specs.declared.line.Line.TheVariants as kind;
 
 use crate::line::Line;
 use std::alloc::Global;
-use vp_base::{Commit, LineFault, Name, Op, Ops, RecId, TxnId, Value, ViewId, take_place};
+use vp_base::{
+    Commit, LineFault, MOST_RECORDS, Name, Op, Ops, RecId, TxnId, Value, ViewId, take_place,
+};
 use vp_text::{Cursor, Unexpected};
 
 /// The record whose name stands next.
@@ -180,7 +182,7 @@ pub fn take_line(
     requires names { AllNames names.now }
     ensures { Tries (λ line. line) line_left result cursor.new (line_at (record { names = names.now; last = last; commits = commits }) cursor.old) }
 {
-    if commits > 0 || names.len() >= 256 {
+    if commits > 0 || names.len() >= MOST_RECORDS {
         return take_later(alloc, cursor, names, last, commits);
     }
     let mut other = cursor.fork();

@@ -10,7 +10,7 @@ ghost use Rattle.vp_model.specs.Transactions.{last_writes};
 ghost use Rattle.vp_operations.specs.Records.{usable_as, usable_record};
 
 use std::alloc::Global;
-use vp_base::{Answer, CopyOf, Live, Name, NoMemory, RecId, Sites, Stored, Value};
+use vp_base::{Answer, CopyOf, Live, MOST_OPS, Name, NoMemory, RecId, Sites, Stored, Value};
 use vp_catalog::members_of;
 use vp_endings::{Around, Here, last_writes};
 use vp_lists::value_at;
@@ -43,7 +43,7 @@ fn usable_as(
     let txn = handled.live.txn;
     let number = handled.number();
     let alloc = handled.live.ops.allocator();
-    if handled.live.ops.as_slice().len() >= 64 {
+    if handled.live.ops.as_slice().len() >= usize::from(MOST_OPS) {
         return Ok(Err(Answer::TooManyOps { txn, number }));
     }
     if is_usable(alloc, at, rec) {

@@ -7,11 +7,8 @@ use crate::fault::ScheduleFault;
 use crate::line::Line;
 use crate::schedule::Schedule;
 use std::alloc::Global;
-use vp_base::Events;
+use vp_base::{Events, MOST_EVENTS};
 use vp_catalog::Catalog;
-
-/// How many events a schedule has at most.
-const MOST_EVENTS: usize = 100_000;
 
 /// A schedule that is being read, and whether the line `events` has come.
 #[derive(Drop)]
@@ -43,10 +40,10 @@ impl Draft {
             Line::Entry(entry) => self.schedule.catalog.add(entry, number)?,
             Line::Events => self.opened = true,
             Line::Event(event) => {
-                if self.schedule.events.as_slice().len() >= MOST_EVENTS {
+                if self.schedule.events.as_slice().len() >= MOST_EVENTS as usize {
                     return Err(ScheduleFault::TooMany {
                         line: number,
-                        limit: MOST_EVENTS as u32,
+                        limit: MOST_EVENTS,
                     });
                 }
                 self.schedule.events.push(event)?;

@@ -10,7 +10,7 @@ ghost use Rattle.vp_schedule.specs.EventReading.{other_sites, pair_at, called_at
 use crate::kind::{Kind, take_kind};
 use crate::reading::take_call;
 use std::alloc::Global;
-use vp_base::{Event, LineFault, SiteId};
+use vp_base::{Event, LAST_SITE, LineFault, MOST_MESSAGES, MOST_STEPS, SiteId};
 use vp_catalog::take_site;
 use vp_text::{Cursor, Unexpected};
 
@@ -48,7 +48,7 @@ fn take_other(cursor: &mut Cursor, sites: &[SiteId], site: SiteId) -> Result<Sit
     requires { length sites.now ≤ 16 }
     ensures { Reads (λ s. s) (λ e. e.left) result cursor.new (site_at (other_sites sites.now site) 0 cursor.old) }
 {
-    let mut others = [site; 16];
+    let mut others = [site; LAST_SITE as usize];
     let mut count = 0;
     for other in sites {
         if *other != site {
@@ -96,10 +96,10 @@ fn take_fields(
     let event = match kind {
         Kind::Call => take_called(alloc, cursor, sites)?,
         Kind::Deliver => Event::Deliver {
-            k: cursor.number_u32(1, 2_000_000)?,
+            k: cursor.number_u32(1, MOST_MESSAGES)?,
         },
         Kind::Flow => Event::Flow {
-            count: cursor.number_u32(1, 100_000)?,
+            count: cursor.number_u32(1, MOST_STEPS)?,
         },
         Kind::Tick => Event::Tick {
             site: take_site(cursor, sites, 0)?,

@@ -3,7 +3,7 @@
 ghost use Rattle.std.specs.Prelude.{◌≡◌, ◌++◌, OnOk};
 ghost use Rattle.vp_status.specs.Refused.{bad_line_text, twice_text, limited, limit_text};
 
-use vp_base::NoMemory;
+use vp_base::{MOST_MESSAGES, MOST_RECORDS, NoMemory};
 use vp_text::print_number;
 
 pub fn print_bad_line(line: usize, at: usize, out: &mut Vec<u8>) -> Result<(), NoMemory>
@@ -30,9 +30,9 @@ pub fn print_twice(line: usize, out: &mut Vec<u8>) -> Result<(), NoMemory>
 fn limited(limit: u32) -> &'static [u8]
     ensures { result.now ≡ limited limit }
 {
-    if limit == 256 {
+    if limit == MOST_RECORDS as u32 {
         b"records "
-    } else if limit == 2_000_000 {
+    } else if limit == MOST_MESSAGES {
         b"messages "
     } else {
         b"events "

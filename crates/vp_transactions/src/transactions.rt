@@ -20,8 +20,8 @@ use std::collections::VecDeque;
 use std::marker::Model;
 use std::mem;
 use vp_base::{
-    Answer, CallNo, CopyOf, Decision, Decisions, Effects, Ending, Finished, Live, Message,
-    NoMemory, Pending, Seq, SiteId, Sites, TxnId, ViewId,
+    Answer, CallNo, CopyOf, Decision, Decisions, Effects, Ending, Finished, Live, MOST_FINISHED,
+    Message, NoMemory, Pending, Seq, SiteId, Sites, TxnId, ViewId,
 };
 use vp_catalog::has_site;
 use vp_lists::{OfTxn, find_txn, is_same_txn, put_in};
@@ -331,7 +331,7 @@ fn keep_end(finished: &mut VecDeque<Finished>, end: Finished) -> Result<(), NoMe
     ensures { OnOk result (finished.new.items ≡ at_most 1024 (finished.old.items ++ end ∷ [])) }
 {
     finished.push_back(end)?;
-    if finished.len() > 1024 {
+    if finished.len() > MOST_FINISHED {
         let _ = finished.pop_front();
     }
     Ok(())

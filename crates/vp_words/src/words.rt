@@ -12,7 +12,7 @@ ghost use Rattle.vp_words.specs.Parsed.{bare_app, called, client_operands, drawn
 use clap::error::ErrorKind;
 use clap::{Arg, ArgMatches};
 use std::alloc::{AllocError, Global};
-use vp_base::{Call, NameFault, NoMemory, SiteId, Word};
+use vp_base::{Call, LAST_SITE, NameFault, NoMemory, SiteId, Word};
 use vp_schedule::read_call;
 use vp_text::{Cursor, Unexpected};
 
@@ -279,7 +279,7 @@ fn signalled(matches: &ArgMatches, signal: Signal) -> Option<Command>
 fn site(text: &str) -> Option<SiteId>
     ensures { result ≡ site text.now }
 {
-    let number = number(text, 1, 16)?;
+    let number = number(text, 1, u64::from(LAST_SITE))?;
     Some(SiteId::of(number as u8))
 }
 

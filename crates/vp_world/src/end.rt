@@ -4,11 +4,8 @@ ghost use Rattle.std.specs.Prelude.{◌≡◌};
 ghost use Rattle.vp_base.specs.declared.event.Counted.TheVariants as counted;
 ghost use Rattle.vp_world.specs.Limits.{limit_of};
 
-use vp_base::{Counted, NoMemory};
-use vp_mail::{MESSAGES, SendFault};
-
-/// How many steps a world may have.
-pub const STEPS: u32 = 100_000;
+use vp_base::{Counted, MOST_MESSAGES, NoMemory};
+use vp_mail::SendFault;
 
 /// Why an event is not done. The world is then gone.
 #[derive(Clone, Copy, Debug, Drop, PartialEq, Eq)]
@@ -37,7 +34,7 @@ impl From<SendFault> for WorldEnd {
         match fault {
             SendFault::TooMany => WorldEnd::Limit {
                 what: Counted::Messages,
-                limit: MESSAGES,
+                limit: MOST_MESSAGES,
             },
             SendFault::NoMemory => WorldEnd::NoMemory,
         }

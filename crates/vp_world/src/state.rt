@@ -15,17 +15,17 @@ ghost use Rattle.vp_world.specs.Known.{IsWithinLimits};
 ghost use Rattle.vp_world.specs.Steps.{takes_in};
 ghost use Rattle.vp_world.specs.Heads.{is_open, head_of, lesser};
 
-use crate::end::{STEPS, WorldEnd};
+use crate::end::WorldEnd;
 use crate::place::Taken;
 use crate::places::Places;
 use std::alloc::Global;
 use std::marker::Model;
 use vp_base::{
-    Call, Commit, Commits, CopyOf, Counted, Effects, Event, Input, Newest, NoMemory, Sent, Shown,
-    SiteId, View, ViewId,
+    Call, Commit, Commits, CopyOf, Counted, Effects, Event, Input, MOST_STEPS, Newest, NoMemory,
+    Sent, Shown, SiteId, View, ViewId,
 };
 use vp_catalog::Catalog;
-use vp_mail::{Cuts, Mail, PAIRS};
+use vp_mail::{Cuts, Mail, PAIRS, SITES};
 
 /// The opening view.
 const OPENING: ViewId = ViewId { number: 0, site: 0 };
@@ -173,8 +173,8 @@ impl State {
         requires { pair < 256 }
         ensures { result ≡ is_open self.now pair }
     {
-        let from = SiteId::of((pair / 16) as u8 + 1);
-        let to = SiteId::of((pair % 16) as u8 + 1);
+        let from = SiteId::of((pair / SITES) as u8 + 1);
+        let to = SiteId::of((pair % SITES) as u8 + 1);
         self.places.is_up(to) && !self.cuts.has(from, to)
     }
 
@@ -208,10 +208,10 @@ impl State {
         ensures counted { OnOk result (self.new ≡ record self.old { steps = self.old.steps + 1 }) }
         ensures end { Ends (too_many_steps (self.old.steps + 1)) result }
     {
-        if self.steps == STEPS {
+        if self.steps == MOST_STEPS {
             return Err(WorldEnd::Limit {
                 what: Counted::Steps,
-                limit: STEPS,
+                limit: MOST_STEPS,
             });
         }
         self.steps += 1;
