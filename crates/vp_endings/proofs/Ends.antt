@@ -13,7 +13,7 @@ use Rattle.vp_model.specs.Views.{abandon}
 use Rattle.vp_model.specs.Step.{is_marked_call, least_of, least_missing, with_marks, mark_calls, time_out_calls}
 use Rattle.vp_transactions.specs.Waiting.{waits, all_wait}
 use Rattle.vp_endings.specs.Ends.{timed_out}
-use Rattle.vp_transactions.proofs.Hands.{same_txn_self}
+use Rattle.vp_model.proofs.SameTxn.{same_txn-self}
 
 -- the same with these transactions as the live ones
 abbrev pub with_live : List Live → Lent → Lent
@@ -25,7 +25,7 @@ module _ (id : ℕ) (why : Live → Ending) where
   close_with t live l = refl
 
   first_goes : (t : Live) (live : List Live) (l : Lent) → close id t (why t) (with_live (t ∷ live) l) ≡ with_live live (close id t (why t) l)
-  first_goes t live l = close_with t (t ∷ live) l ∙ rw (same_txn_self t.txn) refl
+  first_goes t live l = close_with t (t ∷ live) l ∙ rw (same_txn-self t.txn) refl
 
   -- each one that is live ends, or each ends that was taken out before
   in_place_goes : (live : List Live) (l : Lent) → close_all id why live (with_live live l) ≡ with_live [] (close_all id why live l)

@@ -1,6 +1,6 @@
 -- Laws of playing operations one after the other.
-use Rattle.std.proofs.Common.{◌≡◌, ◌<◌, ◌+◌, ℕ, ◌∙◌, ap, sym, false, List, [], ◌∷◌, ◌++◌, length, take, drop, refl, arith, get_or}
-use Rattle.std.specs.Prelude.{⊤, Option, Some, None, Result, Ok, Err, option_and_then}
+use Rattle.std.proofs.Common.{◌≡◌, ◌<◌, ◌+◌, ℕ, ◌∙◌, ap, sym, false, List, [], ◌∷◌, ◌++◌, length, take, drop, arith, get_or}
+use Rattle.std.specs.Prelude.{⊤, Some, Result, Ok, Err, option_and_then}
 use Rattle.std.specs.Result.{IsErrAnd}
 use Rattle.std.specs.Str.{bytes_eq}
 use Rattle.std.proofs.lemmas.List.{take-append-drop, drop_more, take_more, length-take-le}
@@ -10,17 +10,10 @@ use Rattle.std.proofs.lemmas.Slice.Eq.{bytes_eq-Decides}
 use Rattle.vp_model.specs.Types.{Op}
 use Rattle.vp_model.specs.Types.op
 use Rattle.vp_model.specs.OneCopy.{Values, play_one, play}
+use Rattle.vp_model.proofs.PlayedInParts.{play-append}
 use Rattle.vp_onecopy.specs.Playing.{Misreads, Plays, PlaysOne}
 use Rattle.vp_onecopy.specs.declared.playing.PlayFault.{PlayFault}
 use Rattle.vp_onecopy.specs.declared.playing.PlayFault.TheVariants as faults
-
-pub then_append : {A : Type 0} (o : Option A) (f g : A → Option Values) (k : Values → Option Values) → ((a : A) → f a ≡ option_and_then k (g a)) → option_and_then f o ≡ option_and_then k (option_and_then g o)
-then_append None f g k h = refl
-then_append (Some a) f g k h = h a
-
-pub play-append : (m : Values) (xs ys : List Op) → play m (xs ++ ys) ≡ option_and_then (λ n. play n ys) (play m xs)
-play-append m [] ys = refl
-play-append m (x ∷ xs) ys = then_append (play_one m x) (λ n. play n (xs ++ ys)) (λ n. play n xs) (λ n. play n ys) (λ n. play-append n xs ys)
 
 pub err_is : (result : Result ⊤ PlayFault) (fault : PlayFault) → IsErrAnd result (λ e. e ≡ fault) → result ≡ Err fault
 err_is (Ok x) fault h = absurd h

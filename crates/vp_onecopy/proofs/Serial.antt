@@ -13,11 +13,7 @@ use Rattle.vp_base.specs.declared.memory.NoMemory.{NoMemory}
 use Rattle.vp_onecopy.specs.declared.playing.PlayFault.{PlayFault}
 use Rattle.vp_onecopy.specs.declared.playing.PlayFault.TheVariants as faults
 use Rattle.vp_onecopy.specs.declared.checking.Verdict.{Verdict}
-use Rattle.vp_onecopy.proofs.Plays.{then_append, play-append}
-
-serial-append : (m : Values) (xs ys : List Commit) → serial m (xs ++ ys) ≡ option_and_then (λ n. serial n ys) (serial m xs)
-serial-append m [] ys = refl
-serial-append m (x ∷ xs) ys = then_append (play m x.ops) (λ n. serial n (xs ++ ys)) (λ n. serial n xs) (λ n. serial n ys) (λ n. serial-append n xs ys)
+use Rattle.vp_model.proofs.PlayedInParts.{play-append, serial-append}
 
 split_at : (list : List Commit) (i : ℕ) (commit : Commit) → i < length list → commit ≡ get_or list i commit → list ≡ take i list ++ commit ∷ drop (i + 1) list
 split_at list i commit l is = sym (take-append-drop i list) ∙ ap (λ x. take i list ++ x) (drop_more list i commit l ∙ ap (λ x. x ∷ drop (i + 1) list) (sym is))

@@ -9,7 +9,7 @@ use Rattle.vp_model.specs.Words.{◌|>◌, for_some, is_view, same_txn, has_txn,
 use Rattle.vp_model.specs.Site.{ParticipantState, Stepped, send, force, change_participant}
 use Rattle.vp_model.specs.Views.{part_of, has_doubt}
 use Rattle.vp_model.specs.Messages.{holds_view, has_all_locks, with_vote, with_new_doubt, vote, first_vote, on_prepare}
-use Rattle.vp_lists.proofs.Named.{same_txn_is}
+use Rattle.vp_model.proofs.SameTxn.{same_txn-is}
 use Rattle.vp_participant.specs.Ballots.{ballot, ballot_of, first_ballot}
 use Rattle.vp_participant.specs.Refusals.{id_of, vote_refusal}
 use Rattle.vp_participant.specs.declared.participant.Voted.{Voted}
@@ -23,7 +23,7 @@ part_is txn [] part e = cc
 part_is txn (first ∷ parts) part e = go (same_txn first.txn txn) refl e (part_is txn parts part)
   where
     go : (b : Bool) → same_txn first.txn txn ≡ b → (if b then Some first else part_of txn parts) ≡ Some part → (part_of txn parts ≡ Some part → part.txn ≡ txn) → part.txn ≡ txn
-    go true is q rest = let z = same_txn_is first.txn txn is in cc
+    go true is q rest = let z = same_txn-is first.txn txn is in cc
     go false is q rest = rest q
 
 module _ (from : ℕ) (view : ViewId) (number : ℕ) (reads : List ℕ) (writes : List (ℕ × Change)) (o : Stepped) where

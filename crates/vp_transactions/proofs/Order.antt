@@ -15,7 +15,7 @@ use Rattle.vp_model.specs.Step.{mark}
 use Rattle.vp_model.specs.Calls.{begun}
 use Rattle.vp_base.specs.declared.ids.ViewId.{ViewId}
 use Rattle.vp_lists.proofs.Found.{any_is_found, find_none, find_some, others_some}
-use Rattle.vp_lists.proofs.Named.{same_txn_is}
+use Rattle.vp_model.proofs.SameTxn.{same_txn-is}
 use Rattle.vp_transactions.specs.Order.{numbers, AreRising, AreBelow, AreLive, IsPlace}
 use Rattle.vp_transactions.specs.Waiting.{waits}
 use Rattle.vp_transactions.proofs.Waiting.{all_wait_more, all_wait_change, all_wait_without, all_wait_marked}
@@ -55,7 +55,7 @@ live_more txn view live a b =
 
 -- the transaction of a name goes back into its place
 same_seq : (a b : TxnId) → same_txn a b ≡ true → a.seq ≡ b.seq
-same_seq a b h = ap (λ (t : TxnId). t.seq) (same_txn_is a b h)
+same_seq a b h = ap (λ (t : TxnId). t.seq) (same_txn-is a b h)
 
 changed_at : (txn : TxnId) (t u : Live) (ns : List ℕ) (live : List Live) (b : Bool) → same_txn u.txn txn ≡ b → t.txn ≡ txn → numbers (change_first (λ v. same_txn v.txn txn) (λ v. t) live) ≡ numbers live → numbers (cond b (t ∷ live) (u ∷ change_first (λ v. same_txn v.txn txn) (λ v. t) live)) ≡ u.txn.seq ∷ numbers live
 changed_at txn t u ns live true h e rest = ap (λ n. n ∷ numbers live) (ap (λ (a : TxnId). a.seq) e ∙ sym (same_seq u.txn txn h))

@@ -15,7 +15,7 @@ use Rattle.vp_model.specs.Refresh.{is_open, is_usable_in}
 use Rattle.vp_model.specs.Site.{SiteState, Stepped}
 use Rattle.vp_laws.proofs.Lists.Members.{Has, has_none, has_cons, any_true, any_false, both_true, map_has, filter_has}
 use Rattle.vp_laws.proofs.Lists.Changes.{mapped_has}
-use Rattle.vp_laws.proofs.Lists.Names.{same_txn-is, same_txn-not}
+use Rattle.vp_model.proofs.SameTxn.{same_txn-is, same_txn-not}
 use Rattle.vp_laws.proofs.Lists.Views.{Precedes}
 use Rattle.vp_laws.proofs.Moves.LocalViews.{letter}
 use Rattle.vp_laws.proofs.Table.Votes.{IsPrepared}

@@ -7,7 +7,7 @@ use Rattle.vp_model.specs.Words.{same_txn}
 use Rattle.vp_model.specs.Catalogue.{Catalogue}
 use Rattle.vp_model.specs.Durable.{doubt_of}
 use Rattle.vp_laws.proofs.Lists.Members.{Has, has_none, has_cons, find_has, find_true}
-use Rattle.vp_laws.proofs.Lists.Names.{same_txn-is, same_txn-self}
+use Rattle.vp_model.proofs.SameTxn.{same_txn-is, same_txn-self}
 use Rattle.vp_laws.proofs.Moves.LocalViews.{letter}
 use Rattle.vp_laws.proofs.Worlds.Scenes.{Scene, kept_at}
 use Rattle.vp_laws.proofs.Invariant.Shares.{InvShares}

@@ -6,7 +6,7 @@ use Rattle.vp_model.specs.Words.{keys, same_txn}
 use Rattle.vp_model.specs.Catalogue.{Catalogue}
 use Rattle.vp_model.specs.Site.{SiteState, Stepped}
 use Rattle.vp_laws.proofs.Lists.Members.{Has, has_none, has_cases, has_one_is}
-use Rattle.vp_laws.proofs.Lists.Names.{same_txn-is, same_txn-not}
+use Rattle.vp_model.proofs.SameTxn.{same_txn-is, same_txn-not}
 use Rattle.vp_laws.proofs.Lists.Views.{AtMost, AtMost-same}
 use Rattle.vp_laws.proofs.Table.Shares.{OutcomeComes}
 use Rattle.vp_laws.proofs.Worlds.Scenes.{Scene, kept_at}

@@ -6,7 +6,8 @@ use Rattle.std.proofs.lemmas.List.{append_assoc}
 use Rattle.vp_model.specs.Types.{ViewId, Op, Commit}
 use Rattle.vp_model.specs.Words.{view_before}
 use Rattle.vp_model.specs.OneCopy.{Values, play, serial, views_of, in_view, order, content}
-use Rattle.vp_laws.proofs.Journal.Play.{serial-append, and_then}
+use Rattle.vp_model.proofs.PlayedInParts.{serial-append}
+use Rattle.vp_laws.proofs.Journal.Play.{and_then}
 use Rattle.vp_laws.proofs.Lists.Members.{Has, has_right, has_cases, has_one_is}
 use Rattle.vp_laws.proofs.Lists.Views.{Precedes, AtMost-trans, Precedes-at_most, from_before, not_before}
 use Rattle.vp_laws.proofs.Journal.Order.{Rising, Split, Precedes-trans, views_rising, flat_has, order_has, order_more}

@@ -1,5 +1,5 @@
 -- Playing operations on a map of values, and what the last writes make of it.
-use Rattle.std.proofs.Common.{◌≡◌, ◌<◌, ℕ, zero, suc, ◌∙◌, ap, sym, Bool, true, false, cond, List, [], ◌∷◌, ◌++◌, refl, arith, inl, inr, ◌⊎◌}
+use Rattle.std.proofs.Common.{◌≡◌, ◌<◌, ℕ, zero, suc, ◌∙◌, ap, sym, Bool, true, false, cond, List, [], ◌∷◌, refl, arith, inl, inr, ◌⊎◌}
 use Rattle.std.specs.Prelude.{Option, Some, None, is_some, ◌==◌, nat_lt, slice_get, slice_set, option_map, option_and_then, find, fold}
 use Rattle.std.specs.Option.{option_map_or}
 use Rattle.std.specs.List.{AllByRecursion}
@@ -7,11 +7,11 @@ use Rattle.std.specs.Str.{bytes_eq}
 use Rattle.std.proofs.lemmas.Bool.Decides.{nat_tests}
 use Rattle.std.proofs.lemmas.Bool.{cases_eq, eqb-true, eqb-false, ltb-true}
 use Rattle.std.proofs.lemmas.Slice.Eq.{bytes_eq-Decides}
-use Rattle.vp_model.specs.Types.{Op, Commit}
+use Rattle.vp_model.specs.Types.{Op}
 use Rattle.vp_model.specs.Types.op
 use Rattle.vp_model.specs.Words.{put_at, value_at}
 use Rattle.vp_model.specs.Transactions.{with_op, last_writes}
-use Rattle.vp_model.specs.OneCopy.{Values, play_one, play, serial}
+use Rattle.vp_model.specs.OneCopy.{Values, play_one, play}
 
 -- a map after one write
 pub get_set : (m : Values) (r : ℕ) (v : List ℕ) → slice_get (slice_set m r v) r ≡ option_map (λ (old : List ℕ). v) (slice_get m r)
@@ -199,18 +199,6 @@ last_ascending-from (operation ∷ ops) ws h = last_ascending-from ops (with_op 
 
 pub last_ascending : (ops : List Op) → Ascending (last_writes ops)
 last_ascending ops = last_ascending-from ops [] tt
-
-then_append : {A : Type 0} (o : Option A) (f g : A → Option Values) (k : Values → Option Values) → ((a : A) → f a ≡ option_and_then k (g a)) → option_and_then f o ≡ option_and_then k (option_and_then g o)
-then_append None f g k h = refl
-then_append (Some a) f g k h = h a
-
-pub play-append : (m : Values) (xs ys : List Op) → play m (xs ++ ys) ≡ option_and_then (λ n. play n ys) (play m xs)
-play-append m [] ys = refl
-play-append m (x ∷ xs) ys = then_append (play_one m x) (λ n. play n (xs ++ ys)) (λ n. play n xs) (λ n. play n ys) (λ n. play-append n xs ys)
-
-pub serial-append : (m : Values) (xs ys : List Commit) → serial m (xs ++ ys) ≡ option_and_then (λ n. serial n ys) (serial m xs)
-serial-append m [] ys = refl
-serial-append m (x ∷ xs) ys = then_append (play m x.ops) (λ n. serial n (xs ++ ys)) (λ n. serial n xs) (λ n. serial n ys) (λ n. serial-append n xs ys)
 
 -- a read plays where the map has its value
 pub read_plays : (m : Values) (rec : ℕ) (value : List ℕ) → slice_get m rec ≡ Some value → play m (op.Read rec value ∷ []) ≡ Some m

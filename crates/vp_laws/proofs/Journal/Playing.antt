@@ -8,7 +8,8 @@ use Rattle.vp_model.specs.Words.{value_at}
 use Rattle.vp_model.specs.Catalogue.{Catalogue, start_values}
 use Rattle.vp_model.specs.Transactions.{last_changes}
 use Rattle.vp_model.specs.OneCopy.{Values, play, serial, order, content}
-use Rattle.vp_laws.proofs.Journal.Play.{Write, op_record, set_all, get_set, get_other, get_all, get_all-other, play_sets, last_ascending, serial-append, AgreeOn, play_agrees, and_then}
+use Rattle.vp_model.proofs.PlayedInParts.{serial-append}
+use Rattle.vp_laws.proofs.Journal.Play.{Write, op_record, set_all, get_set, get_other, get_all, get_all-other, play_sets, last_ascending, AgreeOn, play_agrees, and_then}
 use Rattle.vp_laws.proofs.Lists.Members.{Has, has_first, has_more, has_right, all_of}
 use Rattle.vp_laws.proofs.Lists.Views.{Precedes, AtMost-refl, same_site, not_before}
 use Rattle.vp_laws.proofs.Journal.Order.{Split, order_has, order_more}

@@ -10,7 +10,7 @@ use Rattle.vp_model.specs.Durable.{DurableState}
 use Rattle.vp_model.specs.Transactions.{last_changes, writes_held}
 use Rattle.vp_model.specs.Site.{SiteState, Stepped}
 use Rattle.vp_model.specs.Step.{durable_of}
-use Rattle.vp_laws.proofs.Lists.Names.{same_txn-not}
+use Rattle.vp_model.proofs.SameTxn.{same_txn-not}
 use Rattle.vp_laws.proofs.Lists.Members.{Has, has_none, has_one_is, has_first, map_has, any_false}
 use Rattle.vp_laws.proofs.Lists.Views.{Precedes}
 use Rattle.vp_laws.proofs.Moves.LocalViews.{letter}

@@ -14,7 +14,7 @@ use Rattle.vp_model.specs.Messages.{holds_view}
 use Rattle.vp_model.specs.Step.{durable_of}
 use Rattle.vp_laws.proofs.Lists.Members.{Has, has_from_test, filter_has, filter_keeps, map_has, any_true, any_false, has_test}
 use Rattle.vp_laws.proofs.Lists.Changes.{mapped_has, some_first, some_not_empty}
-use Rattle.vp_laws.proofs.Lists.Names.{same_txn-is, same_txn-not}
+use Rattle.vp_model.proofs.SameTxn.{same_txn-is, same_txn-not}
 use Rattle.vp_laws.proofs.Lists.Views.{AtMost, Precedes, not_both, same_is, same_site}
 use Rattle.vp_laws.proofs.Moves.LocalViews.{letter}
 use Rattle.vp_laws.proofs.Moves.Table.{Handled}

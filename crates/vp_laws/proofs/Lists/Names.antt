@@ -1,30 +1,12 @@
 -- Names of transactions, and that the live ones of a site have different ones.
-use Rattle.std.proofs.Common.{◌≡◌, ◌≢◌, ◌⊎◌, ◌∙◌, ap, sym, Bool, true, false, cond, List, [], ◌∷◌, ◌++◌, map, refl, arith, inl, inr, ⊎_elim}
-use Rattle.std.proofs.lemmas.Bool.Decides.{nat_tests}
+use Rattle.std.proofs.Common.{◌≡◌, ◌≢◌, ◌⊎◌, ◌∙◌, ap, sym, Bool, true, false, cond, List, [], ◌∷◌, ◌++◌, map, refl, inl, inr, ⊎_elim}
 use Rattle.vp_model.specs.Types.{TxnId, Live}
 use Rattle.vp_model.specs.Words.{same_txn, change_first, without_first}
 use Rattle.vp_model.specs.Step.{mark}
+use Rattle.vp_model.proofs.SameTxn.{same_txn-is, same_txn-not}
 use Rattle.vp_laws.proofs.Lists.Members.{Has, has_none, has_first, has_more, has_cons, has_cases, has_one_is, map_has}
 use Rattle.vp_laws.proofs.Lists.Changes.{without_first_has, change_first_has}
 use Rattle.std.specs.Prelude.{not}
-
-pub same_txn-is : (t u : TxnId) → same_txn t u ≡ true → t ≡ u
-same_txn-is t u e = grind (arith, nat_tests, e)
-
-pub same_txn-self : (t : TxnId) → same_txn t t ≡ true
-same_txn-self t = grind (arith, nat_tests)
-
-pub same_txn-other : (t u : TxnId) → t ≢ u → same_txn t u ≡ false
-same_txn-other t u n = grind (arith, nat_tests, n)
-
-pub same_txn-turned : (t u : TxnId) → same_txn t u ≡ false → same_txn u t ≡ false
-same_txn-turned t u e = grind (arith, nat_tests, e)
-
-pub same_txn-clash : (t u : TxnId) → not (same_txn t u) ≡ true → t ≢ u
-same_txn-clash t u e q = grind (arith, nat_tests, e, q)
-
-pub same_txn-not : (t u : TxnId) → same_txn t u ≡ false → t ≢ u
-same_txn-not t u e q = grind (arith, nat_tests, e, q)
 
 abbrev pub Apart : List Live → Type 0
 Apart [] = Unit {0}

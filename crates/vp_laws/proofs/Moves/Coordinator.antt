@@ -28,7 +28,7 @@ use Rattle.vp_laws.proofs.Moves.LocalViews.{letter}
 use Rattle.vp_laws.specs.Votes.{is_commit}
 use Rattle.vp_laws.proofs.Moves.Table.{Closed, Comes, Handled, IsNext, Reads, Writes, Counts, remaining, IsLast, Locked, Completes, Decides, Replies, IsCallOf, Names, Says, Closes, is_abort, lent_at, OfCoordinator}
 use Rattle.vp_laws.proofs.Lists.Keeps.{by_option, by_some, by_test}
-use Rattle.vp_laws.proofs.Lists.Names.{same_txn-is}
+use Rattle.vp_model.proofs.SameTxn.{same_txn-is}
 
 first_has : (xs : List ℕ) (q : ℕ) → first xs ≡ Some q → Has xs q
 first_has [] q e = cc

@@ -10,7 +10,7 @@ use Rattle.vp_model.specs.Words.{is_empty}
 use Rattle.vp_model.specs.Locks.{without_owner}
 use Rattle.vp_model.specs.Site.{Lent, letters}
 use Rattle.vp_model.specs.Transactions.{last_changes, entry_of, with_pending_reply, finish, close, close_all, with_finished, keep_writes, decided, decide}
-use Rattle.vp_laws.proofs.Lists.Names.{same_txn-self}
+use Rattle.vp_model.proofs.SameTxn.{same_txn-self}
 
 -- a transaction has ended: its parts are told whether it commits, and its locks go
 pub record Ends (id : ℕ) (t : Live) (why : Ending) (commit : Bool) (l now : Lent) : Type 0 where

@@ -13,7 +13,8 @@ use Rattle.vp_model.specs.Transactions.{last_writes}
 use Rattle.vp_model.specs.Refresh.{is_open, is_usable_in}
 use Rattle.vp_model.specs.OneCopy.{Values, play, content}
 use Rattle.vp_model.specs.Site.{SiteState, Stepped, Lent}
-use Rattle.vp_laws.proofs.Journal.Play.{get_all, get_all-other, play_sets, last_ascending, play-append, read_plays}
+use Rattle.vp_model.proofs.PlayedInParts.{play-append}
+use Rattle.vp_laws.proofs.Journal.Play.{get_all, get_all-other, play_sets, last_ascending, read_plays}
 use Rattle.vp_laws.proofs.Lists.Members.{Has}
 use Rattle.vp_laws.proofs.Lists.Changes.{mapped_has}
 use Rattle.vp_laws.proofs.Lists.Views.{AtMost, AtMost-along}

@@ -19,7 +19,7 @@ use Rattle.vp_model.specs.Justified.{refused_number}
 use Rattle.vp_laws.proofs.Replies.RefusedCalls.{refused_of}
 use Rattle.vp_laws.proofs.Lists.Members.{Has, has_none, map_has, any_true, any_false}
 use Rattle.vp_laws.proofs.Lists.Changes.{mapped_has, all_from}
-use Rattle.vp_laws.proofs.Lists.Names.{same_txn-is}
+use Rattle.vp_model.proofs.SameTxn.{same_txn-is}
 use Rattle.vp_laws.proofs.Moves.Table.{is_abort, is_end, Replies}
 use Rattle.vp_laws.proofs.Table.Endings.{NotLive, WasLive}
 use Rattle.vp_laws.proofs.Table.Replies.{Said}

@@ -29,7 +29,8 @@ use Rattle.vp_laws.proofs.Worlds.Events.{Arrives}
 use Rattle.vp_laws.proofs.Invariant.Shares.{HasRequest}
 use Rattle.vp_laws.proofs.Invariant.Answers.{Current}
 use Rattle.vp_laws.proofs.Table.Led.{Led}
-use Rattle.vp_laws.proofs.Lists.Names.{apart_unique, same_txn-self}
+use Rattle.vp_model.proofs.SameTxn.{same_txn-self}
+use Rattle.vp_laws.proofs.Lists.Names.{apart_unique}
 use Rattle.vp_laws.proofs.Replies.EndsTrue.{EndedAt, ended_step, ended_quiet, said_refused}
 use Rattle.vp_laws.proofs.Worlds.Sites.{NowIs, now_is, Quiet, quiet_is, live_still, finished_still}
 use Rattle.vp_laws.proofs.Moves.Reasons.{Operates, Takes, Awaits, Why, told_to}

@@ -23,7 +23,7 @@ use Rattle.vp_model.specs.Told.{answers_in, messages_in}
 use Rattle.vp_model.specs.Justified.{Request, call_request, message_request, request_of, site_named, is_step_of, is_request, tested_before, tested_after, blocks, is_named, says_held, gave_held, was_blocked, refuses, is_held_by, is_other_view, is_same_view, handles, held_other, left_then, left_and_closed}
 use Rattle.vp_laws.proofs.Lists.Members.{Has, both_true, any_of}
 use Rattle.vp_laws.proofs.Lists.Changes.{mapped_has}
-use Rattle.vp_laws.proofs.Lists.Names.{same_txn-is, same_txn-self}
+use Rattle.vp_model.proofs.SameTxn.{same_txn-is, same_txn-self}
 use Rattle.vp_laws.proofs.Moves.Table.{Comes, Requests, Asks}
 use Rattle.vp_laws.proofs.Moves.LocalViews.{letter}
 use Rattle.vp_laws.proofs.Worlds.Occurs.{Gives}

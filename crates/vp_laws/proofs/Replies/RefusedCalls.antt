@@ -14,7 +14,7 @@ use Rattle.vp_model.specs.World.{Moment}
 use Rattle.vp_model.specs.Told.{answers_in}
 use Rattle.vp_model.specs.Justified.{refused_number, refused_in, refused_once}
 use Rattle.vp_laws.proofs.Lists.Members.{Has, has_none, has_first, has_more, has_cons, or_left}
-use Rattle.vp_laws.proofs.Lists.Names.{same_txn-is}
+use Rattle.vp_model.proofs.SameTxn.{same_txn-is}
 
 -- the first of two lists
 first_left : (xs ys : List ℕ) (n : ℕ) → first xs ≡ Some n → first (xs ++ ys) ≡ Some n

@@ -20,7 +20,8 @@ use Rattle.vp_model.specs.Calls.{handled, handling, with_record, take_lock, lock
 use Rattle.vp_model.specs.Step.{on_input, step}
 use Rattle.vp_model.specs.Told.{is_early_refusal}
 use Rattle.vp_laws.proofs.Lists.Members.{Has, has_one, find_has, find_true}
-use Rattle.vp_laws.proofs.Lists.Names.{same_txn-is, Apart, named, without_gone, change_cases}
+use Rattle.vp_model.proofs.SameTxn.{same_txn-is}
+use Rattle.vp_laws.proofs.Lists.Names.{Apart, named, without_gone, change_cases}
 use Rattle.vp_laws.proofs.Moves.Frames.{close-ends, decided-ends, decide-cases}
 use Rattle.vp_laws.proofs.Moves.Table.{lent_at}
 use Rattle.vp_laws.proofs.Moves.Coordinator.{live_of-has, live_of-is, next_number}

@@ -19,7 +19,7 @@ use Rattle.vp_model.specs.Messages.{holds_view, with_answer, accept, on_accept, 
 use Rattle.vp_model.specs.Step.{fix, mark_calls, ask_again, resend_one, inquire, step}
 use Rattle.vp_laws.specs.Decisions.{dated_at}
 use Rattle.vp_laws.proofs.Lists.Members.{Has, has_none, has_one, has_first, has_more, map_has, filter_has, find_has, find_true, both_true}
-use Rattle.vp_laws.proofs.Lists.Names.{same_txn-is}
+use Rattle.vp_model.proofs.SameTxn.{same_txn-is}
 use Rattle.vp_laws.proofs.Lists.Changes.{put_has}
 use Rattle.vp_laws.proofs.Lists.Views.{is_view_is}
 use Rattle.vp_laws.proofs.Moves.Frames.{close-ends, close-commits, decided-ends, decided-commits, decide-cases}

@@ -20,7 +20,7 @@ use Rattle.vp_laws.proofs.Moves.LocalViews.{Tidy}
 use Rattle.vp_laws.proofs.Moves.Table.{Comes}
 use Rattle.vp_laws.proofs.Table.Outcomes.{find_none}
 use Rattle.vp_laws.proofs.Table.Copies.{AnswerNow, CopyNow, copies-step}
-use Rattle.vp_laws.proofs.Lists.Names.{same_txn-self}
+use Rattle.vp_model.proofs.SameTxn.{same_txn-self}
 use Rattle.vp_laws.proofs.Lists.Keeps.{by_some, by_test}
 
 -- what was forced stays while refreshes end

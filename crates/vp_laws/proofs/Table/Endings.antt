@@ -16,7 +16,8 @@ use Rattle.vp_model.specs.Answers.{with_acknowledged, is_live, is_decided}
 use Rattle.vp_model.specs.Step.{mark, mark_calls, step}
 use Rattle.vp_laws.proofs.Lists.Members.{Has, has_none, has_one, has_one_is, has_cases, map_has, filter_has, any_true, any_false}
 use Rattle.vp_laws.proofs.Lists.Changes.{put_has, without_first_has, change_first_has, at_most_has}
-use Rattle.vp_laws.proofs.Lists.Names.{same_txn-is, same_txn-not, Apart, named, apart_without, without_gone, apart_change, apart_more, apart_mark}
+use Rattle.vp_model.proofs.SameTxn.{same_txn-is, same_txn-not}
+use Rattle.vp_laws.proofs.Lists.Names.{Apart, named, apart_without, without_gone, apart_change, apart_more, apart_mark}
 use Rattle.vp_laws.proofs.Moves.Frames.{Ends, close-ends, close-commits, decided-ends, decided-commits, decide-cases}
 use Rattle.vp_laws.proofs.Moves.Table.{Comes, next_name, lent_at, Handled, is_abort, remaining, OfCoordinator}
 use Rattle.vp_laws.proofs.Moves.Rows.{step-keeps}

@@ -24,7 +24,8 @@ use Rattle.vp_model.specs.Step.{fix, mark, marked_call, mark_calls, ask_again, r
 use Rattle.vp_laws.specs.Votes.{is_commit}
 use Rattle.vp_laws.proofs.Lists.Members.{Has, has_none, has_left, has_first, has_more, has_cons, has_cases, has_one_is, map_has, filter_keeps, find_has, find_true, any_true, any_false, both_true, either_true}
 use Rattle.vp_laws.proofs.Lists.Views.{Precedes, is_view_is}
-use Rattle.vp_laws.proofs.Lists.Names.{Apart, named, same_txn-is, apart_without, without_gone, change_cases, apart_change, apart_more, apart_mark, same_txn-turned}
+use Rattle.vp_model.proofs.SameTxn.{same_txn-is, same_txn-turned}
+use Rattle.vp_laws.proofs.Lists.Names.{Apart, named, apart_without, without_gone, change_cases, apart_change, apart_more, apart_mark}
 use Rattle.vp_laws.proofs.Lists.Changes.{without_first_has, put_has, put_new, put_old, mapped_has}
 use Rattle.vp_laws.proofs.Moves.Frames.{Ends, close-ends, decided-ends, decide-cases}
 use Rattle.vp_laws.proofs.Lists.LockTables.{same_owner_is, HasLock, free_from_none, lock_kept, lock_taken, lock_stays}

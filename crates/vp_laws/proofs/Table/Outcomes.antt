@@ -18,7 +18,7 @@ use Rattle.vp_model.specs.Messages.{with_part, accept, on_accept, on_stale, gran
 use Rattle.vp_model.specs.Step.{step, fix, mark_calls, ask_again, resend_one, inquire}
 use Rattle.vp_laws.proofs.Lists.Members.{Has, has_none, has_one, has_one_is, has_cases, has_cons, has_left, any_false, filter_keeps, find_has, find_true}
 use Rattle.vp_laws.proofs.Lists.Changes.{put_old}
-use Rattle.vp_laws.proofs.Lists.Names.{same_txn-is, same_txn-turned}
+use Rattle.vp_model.proofs.SameTxn.{same_txn-is, same_txn-turned}
 use Rattle.vp_laws.proofs.Moves.Frames.{Ends, close-ends, decided-ends, decide-cases}
 use Rattle.vp_laws.proofs.Moves.Table.{Comes, next_view, lent_at, Back, Table}
 use Rattle.vp_laws.proofs.Moves.Rows.{step-keeps}

@@ -20,7 +20,7 @@ use Rattle.vp_model.specs.Messages.{held_id, holds_view, put_part, with_part, wi
 use Rattle.vp_model.specs.Step.{fix, mark_calls, ask_again, resend_one, known, inquire, step}
 use Rattle.vp_laws.proofs.Lists.Members.{Has, has_none, has_one_is, has_cases, map_has, filter_has, filter_keeps, find_has, find_true, any_true, any_false}
 use Rattle.vp_laws.proofs.Lists.Changes.{put_has, put_new, put_old}
-use Rattle.vp_laws.proofs.Lists.Names.{same_txn-is, same_txn-turned, same_txn-clash}
+use Rattle.vp_model.proofs.SameTxn.{same_txn-is, same_txn-turned, same_txn-clash}
 use Rattle.vp_laws.proofs.Moves.Frames.{close-ends, decided-ends, decide-cases}
 use Rattle.vp_laws.proofs.Moves.Table.{Comes, Closed, next_view, lent_at, Requests, Back, Table}
 use Rattle.vp_laws.proofs.Moves.Rows.{step-keeps}

@@ -21,7 +21,8 @@ use Rattle.vp_laws.proofs.Table.ToldLines.{Report}
 use Rattle.vp_laws.specs.Reports.{is_of_kind}
 use Rattle.vp_laws.proofs.Lists.Members.{Has, has_none, has_first, has_more, has_one_is, has_cases, map_has}
 use Rattle.vp_laws.proofs.Lists.Changes.{without_first_has}
-use Rattle.vp_laws.proofs.Lists.Names.{Apart, named, change_cases, same_txn-self, same_txn-other}
+use Rattle.vp_model.proofs.SameTxn.{same_txn-self, same_txn-other}
+use Rattle.vp_laws.proofs.Lists.Names.{Apart, named, change_cases}
 use Rattle.vp_laws.proofs.Moves.Table.{next_view, next_name, Reads, Writes, Completes}
 use Rattle.vp_laws.proofs.Table.Kept.{kept_has}
 use Rattle.vp_laws.proofs.Table.Endings.{NotLive}

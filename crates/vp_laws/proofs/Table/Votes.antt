@@ -22,7 +22,8 @@ use Rattle.vp_model.specs.Step.{marked_call, without_wait, step, fix, mark, prob
 use Rattle.vp_laws.proofs.Lists.Members.{Has, has_none, has_one_is, has_cases, find_true, map_has}
 use Rattle.vp_laws.proofs.Moves.Frames.{Ends, close-ends, decided-ends, decide-cases}
 use Rattle.vp_laws.proofs.Lists.Changes.{without_first_has}
-use Rattle.vp_laws.proofs.Lists.Names.{same_txn-is, Apart, named, apart_without, change_cases, apart_change, apart_more, apart_mark}
+use Rattle.vp_model.proofs.SameTxn.{same_txn-is}
+use Rattle.vp_laws.proofs.Lists.Names.{Apart, named, apart_without, change_cases, apart_change, apart_more, apart_mark}
 use Rattle.vp_laws.specs.Votes.{is_commit}
 use Rattle.vp_laws.proofs.Moves.Table.{IsOperating, Completes, Comes, next_view, next_name, lent_at, remaining, Back, Table}
 use Rattle.vp_laws.proofs.Moves.Rows.{step-keeps}

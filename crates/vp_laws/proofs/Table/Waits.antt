@@ -14,7 +14,7 @@ use Rattle.vp_model.specs.Answers.{with_acknowledged}
 use Rattle.vp_model.specs.Step.{mark_calls, step}
 use Rattle.vp_laws.proofs.Lists.Members.{Has, has_none, has_one_is, filter_keeps}
 use Rattle.vp_laws.proofs.Lists.Changes.{mapped_has, put_new, put_old}
-use Rattle.vp_laws.proofs.Lists.Names.{same_txn-is, same_txn-not, same_txn-other}
+use Rattle.vp_model.proofs.SameTxn.{same_txn-is, same_txn-not, same_txn-other}
 use Rattle.vp_laws.proofs.Moves.Frames.{Ends, close-ends, close-commits, decided-ends, decided-commits, decide-cases}
 use Rattle.vp_laws.proofs.Lists.Views.{same_site}
 use Rattle.vp_laws.proofs.Moves.Table.{Comes, lent_at, Handled, OfCoordinator}

@@ -17,7 +17,7 @@ use Rattle.vp_model.specs.World.{WorldState}
 use Rattle.vp_model.specs.Told.{answers_in, is_step, call_in, reported, put_first, is_early_refusal, is_call, takes}
 use Rattle.vp_laws.proofs.Table.ToldLines.{Report, IsReported, Tells, IsUnheard}
 use Rattle.vp_laws.proofs.Lists.Members.{Has, has_none, has_first, has_more, filter_keeps, both_true, any_false, has_test}
-use Rattle.vp_laws.proofs.Lists.Names.{same_txn-is}
+use Rattle.vp_model.proofs.SameTxn.{same_txn-is}
 use Rattle.vp_laws.proofs.Worlds.Scenes.{Scene, plain_at}
 use Rattle.vp_laws.proofs.Keeping.Stopping.{in_force_holder}
 use Rattle.vp_laws.proofs.Invariant.Held.{holds_copy}

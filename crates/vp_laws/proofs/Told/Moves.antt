@@ -17,7 +17,8 @@ use Rattle.vp_laws.proofs.Table.ToldLines.{Report, collected, reports-last, IsRe
 use Rattle.vp_laws.proofs.Journal.Play.{value_put}
 use Rattle.vp_laws.proofs.Lists.Members.{Has, has_none, has_cases, has_one_is, map_has}
 use Rattle.vp_laws.proofs.Lists.Changes.{mapped_has}
-use Rattle.vp_laws.proofs.Lists.Names.{same_txn-is, same_txn-not, Apart, apart_unique}
+use Rattle.vp_model.proofs.SameTxn.{same_txn-is, same_txn-not}
+use Rattle.vp_laws.proofs.Lists.Names.{Apart, apart_unique}
 use Rattle.vp_laws.proofs.Moves.Table.{next_name, Completes}
 use Rattle.vp_laws.proofs.Table.Led.{Led}
 use Rattle.vp_laws.proofs.Table.Endings.{NotLive, Settled}

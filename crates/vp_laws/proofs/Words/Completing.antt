@@ -26,7 +26,8 @@ use Rattle.vp_model.specs.World.{Schedule, run_of}
 use Rattle.vp_laws.specs.Votes.{is_commit}
 use Rattle.vp_laws.specs.Completeness.{LastVotesCommit, IsNextOperation, ReadableCopiesAreRead}
 use Rattle.vp_laws.proofs.Lists.Members.{Has, has_of, contains, has_none, has_first, has_more, has_cons, any_false, either_false, both_true, not_true, has_test}
-use Rattle.vp_laws.proofs.Lists.Names.{Apart, same_txn-is, same_txn-self}
+use Rattle.vp_model.proofs.SameTxn.{same_txn-is, same_txn-self}
+use Rattle.vp_laws.proofs.Lists.Names.{Apart}
 use Rattle.vp_laws.proofs.Lists.Changes.{mapped_has}
 use Rattle.vp_laws.proofs.Lists.LockTables.{HasLock}
 use Rattle.vp_laws.proofs.Moves.Frames.{decided-commits, decide-cases}
