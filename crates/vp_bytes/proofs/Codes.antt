@@ -133,14 +133,3 @@ module _ {K : Type 0} (code : K → ℕ) where
   pub found_only : (pairs : List (ℕ × K)) → AllByRecursion (λ pair. code pair.1 ≡ pair.0) pairs → (c : ℕ) (kind : K) → find_code pairs c ≡ Some kind → code kind ≡ c
   found_only [] h c kind e = absurd (let never : None ≡ Some kind = e in cc)
   found_only (pair ∷ pairs) h c kind e = found_at (eqb c pair.0) c pair (find_code pairs c) kind (λ s. eqb-true c pair.0 s) h.0 (λ r. found_only pairs h.1 c kind r) e
-
--- codes of kinds within others, and codes of others behind them
-pub found_among : {K L : Type 0} (inside : K → L) (pairs : List (ℕ × K)) (others : List (ℕ × L)) (c : ℕ)
-    → find_code (map (λ pair. (pair.0, inside pair.1)) pairs ++ others) c ≡ elim (find_code pairs c) [ Some kind ↦ Some (inside kind) | None ↦ find_code others c ]
-found_among inside [] others c = refl
-found_among inside (pair ∷ pairs) others c =
-    let f : (b : Bool) → eqb c pair.0 ≡ b → find_code (map (λ pair. (pair.0, inside pair.1)) (pair ∷ pairs) ++ others) c ≡ elim (find_code (pair ∷ pairs) c) [ Some kind ↦ Some (inside kind) | None ↦ find_code others c ] = λ b. elim b as (λ b. eqb c pair.0 ≡ b → find_code (map (λ pair. (pair.0, inside pair.1)) (pair ∷ pairs) ++ others) c ≡ elim (find_code (pair ∷ pairs) c) [ Some kind ↦ Some (inside kind) | None ↦ find_code others c ]) [
-      | true ↦ λ e. rw e refl
-      | false ↦ λ e. rw e (found_among inside pairs others c)
-    ] in
-    f (eqb c pair.0) refl
