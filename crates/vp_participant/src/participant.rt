@@ -274,7 +274,10 @@ impl Participant {
         drop_part(&mut self.parts, &txn);
         locks.release(txn);
         Ok(Settled {
-            doubt: take_doubt(&mut self.doubts, &txn).map(|doubt| (doubt.view, doubt.into_writes())),
+            doubt: take_doubt(&mut self.doubts, &txn).map(|doubt| (
+                doubt.view,
+                doubt.into_writes(),
+            )),
         })
     }
 
