@@ -5,7 +5,7 @@ use Rattle.vp_schedule.proofs.Steps.{stands_few, stands_room, stands_allowed, st
 use Rattle.vp_schedule.proofs.Answering.{answered_next, answered_add, answered_end, stands_more}
 use Rattle.vp_schedule.proofs.Only.{only, taken}
 use Rattle.vp_schedule.proofs.document.read.Goals as goal
-use Rattle.vp_schedule.proofs.document.read.Goals.{After-drop-draft-in_err-next-3, After-drop-draft-in_err-add-4}
+use Rattle.vp_schedule.proofs.document.read.Goals.{After-drop-draft, After-drop-draft-in_err-add}
 
 pub next_line-requires-clause-few : goal.next_line-requires-clause-few
 next_line-requires-clause-few c = stands_few c.args.text.now c.loop-cursor.cursor c.loop-cursor.draft c.loop-cursor.line c.loop-cursor.invariant
@@ -16,10 +16,10 @@ next_line-requires-clause-room c = stands_room c.args.text.now c.loop-cursor.cur
 pub add-requires : goal.add-requires
 add-requires c = stands_allowed c.args.text.now c.loop-cursor.cursor c.next_line.new.cursor c.loop-cursor.draft c.loop-cursor.line c.in_ok-next.next c.loop-cursor.invariant c.in_ok-next.ensures
 
-answer_next : (c : After-drop-draft-in_err-next-3) → Answered c.args.text.now (Err c.in_err-next.field-0.0)
+answer_next : (c : After-drop-draft) → Answered c.args.text.now (Err c.in_err-next.field-0.0)
 answer_next c = answered_next c.args.text.now c.loop-cursor.cursor c.next_line.new.cursor c.loop-cursor.draft c.loop-cursor.line c.in_err-next.field-0.0 c.loop-cursor.invariant (sym c.owes_line.ensures ∙ c.loop-cursor-test.true) c.in_err-next.ensures
 
-answer_add : (c : After-drop-draft-in_err-add-4) → Answered c.args.text.now (Err c.in_err-add.field-0.0)
+answer_add : (c : After-drop-draft-in_err-add) → Answered c.args.text.now (Err c.in_err-add.field-0.0)
 answer_add c = answered_add c.args.text.now c.loop-cursor.cursor c.next_line.new.cursor c.loop-cursor.draft c.add.new.self c.in_ok-next.next c.loop-cursor.line c.in_err-add.field-0.0 c.loop-cursor.invariant c.in_ok-next.ensures c.in_err-add.ensures
 
 pub returns-in_err-next-clause-answer : goal.returns-in_err-next-clause-answer
