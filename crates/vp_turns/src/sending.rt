@@ -46,7 +46,7 @@ fn put_message(catalog: &Catalog, sent: Sent, datagrams: &mut Datagrams) -> Resu
 }
 
 /// Puts the datagrams of the messages behind the others.
-pub fn put_messages(
+fn put_messages(
     catalog: &Catalog,
     messages: Messages,
     datagrams: &mut Datagrams,
@@ -75,7 +75,7 @@ fn put_reply(id: SiteId, reply: Reply, datagrams: &mut Datagrams) -> Result<(), 
 }
 
 /// Puts the datagrams of the replies behind the others.
-pub fn put_replies(id: SiteId, replies: Replies, datagrams: &mut Datagrams) -> Result<(), NoMemory>
+fn put_replies(id: SiteId, replies: Replies, datagrams: &mut Datagrams) -> Result<(), NoMemory>
     requires { AllByRecursion (λ reply. IsFrame (reply_frame id reply)) replies }
     ensures { OnOk result (datagrams.new ≡ datagrams.old ++ map (reply_datagram id) replies) }
 {
@@ -83,4 +83,21 @@ pub fn put_replies(id: SiteId, replies: Replies, datagrams: &mut Datagrams) -> R
         put_reply(id, reply, datagrams)?;
     }
     Ok(())
+}
+
+/// The datagrams of a step's messages, and behind them those of its replies.
+pub fn datagrams_of(
+    catalog: &Catalog,
+    id: SiteId,
+    messages: Messages,
+    replies: Replies,
+) -> Result<Datagrams, NoMemory>
+    requires messages { AllByRecursion (λ sent. IsFrame (message_frame sent)) messages }
+    requires replies { AllByRecursion (λ reply. IsFrame (reply_frame id reply)) replies }
+    ensures { IfOk result (λ it. it ≡ flat_map (message_datagram catalog.now) messages ++ map (reply_datagram id) replies) }
+{
+    let mut datagrams = Datagrams::new(catalog.sites().allocator());
+    put_messages(catalog, messages, &mut datagrams)?;
+    put_replies(id, replies, &mut datagrams)?;
+    Ok(datagrams)
 }
