@@ -4,7 +4,6 @@ use Rattle.std.specs.declared.option.Option.{Option}
 use Rattle.std.specs.declared.option.Option.TheVariants.{Some, None}
 use Rattle.std.specs.Prelude.{IfSome}
 use Rattle.vp_catalog.specs.Document.{IsCatalogue}
-use Rattle.vp_records.specs.Batches.{IsBatch}
 use Rattle.vp_records.specs.Records.{CanBeSaved}
 use Rattle.vp_model.specs.Types.{LogRecord}
 use Rattle.vp_model.specs.Catalogue.{Catalogue}
@@ -13,7 +12,7 @@ use Rattle.vp_model.specs.Site.{SiteState}
 use Rattle.vp_model.specs.Step.{durable_of}
 use Rattle.vp_laws.specs.Shapes.{IsShaped}
 use Rattle.vp_laws.proofs.Shapes.Log.{checkpoint_is}
-use Rattle.vp_laws.proofs.Shapes.Steps.{step_forms, steps_are_shaped, shaped_durable}
+use Rattle.vp_laws.proofs.Shapes.Steps.{step_forms, shaped_durable}
 use Rattle.vp_laws.proofs.Table.Durable.{step-folds}
 use Rattle.vp_outside.specs.Disk.{Halves, DiskState, Becomes}
 use Rattle.vp_stable.specs.Halves.{AreSettled}
@@ -25,32 +24,24 @@ use Rattle.vp_runs.specs.Arrivals.{IsArrival}
 use Rattle.vp_runs.specs.Keeping.{durable_in, kept_with}
 use Rattle.vp_runs.specs.Turns.{Turn, turn_on}
 use Rattle.vp_runs.proofs.Checkpoints.{batch_folds, steps_fold}
+use Rattle.vp_runs.proofs.Shaped.{turn_shaped}
 use Rattle.vp_node.specs.Keeping.{KeepsAt, MayKeep, MayKeepAt}
 use Rattle.vp_node.specs.Nodes.{NodeValue, Keeps, MaySave}
 use Rattle.vp_node.proofs.Kept.{may_keep_none}
 
 -- ---- the site
 
--- what a turn of a site leaves, and what its records do
-record Follows (catalogue : Catalogue) (site : SiteState) (turn : Turn) : Type 0 where
+-- what a turn leaves of its site's number, and what its records do
+record Follows (site : SiteState) (turn : Turn) : Type 0 where
   same_id : turn.site.id ≡ site.id
-  site_is : IsShaped catalogue turn.site
-  batch_is : IsBatch turn.batch
   brings : apply_all turn.batch (durable_of site) ≡ durable_of turn.site
 
-follows : (catalogue : Catalogue) (site : SiteState) (what : Arrival) → IsCatalogue catalogue → IsShaped catalogue site → IsArrival what → Follows catalogue site (turn_on catalogue site what)
+follows : (catalogue : Catalogue) (site : SiteState) (what : Arrival) → IsCatalogue catalogue → IsShaped catalogue site → IsArrival what → Follows site (turn_on catalogue site what)
 unfolding turn_on
-follows catalogue site (Bad at) k shaped is = record { same_id = refl; site_is = shaped; batch_is = tt; brings = refl }
-follows catalogue site Stray k shaped is = record { same_id = refl; site_is = shaped; batch_is = tt; brings = refl }
-follows catalogue site Stops k shaped is = record { same_id = refl; site_is = shaped; batch_is = tt; brings = refl }
-follows catalogue site (Gives given) k shaped is =
-    let forms = steps_are_shaped catalogue site given k shaped is in
-    record {
-      same_id = (step_forms catalogue site given k shaped is).same;
-      site_is = forms.0;
-      batch_is = forms.1.records_are;
-      brings = step-folds catalogue site given;
-    }
+follows catalogue site (Bad at) k shaped is = record { same_id = refl; brings = refl }
+follows catalogue site Stray k shaped is = record { same_id = refl; brings = refl }
+follows catalogue site Stops k shaped is = record { same_id = refl; brings = refl }
+follows catalogue site (Gives given) k shaped is = record { same_id = (step_forms catalogue site given k shaped is).same; brings = step-folds catalogue site given }
 
 module _ (catalogue : Catalogue) (site : SiteState) (what : Arrival) (k : IsCatalogue catalogue) (shaped : IsShaped catalogue site) (is : IsArrival what) where
   abbrev pub turn : Turn
@@ -59,17 +50,11 @@ module _ (catalogue : Catalogue) (site : SiteState) (what : Arrival) (k : IsCata
   pub same_id : turn.site.id ≡ site.id
   same_id = (follows catalogue site what k shaped is).same_id
 
-  pub site_keeps_form : IsShaped catalogue turn.site
-  site_keeps_form = (follows catalogue site what k shaped is).site_is
-
-  pub batch_keeps_form : IsBatch turn.batch
-  batch_keeps_form = (follows catalogue site what k shaped is).batch_is
-
   pub brings : apply_all turn.batch (durable_of site) ≡ durable_of turn.site
   brings = (follows catalogue site what k shaped is).brings
 
   pub can_be_saved : CanBeSaved (durable_of turn.site)
-  can_be_saved = checkpoint_is catalogue turn.site.id (durable_of turn.site) k (shaped_durable catalogue turn.site site_keeps_form)
+  can_be_saved = checkpoint_is catalogue turn.site.id (durable_of turn.site) k (shaped_durable catalogue turn.site (turn_shaped catalogue site what k shaped is).site_is)
 
 -- ---- the log
 

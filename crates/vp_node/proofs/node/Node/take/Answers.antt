@@ -7,11 +7,12 @@ use Rattle.vp_laws.specs.Shapes.{IsShaped}
 use Rattle.vp_outside.specs.Disk.{log_of, Becomes}
 use Rattle.vp_stable.proofs.Writes.{becomes-as}
 use Rattle.vp_runs.specs.Turns.{turn_on}
+use Rattle.vp_runs.proofs.Shaped.{turn_shaped}
 use Rattle.vp_node.specs.Keeping.{KeepsAt, MayKeepAt}
 use Rattle.vp_node.specs.Causes.{HasNodeCause, EndsInTurn, end_of_append}
 use Rattle.vp_node.specs.Nodes.{NodeValue}
 use Rattle.vp_node.proofs.Kept.{leaves_settled, may_keep_none, keeps_may}
-use Rattle.vp_node.proofs.Turning.{same_id, site_keeps_form, batch_keeps_form, brings, can_be_saved, settled, saves_none, saves_as, leaves_saves, keeps_on}
+use Rattle.vp_node.proofs.Turning.{same_id, brings, can_be_saved, settled, saves_none, saves_as, leaves_saves, keeps_on}
 use Rattle.vp_node.proofs.Faults.{append_ends, append_causes, gave_err}
 use Rattle.vp_node.proofs.node.Node.take.Goals as goal
 
@@ -25,7 +26,7 @@ pub keep-requires-clause-batch : goal.keep-requires-clause-batch
 keep-requires-clause-batch g c =
     let records_are = subst (λ (n : NodeValue). c.in_ok-site.records ≡ (turn_on c.args.catalog.now n.site c.args.what).batch) c.self.view_is c.in_ok-site.ensures.records_are in
     subst IsBatch (sym records_are)
-    (batch_keeps_form c.args.catalog.now c.args.self.site c.args.what c.requires.node.catalogue_is c.requires.node.site_is c.requires.what)
+    (turn_shaped c.args.catalog.now c.args.self.site c.args.what c.requires.node.catalogue_is c.requires.node.site_is c.requires.what).batch_is
 
 pub returns-in_err-site-clause-left : goal.returns-in_err-site-clause-left
 returns-in_err-site-clause-left g c honest =
@@ -91,7 +92,7 @@ returns-clause-any_moment g c honest =
 pub returns-clause-node : goal.returns-clause-node
 returns-clause-node g c =
     let site_is = subst (λ (n : NodeValue). c.in_ok-site.site ≡ (turn_on c.args.catalog.now n.site c.args.what).site) c.self.view_is c.in_ok-site.ensures.site_is in
-    let shaped = site_keeps_form c.args.catalog.now c.args.self.site c.args.what c.requires.node.catalogue_is c.requires.node.site_is c.requires.what in
+    let shaped = (turn_shaped c.args.catalog.now c.args.self.site c.args.what c.requires.node.catalogue_is c.requires.node.site_is c.requires.what).site_is in
     record { catalogue_is = c.requires.node.catalogue_is; site_is = subst (λ (site : SiteState). IsShaped c.args.catalog.now site) (sym site_is) shaped }
 
 pub returns-clause-kept : goal.returns-clause-kept
