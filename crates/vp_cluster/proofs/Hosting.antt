@@ -22,8 +22,8 @@ use Rattle.vp_runs.specs.Arrivals.{arrival, IsArrival}
 use Rattle.vp_runs.specs.Runs.{start_node, after_turn}
 use Rattle.vp_runs.specs.Turns.{turn_on}
 use Rattle.vp_runs.proofs.Shaped.{arrives}
-use Rattle.vp_node.specs.Nodes.{NodeValue, IsNode, IsKept, Starts, IsSpent, Turns, Saves, turn_of}
-use Rattle.vp_turns.specs.declared.turned.Turned.{Turned}
+use Rattle.vp_node.specs.Nodes.{NodeValue, IsNode, IsKept, Starts, IsSpent, Gives, Saves, turn_of}
+use Rattle.vp_turns.specs.declared.turned.Outcome.{Outcome}
 use Rattle.vp_node.proofs.Kept.{has as have}
 use Rattle.vp_node.proofs.Turning.{same_id}
 use Rattle.vp_cluster.specs.Hosts.{HostValue, IsHost, IsAt, Takes, Crashes, Restarts, Begins, is_spent, log_in, told, node_at, turn_at}
@@ -45,7 +45,7 @@ unfolding start
 start_id catalogue id batches = refl
 
 pub turn_id : (catalogue : Catalogue) (node : NodeValue) (d : Datagram) → IsNode catalogue node → d.port < 2 ^ 16 → (turn_of catalogue node d).site.id ≡ node.site.id
-turn_id catalogue node d is fits = same_id catalogue node.site d is.catalogue_is is.site_is fits
+turn_id catalogue node d is fits = same_id catalogue node.site (arrival catalogue node.site.id d) is.catalogue_is is.site_is (arrives catalogue node.site.id d fits)
 
 -- the life of a site that starts behind the last one would be none
 pub last_life : (catalogue : Catalogue) (id : ℕ) (batches : List (List LogRecord)) → is_spent catalogue id batches → (start_node catalogue id batches).site.life < 2 ^ 32 → ⊥
@@ -103,14 +103,14 @@ module _ (catalogue : Catalogue) (d : Datagram) (id port : ℕ) (old new : List 
       stands = stands_kept batches stands;
     }
 
-  pub takes_turn : (told : Turned) → d.port < 2 ^ 16 → IsHost catalogue before → asked_of new ≡ asked_of old → Turns catalogue node d after told
+  pub takes_turn : (outcome : Outcome) → d.port < 2 ^ 16 → IsHost catalogue before → asked_of new ≡ asked_of old → Gives (turn_of catalogue node d) after outcome
       → Steps (Saves (turn_of catalogue node d) node.at after.at) (state_after old true 0) (state_after new true 0) → IsNode catalogue after → IsKept catalogue after (state_after new true 0)
-      → Takes catalogue d before behind told.datagrams
-  takes_turn told fits is asked turns saved is_node kept = record {
+      → Takes catalogue d before behind outcome.datagrams
+  takes_turn outcome fits is asked gives saved is_node kept = record {
     stays = record {
       host = record {
         port_is = is.port_is;
-        node_is = (ap (λ (s : SiteState). s.id) turns.site ∙ turn_id catalogue node d is.node_is.1 fits ∙ is.node_is.0, is_node, kept);
+        node_is = (ap (λ (s : SiteState). s.id) gives.site ∙ turn_id catalogue node d is.node_is.1 fits ∙ is.node_is.0, is_node, kept);
       };
       same_id = refl;
       same_port = refl;
@@ -118,18 +118,18 @@ module _ (catalogue : Catalogue) (d : Datagram) (id port : ℕ) (old new : List 
     up = λ batches site h.
         let same : node.site ≡ site = let e = h.site_is in cc in
         subst
-        (λ (s : SiteState). IsAt (after_turn (node_at s batches) (turn_at catalogue s d)).batches (Some (turn_at catalogue s d).site) behind × (told.datagrams ≡ (turn_at catalogue s d).datagrams))
-        same (turned_at asked turns.site saved batches h.stands, turns.datagrams);
+        (λ (s : SiteState). IsAt (after_turn (node_at s batches) (turn_at catalogue s d)).batches (Some (turn_at catalogue s d).site) behind × (outcome.datagrams ≡ (turn_at catalogue s d).datagrams))
+        same (turned_at asked gives.site saved batches h.stands, gives.datagrams);
     down = λ batches h. absurd (not_down batches id port old node h);
   }
 
 -- the same of a host that is known to be up
-pub takes : (catalogue : Catalogue) (d : Datagram) (host : HostValue) (new : List Change) (node after : NodeValue) (told : Turned) → host.node ≡ Some node → d.port < 2 ^ 16 → IsHost catalogue host
-    → asked_of new ≡ asked_of host.disk → Turns catalogue node d after told → Steps (Saves (turn_of catalogue node d) node.at after.at) (state_after host.disk true 0) (state_after new true 0)
-    → IsNode catalogue after → IsKept catalogue after (state_after new true 0) → Takes catalogue d host (host_with host.id host.port new (Some after)) told.datagrams
-takes catalogue d host new node after told up fits is asked turns saved is_node kept =
-    subst (λ (n : Option NodeValue). IsHost catalogue (host_with host.id host.port host.disk n) → Takes catalogue d (host_with host.id host.port host.disk n) (host_with host.id host.port new (Some after)) told.datagrams)
-    (sym up) (λ known. takes_turn catalogue d host.id host.port host.disk new node after told fits known asked turns saved is_node kept) is
+pub takes : (catalogue : Catalogue) (d : Datagram) (host : HostValue) (new : List Change) (node after : NodeValue) (outcome : Outcome) → host.node ≡ Some node → d.port < 2 ^ 16 → IsHost catalogue host
+    → asked_of new ≡ asked_of host.disk → Gives (turn_of catalogue node d) after outcome → Steps (Saves (turn_of catalogue node d) node.at after.at) (state_after host.disk true 0) (state_after new true 0)
+    → IsNode catalogue after → IsKept catalogue after (state_after new true 0) → Takes catalogue d host (host_with host.id host.port new (Some after)) outcome.datagrams
+takes catalogue d host new node after outcome up fits is asked gives saved is_node kept =
+    subst (λ (n : Option NodeValue). IsHost catalogue (host_with host.id host.port host.disk n) → Takes catalogue d (host_with host.id host.port host.disk n) (host_with host.id host.port new (Some after)) outcome.datagrams)
+    (sym up) (λ known. takes_turn catalogue d host.id host.port host.disk new node after outcome fits known asked gives saved is_node kept) is
 
 -- ---- a start
 
@@ -249,11 +249,11 @@ module _ (catalogue : Catalogue) (parts host : HostValue) (same : parts ≡ host
   pub parts_idle : (d : Datagram) → parts.node ≡ None → IsHost catalogue host → Takes catalogue d host (host_with parts.id parts.port parts.disk None) []
   parts_idle d rests is = subst (λ h. Takes catalogue d h (host_with parts.id parts.port parts.disk None) []) same (idles catalogue d parts rests (known is))
 
-  pub parts_take : (d : Datagram) (new : List Change) (node after : NodeValue) (given : Turned) → parts.node ≡ Some node → d.port < 2 ^ 16 → IsHost catalogue host → asked_of new ≡ asked_of parts.disk
-      → Turns catalogue node d after given → Steps (Saves (turn_of catalogue node d) node.at after.at) (told parts) (state_after new true 0) → IsNode catalogue after
-      → IsKept catalogue after (state_after new true 0) → Takes catalogue d host (host_with parts.id parts.port new (Some after)) given.datagrams
-  parts_take d new node after given up fits is asked turns saved is_node kept =
-      subst (λ h. Takes catalogue d h (host_with parts.id parts.port new (Some after)) given.datagrams) same (takes catalogue d parts new node after given up fits (known is) asked turns saved is_node kept)
+  pub parts_take : (d : Datagram) (new : List Change) (node after : NodeValue) (outcome : Outcome) → parts.node ≡ Some node → d.port < 2 ^ 16 → IsHost catalogue host → asked_of new ≡ asked_of parts.disk
+      → Gives (turn_of catalogue node d) after outcome → Steps (Saves (turn_of catalogue node d) node.at after.at) (told parts) (state_after new true 0) → IsNode catalogue after
+      → IsKept catalogue after (state_after new true 0) → Takes catalogue d host (host_with parts.id parts.port new (Some after)) outcome.datagrams
+  parts_take d new node after outcome up fits is asked gives saved is_node kept =
+      subst (λ h. Takes catalogue d h (host_with parts.id parts.port new (Some after)) outcome.datagrams) same (takes catalogue d parts new node after outcome up fits (known is) asked gives saved is_node kept)
 
   pub parts_go_on : is_some parts.node ≡ true → IsHost catalogue host → Restarts catalogue host parts
   parts_go_on up is = subst (λ h. Restarts catalogue h parts) same (goes_on catalogue parts up (known is))

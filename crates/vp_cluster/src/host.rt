@@ -14,6 +14,7 @@ use vp_catalog::Catalog;
 use vp_node::{Node, NodeEnd};
 use vp_outside::{Datagrams, SureDisk};
 use vp_stable::halves_are_one_log;
+use vp_turns::arrival;
 
 /// A site with both halves of its log.
 pub type SiteLog = (SiteId, Word, Word);
@@ -98,12 +99,14 @@ impl Host {
         let Some(node) = self.node.take() else {
             return Ok(Datagrams::new(catalog.sites().allocator()));
         };
-        let Ok((node, turned)) = node.turn(catalog, &mut self.disk, letter.from, &letter.bytes)
-        else {
+        let alloc = catalog.sites().allocator();
+        let what = arrival(alloc, catalog, self.id, letter.from, &letter.bytes)?;
+        // this disk fails for want of memory alone
+        let Ok((node, outcome)) = node.take(catalog, &mut self.disk, what) else {
             return Err(NoMemory);
         };
         self.node = Some(node);
-        Ok(turned.datagrams)
+        Ok(outcome.datagrams)
     }
 
     /// The site goes down.

@@ -11,6 +11,9 @@ use vp_catalog::Catalog;
 use vp_outside::Datagrams;
 use vp_wire::{Body, Frame, encode};
 
+/// Room for the frame of most calls, in bytes.
+const ROOM: usize = 64;
+
 /// A datagram on its way from one port to another.
 #[derive(Drop)]
 pub struct Letter {
@@ -43,7 +46,7 @@ pub fn to_site(catalog: &Catalog, site: SiteId, body: Body) -> Result<Option<Let
         to: site.get(),
         body,
     };
-    let mut bytes = BytesMut::new(catalog.sites().allocator());
+    let mut bytes = BytesMut::with_capacity(catalog.sites().allocator(), ROOM)?;
     encode(&frame, &mut bytes)?;
     Ok(Some(Letter {
         from: 0,

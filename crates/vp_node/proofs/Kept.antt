@@ -32,6 +32,11 @@ pub may_keep_none : (d : DurableState) (records : List LogRecord) (at : Standing
 may_keep_none d [] at log batches stands = (batches, has stands, refl)
 may_keep_none d (r ∷ records) at log batches stands = (batches, has stands, inl refl)
 
+-- what is kept in the end may be kept
+pub keeps_may : (d : DurableState) (records : List LogRecord) (from to : Standing) (old new : Halves) → KeepsAt d records from to old new → MayKeepAt d records from old new
+keeps_may d [] from to old new keeps batches stands = (batches, has (keeps batches stands), refl)
+keeps_may d (r ∷ records) from to old new keeps batches stands = (kept_with d (r ∷ records) batches, has (keeps batches stands), inr (inr refl))
+
 -- what a crash leaves, said in another way
 pub leaves_as : (P Q : Halves → Halves → Type 0) → ((log image : Halves) → P log image → Q log image) → (old new : DiskState) → (log : Option Halves)
     → IfSome log (λ log. LeavesOnly old new (P log)) → IfSome log (λ log. LeavesOnly old new (Q log))

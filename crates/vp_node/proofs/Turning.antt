@@ -1,5 +1,5 @@
 -- What a turn leaves of a node: its site has its form, and its log folds to what the site has to keep.
-use Rattle.std.proofs.Common.{◌≡◌, ◌∙◌, inl, inr, ⊎_elim, ◌⊎◌, ◌<◌, ◌^◌, List, [], ◌∷◌, ◌++◌, refl, sym, subst, ap}
+use Rattle.std.proofs.Common.{◌≡◌, ◌∙◌, inl, inr, ⊎_elim, ◌⊎◌, List, [], ◌∷◌, ◌++◌, refl, sym, subst, ap}
 use Rattle.std.specs.declared.option.Option.{Option}
 use Rattle.std.specs.declared.option.Option.TheVariants.{Some, None}
 use Rattle.std.specs.Prelude.{IfSome}
@@ -15,17 +15,16 @@ use Rattle.vp_laws.proofs.Shapes.Log.{checkpoint_is}
 use Rattle.vp_laws.proofs.Shapes.Steps.{step_forms, shaped_durable}
 use Rattle.vp_laws.proofs.Table.Durable.{step-folds}
 use Rattle.vp_outside.specs.Disk.{Halves, DiskState, Becomes}
-use Rattle.vp_outside.specs.declared.datagram.Datagram.{Datagram}
 use Rattle.vp_stable.specs.Halves.{AreSettled}
 use Rattle.vp_stable.specs.Moments.{LeavesOnly}
 use Rattle.vp_stable.proofs.Times.{elapses_as}
 use Rattle.vp_runs.specs.declared.arrival.Arrival.{Arrival}
 use Rattle.vp_runs.specs.declared.arrival.Arrival.TheVariants.{Bad, Stray, Stops, Gives}
-use Rattle.vp_runs.specs.Arrivals.{arrival, IsArrival}
+use Rattle.vp_runs.specs.Arrivals.{IsArrival}
 use Rattle.vp_runs.specs.Keeping.{durable_in, kept_with}
 use Rattle.vp_runs.specs.Turns.{Turn, turn_on}
 use Rattle.vp_runs.proofs.Checkpoints.{batch_folds, steps_fold}
-use Rattle.vp_runs.proofs.Shaped.{arrives, turns_are_shaped}
+use Rattle.vp_runs.proofs.Shaped.{turn_shaped}
 use Rattle.vp_node.specs.Keeping.{KeepsAt, MayKeep, MayKeepAt}
 use Rattle.vp_node.specs.Nodes.{NodeValue, Keeps, MaySave}
 use Rattle.vp_node.proofs.Kept.{may_keep_none}
@@ -44,18 +43,18 @@ follows catalogue site Stray k shaped is = record { same_id = refl; brings = ref
 follows catalogue site Stops k shaped is = record { same_id = refl; brings = refl }
 follows catalogue site (Gives given) k shaped is = record { same_id = (step_forms catalogue site given k shaped is).same; brings = step-folds catalogue site given }
 
-module _ (catalogue : Catalogue) (site : SiteState) (d : Datagram) (k : IsCatalogue catalogue) (shaped : IsShaped catalogue site) (fits : d.port < 2 ^ 16) where
+module _ (catalogue : Catalogue) (site : SiteState) (what : Arrival) (k : IsCatalogue catalogue) (shaped : IsShaped catalogue site) (is : IsArrival what) where
   abbrev pub turn : Turn
-  turn = turn_on catalogue site (arrival catalogue site.id d)
+  turn = turn_on catalogue site what
 
   pub same_id : turn.site.id ≡ site.id
-  same_id = (follows catalogue site (arrival catalogue site.id d) k shaped (arrives catalogue site.id d fits)).same_id
+  same_id = (follows catalogue site what k shaped is).same_id
 
   pub brings : apply_all turn.batch (durable_of site) ≡ durable_of turn.site
-  brings = (follows catalogue site (arrival catalogue site.id d) k shaped (arrives catalogue site.id d fits)).brings
+  brings = (follows catalogue site what k shaped is).brings
 
   pub can_be_saved : CanBeSaved (durable_of turn.site)
-  can_be_saved = checkpoint_is catalogue turn.site.id (durable_of turn.site) k (shaped_durable catalogue turn.site (turns_are_shaped catalogue site d k shaped fits).site_is)
+  can_be_saved = checkpoint_is catalogue turn.site.id (durable_of turn.site) k (shaped_durable catalogue turn.site (turn_shaped catalogue site what k shaped is).site_is)
 
 -- ---- the log
 

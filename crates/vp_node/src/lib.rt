@@ -1,7 +1,7 @@
 //! A node: a site with its log. It takes one datagram after the other, each as a step of its site; what a step forces is synced to the
 //! log before anything that it gives leaves the node.
 //!
-//! A turn has two halves: what a datagram does to the site, with no disk (vp_turns), and what the log keeps of it (`keeping`).
+//! A turn has two halves: what the site does of what comes, with no disk (vp_turns), and what the log keeps of it (`keeping`).
 #![tactic(auto)]
 
 mod end;

@@ -6,7 +6,9 @@ ghost use Rattle.vp_model.specs.Catalogue.{sites_of};
 ghost use Rattle.vp_outside.specs.Disk.{log_of, Steps};
 ghost use Rattle.vp_stable.specs.Halves.{ReadAlike, AreBadLog};
 ghost use Rattle.vp_stable.specs.Moments.{LeavesOnly, LeavesOthers};
-ghost use Rattle.vp_node.specs.Nodes.{IsNode, IsKept, Starts, MayStart, IsSpent, Turns, Saves, MaySave, turn_of};
+ghost use Rattle.vp_node.specs.Nodes.{IsNode, IsKept, Starts, MayStart, IsSpent, Gives, Turns, Saves, MaySave, turn_of};
+ghost use Rattle.vp_runs.specs.Arrivals.{IsArrival};
+ghost use Rattle.vp_runs.specs.Turns.{turn_on};
 ghost use Rattle.vp_node.specs.Causes.{HasNodeCause, EndsInTurn};
 ghost use Rattle.vp_node.specs.declared.end.NodeEnd.TheVariants as ends;
 
@@ -17,9 +19,10 @@ use std::marker::Model;
 use vp_base::SiteId;
 use vp_catalog::Catalog;
 use vp_outside::Disk;
+use vp_runs::Arrival;
 use vp_site::Site;
 use vp_stable::{Log, halves_are_one_log};
-use vp_turns::{Turned, take};
+use vp_turns::{Outcome, Turned, arrival, arrival_line, take};
 
 /// A site that is up, with its log.
 #[derive(Drop)]
@@ -78,8 +81,44 @@ impl Node {
         self.site.life()
     }
 
-    /// Takes one datagram. Its records are synced before it returns, and nothing is sent here. After a fault or want of memory the node is
+    /// Takes what came. Its records are synced before it returns, and nothing is sent here. After a fault or want of memory the node is
     /// gone, as after a crash.
+    pub fn take<D: Disk>(
+        self,
+        catalog: &Catalog,
+        disk: &mut D,
+        what: Arrival,
+    ) -> Result<(Node, Outcome), NodeEnd>
+        requires attached { IsTrue (D.state disk.old).attached }
+        requires node { IsNode catalog.now self }
+        requires kept { IsKept catalog.now self (D.state disk.old) }
+        requires what { IsArrival what }
+
+        ensures took { IfOk result (λ it. Gives (turn_on catalog.now self.site what) it.0 it.1) }
+        ensures saved { IfOk result (λ it. Steps (Saves (turn_on catalog.now self.site what) self.at it.0.at)
+            (D.state disk.old) (D.state disk.new)) }
+        ensures node { IfOk result (λ it. IsNode catalog.now it.0) }
+        ensures kept { IfOk result (λ it. IsKept catalog.now it.0 (D.state disk.new)) }
+        ensures left { (D.state disk.old).honest → Steps (MaySave catalog.now self (turn_on catalog.now self.site what)) (D.state disk.old) (D.state disk.new) }
+        ensures ends { EndsInTurn result }
+
+        // A crash at any moment of the turn leaves the batches that were there, with the turn's or without, or their checkpoint: they fold
+        // to what the site had to keep before the turn, or after it.
+        ensures any_moment { (D.state disk.old).honest → IfSome (log_of (D.state disk.old)) (λ log.
+            LeavesOnly (D.state disk.old) (D.state disk.new)
+            (MaySave catalog.now self (turn_on catalog.now self.site what) log)) }
+
+        ensures others { LeavesOthers (D.state disk.old) (D.state disk.new) }
+        ensures cause { HasNodeCause (D.state disk.old).faults (D.state disk.new).faults result }
+    {
+        let (site, records, outcome) = take(self.site, catalog, what)?;
+        let mut log = self.log;
+        keep(&mut log, disk, &site, &records)?;
+        Ok((Node { site, log }, outcome))
+    }
+
+    /// Takes one datagram, and tells of it. Its records are synced before it returns, and nothing is sent here. After a fault or want of
+    /// memory the node is gone, as after a crash.
     pub fn turn<D: Disk>(
         self,
         catalog: &Catalog,
@@ -109,9 +148,10 @@ impl Node {
         ensures others { LeavesOthers (D.state disk.old) (D.state disk.new) }
         ensures cause { HasNodeCause (D.state disk.old).faults (D.state disk.new).faults result }
     {
-        let (site, records, turned) = take(self.site, catalog, port, bytes)?;
-        let mut log = self.log;
-        keep(&mut log, disk, &site, &records)?;
-        Ok((Node { site, log }, turned))
+        let alloc = catalog.sites().allocator();
+        let what = arrival(alloc, catalog, self.site.id(), port, bytes)?;
+        let line = arrival_line(alloc, port, bytes, &what)?;
+        let (node, outcome) = self.take(catalog, disk, what)?;
+        Ok((node, outcome.recorded(line)?))
     }
 }

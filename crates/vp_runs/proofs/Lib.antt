@@ -2,4 +2,4 @@ pub mod Checkpoints
 pub mod Runs
 pub mod Shaped
 pub mod Arriving
-pub mod Worked
+pub mod WorkedRuns

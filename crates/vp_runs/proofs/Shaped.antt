@@ -86,7 +86,7 @@ module _ (catalogue : Catalogue) (id : ℕ) (k : IsCatalogue catalogue) (listed 
 
 -- ---- turns
 
-turn_shaped : (catalogue : Catalogue) (site : SiteState) (what : Arrival) → IsCatalogue catalogue → IsShaped catalogue site → IsArrival what → IsTurn catalogue (turn_on catalogue site what)
+pub turn_shaped : (catalogue : Catalogue) (site : SiteState) (what : Arrival) → IsCatalogue catalogue → IsShaped catalogue site → IsArrival what → IsTurn catalogue (turn_on catalogue site what)
 unfolding turn_on datagrams_of
 turn_shaped catalogue site (Bad at) k s i = record { site_is = s; batch_is = tt; datagrams_are = tt }
 turn_shaped catalogue site Stray k s i = record { site_is = s; batch_is = tt; datagrams_are = tt }

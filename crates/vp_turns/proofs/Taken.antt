@@ -1,5 +1,5 @@
--- What a step of a site gives has the form of frames, and what its turn tells.
-use Rattle.std.proofs.Common.{◌≡◌, ◌∙◌, ap, refl, ℕ, true, false, List, [], ◌∷◌, ◌++◌, map, flat_map, length, ◌<◌, subst, arith}
+-- What a step of a site gives has the form of frames, and is its turn.
+use Rattle.std.proofs.Common.{◌≡◌, ap, refl, ℕ, true, false, List, [], ◌∷◌, ◌++◌, map, flat_map, length, ◌<◌, subst, arith}
 use Rattle.std.proofs.lemmas.Bool.{false≢true}
 use Rattle.std.specs.List.{AllByRecursion}
 use Rattle.vp_model.specs.Types.{Sent, Reply}
@@ -10,8 +10,8 @@ use Rattle.vp_catalog.specs.Document.{IsCatalogueSoFar, IsCatalogue}
 use Rattle.vp_laws.specs.Shapes.{IsSent, IsReply}
 use Rattle.vp_laws.specs.ShapeLaws.{GivenAreFrames, message_frame, reply_frame}
 use Rattle.vp_wire.specs.Grammar.{IsFrame}
-use Rattle.vp_runs.specs.Turns.{step_turn, message_datagram, reply_datagram, datagrams_of, out_line}
-use Rattle.vp_turns.specs.declared.turned.Turned.{Turned}
+use Rattle.vp_runs.specs.Turns.{step_turn, message_datagram, reply_datagram, datagrams_of}
+use Rattle.vp_turns.specs.declared.turned.Outcome.{Outcome}
 use Rattle.vp_turns.specs.Taking.{Does}
 
 module _ (catalogue : Catalogue) (id : ℕ) (frames : GivenAreFrames) (is : IsCatalogue catalogue) (listed : has (sites_of catalogue) id ≡ true) where
@@ -24,22 +24,19 @@ module _ (catalogue : Catalogue) (id : ℕ) (frames : GivenAreFrames) (is : IsCa
   replies_are_frames (reply ∷ replies) all = (frames.reply catalogue id reply is listed all.0, replies_are_frames replies all.1)
 
 -- what is sent and committed of a step is its turn
-pub does : (catalogue : Catalogue) (id : ℕ) (o : Stepped) (before told : Turned)
-    → told ≡ record {
-      lines = before.lines ++ map out_line (flat_map (message_datagram catalogue) o.effects.messages ++ map (reply_datagram id) o.effects.replies);
+pub does : (catalogue : Catalogue) (id : ℕ) (o : Stepped) (outcome : Outcome) → outcome ≡ record {
       datagrams = flat_map (message_datagram catalogue) o.effects.messages ++ map (reply_datagram id) o.effects.replies;
       commits = o.effects.commits;
-      stop = before.stop;
+      stop = false;
     }
-    → before.stop ≡ false → Does (step_turn catalogue id o) before.lines o.site o.effects.records told
+    → Does (step_turn catalogue id o) o.site o.effects.records outcome
 unfolding datagrams_of
-does catalogue id o before told is going = record {
+does catalogue id o outcome is = record {
   site_is = refl;
   records_are = refl;
-  lines_are = ap (λ (t : Turned). t.lines) is;
-  datagrams_are = ap (λ (t : Turned). t.datagrams) is;
-  commits_are = ap (λ (t : Turned). t.commits) is;
-  stop_is = ap (λ (t : Turned). t.stop) is ∙ going;
+  datagrams_are = ap (λ (t : Outcome). t.datagrams) is;
+  commits_are = ap (λ (t : Outcome). t.commits) is;
+  stop_is = ap (λ (t : Outcome). t.stop) is;
 }
 
 -- a catalogue of which some site is one has a site

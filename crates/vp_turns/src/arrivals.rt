@@ -1,7 +1,7 @@
 //! What a datagram that comes is to a node.
 
 ghost use Rattle.std.specs.Prelude.{◌≡◌, ◌==◌, IfOk, Ok, find, option_map};
-ghost use Rattle.vp_runs.specs.Arrivals.{site_at, is_for, arrival_in, arrival_of, arrival};
+ghost use Rattle.vp_runs.specs.Arrivals.{IsArrival, site_at, is_for, arrival_in, arrival_of, arrival};
 ghost use Rattle.vp_wire.specs.Grammar.{IsFrame};
 
 use std::alloc::Global;
@@ -84,7 +84,8 @@ pub fn arrival(
     port: u16,
     bytes: &[u8],
 ) -> Result<Arrival, NoMemory>
-    ensures { IfOk result (λ it. it ≡ arrival catalog.now id (record { port = port; bytes = bytes.now })) }
+    ensures what { IfOk result (λ it. it ≡ arrival catalog.now id (record { port = port; bytes = bytes.now })) }
+    ensures form { IfOk result IsArrival }
 {
     frames_are_read();
     match decode(alloc, bytes) {

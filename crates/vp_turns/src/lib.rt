@@ -1,5 +1,5 @@
-//! A turn of a node as far as its site goes: what a datagram does to it (`taking`), and what the turn tells and sends of that (`turned`).
-//! No disk is here: what is to be kept is given as the records of the step.
+//! A turn of a node as far as its site goes: what a datagram is to it (`arrivals`), what the site does of that (`taking`), and what the turn
+//! sends and tells (`turned`). No disk is here: what is to be kept is given as the records of the step.
 #![tactic(auto)]
 
 mod arrivals;
@@ -8,6 +8,7 @@ mod sending;
 mod taking;
 mod turned;
 
-pub use recording::number_line;
+pub use arrivals::arrival;
+pub use recording::{arrival_line, number_line};
 pub use taking::take;
-pub use turned::{Lines, Turned};
+pub use turned::{Lines, Outcome, Turned};

@@ -1,35 +1,28 @@
-//! What a datagram does to a site.
+//! What a site does of what comes.
 
-ghost use Rattle.std.specs.Prelude.{◌≡◌, ◌∷◌, [], IfOk};
+ghost use Rattle.std.specs.Prelude.{◌≡◌, IfOk};
 ghost use Rattle.vp_catalog.specs.Document.{IsCatalogue};
 ghost use Rattle.vp_laws.specs.Shapes.{IsInput, IsShaped};
 ghost use Rattle.vp_model.specs.Step.{step};
 ghost use Rattle.vp_runs.specs.Arrivals.{IsArrival};
 ghost use Rattle.vp_runs.specs.Turns.{step_turn, quiet_turn, turn_on};
-ghost use Rattle.vp_turns.specs.Taking.{IsQuiet, Does, Takes};
+ghost use Rattle.vp_turns.specs.Taking.{Does};
 
-use crate::arrivals::arrival;
-use crate::recording::arrival_line;
-use crate::turned::Turned;
+use crate::turned::Outcome;
+use crate::sending::datagrams_of;
 use std::alloc::Global;
-use vp_base::{Batch, Effects, Input, NoMemory, Seq};
+use vp_base::{Batch, Effects, Input, NoMemory};
 use vp_catalog::Catalog;
 use vp_laws::shaped::{given_are_frames, steps_are_shaped};
 use vp_runs::Arrival;
 use vp_site::Site;
 
-/// Does the step of an input, which came with this turn so far: the site after it, the records that it forces, and the turn.
-fn step(
-    site: Site,
-    catalog: &Catalog,
-    input: Input,
-    turned: Turned,
-) -> Result<(Site, Batch, Turned), NoMemory>
+/// Does the step of an input.
+fn step(site: Site, catalog: &Catalog, input: Input) -> Result<(Site, Batch, Outcome), NoMemory>
     requires catalogue { IsCatalogue catalog.now }
     requires site { IsShaped catalog.now site }
     requires input { IsInput input }
-    requires quiet { IsQuiet turned }
-    ensures { IfOk result (λ it. Does (step_turn catalog.now site.id (step catalog.now site input)) turned.lines it.0 it.1 it.2) }
+    ensures { IfOk result (λ it. Does (step_turn catalog.now site.id (step catalog.now site input)) it.0 it.1 it.2) }
 {
     steps_are_shaped();
     given_are_frames();
@@ -41,59 +34,38 @@ fn step(
         messages,
         replies,
     } = effects;
-    let turned = turned.send(catalog, id, messages, replies)?;
-    Ok((site, records, turned.commit(commits)))
+    let outcome = Outcome {
+        datagrams: datagrams_of(catalog, id, messages, replies)?,
+        commits,
+        stop: false,
+    };
+    Ok((site, records, outcome))
 }
 
-/// A turn without a step, with the line of what came.
-fn pass(
-    site: Site,
-    alloc: Global,
-    line: Seq<u8>,
-    stop: bool,
-) -> Result<(Site, Batch, Turned), NoMemory>
-    ensures { IfOk result (λ it. Does (quiet_turn site stop) (line ∷ []) it.0 it.1 it.2) }
+/// A turn without a step.
+fn pass(site: Site, alloc: Global, stop: bool) -> (Site, Batch, Outcome)
+    ensures { Does (quiet_turn site stop) result.0 result.1 result.2 }
 {
-    Ok((site, Batch::new(alloc), Turned::quiet(alloc, line, stop)?))
+    (site, Batch::new(alloc), Outcome::quiet(alloc, stop))
 }
 
-/// Does what came, behind its line.
+/// Takes what came: the site after it, the records that are to be forced, and what the turn gives.
 #[tactic(auto, unfolding(vp_runs::specs::Turns::turn_on))]
-fn follow(
-    site: Site,
-    catalog: &Catalog,
-    what: Arrival,
-    line: Seq<u8>,
-) -> Result<(Site, Batch, Turned), NoMemory>
-    requires catalogue { IsCatalogue catalog.now }
-    requires site { IsShaped catalog.now site }
-    requires what { IsArrival what }
-    ensures { IfOk result (λ it. Does (turn_on catalog.now site what) (line ∷ []) it.0 it.1 it.2) }
-{
-    let alloc = catalog.sites().allocator();
-    match what {
-        Arrival::Gives { input } => {
-            let turned = Turned::quiet(alloc, line, false)?;
-            step(site, catalog, input, turned)
-        }
-        Arrival::Stops => pass(site, alloc, line, true),
-        Arrival::Bad { .. } => pass(site, alloc, line, false),
-        Arrival::Stray => pass(site, alloc, line, false),
-    }
-}
-
-/// Takes the datagram: the site after it, the records that are to be forced, and the turn.
 pub fn take(
     site: Site,
     catalog: &Catalog,
-    port: u16,
-    bytes: &[u8],
-) -> Result<(Site, Batch, Turned), NoMemory>
+    what: Arrival,
+) -> Result<(Site, Batch, Outcome), NoMemory>
+    requires catalogue { IsCatalogue catalog.now }
     requires site { IsShaped catalog.now site }
-    ensures { IfOk result (λ it. Takes catalog.now site (record { port = port; bytes = bytes.now }) it.0 it.1 it.2) }
+    requires what { IsArrival what }
+    ensures { IfOk result (λ it. Does (turn_on catalog.now site what) it.0 it.1 it.2) }
 {
     let alloc = catalog.sites().allocator();
-    let what = arrival(alloc, catalog, site.id(), port, bytes)?;
-    let line = arrival_line(alloc, port, bytes, &what)?;
-    follow(site, catalog, what, line)
+    match what {
+        Arrival::Gives { input } => step(site, catalog, input),
+        Arrival::Stops => Ok(pass(site, alloc, true)),
+        Arrival::Bad { .. } => Ok(pass(site, alloc, false)),
+        Arrival::Stray => Ok(pass(site, alloc, false)),
+    }
 }

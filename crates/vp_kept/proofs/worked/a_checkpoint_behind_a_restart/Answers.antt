@@ -1,6 +1,6 @@
 use Rattle.std.proofs.Common.{refl}
 use Rattle.vp_model.proofs.Computed.{computes}
-use Rattle.vp_runs.proofs.Worked.{spells}
+use Rattle.vp_runs.proofs.WorkedRuns.{spells}
 use Rattle.vp_kept.specs.Kept.{kept}
 use Rattle.vp_kept.proofs.worked.a_checkpoint_behind_a_restart.Goals as goal
 

@@ -6,19 +6,18 @@ use Rattle.vp_laws.specs.Shapes.{IsSent, IsReply}
 use Rattle.vp_laws.specs.ShapeLaws.{reply_frame}
 use Rattle.vp_wire.specs.Grammar.{IsFrame}
 use Rattle.vp_runs.specs.Turns.{step_turn}
-use Rattle.vp_turns.specs.declared.turned.Turned.{Turned}
 use Rattle.vp_turns.specs.Taking.{Does}
 use Rattle.vp_turns.proofs.Taken.{messages_are_frames, replies_are_frames, does}
 use Rattle.vp_turns.proofs.taking.step.Goals as goal
 
-pub send-requires-clause-messages : goal.send-requires-clause-messages
-send-requires-clause-messages c =
+pub datagrams_of-requires-clause-messages : goal.datagrams_of-requires-clause-messages
+datagrams_of-requires-clause-messages c =
     let shaped = (c.steps_are_shaped.ensures c.args.catalog.now c.args.site c.args.input c.requires.catalogue c.requires.site c.requires.input).1 in
     messages_are_frames c.args.catalog.now c.args.site.id c.given_are_frames.ensures c.requires.catalogue c.requires.site.listed c.in_ok-site.effects.messages
     (subst (λ (o : Stepped). AllByRecursion (IsSent c.args.site.id) o.effects.messages) (sym c.in_ok-site.ensures) shaped.messages_are)
 
-pub send-requires-clause-replies : goal.send-requires-clause-replies
-send-requires-clause-replies c =
+pub datagrams_of-requires-clause-replies : goal.datagrams_of-requires-clause-replies
+datagrams_of-requires-clause-replies c =
     let shaped = (c.steps_are_shaped.ensures c.args.catalog.now c.args.site c.args.input c.requires.catalogue c.requires.site c.requires.input).1 in
     subst (λ id. AllByRecursion (λ (reply : Reply). IsFrame (reply_frame id reply)) c.in_ok-site.effects.replies) (sym c.id-id.ensures)
     (replies_are_frames c.args.catalog.now c.args.site.id c.given_are_frames.ensures c.requires.catalogue c.requires.site.listed c.in_ok-site.effects.replies
@@ -26,6 +25,5 @@ send-requires-clause-replies c =
 
 pub returns : goal.returns
 returns c =
-    let told = c.commit.ensures ∙ ap (λ (t : Turned). record t { commits = c.in_ok-site.effects.commits }) (rw c.id-id.ensures at c.in_ok-turned.ensures) in
-    subst (λ (o : Stepped). Does (step_turn c.args.catalog.now c.args.site.id o) c.args.turned.lines c.in_ok-site.site c.in_ok-site.effects.records c.commit.result) c.in_ok-site.ensures
-    (does c.args.catalog.now c.args.site.id (record { site = c.in_ok-site.site; effects = c.in_ok-site.effects }) c.args.turned c.commit.result told c.requires.quiet.going)
+    subst (λ (o : Stepped). Does (step_turn c.args.catalog.now c.args.site.id o) c.in_ok-site.site c.in_ok-site.effects.records c.outcome) c.in_ok-site.ensures
+    (does c.args.catalog.now c.args.site.id (record { site = c.in_ok-site.site; effects = c.in_ok-site.effects }) c.outcome (search rules))
