@@ -17,13 +17,13 @@ use Rattle.vp_model.specs.Refresh.{newer, refreshing_of, newest, take_newer, unl
 use Rattle.vp_model.specs.Views.{outlasts, with_view, part_of, has_part, has_doubt, other_sites, drop_view, start_inviting, hold}
 use Rattle.vp_model.specs.Calls.{start_txn, take_lock, read_at, write_at, prepare_parts, prepare_for}
 use Rattle.vp_model.specs.Answers.{with_acknowledged, is_decided}
-use Rattle.vp_model.specs.Messages.{put_part, with_accepted, with_seen, held_id, holds_view, accept, on_accept, on_stale, with_heard, with_part, with_vote, with_new_doubt, with_ended, with_answer, grant, end_here}
+use Rattle.vp_model.specs.Messages.{put_part, with_accepted, with_seen, holds_view, accept, on_accept, on_stale, with_heard, with_part, with_vote, with_new_doubt, with_ended, with_answer, grant, end_here}
 use Rattle.vp_model.specs.Step.{step, with_monitor, fix, without_wait, probe_all, mark_calls, ask_again, resend_one, known, inquire}
 use Rattle.vp_laws.proofs.Lists.Members.{Has, has_first, has_more, has_none, has_one_is, has_cases, filter_has, find_has, map_has, both_true}
 use Rattle.vp_laws.proofs.Lists.Views.{is_view_is, same_is}
 use Rattle.vp_laws.proofs.Lists.Changes.{put_has, replace_has, writes_has, value_has}
 use Rattle.vp_laws.proofs.Moves.Frames.{Ends, close-ends, decided-ends, decide-cases}
-use Rattle.vp_laws.proofs.Moves.Table.{Comes, next_view, lent_at, Requests, Asks, Handled, Back, Table}
+use Rattle.vp_laws.proofs.Moves.Table.{Comes, next_view, lent_at, Requests, Asks, Handled, Back, Tells, Table}
 use Rattle.vp_laws.proofs.Moves.Rows.{step-keeps}
 use Rattle.vp_laws.proofs.Moves.LocalViews.{letter, Tidy}
 use Rattle.vp_laws.proofs.Table.Led.{Led}
@@ -455,11 +455,6 @@ module _ (N : TxnId → Type 0) (A : ViewId → Type 0) where
             let z : Has (put_at from stored q.answers) a = rw (← same) at k in
             ⊎_elim (λ (new : a ≡ (from, stored)). subst A (sym (ap (λ (a : ℕ × Stored). a.1.date) new)) named) (λ old. names.answers q a h old) (put_has (λ (a : ℕ × Stored) (b : ℕ × Stored). a.0 == b.0) (λ (a : ℕ × Stored) (b : ℕ × Stored). nat_lt a.0 b.0) (from, stored) q.answers a z)
 
-    answers_refresh : (from rec : ℕ) (view : ViewId) (stored : Stored) → A view → value_at rec x.copies ≡ Some stored → Calls (send (message.RefreshAnswer view rec stored) from (begin_step x))
-    answers_refresh from rec view stored n v =
-        let c = value_has rec x.copies stored v in
-        one _ x.id from (message.RefreshAnswer view rec stored) names (n, subst A (ap (λ (s : Stored). s.date) c.2) (names.copies c.0 c.1)) refl
-
     writes_at : (t : Live) (p : Pending) (rec : ℕ) (sites : List ℕ) (l : Lent) → Has x.live t → K l → K (write_at x.id t p rec sites l)
     unfolding write_at
     writes_at t p rec sites l h q = plain l _ (letters x.id (λ q. message.WriteRequest t.txn t.view p.number rec) sites) refl refl refl (letters_named x.id (λ q. message.WriteRequest t.txn t.view p.number rec) sites (λ q. here_named t h)) q
@@ -494,14 +489,26 @@ module _ (N : TxnId → Type 0) (A : ViewId → Type 0) where
         go None h t = cc
         go (Some u) h t = subst A (same_is u.id v t) (names.held u h)
 
+    requested : (from : ℕ) (txn : TxnId) (view : ViewId) (number rec : ℕ) (exclusive : Bool) → Requests given from txn view number rec exclusive → N txn
+    requested from txn view number rec false (Requests.reads c) = (arrived from (message.ReadRequest txn view number rec) c).0
+    requested from txn view number rec true (Requests.writes c) = (arrived from (message.WriteRequest txn view number rec) c).0
+
+    told_named : (from : ℕ) (m : Message) → Tells x given from m → Named m
+    told_named from _ (Tells.stale id c e) = tt
+    told_named from _ (Tells.accept_again id c e) = tt
+    told_named from _ (Tells.answer_refresh view rec stored c e d v) = let q = value_has rec x.copies stored v in (view_of view e, subst A (ap (λ (s : Stored). s.date) q.2) (names.copies q.0 q.1))
+    told_named from _ (Tells.refuse_view txn view number a e) = ((asked_named from txn view number a).0, held_named x.held refl)
+    told_named from _ (Tells.refuse_lock txn view number rec exclusive holder r e n c) = (requested from txn view number rec exclusive r, conflict_named rec exclusive txn x.locks holder names.locks c)
+    told_named from _ (Tells.doubt_again txn view number reads writes c e n d) = (arrived from (message.Prepare txn view number reads writes) c).0
+    told_named from _ (Tells.vote_again txn view number reads writes part c e n f v) = (names.parts part (part_there txn part f)).0
+
     pub table : Table catalogue x given Calls
     unfolding on_accept on_stale start_txn read_at prepare_parts complete mark_calls
     table = record {
+      tells = λ from m t. one _ x.id from m names (told_named from m t) refl;
       drop_view = λ l e z p. drops (put_back (begin_step x) l) p;
       start_inviting = λ o s left l. invites o l;
       accept = λ from id o c e left l. accepts from id o l;
-      stale = λ from id c e. one _ x.id from (message.Stale id x.promise) names tt refl;
-      accept_again = λ from id c e. one _ x.id from (message.Accept id) names tt refl;
       accepted = λ from id c. silent (begin_step x) (on_accept from id (begin_step x)) (views_now (with_accepted from id x.views) refl) refl begins;
       seen = λ from id promise c. silent (begin_step x) (on_stale promise (begin_step x)) (views_now (with_seen promise x.views) refl) refl begins;
       hold = λ from id members c e. holds_now id members (both_true _ _ e).0;
@@ -512,14 +519,9 @@ module _ (N : TxnId → Type 0) (A : ViewId → Type 0) where
       start_refresh = λ view rec o e a h l. starts_refresh view rec o e.held l;
       end_refresh = λ rec r own o e a d v l. ends_refresh rec r own o e v l;
       keep_answer = λ from view rec stored r c e f g. keeps_answer from rec stored (arrived from (message.RefreshAnswer view rec stored) c).1;
-      answer_refresh = λ from view rec stored c e d v. answers_refresh from rec view stored (view_of view e) v;
       ask_again = λ view r o e h v l. asks_again view r o e l;
-      refuse_view = λ from txn view number a e. one _ x.id from (message.Refuse txn number (obstacle.OtherView (held_id x))) names ((asked_named from txn view number a).0, held_named x.held refl) refl;
-      refuse_lock = λ from txn view number rec exclusive holder r e n c. one _ x.id from (message.Refuse txn number (obstacle.Held holder)) names (requested from txn view number rec exclusive r, conflict_named rec exclusive txn x.locks holder names.locks c) refl;
       grant_read = λ from txn view number rec stored c e n v f. let q = arrived from (message.ReadRequest txn view number rec) c in grants from txn view rec false (message.ReadAnswer txn number stored.value) q q.0;
       grant_write = λ from txn view number rec stored c e n v f. let q = arrived from (message.WriteRequest txn view number rec) c in grants from txn view rec true (message.WriteAnswer txn number) q q.0;
-      doubt_again = λ from txn view number reads writes c e n d. one _ x.id from (message.Vote txn) names (arrived from (message.Prepare txn view number reads writes) c).0 refl;
-      vote_again = λ from txn view number reads writes part c e n f v. one _ x.id from (message.Vote part.txn) names (names.parts part (part_there txn part f)).0 refl;
       vote_reading = λ from txn view number reads writes part c e n d f v a w. votes_reading from part (part_there txn part f);
       vote_writing = λ from txn view number reads writes part c e n d f v a w. votes_writing from part writes (part_there txn part f);
       end_here = λ from txn commit c. ends_here from txn commit (arrived from (message.Outcome txn commit) c);
@@ -542,10 +544,6 @@ module _ (N : TxnId → Type 0) (A : ViewId → Type 0) where
       resend_one = λ d o c h l. resends d o h l;
       inquire = λ o c l. inquires o l;
     }
-      where
-        requested : (from : ℕ) (txn : TxnId) (view : ViewId) (number rec : ℕ) (exclusive : Bool) → Requests given from txn view number rec exclusive → N txn
-        requested from txn view number rec false (Requests.reads c) = (arrived from (message.ReadRequest txn view number rec) c).0
-        requested from txn view number rec true (Requests.writes c) = (arrived from (message.WriteRequest txn view number rec) c).0
 
     pub names-step : Calls (step catalogue x given)
     names-step = step-keeps catalogue x given Calls table begins
