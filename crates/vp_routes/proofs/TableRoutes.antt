@@ -20,7 +20,7 @@ use Rattle.vp_model.specs.Step.{step, fix, probe_all, mark_calls, ask_again, res
 use Rattle.vp_laws.proofs.Lists.Members.{Has, has_none, has_one_is, has_cases, filter_has, map_has}
 use Rattle.vp_laws.proofs.Lists.Changes.{put_has}
 use Rattle.vp_laws.proofs.Moves.Frames.{Ends, close-ends, decided-ends, decide-cases}
-use Rattle.vp_laws.proofs.Moves.Table.{Comes, next_view, lent_at, Requests, Asks, Handled, Back, Table}
+use Rattle.vp_laws.proofs.Moves.Table.{Comes, next_view, lent_at, tells_came, Handled, Back, Table}
 use Rattle.vp_laws.proofs.Moves.Rows.{step-keeps}
 use Rattle.vp_laws.proofs.Moves.LocalViews.{letter, Tidy}
 use Rattle.vp_laws.proofs.Table.Led.{Led}
@@ -207,11 +207,10 @@ module _ (catalogue : Catalogue) (k : IsCatalogue catalogue) where
     table : Table catalogue x given Routed
     unfolding on_accept on_stale start_txn read_at prepare_parts complete mark_calls hold
     table = record {
+      tells = λ from m t. (calls.tells from m t, one _ from m (let q = tells_came x given from m t in from_is from q.0 q.1) refl refl);
       drop_view = λ l e z p. (calls.drop_view l e z p.0, drops (put_back (begin_step x) l) p.1);
       start_inviting = λ o s left l. (calls.start_inviting o s left l.0, invites o l.1);
       accept = λ from id o c e left l. (calls.accept from id o c e left l.0, accepts from id o (from_is from _ c) l.1);
-      stale = λ from id c e. (calls.stale from id c e, one _ from (message.Stale id x.promise) (from_is from _ c) refl refl);
-      accept_again = λ from id c e. (calls.accept_again from id c e, one _ from (message.Accept id) (from_is from _ c) refl refl);
       accepted = λ from id c. (calls.accepted from id c, silent (begin_step x) (on_accept from id (begin_step x)) refl refl begins);
       seen = λ from id promise c. (calls.seen from id promise c, silent (begin_step x) (on_stale promise (begin_step x)) refl refl begins);
       hold = λ from id members c e. (calls.hold from id members c e, silent (begin_step x) _ refl refl begins);
@@ -222,14 +221,9 @@ module _ (catalogue : Catalogue) (k : IsCatalogue catalogue) where
       start_refresh = λ view rec o e a h l. (calls.start_refresh view rec o e a h l.0, starts_refresh view rec o l.1);
       end_refresh = λ rec r own o e a d v l. (calls.end_refresh rec r own o e a d v l.0, ends_refresh r own o l.1);
       keep_answer = λ from view rec stored r c e f g. (calls.keep_answer from view rec stored r c e f g, silent (begin_step x) _ refl refl begins);
-      answer_refresh = λ from view rec stored c e d v. (calls.answer_refresh from view rec stored c e d v, one _ from (message.RefreshAnswer view rec stored) (from_is from _ c) refl refl);
       ask_again = λ view r o e h v l. (calls.ask_again view r o e h v l.0, asks_again view.id r o l.1);
-      refuse_view = λ from txn view number a e. (calls.refuse_view from txn view number a e, one _ from (message.Refuse txn number (obstacle.OtherView (held_id x))) (asks_from from txn view number a) refl refl);
-      refuse_lock = λ from txn view number rec exclusive holder r e n c. (calls.refuse_lock from txn view number rec exclusive holder r e n c, one _ from (message.Refuse txn number (obstacle.Held holder)) (requests_from from txn view number rec exclusive r) refl refl);
       grant_read = λ from txn view number rec stored c e n v f. (calls.grant_read from txn view number rec stored c e n v f, grants from txn view rec false (message.ReadAnswer txn number stored.value) (from_is from _ c));
       grant_write = λ from txn view number rec stored c e n v f. (calls.grant_write from txn view number rec stored c e n v f, grants from txn view rec true (message.WriteAnswer txn number) (from_is from _ c));
-      doubt_again = λ from txn view number reads writes c e n d. (calls.doubt_again from txn view number reads writes c e n d, one _ from (message.Vote txn) (from_is from _ c) refl refl);
-      vote_again = λ from txn view number reads writes part c e n f v. (calls.vote_again from txn view number reads writes part c e n f v, one _ from (message.Vote part.txn) (from_is from _ c) refl refl);
       vote_reading = λ from txn view number reads writes part c e n d f v a w. (calls.vote_reading from txn view number reads writes part c e n d f v a w, one _ from (message.Vote part.txn) (from_is from _ c) refl refl);
       vote_writing = λ from txn view number reads writes part c e n d f v a w. (calls.vote_writing from txn view number reads writes part c e n d f v a w, one _ from (message.Vote part.txn) (from_is from _ c) refl refl);
       end_here = λ from txn commit c. (calls.end_here from txn commit c, ends_here from txn commit (from_is from _ c));
@@ -252,15 +246,6 @@ module _ (catalogue : Catalogue) (k : IsCatalogue catalogue) where
       resend_one = λ d o c h l. (calls.resend_one d o c h l.0, resends d o h l.1);
       inquire = λ o c l. (calls.inquire o c l.0, inquires o l.0.names l.1);
     }
-      where
-        asks_from : (from : ℕ) (txn : TxnId) (view : ViewId) (number : ℕ) → Asks given from txn view number → S from
-        asks_from from txn view number (Asks.reads rec c) = from_is from (message.ReadRequest txn view number rec) c
-        asks_from from txn view number (Asks.writes rec c) = from_is from (message.WriteRequest txn view number rec) c
-        asks_from from txn view number (Asks.prepares reads writes c) = from_is from (message.Prepare txn view number reads writes) c
-
-        requests_from : (from : ℕ) (txn : TxnId) (view : ViewId) (number rec : ℕ) (exclusive : Bool) → Requests given from txn view number rec exclusive → S from
-        requests_from from txn view number rec false (Requests.reads c) = from_is from (message.ReadRequest txn view number rec) c
-        requests_from from txn view number rec true (Requests.writes c) = from_is from (message.WriteRequest txn view number rec) c
 
     pub routes-step : Routed (step catalogue x given)
     routes-step = step-keeps catalogue x given Routed table (record { names = names; sent = λ m h. absurd (has_none m h) }, begins)

@@ -123,7 +123,7 @@ module _ (catalogue : Catalogue) (w new : Scene) (s : ℕ) (x : SiteState) (give
       name_is = ap (λ (u : Doubt). u.txn) f.is
 
       was : Was w i t
-      was = d.was i y t (subst (UsedTxn w) (name_is ∙ sym named) (k.names.sent _ came).0) here (now_is w new s x o d.st i y up)
+      was = d.was i y t (subst (UsedTxn w) (name_is ∙ sym named) (k.names.sent _ came).0.0) here (now_is w new s x o d.st i y up)
 
       v : (v : View) × (x.held ≡ Some v) × (v.id ≡ f.prepared.view)
       v = holding x f.prepared.view f.prepared.held
@@ -162,7 +162,7 @@ module _ (catalogue : Catalogue) (w new : Scene) (s : ℕ) (x : SiteState) (give
       its = copy_holder catalogue new n j rec c h
 
       was_used : (from number : ℕ) (view : ViewId) (reads : List ℕ) (writes : List (ℕ × Change)) → Has w.sent (letter from j (message.Prepare u.txn view number reads writes)) → (i : ℕ) (y : SiteState) (t : Live) → plain_at new i ≡ Some y → Has y.live t → t.txn ≡ u.txn → Was w i t
-      was_used from number view reads writes sent i y t up here named = d.was i y t (subst (UsedTxn w) (sym named) (k.names.sent _ sent).0) here (now_is w new s x o d.st i y up)
+      was_used from number view reads writes sent i y t up here named = d.was i y t (subst (UsedTxn w) (sym named) (k.names.sent _ sent).0.0) here (now_is w new s x o d.st i y up)
 
       old : value_at rec (kept_at w j).copies ≡ Some c → Has (kept_at w j).doubts u → ⊥
       old copy was =

@@ -96,8 +96,8 @@ module _ (catalogue : Catalogue) (w new : Scene) (s : ℕ) (x : SiteState) (give
   writes_stable rec p a e r = (r.0, same_writes catalogue a p rec r.0 (sym e) r.1)
 
   asks_lasts : (m : Sent) → Has w.sent m → (from to : ℕ) (words : Message) → letter from to words ≡ m → Asks catalogue w words → Asks catalogue new words
-  asks_lasts m h from to (message.ReadRequest txn view number rec) e q = asks_last (λ p. Reads catalogue p rec) (reads_stable rec) txn number (names.sent (letter from to (message.ReadRequest txn view number rec)) (rw e h)).0 q
-  asks_lasts m h from to (message.WriteRequest txn view number rec) e q = asks_last (WritesTo catalogue rec) (writes_stable rec) txn number (names.sent (letter from to (message.WriteRequest txn view number rec)) (rw e h)).0 q
+  asks_lasts m h from to (message.ReadRequest txn view number rec) e q = asks_last (λ p. Reads catalogue p rec) (reads_stable rec) txn number (names.sent (letter from to (message.ReadRequest txn view number rec)) (rw e h)).0.0 q
+  asks_lasts m h from to (message.WriteRequest txn view number rec) e q = asks_last (WritesTo catalogue rec) (writes_stable rec) txn number (names.sent (letter from to (message.WriteRequest txn view number rec)) (rw e h)).0.0 q
   asks_lasts m h from to words e q = tt
 
   aside_asks : (m : Message) → is_aside m ≡ true → Asks catalogue new m

@@ -63,8 +63,8 @@ module _ (catalogue : Catalogue) (w new : Scene) (s : ℕ) (x : SiteState) (give
   was_site txn was = sym (ap (λ (t : TxnId). t.site) was.2) ∙ (led.names was.0 was.1).0
 
   told_lasts : (m : Message) → Named (UsedTxn w) (Used w) m → Told w m → Told new m
-  told_lasts (message.Outcome txn true) u h = (over_lasts txn u h.0, entry_stays txn h.1)
-  told_lasts (message.Outcome txn false) u h = over_lasts txn u h
+  told_lasts (message.Outcome txn true) u h = (over_lasts txn u.0.0 h.0, entry_stays txn h.1)
+  told_lasts (message.Outcome txn false) u h = over_lasts txn u.0.0 h
   told_lasts m u h = tt
 
   -- a commit of this step, or of a decision

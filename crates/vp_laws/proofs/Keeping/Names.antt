@@ -15,9 +15,10 @@ use Rattle.vp_model.specs.World.{start_world}
 use Rattle.vp_laws.proofs.Lists.Members.{Has, has_none, has_first, has_more, has_cases, map_has}
 use Rattle.vp_laws.proofs.Lists.Views.{same_site, opening_least}
 use Rattle.vp_laws.proofs.Worlds.Scenes.{Scene, scene_of, kept_in, up_in, plain_at, kept_at, promise_at, Moved, acted, stepping}
+use Rattle.vp_text.proofs.Items.{all_each}
 use Rattle.vp_laws.proofs.Table.Views.{local-step}
 use Rattle.vp_laws.proofs.Table.Led.{Led, Leads, MayEnter, led-step}
-use Rattle.vp_laws.proofs.Table.Names.{OwnerNamed, WhyNamed, Named, Names, Calls, names-step}
+use Rattle.vp_laws.proofs.Table.Names.{OwnerNamed, names_in, Named, Names, Calls, names-step}
 use Rattle.vp_laws.proofs.Invariant.Views.{Used, InvViews}
 use Rattle.vp_laws.proofs.Worlds.Events.{Arrives}
 use Rattle.vp_laws.proofs.Invariant.Names.{KeptNamed, UsedTxn, InvNames}
@@ -32,29 +33,8 @@ module _ (N M : TxnId → Type 0) (A B : ViewId → Type 0) (n : (t : TxnId) →
   owner_lifts (owner.Txn t) h = n t h
   owner_lifts owner.Refresh h = tt
 
-  why_lifts : (o : Obstacle) → WhyNamed N A o → WhyNamed M B o
-  why_lifts (obstacle.Held holder) h = owner_lifts holder h
-  why_lifts (obstacle.OtherView None) h = tt
-  why_lifts (obstacle.OtherView (Some v)) h = a v h
-
   pub named_lifts : (m : Message) → Named N A m → Named M B m
-  named_lifts (message.Invite i) h = tt
-  named_lifts (message.Accept i) h = tt
-  named_lifts (message.Stale i w) h = tt
-  named_lifts (message.ViewCommit i ms) h = tt
-  named_lifts (message.ReadRequest t v k r) h = (n t h.0, a v h.1)
-  named_lifts (message.ReadAnswer t k value) h = n t h
-  named_lifts (message.WriteRequest t v k r) h = (n t h.0, a v h.1)
-  named_lifts (message.WriteAnswer t k) h = n t h
-  named_lifts (message.Refuse t k why) h = (n t h.0, why_lifts why h.1)
-  named_lifts (message.Prepare t v k r w) h = (n t h.0, a v h.1)
-  named_lifts (message.Vote t) h = n t h
-  named_lifts (message.Outcome t c) h = n t h
-  named_lifts (message.Ack t) h = n t h
-  named_lifts (message.Inquire t) h = n t h
-  named_lifts (message.RefreshRequest v r) h = a v h
-  named_lifts (message.RefreshAnswer v r stored) h = (a v h.0, a stored.date h.1)
-  named_lifts (message.Probe v) h = a v h
+  named_lifts m h = let names = names_in m in (all_each N M n names.0 h.0, all_each A B a names.1 h.1)
 
   pub names_lift : (s : SiteState) → Names N A s → Names M B s
   names_lift s h = record {

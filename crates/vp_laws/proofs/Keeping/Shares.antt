@@ -161,7 +161,7 @@ module _ (catalogue : Catalogue) (w new : Scene) (s : ℕ) (x : SiteState) (give
       go : (y : SiteState) (t : Live) → NowIs w s o.site txn.site y → Has y.live t → t.txn ≡ txn → is_empty (writes_held catalogue from (last_changes (entry_of t))) ≡ false → InDoubt new from txn
       go y t (NowIs.other n g) k e writes = doubt_lasts from txn y t g k e (h y t g k e writes)
       go y t (NowIs.here z same) k e writes =
-          let used : UsedTxn w txn = names.sent _ sent in
+          let used : UsedTxn w txn = (names.sent _ sent).0.0 in
           let was = was_doing catalogue x given t (c.live t (subst (λ (y : SiteState). Has y.live t) (sym same) k))
           (λ u q f. voted_pending catalogue w votes from to txn sent x u (rw z up) q (f ∙ e))
           (λ n. fresh w s x up id txn used (sym e ∙ n)) in
@@ -232,9 +232,9 @@ module _ (catalogue : Catalogue) (w new : Scene) (s : ℕ) (x : SiteState) (give
 
   -- messages
   says_lasts : (m : Sent) → Has w.sent m → (from to : ℕ) (words : Message) → letter from to words ≡ m → Says catalogue w from to words → Says catalogue new from to words
-  says_lasts m h from to (message.ReadRequest txn view number rec) e q = view_lasts txn view (names.sent (letter from to (message.ReadRequest txn view number rec)) (rw e h)).0 q
-  says_lasts m h from to (message.WriteRequest txn view number rec) e q = view_lasts txn view (names.sent (letter from to (message.WriteRequest txn view number rec)) (rw e h)).0 q
-  says_lasts m h from to (message.Prepare txn view number reads writes) e q = view_lasts txn view (names.sent (letter from to (message.Prepare txn view number reads writes)) (rw e h)).0 q
+  says_lasts m h from to (message.ReadRequest txn view number rec) e q = view_lasts txn view (names.sent (letter from to (message.ReadRequest txn view number rec)) (rw e h)).0.0 q
+  says_lasts m h from to (message.WriteRequest txn view number rec) e q = view_lasts txn view (names.sent (letter from to (message.WriteRequest txn view number rec)) (rw e h)).0.0 q
+  says_lasts m h from to (message.Prepare txn view number reads writes) e q = view_lasts txn view (names.sent (letter from to (message.Prepare txn view number reads writes)) (rw e h)).0.0 q
   says_lasts m h from to (message.ReadAnswer txn number value) e q = (q.0, q.1, stays _ q.2)
   says_lasts m h from to (message.WriteAnswer txn number) e q = (q.0, q.1, stays _ q.2)
   says_lasts m h from to (message.Vote txn) e q = vote_lasts from to txn (rw e h) q

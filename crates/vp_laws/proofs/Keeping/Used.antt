@@ -147,10 +147,10 @@ module _ (catalogue : Catalogue) (w new : Scene) (s : ℕ) (x : SiteState) (give
       (was_viewed catalogue x given t (c.live t (subst (λ (y : SiteState). Has y.live t) (sym same) h)))
 
   named_read : (a b number rec : ℕ) (txn : TxnId) (view : ViewId) → Has w.sent (letter a b (message.ReadRequest txn view number rec)) → UsedTxn w txn
-  named_read a b number rec txn view h = (names.sent (letter a b (message.ReadRequest txn view number rec)) h).0
+  named_read a b number rec txn view h = (names.sent (letter a b (message.ReadRequest txn view number rec)) h).0.0
 
   named_write : (a b number rec : ℕ) (txn : TxnId) (view : ViewId) → Has w.sent (letter a b (message.WriteRequest txn view number rec)) → UsedTxn w txn
-  named_write a b number rec txn view h = (names.sent (letter a b (message.WriteRequest txn view number rec)) h).0
+  named_write a b number rec txn view h = (names.sent (letter a b (message.WriteRequest txn view number rec)) h).0.0
 
   -- an old request has not the number of a new one
   old_read : (a b number rec other : ℕ) (txn : TxnId) (view : ViewId) → Has w.sent (letter a b (message.ReadRequest txn view number rec)) → NewRead catalogue x given o.site.live txn number other → ⊥

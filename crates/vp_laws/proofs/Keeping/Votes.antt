@@ -53,7 +53,7 @@ module _ (catalogue : Catalogue) (w new : Scene) (s : ℕ) (x : SiteState) (give
       let n = st.now in
       let z = rw here at up in
       let same : o.site ≡ y = cc in
-      prepared_here txn to view number reads writes (names.sent _ sent).0 here (λ u q g. h x u (rw here was) q g) t (l.live t (rw (← same) at live)) e)
+      prepared_here txn to view number reads writes (names.sent _ sent).0.0 here (λ u q g. h x u (rw here was) q g) t (l.live t (rw (← same) at live)) e)
       (λ (n : txn.site ≢ s). h y t (rw (ap up_in (st.moved.others txn.site n)) at up) live e)
       (same_site txn.site s)
   prepared_lasts to m from sent h = tt

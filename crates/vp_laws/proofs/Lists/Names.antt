@@ -6,7 +6,6 @@ use Rattle.vp_model.specs.Step.{mark}
 use Rattle.vp_model.proofs.SameTxn.{same_txn-is, same_txn-not}
 use Rattle.vp_laws.proofs.Lists.Members.{Has, has_none, has_first, has_more, has_cons, has_cases, has_one_is, map_has}
 use Rattle.vp_laws.proofs.Lists.Changes.{without_first_has, change_first_has}
-use Rattle.std.specs.Prelude.{not}
 
 abbrev pub Apart : List Live → Type 0
 Apart [] = Unit {0}

@@ -5,17 +5,16 @@ use Rattle.vp_model.specs.Types.{TxnId, Stored, Message, Sent, Commit, Input, Re
 use Rattle.vp_model.specs.Types.entry
 use Rattle.vp_model.specs.Types.input
 use Rattle.vp_model.specs.Types.message
-use Rattle.vp_model.specs.Types.obstacle
 use Rattle.vp_model.specs.Words.{replace_at, view_before}
 use Rattle.vp_model.specs.Catalogue.{Catalogue}
 use Rattle.vp_model.specs.Durable.{doubt_of}
 use Rattle.vp_model.specs.Site.{CoordinatorState, SiteState, Lent, Stepped, begin_step, lent, put_back, letters, force, change_copies}
 use Rattle.vp_model.specs.Refresh.{newest, take_newer, unlist, end_refresh, start_refresh, other_holders, unanswered}
 use Rattle.vp_model.specs.Views.{other_sites, drop_view, start_inviting, hold}
-use Rattle.vp_model.specs.Messages.{held_id, accept, on_accept, on_stale, grant, end_here}
+use Rattle.vp_model.specs.Messages.{accept, on_accept, on_stale, grant, end_here}
 use Rattle.vp_model.specs.Step.{fix, ask_again, resend_one, known, inquire}
 use Rattle.vp_laws.proofs.Lists.Members.{Has, has_one_is, map_has}
-use Rattle.vp_laws.proofs.Moves.Table.{next_view, OfCoordinator, Back, Table}
+use Rattle.vp_laws.proofs.Moves.Table.{next_view, OfCoordinator, Back, Tells, Table}
 use Rattle.vp_laws.proofs.Moves.LocalViews.{letter}
 
 -- a message that no coordinator sends for a transaction of its own
@@ -25,6 +24,10 @@ is_aside (message.WriteRequest txn view number rec) = false
 is_aside (message.Prepare txn view number reads writes) = false
 is_aside (message.Outcome txn commit) = false
 is_aside m = true
+
+tells_aside : (x : SiteState) (given : Input) (from : ℕ) (m : Message) → Tells x given from m → is_aside m ≡ true
+tells_aside x given from _ (Tells.stale id c e) = refl
+tells_aside x given from m t = refl
 
 pub record Aside (x : SiteState) (m : Sent) : Type 0 where
   pub from : m.from ≡ x.id
@@ -125,11 +128,10 @@ module _ (catalogue : Catalogue) (x : SiteState) (given : Input) (R : Coordinato
   pub only_table : Table catalogue x given P
   unfolding on_accept on_stale grant drop_view start_inviting accept hold fix ask_again start_refresh
   only_table = record {
+    tells = λ from m t. one _ from m (tells_aside x given from m t) refl refl refl refl;
     drop_view = λ l e z p. silent (put_back (begin_step x) l) (drop_view (put_back (begin_step x) l)) refl refl refl refl p;
     start_inviting = λ o s left p. many o (start_inviting catalogue (next_view x) o) (λ q. message.Invite (next_view x)) (other_sites catalogue o.site.id) refl refl refl refl (λ q. refl) p;
     accept = λ from id o c e left p. many o (accept from id o) (λ q. message.Accept id) (from ∷ []) refl refl refl refl (λ q. refl) p;
-    stale = λ from id c e. one _ from (message.Stale id x.promise) refl refl refl refl refl;
-    accept_again = λ from id c e. one _ from (message.Accept id) refl refl refl refl refl;
     accepted = λ from id c. silent (begin_step x) _ refl refl refl refl only_begins;
     seen = λ from id promise c. silent (begin_step x) _ refl refl refl refl only_begins;
     hold = λ from id members c e. silent (begin_step x) _ refl refl refl refl only_begins;
@@ -141,14 +143,9 @@ module _ (catalogue : Catalogue) (x : SiteState) (given : Input) (R : Coordinato
     start_refresh = λ view rec o e a h p. many o (start_refresh catalogue view rec o) (λ q. message.RefreshRequest view.id rec) (other_holders catalogue o.site rec) refl refl refl refl (λ q. refl) p;
     end_refresh = λ rec r own o e a d v p. ends_refresh r own o p;
     keep_answer = λ from view rec stored r c e f g. silent (begin_step x) _ refl refl refl refl only_begins;
-    answer_refresh = λ from view rec stored c e d v. one _ from (message.RefreshAnswer view rec stored) refl refl refl refl refl;
     ask_again = λ view r o e h v p. many o (ask_again catalogue view.id r o) (λ q. message.RefreshRequest view.id r.rec) (unanswered catalogue o.site r) refl refl refl refl (λ q. refl) p;
-    refuse_view = λ from txn view number a e. one _ from (message.Refuse txn number (obstacle.OtherView (held_id x))) refl refl refl refl refl;
-    refuse_lock = λ from txn view number rec exclusive holder r e n c. one _ from (message.Refuse txn number (obstacle.Held holder)) refl refl refl refl refl;
     grant_read = λ from txn view number rec stored c e n v f. one _ from (message.ReadAnswer txn number stored.value) refl refl refl refl refl;
     grant_write = λ from txn view number rec stored c e n v f. one _ from (message.WriteAnswer txn number) refl refl refl refl refl;
-    doubt_again = λ from txn view number reads writes c e n d. one _ from (message.Vote txn) refl refl refl refl refl;
-    vote_again = λ from txn view number reads writes part c e n f v. one _ from (message.Vote part.txn) refl refl refl refl refl;
     vote_reading = λ from txn view number reads writes part c e n d f v a w. one _ from (message.Vote part.txn) refl refl refl refl refl;
     vote_writing = λ from txn view number reads writes part c e n d f v a w. one _ from (message.Vote part.txn) refl refl refl refl refl;
     end_here = λ from txn commit c. ends_here from txn commit (doubt_of txn x.doubts);

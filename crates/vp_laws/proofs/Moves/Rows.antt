@@ -2,25 +2,26 @@
 use Rattle.std.proofs.Common.{◌≡◌, ℕ, Bool, true, false, List, [], ◌∷◌, refl, arith, inl, inr}
 use Rattle.std.specs.Prelude.{Option, Some, None, ◌&&◌}
 use Rattle.std.specs.Option.{option_map_or}
-use Rattle.vp_model.specs.Types.{Change, ViewId, TxnId, View, Stored, Owner, Call, Message, Input, Refreshing, Decision}
+use Rattle.vp_model.specs.Types.{Change, ViewId, TxnId, View, Stored, Owner, Call, Message, Input, Part, Refreshing, Decision}
 use Rattle.vp_base.specs.declared.site.Ending.TheVariants.{ViewChanged}
 use Rattle.vp_model.specs.Types.answer
 use Rattle.vp_model.specs.Types.call
 use Rattle.vp_model.specs.Types.input
 use Rattle.vp_model.specs.Types.message
-use Rattle.vp_model.specs.Words.{keys, is_view, has}
+use Rattle.vp_model.specs.Words.{keys, is_view, view_before, has, has_txn, value_at}
 use Rattle.vp_model.specs.Catalogue.{Catalogue}
 use Rattle.vp_model.specs.Durable.{doubt_of}
 use Rattle.vp_model.specs.Site.{SiteState, Lent, Stepped, begin_step, lent, put_back, change_views}
-use Rattle.vp_model.specs.Refresh.{is_open, refreshing_of, settle_one, settle, settle_all, start_refresh, start_refresh_all}
-use Rattle.vp_model.specs.Views.{abandon, highest, is_spent, drop_view, leave, invite, usable_here, refresh_here, hold, join}
+use Rattle.vp_model.specs.Refresh.{is_open, is_doubtful, refreshing_of, settle_one, settle, settle_all, start_refresh, start_refresh_all}
+use Rattle.vp_model.specs.Views.{part_of, has_doubt, abandon, highest, is_spent, drop_view, leave, invite, usable_here, refresh_here, hold, join}
+use Rattle.vp_model.specs.Locks.{conflict}
 use Rattle.vp_model.specs.Calls.{on_regroup, on_call}
-use Rattle.vp_model.specs.Messages.{doubted_records, on_invite, on_view_commit, on_probe_message, lock_copy, on_request, on_read_request, on_write_request, first_vote, on_prepare, end_part, on_outcome, on_refresh_request, on_refresh_answer, answered, on_message}
+use Rattle.vp_model.specs.Messages.{holds_view, doubted_records, on_invite, on_view_commit, on_probe_message, lock_copy, on_request, on_read_request, on_write_request, first_vote, on_prepare, end_part, on_outcome, on_refresh_request, on_refresh_answer, answered, on_message}
 use Rattle.vp_model.specs.Step.{fix, without_wait, fix_view, ask_again, ask_again_all, time_out_calls, time_out, tick_view, resend_one, resend, resend_decisions, on_tick, probe_in, on_probe, on_input, step}
 use Rattle.vp_laws.proofs.Lists.Members.{Has, filter_has, has_first, has_more, both_true}
 use Rattle.vp_laws.proofs.Lists.Views.{is_view_is}
 use Rattle.vp_laws.proofs.Moves.Frames.{close_all-beside, close_all-none}
-use Rattle.vp_laws.proofs.Moves.Table.{Comes, Replies, Says, Left, Joined, Requests, Asks, lent_at, Back, Table}
+use Rattle.vp_laws.proofs.Moves.Table.{Comes, Replies, Says, Left, Joined, Requests, Asks, Tells, lent_at, Back, Table}
 use Rattle.vp_laws.proofs.Moves.Coordinator.{abandon-closed, abandon-kept, time_out_calls-kept, own_call-kept, on_answer-kept}
 use Rattle.vp_laws.proofs.Lists.Keeps.{by_test}
 
@@ -57,7 +58,10 @@ module _ (catalogue : Catalogue) (x : SiteState) (given : Input) (P : Stepped �
 
   on_invite-kept : (from : ℕ) (id : ViewId) → Comes given from (message.Invite id) → P (on_invite from id (begin_step x))
   unfolding on_invite
-  on_invite-kept from id c = grind (arith, k.accept, k.stale, k.accept_again, left, leave-kept, h)
+  on_invite-kept from id c =
+      let stale = λ (e : view_before id x.promise ≡ true). k.tells from _ (Tells.stale id c e) in
+      let again = λ (e : is_view x.waiting id ≡ true). k.tells from _ (Tells.accept_again id c e) in
+      grind (arith, k.accept, stale, again, left, leave-kept, h)
 
   -- refresh
   settle_one-kept : (rec : ℕ) (r : Refreshing) (o : Stepped) → refreshing_of rec o.site.refresh ≡ Some r → P o → P (settle_one catalogue r o)
@@ -105,22 +109,24 @@ module _ (catalogue : Catalogue) (x : SiteState) (given : Input) (P : Stepped �
   on_read_request-kept : (from : ℕ) (txn : TxnId) (view : ViewId) (number rec : ℕ) → Comes given from (message.ReadRequest txn view number rec) → P (on_read_request from txn view number rec (begin_step x))
   unfolding on_read_request on_request lock_copy
   on_read_request-kept from txn view number rec c =
-      let refusing = k.refuse_view from txn view number (Asks.reads rec c) in
-      let locked = λ (holder : Owner). k.refuse_lock from txn view number rec false holder (Requests.reads c) in
+      let refusing = λ (e : holds_view x view ≡ false). k.tells from _ (Tells.refuse_view txn view number (Asks.reads rec c) e) in
+      let locked = λ (holder : Owner) (e : holds_view x view ≡ true) (n : has_txn x.ended txn ≡ false) (f : conflict rec false txn x.locks ≡ Some holder). k.tells from _ (Tells.refuse_lock txn view number rec false holder (Requests.reads c) e n f) in
       grind (arith, refusing, locked, k.grant_read from txn view number rec, h)
 
   on_write_request-kept : (from : ℕ) (txn : TxnId) (view : ViewId) (number rec : ℕ) → Comes given from (message.WriteRequest txn view number rec) → P (on_write_request from txn view number rec (begin_step x))
   unfolding on_write_request on_request lock_copy
   on_write_request-kept from txn view number rec c =
-      let refusing = k.refuse_view from txn view number (Asks.writes rec c) in
-      let locked = λ (holder : Owner). k.refuse_lock from txn view number rec true holder (Requests.writes c) in
+      let refusing = λ (e : holds_view x view ≡ false). k.tells from _ (Tells.refuse_view txn view number (Asks.writes rec c) e) in
+      let locked = λ (holder : Owner) (e : holds_view x view ≡ true) (n : has_txn x.ended txn ≡ false) (f : conflict rec true txn x.locks ≡ Some holder). k.tells from _ (Tells.refuse_lock txn view number rec true holder (Requests.writes c) e n f) in
       grind (arith, refusing, locked, k.grant_write from txn view number rec, h)
 
   on_prepare-kept : (from : ℕ) (txn : TxnId) (view : ViewId) (number : ℕ) (reads : List ℕ) (writes : List (ℕ × Change)) → Comes given from (message.Prepare txn view number reads writes) → P (on_prepare from txn view number reads writes (begin_step x))
   unfolding on_prepare first_vote
   on_prepare-kept from txn view number reads writes c =
-      let refusing = k.refuse_view from txn view number (Asks.prepares reads writes c) in
-      grind (arith, refusing, k.doubt_again from txn view number reads writes c, k.vote_again from txn view number reads writes, k.vote_reading from txn view number reads writes, k.vote_writing from txn view number reads writes, h)
+      let refusing = λ (e : holds_view x view ≡ false). k.tells from _ (Tells.refuse_view txn view number (Asks.prepares reads writes c) e) in
+      let doubted = λ (e : holds_view x view ≡ true) (n : has_txn x.ended txn ≡ false) (d : has_doubt txn x.doubts ≡ true). k.tells from _ (Tells.doubt_again txn view number reads writes c e n d) in
+      let voted = λ (part : Part) (e : holds_view x view ≡ true) (n : has_txn x.ended txn ≡ false) (f : part_of txn x.parts ≡ Some part) (v : part.voted ≡ true). k.tells from _ (Tells.vote_again txn view number reads writes part c e n f v) in
+      grind (arith, refusing, doubted, voted, k.vote_reading from txn view number reads writes, k.vote_writing from txn view number reads writes, h)
 
   on_outcome-kept : (from : ℕ) (txn : TxnId) (commit : Bool) → Comes given from (message.Outcome txn commit) → P (on_outcome catalogue from txn commit (begin_step x))
   unfolding on_outcome end_part
@@ -128,7 +134,9 @@ module _ (catalogue : Catalogue) (x : SiteState) (given : Input) (P : Stepped �
 
   on_refresh_request-kept : (from : ℕ) (view : ViewId) (rec : ℕ) → Comes given from (message.RefreshRequest view rec) → P (on_refresh_request from view rec (begin_step x))
   unfolding on_refresh_request
-  on_refresh_request-kept from view rec c = grind (arith, k.answer_refresh from view rec, h)
+  on_refresh_request-kept from view rec c =
+      let answered = λ (stored : Stored) (e : holds_view x view ≡ true) (d : is_doubtful x rec ≡ false) (v : value_at rec x.copies ≡ Some stored). k.tells from _ (Tells.answer_refresh view rec stored c e d v) in
+      grind (arith, answered, h)
 
   on_refresh_answer-kept : (from : ℕ) (view : ViewId) (rec : ℕ) (stored : Stored) → Comes given from (message.RefreshAnswer view rec stored) → P (on_refresh_answer catalogue from view rec stored (begin_step x))
   unfolding on_refresh_answer
@@ -157,18 +165,13 @@ module _ (catalogue : Catalogue) (x : SiteState) (given : Input) (P : Stepped �
   on_message-kept from (message.Stale id promise) c = k.seen from id promise c
   on_message-kept from (message.ViewCommit id members) c = on_view_commit-kept from id members c
   on_message-kept from (message.ReadRequest txn view number rec) c = on_read_request-kept from txn view number rec c
-  on_message-kept from (message.ReadAnswer txn number value) c = answered-kept from (message.ReadAnswer txn number value) c
   on_message-kept from (message.WriteRequest txn view number rec) c = on_write_request-kept from txn view number rec c
-  on_message-kept from (message.WriteAnswer txn number) c = answered-kept from (message.WriteAnswer txn number) c
-  on_message-kept from (message.Refuse txn number why) c = answered-kept from (message.Refuse txn number why) c
   on_message-kept from (message.Prepare txn view number reads writes) c = on_prepare-kept from txn view number reads writes c
-  on_message-kept from (message.Vote txn) c = answered-kept from (message.Vote txn) c
   on_message-kept from (message.Outcome txn commit) c = on_outcome-kept from txn commit c
-  on_message-kept from (message.Ack txn) c = answered-kept from (message.Ack txn) c
-  on_message-kept from (message.Inquire txn) c = answered-kept from (message.Inquire txn) c
   on_message-kept from (message.RefreshRequest view rec) c = on_refresh_request-kept from view rec c
   on_message-kept from (message.RefreshAnswer view rec stored) c = on_refresh_answer-kept from view rec stored c
   on_message-kept from (message.Probe view) c = on_probe_message-kept from view c
+  on_message-kept from m c = answered-kept from m c
 
   -- tick and probe
   ask_again_all-kept : (view : View) (refresh : List Refreshing) (o : Stepped) → ((r : Refreshing) → Has refresh r → Has x.refresh r) → x.held ≡ Some view → o.site.views ≡ x.views → P o → P (ask_again_all catalogue view.id refresh o)

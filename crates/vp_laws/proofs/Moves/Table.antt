@@ -21,7 +21,7 @@ use Rattle.vp_model.specs.Views.{part_of, has_doubt, without_view, without_parts
 use Rattle.vp_model.specs.Calls.{next_txn, start_txn, handling, take_lock, read_at, write_at, prepare_parts}
 use Rattle.vp_model.specs.Step.{is_marked_call, least_missing, fix, without_wait, probe_all, mark_calls, ask_again, resend_one, known, inquire}
 use Rattle.vp_model.specs.Answers.{waits_for, with_acknowledged, is_live, is_decided}
-use Rattle.vp_model.specs.Messages.{holds_view, accept, on_accept, on_stale, with_heard, refuse_view, grant, has_all_locks, with_vote, with_new_doubt, end_here, with_answer}
+use Rattle.vp_model.specs.Messages.{holds_view, accept, on_accept, on_stale, with_heard, held_id, grant, has_all_locks, with_vote, with_new_doubt, end_here, with_answer}
 use Rattle.vp_laws.specs.Votes.{is_commit}
 use Rattle.vp_laws.proofs.Lists.Members.{Has}
 
@@ -216,18 +216,47 @@ pub record OfCoordinator (catalogue : Catalogue) (x : SiteState) (given : Input)
   pub acknowledge : (from : ℕ) (txn : TxnId) → Comes given from (message.Ack txn) → waits_for txn from x.decisions ≡ true → Q (lent_coordinator (with_acknowledged txn from) (lent_force (entry.Acked txn from) (lent_at x)))
   pub answer_inquiry : (from : ℕ) (txn : TxnId) → Comes given from (message.Inquire txn) → (txn.site == x.id) ≡ true → is_live txn x.live ≡ false → Q (lent_send x.id (message.Outcome txn (is_decided txn x.decisions)) from (lent_at x))
 
+-- a message that only tells the site that sent one how things stand here, which is all that the step does
+pub data Tells (x : SiteState) (given : Input) (from : ℕ) : Message → Type 0 where
+  stale : (id : ViewId) → Comes given from (message.Invite id) → view_before id x.promise ≡ true → Tells x given from (message.Stale id x.promise)
+  accept_again : (id : ViewId) → Comes given from (message.Invite id) → is_view x.waiting id ≡ true → Tells x given from (message.Accept id)
+  answer_refresh : (view : ViewId) (rec : ℕ) (stored : Stored) → Comes given from (message.RefreshRequest view rec) → holds_view x view ≡ true → is_doubtful x rec ≡ false → value_at rec x.copies ≡ Some stored → Tells x given from (message.RefreshAnswer view rec stored)
+  refuse_view : (txn : TxnId) (view : ViewId) (number : ℕ) → Asks given from txn view number → holds_view x view ≡ false → Tells x given from (message.Refuse txn number (obstacle.OtherView (held_id x)))
+  refuse_lock : (txn : TxnId) (view : ViewId) (number rec : ℕ) (exclusive : Bool) (holder : Owner) → Requests given from txn view number rec exclusive → holds_view x view ≡ true → has_txn x.ended txn ≡ false → conflict rec exclusive txn x.locks ≡ Some holder → Tells x given from (message.Refuse txn number (obstacle.Held holder))
+  doubt_again : (txn : TxnId) (view : ViewId) (number : ℕ) (reads : List ℕ) (writes : List (ℕ × Change)) → Comes given from (message.Prepare txn view number reads writes) → holds_view x view ≡ true → has_txn x.ended txn ≡ false → has_doubt txn x.doubts ≡ true → Tells x given from (message.Vote txn)
+  vote_again : (txn : TxnId) (view : ViewId) (number : ℕ) (reads : List ℕ) (writes : List (ℕ × Change)) (part : Part) → Comes given from (message.Prepare txn view number reads writes) → holds_view x view ≡ true → has_txn x.ended txn ≡ false → part_of txn x.parts ≡ Some part → part.voted ≡ true → Tells x given from (message.Vote part.txn)
+
+asks_came : (given : Input) (from : ℕ) (txn : TxnId) (view : ViewId) (number : ℕ) → Asks given from txn view number → (m : Message) × Comes given from m
+asks_came given from txn view number (Asks.reads rec c) = (_, c)
+asks_came given from txn view number (Asks.writes rec c) = (_, c)
+asks_came given from txn view number (Asks.prepares rs ws c) = (_, c)
+
+requests_came : (given : Input) (from : ℕ) (txn : TxnId) (view : ViewId) (number rec : ℕ) (exclusive : Bool) → Requests given from txn view number rec exclusive → (m : Message) × Comes given from m
+requests_came given from txn view number rec _ (Requests.reads c) = (_, c)
+requests_came given from txn view number rec _ (Requests.writes c) = (_, c)
+
+-- what it is sent for
+pub tells_came : (x : SiteState) (given : Input) (from : ℕ) (m : Message) → Tells x given from m → (asked : Message) × Comes given from asked
+tells_came x given from _ (Tells.stale id c e) = (_, c)
+tells_came x given from _ (Tells.accept_again id c e) = (_, c)
+tells_came x given from _ (Tells.answer_refresh view rec stored c e d v) = (_, c)
+tells_came x given from _ (Tells.refuse_view txn view number a e) = asks_came given from txn view number a
+tells_came x given from _ (Tells.refuse_lock txn view number rec exclusive holder r e n c) = requests_came given from txn view number rec exclusive r
+tells_came x given from _ (Tells.doubt_again txn view number rs ws c e n d) = (_, c)
+tells_came x given from _ (Tells.vote_again txn view number rs ws part c e n f v) = (_, c)
+
 -- what P says of the coordinator's part, all else being as the step began
 abbrev pub Back : SiteState → (Stepped → Type 0) → Lent → Type 0
 Back x P l = P (put_back (begin_step x) l)
 
 -- P speaks of the site and what it has given so far, in a step from x for the input `given`
 pub record Table (catalogue : Catalogue) (x : SiteState) (given : Input) (P : Stepped → Type 0) : Type 0 where
+  -- what only tells the site that sent a message how things stand
+  pub tells : (from : ℕ) (m : Message) → Tells x given from m → P (send m from (begin_step x))
   -- views
   pub drop_view : (l : Lent) → l.live ≡ [] → Closed x l → Back x P l → P (drop_view (put_back (begin_step x) l))
   pub start_inviting : (o : Stepped) → is_spent x.views ≡ false → Left x o → P o → P (start_inviting catalogue (next_view x) o)
   pub accept : (from : ℕ) (id : ViewId) (o : Stepped) → Comes given from (message.Invite id) → view_before x.promise id ≡ true → Left x o → P o → P (accept from id o)
-  pub stale : (from : ℕ) (id : ViewId) → Comes given from (message.Invite id) → view_before id x.promise ≡ true → P (send (message.Stale id x.promise) from (begin_step x))
-  pub accept_again : (from : ℕ) (id : ViewId) → Comes given from (message.Invite id) → is_view x.waiting id ≡ true → P (send (message.Accept id) from (begin_step x))
   pub accepted : (from : ℕ) (id : ViewId) → Comes given from (message.Accept id) → P (on_accept from id (begin_step x))
   pub seen : (from : ℕ) (id promise : ViewId) → Comes given from (message.Stale id promise) → P (on_stale promise (begin_step x))
   pub hold : (from : ℕ) (id : ViewId) (members : List ℕ) → Comes given from (message.ViewCommit id members) → (is_view x.waiting id && has members x.id) ≡ true → P (hold (record { id = id; members = members }) (begin_step x))
@@ -240,15 +269,10 @@ pub record Table (catalogue : Catalogue) (x : SiteState) (given : Input) (P : St
   pub start_refresh : (view : View) (rec : ℕ) (o : Stepped) → Joined x view o → is_open catalogue o.site rec ≡ true → Has (keys o.site.copies) rec → P o → P (start_refresh catalogue view rec o)
   pub end_refresh : (rec : ℕ) (r : Refreshing) (own : Stored) (o : Stepped) → refreshing_of rec o.site.refresh ≡ Some r → is_empty (unanswered catalogue o.site r) ≡ true → is_doubtful o.site r.rec ≡ false → value_at r.rec o.site.copies ≡ Some own → P o → P (end_refresh catalogue r own o)
   pub keep_answer : (from : ℕ) (view : ViewId) (rec : ℕ) (stored : Stored) (r : Refreshing) → Comes given from (message.RefreshAnswer view rec stored) → holds_view x view ≡ true → refreshing_of rec x.refresh ≡ Some r → has (unanswered catalogue x r) from ≡ true → P (change_refresh (map (with_answer rec from stored)) (begin_step x))
-  pub answer_refresh : (from : ℕ) (view : ViewId) (rec : ℕ) (stored : Stored) → Comes given from (message.RefreshRequest view rec) → holds_view x view ≡ true → is_doubtful x rec ≡ false → value_at rec x.copies ≡ Some stored → P (send (message.RefreshAnswer view rec stored) from (begin_step x))
   pub ask_again : (view : View) (r : Refreshing) (o : Stepped) → x.held ≡ Some view → Has x.refresh r → o.site.views ≡ x.views → P o → P (ask_again catalogue view.id r o)
   -- parts of other sites' transactions
-  pub refuse_view : (from : ℕ) (txn : TxnId) (view : ViewId) (number : ℕ) → Asks given from txn view number → holds_view x view ≡ false → P (refuse_view txn number from (begin_step x))
-  pub refuse_lock : (from : ℕ) (txn : TxnId) (view : ViewId) (number rec : ℕ) (exclusive : Bool) (holder : Owner) → Requests given from txn view number rec exclusive → holds_view x view ≡ true → has_txn x.ended txn ≡ false → conflict rec exclusive txn x.locks ≡ Some holder → P (send (message.Refuse txn number (obstacle.Held holder)) from (begin_step x))
   pub grant_read : (from : ℕ) (txn : TxnId) (view : ViewId) (number rec : ℕ) (stored : Stored) → Comes given from (message.ReadRequest txn view number rec) → holds_view x view ≡ true → has_txn x.ended txn ≡ false → value_at rec x.copies ≡ Some stored → conflict rec false txn x.locks ≡ None → P (grant txn view rec false (message.ReadAnswer txn number stored.value) from (begin_step x))
   pub grant_write : (from : ℕ) (txn : TxnId) (view : ViewId) (number rec : ℕ) (stored : Stored) → Comes given from (message.WriteRequest txn view number rec) → holds_view x view ≡ true → has_txn x.ended txn ≡ false → value_at rec x.copies ≡ Some stored → conflict rec true txn x.locks ≡ None → P (grant txn view rec true (message.WriteAnswer txn number) from (begin_step x))
-  pub doubt_again : (from : ℕ) (txn : TxnId) (view : ViewId) (number : ℕ) (reads : List ℕ) (writes : List (ℕ × Change)) → Comes given from (message.Prepare txn view number reads writes) → holds_view x view ≡ true → has_txn x.ended txn ≡ false → has_doubt txn x.doubts ≡ true → P (send (message.Vote txn) from (begin_step x))
-  pub vote_again : (from : ℕ) (txn : TxnId) (view : ViewId) (number : ℕ) (reads : List ℕ) (writes : List (ℕ × Change)) (part : Part) → Comes given from (message.Prepare txn view number reads writes) → holds_view x view ≡ true → has_txn x.ended txn ≡ false → part_of txn x.parts ≡ Some part → part.voted ≡ true → P (send (message.Vote part.txn) from (begin_step x))
   pub vote_reading : (from : ℕ) (txn : TxnId) (view : ViewId) (number : ℕ) (reads : List ℕ) (writes : List (ℕ × Change)) (part : Part) → Comes given from (message.Prepare txn view number reads writes) → holds_view x view ≡ true → has_txn x.ended txn ≡ false → has_doubt txn x.doubts ≡ false → part_of txn x.parts ≡ Some part → part.voted ≡ false → has_all_locks x.locks part.txn reads writes ≡ true → is_empty writes ≡ true → P (send (message.Vote part.txn) from (change_participant (with_vote part) (begin_step x)))
   pub vote_writing : (from : ℕ) (txn : TxnId) (view : ViewId) (number : ℕ) (reads : List ℕ) (writes : List (ℕ × Change)) (part : Part) → Comes given from (message.Prepare txn view number reads writes) → holds_view x view ≡ true → has_txn x.ended txn ≡ false → has_doubt txn x.doubts ≡ false → part_of txn x.parts ≡ Some part → part.voted ≡ false → has_all_locks x.locks part.txn reads writes ≡ true → is_empty writes ≡ false → P (send (message.Vote part.txn) from (force (entry.Yes part.txn part.view writes) (change_participant (with_new_doubt part writes) (begin_step x))))
   pub end_here : (from : ℕ) (txn : TxnId) (commit : Bool) → Comes given from (message.Outcome txn commit) → P (end_here from txn commit (doubt_of txn x.doubts) (begin_step x))

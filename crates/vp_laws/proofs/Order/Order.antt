@@ -172,7 +172,7 @@ module _ (catalogue : Catalogue) (w new : Scene) (s : ℕ) (x : SiteState) (give
       one other i h = n.used.one j y t to q to q number other rec i view false up live (HasRequest.to_read (d.st.moved.sent _ h)) (HasRequest.to_read request)
 
       was_live : (other : ℕ) (i : ViewId) → Has w.sent (letter to q (message.ReadRequest t.txn i number other)) → Was w j t
-      was_live other i h = d.was j y t (k.names.sent (letter to q (message.ReadRequest t.txn i number other)) h).0 live (now_is w new s x o d.st j y up)
+      was_live other i h = d.was j y t (k.names.sent (letter to q (message.ReadRequest t.txn i number other)) h).0.0 live (now_is w new s x o d.st j y up)
 
       on : (es : List Commit) → new.journal ≡ es → value_after catalogue es t.view rec ≡ Some value → value_after catalogue new.journal t.view rec ≡ Some value
       on es z p = subst (λ (es : List Commit). value_after catalogue es t.view rec ≡ Some value) (sym z) p

@@ -8,22 +8,21 @@ use Rattle.vp_bytes.specs.Doubts.{IsDoubt}
 use Rattle.vp_base.specs.Calls.{IsNumbered}
 use Rattle.vp_wire.specs.Grammar.{IsMessage}
 use Rattle.vp_catalog.specs.Document.{IsCatalogue}
-use Rattle.vp_model.specs.Types.{Change, ViewId, TxnId, View, Stored, Owner, Message, Input, Part, Refreshing, Doubt}
+use Rattle.vp_model.specs.Types.{Change, ViewId, TxnId, View, Stored, Message, Input, Part, Refreshing, Doubt}
 use Rattle.vp_model.specs.Types.entry
 use Rattle.vp_model.specs.Types.message
-use Rattle.vp_model.specs.Types.obstacle
 use Rattle.vp_model.specs.Types.owner
 use Rattle.vp_model.specs.Words.{same_txn, txn_before, keys, view_before, value_at, replace_at, put}
 use Rattle.vp_model.specs.Catalogue.{Catalogue}
 use Rattle.vp_model.specs.Durable.{doubt_of, with_outcome}
-use Rattle.vp_model.specs.Locks.{conflict, with_lock, without_owner, with_guard, without_guard}
+use Rattle.vp_model.specs.Locks.{with_lock, without_owner, with_guard, without_guard}
 use Rattle.vp_model.specs.Site.{SiteState, ParticipantState, Stepped, begin_step, force, send, change_locks, change_copies, change_participant, change_refresh}
 use Rattle.vp_model.specs.Refresh.{other_holders, refreshing_of, unanswered, newest, take_newer, unlist, end_refresh, start_refresh}
 use Rattle.vp_model.specs.Views.{part_of}
-use Rattle.vp_model.specs.Messages.{held_id, put_part, with_part, refuse_view, grant, with_vote, with_new_doubt, with_ended, acknowledge, end_here, with_answer}
+use Rattle.vp_model.specs.Messages.{put_part, with_part, grant, with_vote, with_new_doubt, with_ended, acknowledge, end_here, with_answer}
 use Rattle.vp_model.specs.Step.{ask_again, known, inquire}
 use Rattle.vp_laws.proofs.Lists.Members.{Has, find_has}
-use Rattle.vp_laws.proofs.Moves.Table.{Comes, Requests, Asks, Joined}
+use Rattle.vp_laws.proofs.Moves.Table.{Comes, Requests, Asks, Joined, Tells, tells_came}
 use Rattle.vp_laws.specs.Shapes.{IsInput, IsStored, AreCopies, IsLock, IsPart, IsRefreshing, IsShaped, IsSent}
 use Rattle.vp_laws.proofs.Lists.Items.{all_at, all_filter, all_put, all_map}
 use Rattle.vp_laws.proofs.Shapes.Numbers.{each_site, ascending_filter}
@@ -75,12 +74,6 @@ module _ (catalogue : Catalogue) (k : IsCatalogue catalogue) (x : SiteState) (sx
       let m = (came_is given from (message.RefreshAnswer view rec stored) came c).1 in
       with_refresh catalogue x _ begins (map (with_answer rec from stored)) (all_map IsRefreshing IsRefreshing (with_answer rec from stored) (λ r i. answer_is rec from stored r (m.1.1, m.1.2) i) x.refresh sx.refresh_are)
 
-  pub answers_refresh : (from : ℕ) (view : ViewId) (rec : ℕ) (stored : Stored) → Comes given from (message.RefreshRequest view rec) → value_at rec x.copies ≡ Some stored → F (send (message.RefreshAnswer view rec stored) from (begin_step x))
-  answers_refresh from view rec stored c e =
-      let m = came_is given from (message.RefreshRequest view rec) came c in
-      let i = copy_is x.here.copies rec stored sx.copies_are.stored e in
-      answers_with _ from _ begins m.0 (m.1.0, (m.1.1, i.0, i.1))
-
   pub asks_again : (view : View) (r : Refreshing) (o : Stepped) → x.held ≡ Some view → Has x.refresh r → F o → F (ask_again catalogue view.id r o)
   unfolding ask_again
   asks_again view r o e h p =
@@ -93,28 +86,18 @@ module _ (catalogue : Catalogue) (k : IsCatalogue catalogue) (x : SiteState) (sx
   numbered : (txn : TxnId) (view : ViewId) (number : ℕ) → IsRequest txn view number → IsNumbered txn number
   numbered txn view number i = record { txn_is = i.0; some = i.2.0; fits = i.2.1 }
 
-  asks_is : (from : ℕ) (txn : TxnId) (view : ViewId) (number : ℕ) → Asks given from txn view number → IsSite from × IsRequest txn view number
-  asks_is from txn view number (Asks.reads rec c) = let m = came_is given from _ came c in (m.0, m.1.0)
-  asks_is from txn view number (Asks.writes rec c) = let m = came_is given from _ came c in (m.0, m.1.0)
-  asks_is from txn view number (Asks.prepares reads writes c) = let m = came_is given from _ came c in (m.0, m.1.0)
+  asks_is : (from : ℕ) (txn : TxnId) (view : ViewId) (number : ℕ) → Asks given from txn view number → IsRequest txn view number
+  asks_is from txn view number (Asks.reads rec c) = (came_is given from _ came c).1.0
+  asks_is from txn view number (Asks.writes rec c) = (came_is given from _ came c).1.0
+  asks_is from txn view number (Asks.prepares reads writes c) = (came_is given from _ came c).1.0
 
-  requests_is : (from : ℕ) (txn : TxnId) (view : ViewId) (number rec : ℕ) (exclusive : Bool) → Requests given from txn view number rec exclusive → IsSite from × IsRequest txn view number
-  requests_is from txn view number rec _ (Requests.reads c) = let m = came_is given from _ came c in (m.0, m.1.0)
-  requests_is from txn view number rec _ (Requests.writes c) = let m = came_is given from _ came c in (m.0, m.1.0)
+  requests_is : (from : ℕ) (txn : TxnId) (view : ViewId) (number rec : ℕ) (exclusive : Bool) → Requests given from txn view number rec exclusive → IsRequest txn view number
+  requests_is from txn view number rec _ (Requests.reads c) = (came_is given from _ came c).1.0
+  requests_is from txn view number rec _ (Requests.writes c) = (came_is given from _ came c).1.0
 
   now_is : (o : Option View) → IfSome o (λ view. IsView view.id) → IsMaybeView (option_map (λ view. view.id) o)
   now_is None i = tt
   now_is (Some view) i = i
-
-  pub refuses_view : (from : ℕ) (txn : TxnId) (view : ViewId) (number : ℕ) → Asks given from txn view number → F (refuse_view txn number from (begin_step x))
-  refuses_view from txn view number a =
-      let m = asks_is from txn view number a in
-      answers_with (message.Refuse txn number (obstacle.OtherView (held_id x))) from _ begins m.0 (numbered txn view number m.1, now_is x.held sx.views_are.held_is)
-
-  pub refuses_lock : (from : ℕ) (txn : TxnId) (view : ViewId) (number rec : ℕ) (exclusive : Bool) (holder : Owner) → Requests given from txn view number rec exclusive → conflict rec exclusive txn x.locks ≡ Some holder → F (send (message.Refuse txn number (obstacle.Held holder)) from (begin_step x))
-  refuses_lock from txn view number rec exclusive holder r e =
-      let m = requests_is from txn view number rec exclusive r in
-      answers_with (message.Refuse txn number (obstacle.Held holder)) from _ begins m.0 (numbered txn view number m.1, conflict_is rec exclusive txn x.here.locks holder sx.locks_are e)
 
   part_is : (txn : TxnId) (view : ViewId) (p : ParticipantState) → IsTxn txn → IsView view → AllByRecursion IsPart p.parts → AllByRecursion IsPart (with_part txn view p).parts × ((with_part txn view p).doubts ≡ p.doubts)
   part_is txn view p t v h =
@@ -139,14 +122,23 @@ module _ (catalogue : Catalogue) (k : IsCatalogue catalogue) (x : SiteState) (sx
       let m = came_is given from (message.WriteRequest txn view number rec) came c in
       grants from txn view rec true (message.WriteAnswer txn number) m.0 m.1.0.0 m.1.0.1 (numbered txn view number m.1.0)
 
-  pub votes_again : (from : ℕ) (txn : TxnId) (view : ViewId) (number : ℕ) (reads : List ℕ) (writes : List (ℕ × Change)) → Comes given from (message.Prepare txn view number reads writes) → F (send (message.Vote txn) from (begin_step x))
-  votes_again from txn view number reads writes c = let m = came_is given from (message.Prepare txn view number reads writes) came c in answers_with (message.Vote txn) from _ begins m.0 m.1.0.0
-
   part_of_is : (txn : TxnId) (part : Part) → part_of txn x.parts ≡ Some part → IsPart part
   part_of_is txn part e = all_at IsPart x.parts sx.parts_are part (find_has (λ part. same_txn part.txn txn) x.parts part e)
 
-  pub part_votes_again : (from : ℕ) (txn : TxnId) (view : ViewId) (number : ℕ) (reads : List ℕ) (writes : List (ℕ × Change)) (part : Part) → Comes given from (message.Prepare txn view number reads writes) → part_of txn x.parts ≡ Some part → F (send (message.Vote part.txn) from (begin_step x))
-  part_votes_again from txn view number reads writes part c e = let m = came_is given from (message.Prepare txn view number reads writes) came c in answers_with (message.Vote part.txn) from _ begins m.0 (part_of_is txn part e).0
+  told_is : (from : ℕ) (m : Message) → Tells x given from m → IsMessage m
+  told_is from _ (Tells.stale id c e) = ((came_is given from (message.Invite id) came c).1, sx.views_are.promise_is)
+  told_is from _ (Tells.accept_again id c e) = (came_is given from (message.Invite id) came c).1
+  told_is from _ (Tells.answer_refresh view rec stored c e d v) =
+      let m = (came_is given from (message.RefreshRequest view rec) came c).1 in
+      let i = copy_is x.here.copies rec stored sx.copies_are.stored v in
+      (m.0, (m.1, i.0, i.1))
+  told_is from _ (Tells.refuse_view txn view number a e) = (numbered txn view number (asks_is from txn view number a), now_is x.held sx.views_are.held_is)
+  told_is from _ (Tells.refuse_lock txn view number rec exclusive holder r e n c) = (numbered txn view number (requests_is from txn view number rec exclusive r), conflict_is rec exclusive txn x.here.locks holder sx.locks_are c)
+  told_is from _ (Tells.doubt_again txn view number reads writes c e n d) = (came_is given from (message.Prepare txn view number reads writes) came c).1.0.0
+  told_is from _ (Tells.vote_again txn view number reads writes part c e n f v) = (part_of_is txn part f).0
+
+  pub tells : (from : ℕ) (m : Message) → Tells x given from m → F (send m from (begin_step x))
+  tells from m t = let q = tells_came x given from m t in answers_with m from _ begins (came_is given from q.0 came q.1).0 (told_is from m t)
 
   pub votes_reading : (from : ℕ) (txn : TxnId) (view : ViewId) (number : ℕ) (reads : List ℕ) (writes : List (ℕ × Change)) (part : Part) → Comes given from (message.Prepare txn view number reads writes) → part_of txn x.parts ≡ Some part → F (send (message.Vote part.txn) from (change_participant (with_vote part) (begin_step x)))
   votes_reading from txn view number reads writes part c e =

@@ -25,11 +25,10 @@ use Rattle.vp_laws.proofs.Lists.Keeps.{by_test}
 
 pub table : (catalogue : Catalogue) → IsCatalogue catalogue → (x : SiteState) → IsShaped catalogue x → (given : Input) → IsInput given → Table catalogue x given (Forms catalogue x)
 table catalogue k x sx given came = record {
+  tells = λ from m t. parts.tells catalogue k x sx given came from m t;
   drop_view = λ l e z p. views.drops catalogue k x sx given came (put_back (begin_step x) l) p;
   start_inviting = λ o s left p. views.invites catalogue k x sx given came o s p;
   accept = λ from id o c e left p. views.accepts catalogue k x sx given came from id o c p;
-  stale = λ from id c e. views.tells_stale catalogue k x sx given came from id c;
-  accept_again = λ from id c e. views.accepts_again catalogue k x sx given came from id c;
   accepted = λ from id c. views.accepted catalogue k x sx given came from id c;
   seen = λ from id promise c. views.seen_now catalogue k x sx given came from id promise c;
   hold = λ from id members c e. views.holds_now catalogue k x sx given came (record { id = id; members = members }) (begin_step x) (views.came_is given from _ came c).1.0 (views.starts catalogue k x sx given came);
@@ -41,14 +40,9 @@ table catalogue k x sx given came = record {
   start_refresh = λ view rec o j a h p. parts.starts_refresh catalogue k x sx given came view rec o j h p;
   end_refresh = λ rec r own o f a d e p. parts.ends_refresh catalogue k x sx given came rec r own o f e p;
   keep_answer = λ from view rec stored r c e f g. parts.keeps_answer catalogue k x sx given came from view rec stored c;
-  answer_refresh = λ from view rec stored c e d v. parts.answers_refresh catalogue k x sx given came from view rec stored c v;
   ask_again = λ view r o e h v p. parts.asks_again catalogue k x sx given came view r o e h p;
-  refuse_view = λ from txn view number a e. parts.refuses_view catalogue k x sx given came from txn view number a;
-  refuse_lock = λ from txn view number rec exclusive holder r e n c. parts.refuses_lock catalogue k x sx given came from txn view number rec exclusive holder r c;
   grant_read = λ from txn view number rec stored c e n v f. parts.grants_read catalogue k x sx given came from txn view number rec stored c v;
   grant_write = λ from txn view number rec stored c e n v f. parts.grants_write catalogue k x sx given came from txn view number rec c;
-  doubt_again = λ from txn view number reads writes c e n d. parts.votes_again catalogue k x sx given came from txn view number reads writes c;
-  vote_again = λ from txn view number reads writes part c e n f v. parts.part_votes_again catalogue k x sx given came from txn view number reads writes part c f;
   vote_reading = λ from txn view number reads writes part c e n d f v a w. parts.votes_reading catalogue k x sx given came from txn view number reads writes part c f;
   vote_writing = λ from txn view number reads writes part c e n d f v a w. parts.votes_writing catalogue k x sx given came from txn view number reads writes part c f;
   end_here = λ from txn commit c. parts.ends_here catalogue k x sx given came from txn commit (doubt_of txn x.doubts) refl c;

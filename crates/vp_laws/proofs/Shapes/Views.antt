@@ -87,12 +87,6 @@ module _ (catalogue : Catalogue) (k : IsCatalogue catalogue) (x : SiteState) (sx
       let b = with_gives catalogue x _ a _ (gives_entry x.id _ a.gives (entry.Promise id) m.1) in
       sends (message.Accept id) from _ b m.0 m.1
 
-  pub tells_stale : (from : ℕ) (id : ViewId) → Comes given from (message.Invite id) → F (send (message.Stale id x.promise) from (begin_step x))
-  tells_stale from id c = let m = came_is given from (message.Invite id) came c in sends (message.Stale id x.promise) from (begin_step x) starts m.0 (m.1, sx.views_are.promise_is)
-
-  pub accepts_again : (from : ℕ) (id : ViewId) → Comes given from (message.Invite id) → F (send (message.Accept id) from (begin_step x))
-  accepts_again from id c = let m = came_is given from (message.Invite id) came c in sends (message.Accept id) from (begin_step x) starts m.0 m.1
-
   accepted_is : (from : ℕ) (id : ViewId) (o : Option (ViewId × List ℕ)) → IsSite from → IfSome o IsInviting → IfSome (option_map (with_acceptance from id) o) IsInviting
   accepted_is from id None s i = tt
   accepted_is from id (Some inviting) s i = by_test IsInviting (same_view inviting.0 id) (inviting.0, put_number from inviting.1) inviting (λ e. (i.0, some_sites (put_number from inviting.1) (put_some from inviting.1) (put_sites from inviting.1 s i.1.2))) (λ e. i)

@@ -5,7 +5,6 @@ use Rattle.vp_model.specs.Types.{Change, ViewId, TxnId, View, Stored, Message, S
 use Rattle.vp_base.specs.declared.site.Ending.TheVariants.{Committed}
 use Rattle.vp_model.specs.Types.entry
 use Rattle.vp_model.specs.Types.message
-use Rattle.vp_model.specs.Types.obstacle
 use Rattle.vp_model.specs.Words.{same_txn, txn_before, value_at, put_at, view_before, is_view, replace_at}
 use Rattle.vp_model.specs.Catalogue.{Catalogue}
 use Rattle.vp_model.specs.Durable.{doubt_of, with_writes}
@@ -15,13 +14,13 @@ use Rattle.vp_model.specs.Refresh.{refreshing_of, newest, take_newer, unlist, en
 use Rattle.vp_model.specs.Views.{part_of, has_part, has_doubt, other_sites, drop_view, start_inviting, hold}
 use Rattle.vp_model.specs.Calls.{start_txn, take_lock, read_at, write_at, prepare_parts, prepare_for}
 use Rattle.vp_model.specs.Answers.{is_decided}
-use Rattle.vp_model.specs.Messages.{put_part, with_accepted, with_seen, held_id, holds_view, accept, on_accept, on_stale, with_heard, with_part, with_vote, with_new_doubt, with_ended, with_answer, grant, end_here}
+use Rattle.vp_model.specs.Messages.{put_part, with_accepted, with_seen, holds_view, accept, on_accept, on_stale, with_heard, with_part, with_vote, with_new_doubt, with_ended, with_answer, grant, end_here}
 use Rattle.vp_model.specs.Step.{step, with_monitor, fix, without_wait, probe_all, mark_calls, ask_again, resend_one, known, inquire}
 use Rattle.vp_laws.proofs.Lists.Members.{Has, has_none, has_one_is, has_cases, filter_has, find_has, map_has, both_true}
 use Rattle.vp_laws.proofs.Lists.Views.{AtMost, AtMost-same, AtMost-trans, AtMost-along, Precedes-at_most, from_before, is_view_is, same_is}
 use Rattle.vp_laws.proofs.Lists.Changes.{put_has, replace_has, writes_has, value_has, newest_at_most}
 use Rattle.vp_laws.proofs.Moves.Frames.{Ends, close-ends, decided-ends, decide-cases}
-use Rattle.vp_laws.proofs.Moves.Table.{Comes, next_view, lent_at, Left, Asks, Handled, Back, Table}
+use Rattle.vp_laws.proofs.Moves.Table.{Comes, next_view, lent_at, Left, Asks, Handled, Back, Tells, Table}
 use Rattle.vp_laws.proofs.Moves.Rows.{step-keeps}
 use Rattle.vp_laws.proofs.Moves.LocalViews.{letter, Tidy}
 use Rattle.vp_laws.proofs.Table.Led.{Led}
@@ -384,14 +383,17 @@ module _ (catalogue : Catalogue) (x : SiteState) (given : Input) (tidy : Tidy x)
       inquiries : (m : Sent) → Has (map (λ (txn : TxnId). letter o.site.id txn.site (message.Inquire txn)) txns) m → is_undated m.message ≡ true
       inquiries m h = let r = map_has (λ (txn : TxnId). letter o.site.id txn.site (message.Inquire txn)) txns m h in rw (← r.2) refl
 
+  told : (from : ℕ) (m : Message) → Tells x given from m → Lies x (send m from (begin_step x))
+  told from _ (Tells.answer_refresh view rec stored c e d v) = answers_refresh from rec view stored e v
+  told from m t = one _ x.id from m refl (self_same x) refl
+
   pub table : Table catalogue x given (Lies x)
   unfolding on_accept on_stale start_txn take_lock read_at prepare_parts complete mark_calls
   table = record {
+    tells = λ from m t. told from m t;
     drop_view = λ l e z p. drops (put_back (begin_step x) l) p;
     start_inviting = λ o s left l. invites o left l;
     accept = λ from id o c e left l. accepts from id o e left l;
-    stale = λ from id c e. one _ x.id from (message.Stale id x.promise) refl (self_same x) refl;
-    accept_again = λ from id c e. one _ x.id from (message.Accept id) refl (self_same x) refl;
     accepted = λ from id c. silent (begin_step x) (on_accept from id (begin_step x)) (views_but (with_accepted from id x.views) refl refl) refl begins;
     seen = λ from id promise c. silent (begin_step x) (on_stale promise (begin_step x)) (views_but (with_seen promise x.views) refl refl) refl begins;
     hold = λ from id members c e. holds id members (both_true _ _ e).0;
@@ -402,14 +404,9 @@ module _ (catalogue : Catalogue) (x : SiteState) (given : Input) (tidy : Tidy x)
     start_refresh = λ view rec o e a h l. starts_refresh view rec o l;
     end_refresh = λ rec r own o e a d v l. ends_refresh rec r own o e v l;
     keep_answer = λ from view rec stored r c e f g. keeps_answer from rec view stored (dated from view rec stored c) e;
-    answer_refresh = λ from view rec stored c e d v. answers_refresh from rec view stored e v;
     ask_again = λ view r o e h v l. asks_again view.id r o l;
-    refuse_view = λ from txn view number a e. one _ x.id from (message.Refuse txn number (obstacle.OtherView (held_id x))) refl (self_same x) refl;
-    refuse_lock = λ from txn view number rec exclusive holder r e n c. one _ x.id from (message.Refuse txn number (obstacle.Held holder)) refl (self_same x) refl;
     grant_read = λ from txn view number rec stored c e n v f. grants from txn view number rec false (message.ReadAnswer txn number stored.value) (Asks.reads rec c) e refl;
     grant_write = λ from txn view number rec stored c e n v f. grants from txn view number rec true (message.WriteAnswer txn number) (Asks.writes rec c) e refl;
-    doubt_again = λ from txn view number reads writes c e n d. one _ x.id from (message.Vote txn) refl (self_same x) refl;
-    vote_again = λ from txn view number reads writes part c e n f v. one _ x.id from (message.Vote part.txn) refl (self_same x) refl;
     vote_reading = λ from txn view number reads writes part c e n d f v a w. votes_reading from part (part_there txn part f);
     vote_writing = λ from txn view number reads writes part c e n d f v a w. votes_writing from part writes (part_there txn part f);
     end_here = λ from txn commit c. ends_here from txn commit (doubt_of txn x.doubts) refl;

@@ -200,11 +200,10 @@ module _ (catalogue : Catalogue) (x : SiteState) (given : Input) (tidy : Tidy x)
   pub table : Table catalogue x given P
   unfolding on_stale on_accept hold fix ask_again start_inviting accept grant start_txn take_lock complete read_at write_at prepare_parts mark_calls resend_one inquire
   table = record {
+    tells = λ from m t. same (begin_step x) _ refl refl refl refl starts;
     drop_view = λ l e z p. drops l p;
     start_inviting = λ o s l p. fresh o _ refl (left_none o l) refl p;
     accept = λ from id o c e l p. fresh o _ refl (left_none o l) refl p;
-    stale = λ from id c e. same (begin_step x) _ refl refl refl refl starts;
-    accept_again = λ from id c e. same (begin_step x) _ refl refl refl refl starts;
     accepted = λ from id c. same (begin_step x) _ refl refl refl refl starts;
     seen = λ from id promise c. same (begin_step x) _ refl refl refl refl starts;
     hold = λ from id members c e. fresh (begin_step x) _ refl (not_held (tidy.waiting id (is_view_is x.waiting id (both_true _ _ e).0)).1) refl starts;
@@ -216,14 +215,9 @@ module _ (catalogue : Catalogue) (x : SiteState) (given : Input) (tidy : Tidy x)
     start_refresh = λ view rec o e a h p. refreshes view rec o p;
     end_refresh = λ rec r own o e a d v p. finishes rec r own o e v p;
     keep_answer = λ from view rec stored r c e f g. keeps_answer from view rec stored r c e f g;
-    answer_refresh = λ from view rec stored c e d v. same (begin_step x) _ refl refl refl refl starts;
     ask_again = λ view r o e h v p. same o _ refl refl refl refl p;
-    refuse_view = λ from txn view number a e. same (begin_step x) _ refl refl refl refl starts;
-    refuse_lock = λ from txn view number rec exclusive holder r e n c. same (begin_step x) _ refl refl refl refl starts;
     grant_read = λ from txn view number rec stored c e n v f. same (begin_step x) _ refl refl refl refl starts;
     grant_write = λ from txn view number rec stored c e n v f. same (begin_step x) _ refl refl refl refl starts;
-    doubt_again = λ from txn view number reads writes c e n d. same (begin_step x) _ refl refl refl refl starts;
-    vote_again = λ from txn view number reads writes part c e n f v. same (begin_step x) _ refl refl refl refl starts;
     vote_reading = λ from txn view number reads writes part c e n d f v a w. same (begin_step x) _ refl refl refl refl starts;
     vote_writing = λ from txn view number reads writes part c e n d f v a w. same (begin_step x) _ refl refl refl refl starts;
     end_here = λ from txn commit c. ends_here from txn commit (doubt_of txn x.doubts) refl c;

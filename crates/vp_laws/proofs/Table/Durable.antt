@@ -66,11 +66,10 @@ module _ (catalogue : Catalogue) (x : SiteState) (given : Input) where
   pub table : Table catalogue x given (Folds (durable_of x))
   unfolding start_txn take_lock complete read_at write_at prepare_parts mark_calls grant on_stale on_accept hold fix drop_view start_refresh ask_again resend_one inquire apply
   table = record {
+    tells = λ from m t. refl;
     drop_view = λ l e z h. h;
     start_inviting = λ o s left h. invites _ o h;
     accept = λ from id o c e left h. accepts from id o h;
-    stale = λ from id c e. refl;
-    accept_again = λ from id c e. refl;
     accepted = λ from id c. refl;
     seen = λ from id promise c. refl;
     hold = λ from id members c e. refl;
@@ -81,14 +80,9 @@ module _ (catalogue : Catalogue) (x : SiteState) (given : Input) where
     start_refresh = λ view rec o e a q h. h;
     end_refresh = λ rec r own o e a d v h. ends_refresh r own o h;
     keep_answer = λ from view rec stored r c e f g. refl;
-    answer_refresh = λ from view rec stored c e d v. refl;
     ask_again = λ view r o e q v h. h;
-    refuse_view = λ from txn view number a e. refl;
-    refuse_lock = λ from txn view number rec exclusive holder r e n c. refl;
     grant_read = λ from txn view number rec stored c e n v f. grants from txn view rec false (message.ReadAnswer txn number stored.value);
     grant_write = λ from txn view number rec stored c e n v f. grants from txn view rec true (message.WriteAnswer txn number);
-    doubt_again = λ from txn view number reads writes c e n d. refl;
-    vote_again = λ from txn view number reads writes part c e n f v. refl;
     vote_reading = λ from txn view number reads writes part c e n d f v a w. refl;
     vote_writing = λ from txn view number reads writes part c e n d f v a w. refl;
     end_here = λ from txn commit c. ends_here from txn commit (doubt_of txn x.doubts) refl;

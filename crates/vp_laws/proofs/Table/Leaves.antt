@@ -262,11 +262,10 @@ module _ (catalogue : Catalogue) (x : SiteState) (given : Input) where
   pub table : Table catalogue x given P
   unfolding on_stale ask_again start_refresh resend_one inquire
   table = record {
+    tells = λ from m t. silent (begin_step x) _ refl refl starts;
     drop_view = λ l e z p. drops l;
     start_inviting = λ o s l p. invites o l;
     accept = λ from id o c e l p. accepts from id o e l;
-    stale = λ from id c e. silent (begin_step x) _ refl refl starts;
-    accept_again = λ from id c e. silent (begin_step x) _ refl refl starts;
     accepted = λ from id c. accepteds from id;
     seen = λ from id promise c. beside (begin_step x) _ refl refl refl refl refl starts;
     hold = λ from id members c e. holds id members e;
@@ -278,14 +277,9 @@ module _ (catalogue : Catalogue) (x : SiteState) (given : Input) where
     start_refresh = λ view rec o e a h p. silent o _ refl refl p;
     end_refresh = λ rec r own o e a d v p. ends_refresh r own o p;
     keep_answer = λ from view rec stored r c e f g. silent (begin_step x) _ refl refl starts;
-    answer_refresh = λ from view rec stored c e d v. silent (begin_step x) _ refl refl starts;
     ask_again = λ view r o e h v p. silent o _ refl refl p;
-    refuse_view = λ from txn view number a e. silent (begin_step x) _ refl refl starts;
-    refuse_lock = λ from txn view number rec exclusive holder r e n c. silent (begin_step x) _ refl refl starts;
     grant_read = λ from txn view number rec stored c e n v f. grants from txn view rec false (message.ReadAnswer txn number stored.value) (no_outcome from (message.ReadRequest txn view number rec) c (λ u b e. cc));
     grant_write = λ from txn view number rec stored c e n v f. grants from txn view rec true (message.WriteAnswer txn number) (no_outcome from (message.WriteRequest txn view number rec) c (λ u b e. cc));
-    doubt_again = λ from txn view number reads writes c e n d. silent (begin_step x) _ refl refl starts;
-    vote_again = λ from txn view number reads writes part c e n f v. silent (begin_step x) _ refl refl starts;
     vote_reading = λ from txn view number reads writes part c e n d f v a w. part_changes _ refl refl (no_outcome from (message.Prepare txn view number reads writes) c (λ u b e. cc));
     vote_writing = λ from txn view number reads writes part c e n d f v a w. part_changes _ refl refl (no_outcome from (message.Prepare txn view number reads writes) c (λ u b e. cc));
     end_here = λ from txn commit c. ends_here from txn commit (doubt_of txn x.doubts) c;

@@ -8,7 +8,6 @@ use Rattle.vp_model.specs.Types.owner
 use Rattle.vp_model.specs.Locks.{without_owner}
 use Rattle.vp_model.specs.Types.entry
 use Rattle.vp_model.specs.Types.message
-use Rattle.vp_model.specs.Types.obstacle
 use Rattle.vp_model.specs.Words.{same_txn, is_view, view_before, has, for_each, put_number, replace_at}
 use Rattle.vp_model.specs.Catalogue.{Catalogue, holders}
 use Rattle.vp_model.specs.Durable.{doubt_of}
@@ -18,13 +17,13 @@ use Rattle.vp_model.specs.Refresh.{members, newest, take_newer, unlist, end_refr
 use Rattle.vp_model.specs.Views.{other_sites, drop_view, start_inviting, hold}
 use Rattle.vp_model.specs.Calls.{begun, with_begun, start_txn, take_lock, read_at, write_at, prepare_parts, prepare_for}
 use Rattle.vp_model.specs.Answers.{is_decided}
-use Rattle.vp_model.specs.Messages.{held_id, with_ended, with_part, accept, on_accept, on_stale, with_heard, grant, end_here}
+use Rattle.vp_model.specs.Messages.{with_ended, with_part, accept, on_accept, on_stale, with_heard, grant, end_here}
 use Rattle.vp_model.specs.Step.{step, with_monitor, fix, mark, probe_all, mark_calls, ask_again, resend_one, known, inquire}
 use Rattle.vp_laws.proofs.Lists.Members.{Has, has_none, has_one_is, has_first, has_more, has_cases, has_from_test, filter_has, map_has, both_true}
 use Rattle.vp_laws.proofs.Lists.Views.{put_only, is_view_is}
 use Rattle.vp_laws.proofs.Moves.Frames.{Ends, close-ends, close-commits, decided-ends, decided-commits, decide-cases}
 use Rattle.vp_laws.proofs.Lists.Changes.{without_first_has, change_first_has}
-use Rattle.vp_laws.proofs.Moves.Table.{next_view, next_name, lent_at, Left, Handled, Back, Table}
+use Rattle.vp_laws.proofs.Moves.Table.{next_view, next_name, lent_at, Left, Handled, Back, Tells, Table}
 use Rattle.vp_laws.proofs.Moves.Rows.{step-keeps}
 use Rattle.vp_laws.proofs.Moves.LocalViews.{letter, Tidy}
 use Rattle.vp_laws.proofs.Lists.Numbers.{differs}
@@ -70,6 +69,10 @@ none-may x from to (message.ReadRequest txn view number rec) e = cc
 none-may x from to (message.WriteRequest txn view number rec) e = cc
 none-may x from to (message.Prepare txn view number reads writes) e = cc
 none-may x from to m e = tt
+
+tells_none : (x : SiteState) (given : Input) (from : ℕ) (m : Message) → Tells x given from m → asks_none m ≡ true
+tells_none x given from _ (Tells.stale id c e) = refl
+tells_none x given from m t = refl
 
 -- the same transactions, views and lists
 pub record SameLed (a b : SiteState) : Type 0 where
@@ -454,11 +457,10 @@ module _ (catalogue : Catalogue) (x : SiteState) (given : Input) (tidy : Tidy x)
   pub table : Table catalogue x given (Leads x)
   unfolding on_accept on_stale take_lock
   table = record {
+    tells = λ from m t. one _ x.id from m (tells_none x given from m t) (self_same x) refl refl;
     drop_view = λ l e z p. drops (put_back (begin_step x) l) e p;
     start_inviting = λ o s left l. invites o left l;
     accept = λ from id o c e left l. accepts from id o left l;
-    stale = λ from id c e. one _ x.id from (message.Stale id x.promise) refl (self_same x) refl refl;
-    accept_again = λ from id c e. one _ x.id from (message.Accept id) refl (self_same x) refl refl;
     accepted = λ from id c. silent (begin_step x) _ (record { id = refl; life = refl; seq = refl; live = refl; held = refl; ended = λ n q. q; refresh = λ n q. q; monitor = λ n q. q }) refl refl begins;
     seen = λ from id promise c. silent (begin_step x) _ (record { id = refl; life = refl; seq = refl; live = refl; held = refl; ended = λ n q. q; refresh = λ n q. q; monitor = λ n q. q }) refl refl begins;
     hold = λ from id members c e. holds id members (both_true _ _ e).0;
@@ -469,14 +471,9 @@ module _ (catalogue : Catalogue) (x : SiteState) (given : Input) (tidy : Tidy x)
     start_refresh = λ view rec o e a h l. starts_refresh view rec o e.held l;
     end_refresh = λ rec r own o e a d v l. ends_refresh r own o l;
     keep_answer = λ from view rec stored r c e f g. silent (begin_step x) _ (record { id = refl; life = refl; seq = refl; live = refl; held = refl; ended = λ n q. q; refresh = λ n q. rw q refl; monitor = λ n q. q }) refl refl begins;
-    answer_refresh = λ from view rec stored c e d v. one _ x.id from (message.RefreshAnswer view rec stored) refl (self_same x) refl refl;
     ask_again = λ view r o e h v l. asks_again view.id r o l;
-    refuse_view = λ from txn view number a e. one _ x.id from (message.Refuse txn number (obstacle.OtherView (held_id x))) refl (self_same x) refl refl;
-    refuse_lock = λ from txn view number rec exclusive holder r e n c. one _ x.id from (message.Refuse txn number (obstacle.Held holder)) refl (self_same x) refl refl;
     grant_read = λ from txn view number rec stored c e n v f. grants from txn view rec false (message.ReadAnswer txn number stored.value) refl;
     grant_write = λ from txn view number rec stored c e n v f. grants from txn view rec true (message.WriteAnswer txn number) refl;
-    doubt_again = λ from txn view number reads writes c e n d. one _ x.id from (message.Vote txn) refl (self_same x) refl refl;
-    vote_again = λ from txn view number reads writes part c e n f v. one _ x.id from (message.Vote part.txn) refl (self_same x) refl refl;
     vote_reading = λ from txn view number reads writes part c e n d f v a w. one _ x.id from (message.Vote part.txn) refl (plain_but _ refl refl refl refl refl refl refl) refl refl;
     vote_writing = λ from txn view number reads writes part c e n d f v a w. one _ x.id from (message.Vote part.txn) refl (plain_but _ refl refl refl refl refl refl refl) refl refl;
     end_here = λ from txn commit c. ends_here from txn commit (doubt_of txn x.doubts);

@@ -535,11 +535,10 @@ module _ (catalogue : Catalogue) (x : SiteState) (given : Input) (tidy : Tidy x)
   pub table : Table catalogue x given P
   unfolding on_stale on_accept hold fix ask_again start_txn resend_one inquire
   table = record {
+    tells = λ from m t. same (begin_step x) _ refl refl refl refl refl refl starts;
     drop_view = λ l e z p. drops l e p;
     start_inviting = λ o s l p. invites o l p;
     accept = λ from id o c e l p. accepts from id o e l p;
-    stale = λ from id c e. same (begin_step x) _ refl refl refl refl refl refl starts;
-    accept_again = λ from id c e. same (begin_step x) _ refl refl refl refl refl refl starts;
     accepted = λ from id c. viewed _ refl refl refl refl refl (λ r h. refl);
     seen = λ from id promise c. viewed _ refl refl refl refl refl (λ r h. refl);
     hold = λ from id members c e. viewed _ refl refl refl refl refl (not_held (tidy.waiting id (is_view_is x.waiting id (both_true _ _ e).0)).1 _);
@@ -551,14 +550,9 @@ module _ (catalogue : Catalogue) (x : SiteState) (given : Input) (tidy : Tidy x)
     start_refresh = λ view rec o e a h p. refreshes view rec o e p;
     end_refresh = λ rec r own o e a d v p. finishes r own o p;
     keep_answer = λ from view rec stored r c e f g. keeps_answer rec from stored;
-    answer_refresh = λ from view rec stored c e d v. same (begin_step x) _ refl refl refl refl refl refl starts;
     ask_again = λ view r o e h v p. same o _ refl refl refl refl refl refl p;
-    refuse_view = λ from txn view number a e. same (begin_step x) _ refl refl refl refl refl refl starts;
-    refuse_lock = λ from txn view number rec exclusive holder r e n c. same (begin_step x) _ refl refl refl refl refl refl starts;
     grant_read = λ from txn view number rec stored c e n v f. grants from txn view rec false (message.ReadAnswer txn number stored.value) f;
     grant_write = λ from txn view number rec stored c e n v f. grants from txn view rec true (message.WriteAnswer txn number) f;
-    doubt_again = λ from txn view number reads writes c e n d. same (begin_step x) _ refl refl refl refl refl refl starts;
-    vote_again = λ from txn view number reads writes part c e n f v. same (begin_step x) _ refl refl refl refl refl refl starts;
     vote_reading = λ from txn view number reads writes part c e n d f v a w. shared _ (with_vote part x.participant) refl refl refl refl refl refl (voted_ok part);
     vote_writing = λ from txn view number reads writes part c e n d f v a w. shared _ (with_new_doubt part writes x.participant) refl refl refl refl refl refl (doubting_ok part reads writes (certain part txn f d) a);
     end_here = λ from txn commit c. ends_here from txn commit (doubt_of txn x.doubts) c;

@@ -1,5 +1,6 @@
 -- The names of transactions and views that stand in a site, and in what it sends: a step makes no other ones than it has or is given.
 use Rattle.std.proofs.Common.{◌≡◌, ◌⊎◌, ◌∙◌, ap, sym, subst, ℕ, Bool, true, false, cond, List, [], ◌∷◌, ◌++◌, map, refl, arith, inr, ⊎_elim, append-nil}
+use Rattle.std.specs.List.{AllByRecursion}
 use Rattle.std.specs.Prelude.{Option, Some, None, is_some, nat_lt, ◌&&◌, ◌||◌, ◌==◌, not, option_map, filter, fold}
 use Rattle.vp_model.specs.Types.{Change, ViewId, TxnId, View, Stored, Owner, Obstacle, Message, Sent, Input, Lock, Part, Refreshing, Pending, Live, Ending, Doubt, Decision}
 use Rattle.vp_base.specs.declared.site.Ending.TheVariants.{Committed}
@@ -17,48 +18,53 @@ use Rattle.vp_model.specs.Refresh.{newer, refreshing_of, newest, take_newer, unl
 use Rattle.vp_model.specs.Views.{outlasts, with_view, part_of, has_part, has_doubt, other_sites, drop_view, start_inviting, hold}
 use Rattle.vp_model.specs.Calls.{start_txn, take_lock, read_at, write_at, prepare_parts, prepare_for}
 use Rattle.vp_model.specs.Answers.{with_acknowledged, is_decided}
-use Rattle.vp_model.specs.Messages.{put_part, with_accepted, with_seen, held_id, holds_view, accept, on_accept, on_stale, with_heard, with_part, with_vote, with_new_doubt, with_ended, with_answer, grant, end_here}
+use Rattle.vp_model.specs.Messages.{put_part, with_accepted, with_seen, holds_view, accept, on_accept, on_stale, with_heard, with_part, with_vote, with_new_doubt, with_ended, with_answer, grant, end_here}
 use Rattle.vp_model.specs.Step.{step, with_monitor, fix, without_wait, probe_all, mark_calls, ask_again, resend_one, known, inquire}
 use Rattle.vp_laws.proofs.Lists.Members.{Has, has_first, has_more, has_none, has_one_is, has_cases, filter_has, find_has, map_has, both_true}
 use Rattle.vp_laws.proofs.Lists.Views.{is_view_is, same_is}
 use Rattle.vp_laws.proofs.Lists.Changes.{put_has, replace_has, writes_has, value_has}
 use Rattle.vp_laws.proofs.Moves.Frames.{Ends, close-ends, decided-ends, decide-cases}
-use Rattle.vp_laws.proofs.Moves.Table.{Comes, next_view, lent_at, Requests, Asks, Handled, Back, Table}
+use Rattle.vp_laws.proofs.Moves.Table.{Comes, next_view, lent_at, Requests, Asks, Handled, Back, Tells, Table}
 use Rattle.vp_laws.proofs.Moves.Rows.{step-keeps}
 use Rattle.vp_laws.proofs.Moves.LocalViews.{letter, Tidy}
 use Rattle.vp_laws.proofs.Table.Led.{Led}
+
+-- the names of transactions, and of views, that stand in a message
+abbrev pub txns_of : Owner → List TxnId
+txns_of (owner.Txn txn) = txn ∷ []
+txns_of owner.Refresh = []
+
+abbrev pub names_of : TxnId → Obstacle → List TxnId × List ViewId
+names_of t (obstacle.Held holder) = (t ∷ txns_of holder, [])
+names_of t (obstacle.OtherView None) = (t ∷ [], [])
+names_of t (obstacle.OtherView (Some v)) = (t ∷ [], v ∷ [])
+
+abbrev pub names_in : Message → List TxnId × List ViewId
+names_in (message.Invite i) = ([], [])
+names_in (message.Accept i) = ([], [])
+names_in (message.Stale i w) = ([], [])
+names_in (message.ViewCommit i ms) = ([], [])
+names_in (message.ReadRequest t v n r) = (t ∷ [], v ∷ [])
+names_in (message.ReadAnswer t n value) = (t ∷ [], [])
+names_in (message.WriteRequest t v n r) = (t ∷ [], v ∷ [])
+names_in (message.WriteAnswer t n) = (t ∷ [], [])
+names_in (message.Refuse t n why) = names_of t why
+names_in (message.Prepare t v n r w) = (t ∷ [], v ∷ [])
+names_in (message.Vote t) = (t ∷ [], [])
+names_in (message.Outcome t c) = (t ∷ [], [])
+names_in (message.Ack t) = (t ∷ [], [])
+names_in (message.Inquire t) = (t ∷ [], [])
+names_in (message.RefreshRequest v r) = ([], v ∷ [])
+names_in (message.RefreshAnswer v r stored) = ([], v ∷ stored.date ∷ [])
+names_in (message.Probe v) = ([], v ∷ [])
 
 module _ (N : TxnId → Type 0) (A : ViewId → Type 0) where
   abbrev pub OwnerNamed : Owner → Type 0
   OwnerNamed (owner.Txn txn) = N txn
   OwnerNamed owner.Refresh = Unit {0}
 
-  abbrev pub ViewNamed : Option ViewId → Type 0
-  ViewNamed None = Unit {0}
-  ViewNamed (Some v) = A v
-
-  abbrev pub WhyNamed : Obstacle → Type 0
-  WhyNamed (obstacle.Held holder) = OwnerNamed holder
-  WhyNamed (obstacle.OtherView now) = ViewNamed now
-
   abbrev pub Named : Message → Type 0
-  Named (message.Invite i) = Unit {0}
-  Named (message.Accept i) = Unit {0}
-  Named (message.Stale i w) = Unit {0}
-  Named (message.ViewCommit i ms) = Unit {0}
-  Named (message.ReadRequest t v n r) = N t × A v
-  Named (message.ReadAnswer t n value) = N t
-  Named (message.WriteRequest t v n r) = N t × A v
-  Named (message.WriteAnswer t n) = N t
-  Named (message.Refuse t n why) = N t × WhyNamed why
-  Named (message.Prepare t v n r w) = N t × A v
-  Named (message.Vote t) = N t
-  Named (message.Outcome t c) = N t
-  Named (message.Ack t) = N t
-  Named (message.Inquire t) = N t
-  Named (message.RefreshRequest v r) = A v
-  Named (message.RefreshAnswer v r stored) = A v × A stored.date
-  Named (message.Probe v) = A v
+  Named m = AllByRecursion N (names_in m).0 × AllByRecursion A (names_in m).1
 
   pub record Names (s : SiteState) : Type 0 where
     pub held : (v : View) → s.held ≡ Some v → A v.id
@@ -185,6 +191,10 @@ module _ (N : TxnId → Type 0) (A : ViewId → Type 0) where
     here_named : (t : Live) → Has x.live t → N t.txn × A t.view
     here_named t h = live_named t (record { was = t; live = h; same = refl })
 
+    -- as a request or a prepare of it names it
+    asks_named : (t : Live) → Has x.live t → AllByRecursion N (t.txn ∷ []) × AllByRecursion A (t.view ∷ [])
+    asks_named t h = let q = here_named t h in ((q.0, tt), (q.1, tt))
+
     -- other locks, the same other lists
     locks_now : (s : SiteState) (locks : List Lock) (c : CoordinatorState) → c.decisions ≡ s.decisions → ((l : Lock) → Has locks l → OwnerNamed l.owner) → Names s → Names (record s { here = record s.here { locks = locks }; coordinator = c })
     locks_now s locks c d all n = record { held = n.held; parts = n.parts; doubts = n.doubts; ended = n.ended; decisions = λ e h. n.decisions e (rw d at h); locks = all; copies = n.copies; answers = n.answers }
@@ -216,7 +226,7 @@ module _ (N : TxnId → Type 0) (A : ViewId → Type 0) where
         more (put_back (begin_step x) l) (put_back (begin_step x) now) (letters x.id (λ q. message.Outcome t.txn commit) t.parts)
         (subst (λ (h : Here). Names (record x { here = h; coordinator = now.coordinator })) (sym e.here)
         (locks_now (put_back (begin_step x) l).site (without_owner (owner.Txn t.txn) l.here.locks) now.coordinator (ap (λ (c : CoordinatorState). c.decisions) e.coordinator) (without_named (owner.Txn t.txn) l.here.locks q.names.locks) q.names)) e.messages
-        (letters_named x.id (λ q. message.Outcome t.txn commit) t.parts (λ q. (live_named t n).0)) q
+        (letters_named x.id (λ q. message.Outcome t.txn commit) t.parts (λ q. (((live_named t n).0, tt), tt))) q
 
     keeps_writes : (t : Live) → Handled x t → K (keep_writes catalogue x.id t (lent_at x))
     unfolding keep_writes
@@ -249,11 +259,11 @@ module _ (N : TxnId → Type 0) (A : ViewId → Type 0) where
 
     invites : (o : Stepped) → Calls o → Calls (start_inviting catalogue (next_view x) o)
     unfolding start_inviting
-    invites o l = more o _ (letters o.site.id (λ q. message.Invite (next_view x)) (other_sites catalogue o.site.id)) (same_names _ o.site refl refl refl refl refl refl refl refl l.names) refl (letters_named o.site.id (λ q. message.Invite (next_view x)) (other_sites catalogue o.site.id) (λ q. tt)) l
+    invites o l = more o _ (letters o.site.id (λ q. message.Invite (next_view x)) (other_sites catalogue o.site.id)) (same_names _ o.site refl refl refl refl refl refl refl refl l.names) refl (letters_named o.site.id (λ q. message.Invite (next_view x)) (other_sites catalogue o.site.id) (λ q. (tt, tt))) l
 
     accepts : (from : ℕ) (id : ViewId) (o : Stepped) → Calls o → Calls (accept from id o)
     unfolding accept
-    accepts from id o l = more o _ (letter o.site.id from (message.Accept id) ∷ []) (same_names _ o.site refl refl refl refl refl refl refl refl l.names) refl (letter_named o.site.id from (message.Accept id) tt) l
+    accepts from id o l = more o _ (letter o.site.id from (message.Accept id) ∷ []) (same_names _ o.site refl refl refl refl refl refl refl refl l.names) refl (letter_named o.site.id from (message.Accept id) (tt, tt)) l
 
     -- a view of the promised identifier is held
     joined : (v : View) (views : ViewState) → views.held ≡ Some v → v.id ≡ x.promise → Names (record x { views = views })
@@ -276,7 +286,7 @@ module _ (N : TxnId → Type 0) (A : ViewId → Type 0) where
     unfolding fix hold
     fixes view e =
         more (begin_step x) _ (letters x.id (λ q. message.ViewCommit view.id view.members) (filter (λ q. not (q == x.id)) view.members)) (joined view (with_view view x.views) refl (tidy.inviting (view.id, view.members) e).0) refl
-        (letters_named x.id (λ q. message.ViewCommit view.id view.members) (filter (λ q. not (q == x.id)) view.members) (λ q. tt)) begins
+        (letters_named x.id (λ q. message.ViewCommit view.id view.members) (filter (λ q. not (q == x.id)) view.members) (λ q. (tt, tt))) begins
 
     starts_refresh : (view : View) (rec : ℕ) (o : Stepped) → o.site.held ≡ Some view → Calls o → Calls (start_refresh catalogue view rec o)
     unfolding start_refresh
@@ -293,7 +303,7 @@ module _ (N : TxnId → Type 0) (A : ViewId → Type 0) where
           answers = λ r a h k. ⊎_elim (λ (new : r ≡ record { rec = rec; answers = [] }). absurd (has_none a (rw new at k))) (λ old. l.names.answers r a old k)
               (put_has (λ (a : Refreshing) (b : Refreshing). a.rec == b.rec) (λ (a : Refreshing) (b : Refreshing). nat_lt a.rec b.rec) (record { rec = rec; answers = [] }) o.site.refresh r h);
         })
-        refl (letters_named o.site.id (λ q. message.RefreshRequest view.id rec) (other_holders catalogue o.site rec) (λ q. l.names.held view e)) l
+        refl (letters_named o.site.id (λ q. message.RefreshRequest view.id rec) (other_holders catalogue o.site rec) (λ q. (tt, (l.names.held view e, tt)))) l
 
     newest_named : (own : Stored) (answers : List (ℕ × Stored)) → A own.date → ((a : ℕ × Stored) → Has answers a → A a.1.date) → A (newest own answers).date
     newest_named own [] h all = h
@@ -346,16 +356,20 @@ module _ (N : TxnId → Type 0) (A : ViewId → Type 0) where
 
     asks_again : (view : View) (r : Refreshing) (o : Stepped) → x.held ≡ Some view → Calls o → Calls (ask_again catalogue view.id r o)
     unfolding ask_again
-    asks_again view r o e l = more o _ (letters o.site.id (λ q. message.RefreshRequest view.id r.rec) (unanswered catalogue o.site r)) l.names refl (letters_named o.site.id (λ q. message.RefreshRequest view.id r.rec) (unanswered catalogue o.site r) (λ q. names.held view e)) l
+    asks_again view r o e l = more o _ (letters o.site.id (λ q. message.RefreshRequest view.id r.rec) (unanswered catalogue o.site r)) l.names refl (letters_named o.site.id (λ q. message.RefreshRequest view.id r.rec) (unanswered catalogue o.site r) (λ q. (tt, (names.held view e, tt)))) l
 
     asked_named : (from : ℕ) (txn : TxnId) (view : ViewId) (number : ℕ) → Asks given from txn view number → N txn × A view
-    asked_named from txn view number (Asks.reads rec c) = arrived from (message.ReadRequest txn view number rec) c
-    asked_named from txn view number (Asks.writes rec c) = arrived from (message.WriteRequest txn view number rec) c
-    asked_named from txn view number (Asks.prepares reads writes c) = arrived from (message.Prepare txn view number reads writes) c
+    asked_named from txn view number (Asks.reads rec c) = let q = arrived from (message.ReadRequest txn view number rec) c in (q.0.0, q.1.0)
+    asked_named from txn view number (Asks.writes rec c) = let q = arrived from (message.WriteRequest txn view number rec) c in (q.0.0, q.1.0)
+    asked_named from txn view number (Asks.prepares reads writes c) = let q = arrived from (message.Prepare txn view number reads writes) c in (q.0.0, q.1.0)
 
-    held_named : (o : Option View) → x.held ≡ o → ViewNamed (option_map (λ (v : View). v.id) o)
-    held_named None e = tt
-    held_named (Some v) e = names.held v e
+    other_named : (txn : TxnId) (number : ℕ) (o : Option View) → x.held ≡ o → N txn → Named (message.Refuse txn number (obstacle.OtherView (option_map (λ (v : View). v.id) o)))
+    other_named txn number None e n = ((n, tt), tt)
+    other_named txn number (Some v) e n = ((n, tt), (names.held v e, tt))
+
+    holder_named : (txn : TxnId) (number : ℕ) (holder : Owner) → OwnerNamed holder → N txn → Named (message.Refuse txn number (obstacle.Held holder))
+    holder_named txn number (owner.Txn t) h n = ((n, (h, tt)), tt)
+    holder_named txn number owner.Refresh h n = ((n, tt), tt)
 
     grants : (from : ℕ) (txn : TxnId) (view : ViewId) (rec : ℕ) (exclusive : Bool) (words : Message) → N txn × A view → Named words → Calls (grant txn view rec exclusive words from (begin_step x))
     unfolding grant
@@ -390,7 +404,7 @@ module _ (N : TxnId → Type 0) (A : ViewId → Type 0) where
           copies = names.copies;
           answers = names.answers;
         })
-        (names.parts part h).0 refl
+        (((names.parts part h).0, tt), tt) refl
 
     votes_writing : (from : ℕ) (part : Part) (writes : List (ℕ × Change)) → Has x.parts part → Calls (send (message.Vote part.txn) from (force (entry.Yes part.txn part.view writes) (change_participant (with_new_doubt part writes) (begin_step x))))
     votes_writing from part writes h =
@@ -406,7 +420,7 @@ module _ (N : TxnId → Type 0) (A : ViewId → Type 0) where
           copies = names.copies;
           answers = names.answers;
         })
-        (names.parts part h).0 refl
+        (((names.parts part h).0, tt), tt) refl
 
     ends_here : (from : ℕ) (txn : TxnId) (commit : Bool) → N txn → Calls (end_here from txn commit (doubt_of txn x.doubts) (begin_step x))
     unfolding end_here
@@ -432,9 +446,9 @@ module _ (N : TxnId → Type 0) (A : ViewId → Type 0) where
         copied d e c h = ⊎_elim (λ (q : c.1.date ≡ d.view). subst A (sym q) (names.doubts d (find_has (λ (d : Doubt). same_txn d.txn txn) x.doubts d e)).1) (λ old. names.copies c old) (writes_has d.view d.writes x.copies c h)
 
         go : (commit : Bool) (doubt : Option Doubt) → doubt_of txn x.doubts ≡ doubt → Calls (end_here from txn commit doubt (begin_step x))
-        go true None e = one _ x.id from (message.Ack txn) (now x.copies names.copies) n refl
+        go true None e = one _ x.id from (message.Ack txn) (now x.copies names.copies) ((n, tt), tt) refl
         go false None e = silent (begin_step x) _ (now x.copies names.copies) refl begins
-        go true (Some d) e = one _ x.id from (message.Ack txn) (now (with_writes d.view d.writes x.copies) (copied d e)) n refl
+        go true (Some d) e = one _ x.id from (message.Ack txn) (now (with_writes d.view d.writes x.copies) (copied d e)) ((n, tt), tt) refl
         go false (Some d) e = silent (begin_step x) _ (now x.copies names.copies) refl begins
 
     keeps_answer : (from rec : ℕ) (stored : Stored) → A stored.date → Calls (change_refresh (map (with_answer rec from stored)) (begin_step x))
@@ -455,18 +469,13 @@ module _ (N : TxnId → Type 0) (A : ViewId → Type 0) where
             let z : Has (put_at from stored q.answers) a = rw (← same) at k in
             ⊎_elim (λ (new : a ≡ (from, stored)). subst A (sym (ap (λ (a : ℕ × Stored). a.1.date) new)) named) (λ old. names.answers q a h old) (put_has (λ (a : ℕ × Stored) (b : ℕ × Stored). a.0 == b.0) (λ (a : ℕ × Stored) (b : ℕ × Stored). nat_lt a.0 b.0) (from, stored) q.answers a z)
 
-    answers_refresh : (from rec : ℕ) (view : ViewId) (stored : Stored) → A view → value_at rec x.copies ≡ Some stored → Calls (send (message.RefreshAnswer view rec stored) from (begin_step x))
-    answers_refresh from rec view stored n v =
-        let c = value_has rec x.copies stored v in
-        one _ x.id from (message.RefreshAnswer view rec stored) names (n, subst A (ap (λ (s : Stored). s.date) c.2) (names.copies c.0 c.1)) refl
-
     writes_at : (t : Live) (p : Pending) (rec : ℕ) (sites : List ℕ) (l : Lent) → Has x.live t → K l → K (write_at x.id t p rec sites l)
     unfolding write_at
-    writes_at t p rec sites l h q = plain l _ (letters x.id (λ q. message.WriteRequest t.txn t.view p.number rec) sites) refl refl refl (letters_named x.id (λ q. message.WriteRequest t.txn t.view p.number rec) sites (λ q. here_named t h)) q
+    writes_at t p rec sites l h q = plain l _ (letters x.id (λ q. message.WriteRequest t.txn t.view p.number rec) sites) refl refl refl (letters_named x.id (λ q. message.WriteRequest t.txn t.view p.number rec) sites (λ q. asks_named t h)) q
 
     resends : (d : Decision) (o : Stepped) → Has o.site.decisions d → Calls o → Calls (put_back o (resend_one o.site.id d (lent o)))
     unfolding resend_one
-    resends d o h l = more o _ (letters o.site.id (λ q. message.Outcome d.txn true) d.waiting) l.names refl (letters_named o.site.id (λ q. message.Outcome d.txn true) d.waiting (λ q. l.names.decisions d h)) l
+    resends d o h l = more o _ (letters o.site.id (λ q. message.Outcome d.txn true) d.waiting) l.names refl (letters_named o.site.id (λ q. message.Outcome d.txn true) d.waiting (λ q. ((l.names.decisions d h, tt), tt))) l
 
     inquires : (o : Stepped) → Calls o → Calls (inquire (known o.site.participant) o)
     unfolding inquire
@@ -475,7 +484,7 @@ module _ (N : TxnId → Type 0) (A : ViewId → Type 0) where
         inquiries : (m : Sent) → Has (map (λ (txn : TxnId). letter o.site.id txn.site (message.Inquire txn)) (known o.site.participant)) m → Named m.message
         inquiries m h =
             let r = map_has (λ (txn : TxnId). letter o.site.id txn.site (message.Inquire txn)) (known o.site.participant) m h in
-            subst Named (ap (λ (m : Sent). m.message) r.2) (known_named o.site l.names r.0 r.1)
+            subst Named (ap (λ (m : Sent). m.message) r.2) ((known_named o.site l.names r.0 r.1, tt), tt)
 
     takes_lock : (t : Live) (rec : ℕ) (exclusive : Bool) → Has x.live t → K (take_lock t.txn rec exclusive (lent_at x))
     unfolding take_lock
@@ -494,43 +503,50 @@ module _ (N : TxnId → Type 0) (A : ViewId → Type 0) where
         go None h t = cc
         go (Some u) h t = subst A (same_is u.id v t) (names.held u h)
 
+    requested : (from : ℕ) (txn : TxnId) (view : ViewId) (number rec : ℕ) (exclusive : Bool) → Requests given from txn view number rec exclusive → N txn
+    requested from txn view number rec false (Requests.reads c) = (arrived from (message.ReadRequest txn view number rec) c).0.0
+    requested from txn view number rec true (Requests.writes c) = (arrived from (message.WriteRequest txn view number rec) c).0.0
+
+    told_named : (from : ℕ) (m : Message) → Tells x given from m → Named m
+    told_named from _ (Tells.stale id c e) = (tt, tt)
+    told_named from _ (Tells.accept_again id c e) = (tt, tt)
+    told_named from _ (Tells.answer_refresh view rec stored c e d v) = let q = value_has rec x.copies stored v in (tt, (view_of view e, (subst A (ap (λ (s : Stored). s.date) q.2) (names.copies q.0 q.1), tt)))
+    told_named from _ (Tells.refuse_view txn view number a e) = other_named txn number x.held refl (asked_named from txn view number a).0
+    told_named from _ (Tells.refuse_lock txn view number rec exclusive holder r e n c) = holder_named txn number holder (conflict_named rec exclusive txn x.locks holder names.locks c) (requested from txn view number rec exclusive r)
+    told_named from _ (Tells.doubt_again txn view number reads writes c e n d) = ((arrived from (message.Prepare txn view number reads writes) c).0, tt)
+    told_named from _ (Tells.vote_again txn view number reads writes part c e n f v) = (((names.parts part (part_there txn part f)).0, tt), tt)
+
     pub table : Table catalogue x given Calls
     unfolding on_accept on_stale start_txn read_at prepare_parts complete mark_calls
     table = record {
+      tells = λ from m t. one _ x.id from m names (told_named from m t) refl;
       drop_view = λ l e z p. drops (put_back (begin_step x) l) p;
       start_inviting = λ o s left l. invites o l;
       accept = λ from id o c e left l. accepts from id o l;
-      stale = λ from id c e. one _ x.id from (message.Stale id x.promise) names tt refl;
-      accept_again = λ from id c e. one _ x.id from (message.Accept id) names tt refl;
       accepted = λ from id c. silent (begin_step x) (on_accept from id (begin_step x)) (views_now (with_accepted from id x.views) refl) refl begins;
       seen = λ from id promise c. silent (begin_step x) (on_stale promise (begin_step x)) (views_now (with_seen promise x.views) refl) refl begins;
       hold = λ from id members c e. holds_now id members (both_true _ _ e).0;
       heard = λ from view c e. silent (begin_step x) _ (views_now (with_heard from x.views) refl) refl begins;
       fix = λ view c e. fixes view e;
       without_wait = λ id c i w. silent (begin_step x) _ (views_now (without_wait x.views) refl) refl begins;
-      probe = λ view c e. more (begin_step x) (probe_all catalogue view (begin_step x)) _ (views_now (with_monitor x.views) refl) refl (letters_named x.id (λ q. message.Probe view.id) (other_sites catalogue x.id) (λ q. names.held view e)) begins;
+      probe = λ view c e. more (begin_step x) (probe_all catalogue view (begin_step x)) _ (views_now (with_monitor x.views) refl) refl (letters_named x.id (λ q. message.Probe view.id) (other_sites catalogue x.id) (λ q. (tt, (names.held view e, tt)))) begins;
       start_refresh = λ view rec o e a h l. starts_refresh view rec o e.held l;
       end_refresh = λ rec r own o e a d v l. ends_refresh rec r own o e v l;
-      keep_answer = λ from view rec stored r c e f g. keeps_answer from rec stored (arrived from (message.RefreshAnswer view rec stored) c).1;
-      answer_refresh = λ from view rec stored c e d v. answers_refresh from rec view stored (view_of view e) v;
+      keep_answer = λ from view rec stored r c e f g. keeps_answer from rec stored (arrived from (message.RefreshAnswer view rec stored) c).1.1.0;
       ask_again = λ view r o e h v l. asks_again view r o e l;
-      refuse_view = λ from txn view number a e. one _ x.id from (message.Refuse txn number (obstacle.OtherView (held_id x))) names ((asked_named from txn view number a).0, held_named x.held refl) refl;
-      refuse_lock = λ from txn view number rec exclusive holder r e n c. one _ x.id from (message.Refuse txn number (obstacle.Held holder)) names (requested from txn view number rec exclusive r, conflict_named rec exclusive txn x.locks holder names.locks c) refl;
-      grant_read = λ from txn view number rec stored c e n v f. let q = arrived from (message.ReadRequest txn view number rec) c in grants from txn view rec false (message.ReadAnswer txn number stored.value) q q.0;
-      grant_write = λ from txn view number rec stored c e n v f. let q = arrived from (message.WriteRequest txn view number rec) c in grants from txn view rec true (message.WriteAnswer txn number) q q.0;
-      doubt_again = λ from txn view number reads writes c e n d. one _ x.id from (message.Vote txn) names (arrived from (message.Prepare txn view number reads writes) c).0 refl;
-      vote_again = λ from txn view number reads writes part c e n f v. one _ x.id from (message.Vote part.txn) names (names.parts part (part_there txn part f)).0 refl;
+      grant_read = λ from txn view number rec stored c e n v f. let q = asked_named from txn view number (Asks.reads rec c) in grants from txn view rec false (message.ReadAnswer txn number stored.value) q ((q.0, tt), tt);
+      grant_write = λ from txn view number rec stored c e n v f. let q = asked_named from txn view number (Asks.writes rec c) in grants from txn view rec true (message.WriteAnswer txn number) q ((q.0, tt), tt);
       vote_reading = λ from txn view number reads writes part c e n d f v a w. votes_reading from part (part_there txn part f);
       vote_writing = λ from txn view number reads writes part c e n d f v a w. votes_writing from part writes (part_there txn part f);
-      end_here = λ from txn commit c. ends_here from txn commit (arrived from (message.Outcome txn commit) c);
+      end_here = λ from txn commit c. ends_here from txn commit (arrived from (message.Outcome txn commit) c).0.0;
       coordinator = record {
         begin = λ port view e g u. hushed (lent_at x) _ refl refl refl begins;
         answers = λ words port why y. hushed (lent_at x) _ refl refl refl begins;
         take_lock = λ t rec exclusive stored h i a v c. takes_lock t rec exclusive h;
         complete = λ t p operation words l h g y e q. hushed l _ refl refl refl q;
-        read_at = λ t p rec q h n r a w c o y. plain (lent_at x) _ (letter x.id q (message.ReadRequest t.txn t.view p.number rec) ∷ []) refl refl refl (letter_named x.id q (message.ReadRequest t.txn t.view p.number rec) (here_named t h)) begins;
+        read_at = λ t p rec q h n r a w c o y. plain (lent_at x) _ (letter x.id q (message.ReadRequest t.txn t.view p.number rec) ∷ []) refl refl refl (letter_named x.id q (message.ReadRequest t.txn t.view p.number rec) (asks_named t h)) begins;
         write_at = λ t p rec value l h n w a e o d y v q. writes_at t p rec (other_holders catalogue x rec) l h q;
-        prepare_parts = λ t p h i g e. plain (lent_at x) _ (letters x.id (prepare_for catalogue t p) t.parts) refl refl refl (letters_named x.id (prepare_for catalogue t p) t.parts (λ q. here_named t h)) begins;
+        prepare_parts = λ t p h i g e. plain (lent_at x) _ (letters x.id (prepare_for catalogue t p) t.parts) refl refl refl (letters_named x.id (prepare_for catalogue t p) t.parts (λ q. asks_named t h)) begins;
         still_waits = λ t p from h e m f c. hushed (lent_at x) _ refl refl refl begins;
         decide = λ t n d. decide-cases K catalogue x.id t (lent_at x) (λ e. ends t Committed true _ _ n (decided-ends x.id t (lent_at x)) begins) (λ e. ends t Committed true _ _ n (decided-ends x.id t _) (keeps_writes t n));
         close = λ t why l n a z y q. ends t why false l _ n (close-ends x.id t why l) q;
@@ -542,10 +558,6 @@ module _ (N : TxnId → Type 0) (A : ViewId → Type 0) where
       resend_one = λ d o c h l. resends d o h l;
       inquire = λ o c l. inquires o l;
     }
-      where
-        requested : (from : ℕ) (txn : TxnId) (view : ViewId) (number rec : ℕ) (exclusive : Bool) → Requests given from txn view number rec exclusive → N txn
-        requested from txn view number rec false (Requests.reads c) = (arrived from (message.ReadRequest txn view number rec) c).0
-        requested from txn view number rec true (Requests.writes c) = (arrived from (message.WriteRequest txn view number rec) c).0
 
     pub names-step : Calls (step catalogue x given)
     names-step = step-keeps catalogue x given Calls table begins

@@ -149,11 +149,10 @@ module _ (catalogue : Catalogue) (x : SiteState) (given : Input) where
   table : Table catalogue x given P
   unfolding start_txn take_lock complete read_at write_at prepare_parts mark_calls grant on_stale on_accept hold fix drop_view start_inviting accept start_refresh ask_again resend_one inquire
   table = record {
+    tells = λ from m t. none _ refl refl;
     drop_view = λ l e z p. alike (put_back (begin_step x) l) _ refl refl p;
     start_inviting = λ o s left p. more o _ (entry.Promise (next_view x)) refl refl refl p;
     accept = λ from id o c e left p. more o _ (entry.Promise id) refl refl refl p;
-    stale = λ from id c e. none _ refl refl;
-    accept_again = λ from id c e. none _ refl refl;
     accepted = λ from id c. none _ refl refl;
     seen = λ from id promise c. none _ refl refl;
     hold = λ from id members c e. none _ refl refl;
@@ -164,14 +163,9 @@ module _ (catalogue : Catalogue) (x : SiteState) (given : Input) where
     start_refresh = λ view rec o e a q p. alike o _ refl refl p;
     end_refresh = λ rec r own o e a d v p. ends_refresh r own o p;
     keep_answer = λ from view rec stored r c e f g. none _ refl refl;
-    answer_refresh = λ from view rec stored c e d v. none _ refl refl;
     ask_again = λ view r o e q v p. alike o _ refl refl p;
-    refuse_view = λ from txn view number a e. none _ refl refl;
-    refuse_lock = λ from txn view number rec exclusive holder r e n c. none _ refl refl;
     grant_read = λ from txn view number rec stored c e n v f. none _ refl (with_part-doubts txn view);
     grant_write = λ from txn view number rec stored c e n v f. none _ refl (with_part-doubts txn view);
-    doubt_again = λ from txn view number reads writes c e n d. none _ refl refl;
-    vote_again = λ from txn view number reads writes part c e n f v. none _ refl refl;
     vote_reading = λ from txn view number reads writes part c e n d f v a w. none _ refl refl;
     vote_writing = λ from txn view number reads writes part c e n d f v a w. record {
       come = one_more [] _ (entry.Yes part.txn part.view writes) refl refl (λ t b h. absurd (has_none _ h));

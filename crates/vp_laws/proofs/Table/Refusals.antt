@@ -10,7 +10,7 @@ use Rattle.vp_model.specs.Words.{replace_at, view_before}
 use Rattle.vp_model.specs.Catalogue.{Catalogue}
 use Rattle.vp_model.specs.Durable.{doubt_of}
 use Rattle.vp_model.specs.Locks.{conflict}
-use Rattle.vp_model.specs.Site.{SiteState, Lent, Stepped, begin_step, lent, put_back, letters, force, change_copies}
+use Rattle.vp_model.specs.Site.{SiteState, Lent, Stepped, begin_step, lent, put_back, letters, force, change_copies, send}
 use Rattle.vp_model.specs.Transactions.{keep_writes, complete}
 use Rattle.vp_model.specs.Refresh.{newest, take_newer, unlist, end_refresh, start_refresh, other_holders, unanswered}
 use Rattle.vp_model.specs.Views.{other_sites, drop_view, start_inviting, hold}
@@ -20,7 +20,7 @@ use Rattle.vp_model.specs.Messages.{held_id, holds_view, accept, on_accept, on_s
 use Rattle.vp_model.specs.Step.{step, fix, mark_calls, ask_again, resend_one, known, inquire}
 use Rattle.vp_laws.proofs.Lists.Members.{Has, has_none, has_one_is, has_cases, map_has}
 use Rattle.vp_laws.proofs.Moves.Frames.{Ends, close-ends, decided-ends, decide-cases}
-use Rattle.vp_laws.proofs.Moves.Table.{next_view, lent_at, Requests, Asks, Back, Table}
+use Rattle.vp_laws.proofs.Moves.Table.{next_view, lent_at, Requests, Asks, Back, Tells, Table}
 use Rattle.vp_laws.proofs.Moves.Rows.{step-keeps}
 use Rattle.vp_laws.proofs.Moves.LocalViews.{letter}
 
@@ -126,14 +126,18 @@ module _ (catalogue : Catalogue) (x : SiteState) (given : Input) where
   unfolding write_at
   writes_at t p rec sites l q = says l _ (λ q. message.WriteRequest t.txn t.view p.number rec) sites refl (λ q. refl) q
 
+  told : (from : ℕ) (m : Message) → Tells x given from m → P (send m from (begin_step x))
+  told from _ (Tells.refuse_view txn view number a e) = refusal _ from txn number (obstacle.OtherView (held_id x)) (Refused.other view a e) refl refl
+  told from _ (Tells.refuse_lock txn view number rec exclusive holder r e n c) = refusal _ from txn number (obstacle.Held holder) (Refused.held view rec exclusive holder r c) refl refl
+  told from m t = one _ from m refl refl refl
+
   table : Table catalogue x given P
   unfolding on_accept on_stale grant drop_view start_inviting accept hold fix ask_again start_refresh start_txn take_lock read_at prepare_parts complete mark_calls
   table = record {
+    tells = λ from m t. told from m t;
     drop_view = λ l e z p. silent (put_back (begin_step x) l) (drop_view (put_back (begin_step x) l)) refl refl p;
     start_inviting = λ o s left p. many o (start_inviting catalogue (next_view x) o) o.site.id (λ q. message.Invite (next_view x)) (other_sites catalogue o.site.id) refl refl (λ q. refl) p;
     accept = λ from id o c e left p. many o (accept from id o) o.site.id (λ q. message.Accept id) (from ∷ []) refl refl (λ q. refl) p;
-    stale = λ from id c e. one _ from (message.Stale id x.promise) refl refl refl;
-    accept_again = λ from id c e. one _ from (message.Accept id) refl refl refl;
     accepted = λ from id c. silent (begin_step x) _ refl refl begins;
     seen = λ from id promise c. silent (begin_step x) _ refl refl begins;
     hold = λ from id members c e. silent (begin_step x) _ refl refl begins;
@@ -145,14 +149,9 @@ module _ (catalogue : Catalogue) (x : SiteState) (given : Input) where
     start_refresh = λ view rec o e a h p. many o (start_refresh catalogue view rec o) o.site.id (λ q. message.RefreshRequest view.id rec) (other_holders catalogue o.site rec) refl refl (λ q. refl) p;
     end_refresh = λ rec r own o e a d v p. ends_refresh r own o p;
     keep_answer = λ from view rec stored r c e f g. silent (begin_step x) _ refl refl begins;
-    answer_refresh = λ from view rec stored c e d v. one _ from (message.RefreshAnswer view rec stored) refl refl refl;
     ask_again = λ view r o e h v p. many o (ask_again catalogue view.id r o) o.site.id (λ q. message.RefreshRequest view.id r.rec) (unanswered catalogue o.site r) refl refl (λ q. refl) p;
-    refuse_view = λ from txn view number a e. refusal _ from txn number (obstacle.OtherView (held_id x)) (Refused.other view a e) refl refl;
-    refuse_lock = λ from txn view number rec exclusive holder r e n c. refusal _ from txn number (obstacle.Held holder) (Refused.held view rec exclusive holder r c) refl refl;
     grant_read = λ from txn view number rec stored c e n v f. one _ from (message.ReadAnswer txn number stored.value) refl refl refl;
     grant_write = λ from txn view number rec stored c e n v f. one _ from (message.WriteAnswer txn number) refl refl refl;
-    doubt_again = λ from txn view number reads writes c e n d. one _ from (message.Vote txn) refl refl refl;
-    vote_again = λ from txn view number reads writes part c e n f v. one _ from (message.Vote part.txn) refl refl refl;
     vote_reading = λ from txn view number reads writes part c e n d f v a w. one _ from (message.Vote part.txn) refl refl refl;
     vote_writing = λ from txn view number reads writes part c e n d f v a w. one _ from (message.Vote part.txn) refl refl refl;
     end_here = λ from txn commit c. ends_here from txn commit (doubt_of txn x.doubts);

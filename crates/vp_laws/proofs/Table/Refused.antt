@@ -278,11 +278,10 @@ module _ (catalogue : Catalogue) (x : SiteState) (given : Input) (none : (port :
   table : Table catalogue x given P
   unfolding on_accept on_stale grant drop_view start_inviting accept hold fix ask_again start_refresh resend_one inquire
   table = record {
+    tells = λ from m t. refl;
     drop_view = λ l e z p. p;
     start_inviting = λ o s left p. p;
     accept = λ from id o c e left p. p;
-    stale = λ from id c e. refl;
-    accept_again = λ from id c e. refl;
     accepted = λ from id c. refl;
     seen = λ from id promise c. refl;
     hold = λ from id members c e. refl;
@@ -294,14 +293,9 @@ module _ (catalogue : Catalogue) (x : SiteState) (given : Input) (none : (port :
     start_refresh = λ view rec o e a h p. p;
     end_refresh = λ rec r own o e a d v p. ends_refresh r own o p;
     keep_answer = λ from view rec stored r c e f g. refl;
-    answer_refresh = λ from view rec stored c e d v. refl;
     ask_again = λ view r o e h v p. p;
-    refuse_view = λ from txn view number a e. refl;
-    refuse_lock = λ from txn view number rec exclusive holder r e n c. refl;
     grant_read = λ from txn view number rec stored c e n v f. refl;
     grant_write = λ from txn view number rec stored c e n v f. refl;
-    doubt_again = λ from txn view number reads writes c e n d. refl;
-    vote_again = λ from txn view number reads writes part c e n f v. refl;
     vote_reading = λ from txn view number reads writes part c e n d f v a w. refl;
     vote_writing = λ from txn view number reads writes part c e n d f v a w. refl;
     end_here = λ from txn commit c. ends_here from txn commit (doubt_of txn x.doubts);

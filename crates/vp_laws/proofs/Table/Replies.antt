@@ -203,11 +203,10 @@ module _ (catalogue : Catalogue) (x : SiteState) (given : Input) (led : Led x) (
   pub table : Table catalogue x given P
   unfolding drop_view on_stale on_accept hold fix ask_again start_inviting accept grant start_refresh resend_one inquire start_txn take_lock read_at write_at prepare_parts
   table = record {
+    tells = λ from m t. quiet _ (b.tells from m t) refl refl;
     drop_view = λ l e z p. silent (put_back (begin_step x) l) _ (b.drop_view l e z p.base) refl refl refl p;
     start_inviting = λ o s l p. silent o _ (b.start_inviting o s l p.base) refl refl refl p;
     accept = λ from id o c e l p. silent o _ (b.accept from id o c e l p.base) refl refl refl p;
-    stale = λ from id c e. quiet _ (b.stale from id c e) refl refl;
-    accept_again = λ from id c e. quiet _ (b.accept_again from id c e) refl refl;
     accepted = λ from id c. quiet _ (b.accepted from id c) refl refl;
     seen = λ from id promise c. quiet _ (b.seen from id promise c) refl refl;
     hold = λ from id members c e. quiet _ (b.hold from id members c e) refl refl;
@@ -219,14 +218,9 @@ module _ (catalogue : Catalogue) (x : SiteState) (given : Input) (led : Led x) (
     start_refresh = λ view rec o e a h p. silent o _ (b.start_refresh view rec o e a h p.base) refl refl refl p;
     end_refresh = λ rec r own o e a d v p. ends_refresh r own o (b.end_refresh rec r own o e a d v p.base) p;
     keep_answer = λ from view rec stored r c e f g. quiet _ (b.keep_answer from view rec stored r c e f g) refl refl;
-    answer_refresh = λ from view rec stored c e d v. quiet _ (b.answer_refresh from view rec stored c e d v) refl refl;
     ask_again = λ view r o e h v p. silent o _ (b.ask_again view r o e h v p.base) refl refl refl p;
-    refuse_view = λ from txn view number a e. quiet _ (b.refuse_view from txn view number a e) refl refl;
-    refuse_lock = λ from txn view number rec exclusive holder r e n c. quiet _ (b.refuse_lock from txn view number rec exclusive holder r e n c) refl refl;
     grant_read = λ from txn view number rec stored c e n v f. quiet _ (b.grant_read from txn view number rec stored c e n v f) refl refl;
     grant_write = λ from txn view number rec stored c e n v f. quiet _ (b.grant_write from txn view number rec stored c e n v f) refl refl;
-    doubt_again = λ from txn view number reads writes c e n d. quiet _ (b.doubt_again from txn view number reads writes c e n d) refl refl;
-    vote_again = λ from txn view number reads writes part c e n f v. quiet _ (b.vote_again from txn view number reads writes part c e n f v) refl refl;
     vote_reading = λ from txn view number reads writes part c e n d f v a w. quiet _ (b.vote_reading from txn view number reads writes part c e n d f v a w) refl refl;
     vote_writing = λ from txn view number reads writes part c e n d f v a w. quiet _ (b.vote_writing from txn view number reads writes part c e n d f v a w) refl refl;
     end_here = λ from txn commit c. ends_here from txn commit (doubt_of txn x.doubts) (b.end_here from txn commit c);

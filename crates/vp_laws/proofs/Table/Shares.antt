@@ -5,24 +5,23 @@ use Rattle.vp_model.specs.Types.{Change, ViewId, TxnId, Message, Sent, Input, St
 use Rattle.vp_model.specs.Types.entry
 use Rattle.vp_model.specs.Types.input
 use Rattle.vp_model.specs.Types.message
-use Rattle.vp_model.specs.Types.obstacle
 use Rattle.vp_model.specs.Words.{same_txn, txn_before, has_txn, is_empty, value_at, replace_at, view_before}
 use Rattle.vp_model.specs.Catalogue.{Catalogue}
 use Rattle.vp_model.specs.Durable.{doubt_of}
 use Rattle.vp_model.specs.Locks.{conflict}
-use Rattle.vp_model.specs.Site.{ParticipantState, SiteState, Lent, Stepped, begin_step, lent, put_back, letters, force, change_copies}
+use Rattle.vp_model.specs.Site.{ParticipantState, SiteState, Lent, Stepped, begin_step, lent, put_back, letters, force, change_copies, send}
 use Rattle.vp_model.specs.Transactions.{keep_writes, complete}
 use Rattle.vp_model.specs.Refresh.{newest, take_newer, unlist, end_refresh, start_refresh, other_holders, unanswered, is_doubtful}
 use Rattle.vp_model.specs.Views.{part_of, has_part, has_doubt, other_sites, drop_view, start_inviting, hold}
 use Rattle.vp_model.specs.Calls.{start_txn, take_lock, read_at, write_at, prepare_parts, prepare_for}
 use Rattle.vp_model.specs.Answers.{is_decided}
-use Rattle.vp_model.specs.Messages.{held_id, holds_view, put_part, with_part, with_vote, with_new_doubt, with_ended, has_all_locks, accept, on_accept, on_stale, grant, end_here}
+use Rattle.vp_model.specs.Messages.{holds_view, put_part, with_part, with_vote, with_new_doubt, with_ended, has_all_locks, accept, on_accept, on_stale, grant, end_here}
 use Rattle.vp_model.specs.Step.{fix, mark_calls, ask_again, resend_one, known, inquire, step}
 use Rattle.vp_laws.proofs.Lists.Members.{Has, has_none, has_one_is, has_cases, map_has, filter_has, filter_keeps, find_has, find_true, any_true, any_false}
 use Rattle.vp_laws.proofs.Lists.Changes.{put_has, put_new, put_old}
 use Rattle.vp_model.proofs.SameTxn.{same_txn-is, same_txn-turned, same_txn-clash}
 use Rattle.vp_laws.proofs.Moves.Frames.{close-ends, decided-ends, decide-cases}
-use Rattle.vp_laws.proofs.Moves.Table.{Comes, Closed, next_view, lent_at, Requests, Back, Table}
+use Rattle.vp_laws.proofs.Moves.Table.{Comes, Closed, next_view, lent_at, Requests, Back, Tells, Table}
 use Rattle.vp_laws.proofs.Moves.Rows.{step-keeps}
 use Rattle.vp_laws.proofs.Moves.LocalViews.{letter}
 
@@ -292,14 +291,21 @@ module _ (catalogue : Catalogue) (x : SiteState) (given : Input) where
   unfolding keep_writes
   keeps_writes t l q = hushed l _ refl q
 
+  told : (from : ℕ) (m : Message) → Tells x given from m → P (send m from (begin_step x))
+  told from _ (Tells.answer_refresh view rec stored c e d v) = replying _ x.participant from (message.RefreshAnswer view rec stored) refl refl refl (λ a h. PartNow.still h) (λ d h. DoubtNow.still h) (λ d h. inl h) (ReplyTo.refresh_answer view rec stored c e d v refl)
+  told from _ (Tells.doubt_again txn view number reads writes c e n d) = doubts_again from txn view number reads writes c e n d _ refl refl refl
+  told from _ (Tells.vote_again txn view number reads writes part c e n f v) =
+      replying _ x.participant from (message.Vote part.txn) refl refl refl (λ a h. PartNow.still h) (λ d h. DoubtNow.still h) (λ d h. inl h)
+      (ReplyTo.vote_again part (answered_by from txn part.txn view number reads writes c e n (part_same txn part f)) (part_there txn part f) (part_there txn part f) v refl)
+  told from m t = one _ from m refl refl refl refl
+
   pub table : Table catalogue x given P
   unfolding on_accept on_stale start_inviting accept hold fix ask_again start_refresh start_txn take_lock complete read_at write_at prepare_parts mark_calls resend_one
   table = record {
+    tells = λ from m t. told from m t;
     drop_view = λ l e z p. drops l z p;
     start_inviting = λ o s left p. many o (start_inviting catalogue (next_view x) o) (λ q. message.Invite (next_view x)) (other_sites catalogue o.site.id) refl refl refl (λ q. refl) p;
     accept = λ from id o c e left p. many o (accept from id o) (λ q. message.Accept id) (from ∷ []) refl refl refl (λ q. refl) p;
-    stale = λ from id c e. one _ from (message.Stale id x.promise) refl refl refl refl;
-    accept_again = λ from id c e. one _ from (message.Accept id) refl refl refl refl;
     accepted = λ from id c. silent (begin_step x) _ refl refl refl starts;
     seen = λ from id promise c. silent (begin_step x) _ refl refl refl starts;
     hold = λ from id members c e. silent (begin_step x) _ refl refl refl starts;
@@ -311,19 +317,13 @@ module _ (catalogue : Catalogue) (x : SiteState) (given : Input) where
     start_refresh = λ view rec o e a h p. many o (start_refresh catalogue view rec o) (λ q. message.RefreshRequest view.id rec) (other_holders catalogue o.site rec) refl refl refl (λ q. refl) p;
     end_refresh = λ rec r own o e a d v p. ends_refresh r own o p;
     keep_answer = λ from view rec stored r c e f g. silent (begin_step x) _ refl refl refl starts;
-    answer_refresh = λ from view rec stored c e d v. replying _ x.participant from (message.RefreshAnswer view rec stored) refl refl refl (λ a h. PartNow.still h) (λ d h. DoubtNow.still h) (λ d h. inl h) (ReplyTo.refresh_answer view rec stored c e d v refl);
     ask_again = λ view r o e h v p. many o (ask_again catalogue view.id r o) (λ q. message.RefreshRequest view.id r.rec) (unanswered catalogue o.site r) refl refl refl (λ q. refl) p;
-    refuse_view = λ from txn view number a e. one _ from (message.Refuse txn number (obstacle.OtherView (held_id x))) refl refl refl refl;
-    refuse_lock = λ from txn view number rec exclusive holder r e n c. one _ from (message.Refuse txn number (obstacle.Held holder)) refl refl refl refl;
     grant_read = λ from txn view number rec stored c e n v f.
         let g : Granted x given from txn number rec false stored = record { view = view; comes = Requests.reads c; held = e; going = n; copy = v; free = f } in
         grants from txn number rec false stored g (message.ReadAnswer txn number stored.value) (ReplyTo.read_answer txn number rec stored g refl);
     grant_write = λ from txn view number rec stored c e n v f.
         let g : Granted x given from txn number rec true stored = record { view = view; comes = Requests.writes c; held = e; going = n; copy = v; free = f } in
         grants from txn number rec true stored g (message.WriteAnswer txn number) (ReplyTo.write_answer txn number rec stored g refl);
-    doubt_again = λ from txn view number reads writes c e n d. doubts_again from txn view number reads writes c e n d _ refl refl refl;
-    vote_again = λ from txn view number reads writes part c e n f v. replying _ x.participant from (message.Vote part.txn) refl refl refl (λ a h. PartNow.still h) (λ d h. DoubtNow.still h) (λ d h. inl h)
-        (ReplyTo.vote_again part (answered_by from txn part.txn view number reads writes c e n (part_same txn part f)) (part_there txn part f) (part_there txn part f) v refl);
     vote_reading = λ from txn view number reads writes part c e n d f v a w. votes_reading from part reads writes (prepared_by from txn view number reads writes part c e n d f v a) w _ refl refl refl;
     vote_writing = λ from txn view number reads writes part c e n d f v a w. votes_writing from part reads writes (prepared_by from txn view number reads writes part c e n d f v a) w _ refl refl refl;
     end_here = λ from txn commit c. ends_here from txn commit (doubt_of txn x.doubts) c;

@@ -185,11 +185,10 @@ module _ (catalogue : Catalogue) (x : SiteState) (given : Input) (tidy : Tidy x)
   pub table : Table catalogue x given P
   unfolding drop_view on_stale on_accept hold fix ask_again start_inviting accept grant resend_one inquire
   table = record {
+    tells = λ from m t. stays _ refl refl (b.tells from m t);
     drop_view = λ l e z p. gone (drop_view (put_back (begin_step x) l)) refl (b.drop_view l e z p.base);
     start_inviting = λ o s l p. gone _ (left_none o l) (b.start_inviting o s l p.base);
     accept = λ from id o c e l p. gone _ (left_none o l) (b.accept from id o c e l p.base);
-    stale = λ from id c e. stays _ refl refl (b.stale from id c e);
-    accept_again = λ from id c e. stays _ refl refl (b.accept_again from id c e);
     accepted = λ from id c. stays _ refl refl (b.accepted from id c);
     seen = λ from id promise c. stays _ refl refl (b.seen from id promise c);
     hold = λ from id members c e. record { base = b.hold from id members c e; unlisted = λ k u h none. Unlisted.joined (record { id = id; members = members }) refl (Joins.came from c e) };
@@ -201,14 +200,9 @@ module _ (catalogue : Catalogue) (x : SiteState) (given : Input) (tidy : Tidy x)
     start_refresh = λ view rec o e a h p. refreshes view rec o (b.start_refresh view rec o e a h p.base) p;
     end_refresh = λ rec r own o e a d v p. finishes rec r own o e a d v (b.end_refresh rec r own o e a d v p.base) p;
     keep_answer = λ from view rec stored r c e f g. first _ refl (λ q h. (with_answer rec from stored q, mapped_has (with_answer rec from stored) x.refresh q h, rec_same rec from stored q)) (b.keep_answer from view rec stored r c e f g);
-    answer_refresh = λ from view rec stored c e d v. stays _ refl refl (b.answer_refresh from view rec stored c e d v);
     ask_again = λ view r o e h v p. same o _ refl refl refl refl (λ q g. each _ q g) (b.ask_again view r o e h v p.base) p;
-    refuse_view = λ from txn view number a e. stays _ refl refl (b.refuse_view from txn view number a e);
-    refuse_lock = λ from txn view number rec exclusive holder r e n c. stays _ refl refl (b.refuse_lock from txn view number rec exclusive holder r e n c);
     grant_read = λ from txn view number rec stored c e n v f. stays _ refl refl (b.grant_read from txn view number rec stored c e n v f);
     grant_write = λ from txn view number rec stored c e n v f. stays _ refl refl (b.grant_write from txn view number rec stored c e n v f);
-    doubt_again = λ from txn view number reads writes c e n d. stays _ refl refl (b.doubt_again from txn view number reads writes c e n d);
-    vote_again = λ from txn view number reads writes part c e n f v. stays _ refl refl (b.vote_again from txn view number reads writes part c e n f v);
     vote_reading = λ from txn view number reads writes part c e n d f v a w. stays _ refl refl (b.vote_reading from txn view number reads writes part c e n d f v a w);
     vote_writing = λ from txn view number reads writes part c e n d f v a w. stays _ refl refl (b.vote_writing from txn view number reads writes part c e n d f v a w);
     end_here = λ from txn commit c. ends_here from txn commit (doubt_of txn x.doubts) (b.end_here from txn commit c);

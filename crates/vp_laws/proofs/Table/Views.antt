@@ -20,7 +20,7 @@ use Rattle.vp_laws.proofs.Lists.Views.{AtMost, Precedes, AtMost-refl, AtMost-sam
 use Rattle.vp_laws.proofs.Moves.Frames.{Ends, close-ends, decided-ends, decide-cases}
 use Rattle.vp_model.specs.Types.entry
 use Rattle.vp_laws.proofs.Moves.Rows.{step-keeps}
-use Rattle.vp_laws.proofs.Moves.Table.{Comes, next_view, lent_at, Left, Back, Table}
+use Rattle.vp_laws.proofs.Moves.Table.{Comes, next_view, lent_at, Left, Back, Tells, Table}
 use Rattle.vp_laws.proofs.Moves.LocalViews.{letter, Tidy, MaySend, Local, IsNew, is_quiet, quiet-may, beside, silent, letters_quiet, letter_quiet, may_rise}
 
 -- the acceptance of an invitation
@@ -310,14 +310,18 @@ module _ (catalogue : Catalogue) (x : SiteState) (given : Input) (tidy : Tidy x)
       inquiries : (m : Sent) → Has (map (λ (txn : TxnId). letter o.site.id txn.site (message.Inquire txn)) txns) m → (m.from ≡ o.site.id) × (is_quiet m.message ≡ true)
       inquiries m h = let r = map_has (λ (txn : TxnId). letter o.site.id txn.site (message.Inquire txn)) txns m h in rw (← r.2) (refl, refl)
 
+  may_tell : (from : ℕ) (m : Message) → Tells x given from m → MaySend x given x.views m
+  may_tell from _ (Tells.stale id c e) = ((from, c), refl)
+  may_tell from _ (Tells.accept_again id c e) = AtMost-same id x.promise (tidy.waiting id (is_view_is x.waiting id e)).0
+  may_tell from m t = tt
+
   pub table : Table catalogue x given (Local x given)
   unfolding start_txn take_lock complete read_at prepare_parts mark_calls grant on_stale
   table = record {
+    tells = λ from m t. one_more m from (may_tell from m t);
     drop_view = λ l e z p. drops (put_back (begin_step x) l) e refl p;
     start_inviting = invites;
     accept = accepts;
-    stale = λ from id c e. one_more (message.Stale id x.promise) from ((from, c), refl);
-    accept_again = λ from id c e. one_more (message.Accept id) from (AtMost-same id x.promise (tidy.waiting id (is_view_is x.waiting id e)).0);
     accepted = accepteds;
     seen = λ from id promise c. other_views (on_stale promise (begin_step x)) refl refl refl refl refl (sends_none (on_stale promise (begin_step x)) refl);
     hold = holds;
@@ -328,14 +332,9 @@ module _ (catalogue : Catalogue) (x : SiteState) (given : Input) (tidy : Tidy x)
     start_refresh = λ view rec o e a h l. starts_refresh view rec o l;
     end_refresh = λ rec r own o e a d v l. ends_refresh r own o l;
     keep_answer = λ from view rec stored r c e f g. silent x given (begin_step x) _ refl refl refl begins;
-    answer_refresh = λ from view rec stored c e d v. one_more (message.RefreshAnswer view rec stored) from tt;
     ask_again = λ view r o e h v l. asks_again view.id r o l;
-    refuse_view = λ from txn view number a e. one_more _ from tt;
-    refuse_lock = λ from txn view number rec exclusive holder r e n c. one_more _ from tt;
     grant_read = λ from txn view number rec stored c e n v f. one_more_beside from _ refl _ refl refl refl;
     grant_write = λ from txn view number rec stored c e n v f. one_more_beside from _ refl _ refl refl refl;
-    doubt_again = λ from txn view number reads writes c e n d. one_more (message.Vote txn) from tt;
-    vote_again = λ from txn view number reads writes part c e n f v. one_more (message.Vote part.txn) from tt;
     vote_reading = λ from txn view number reads writes part c e n d f v a w. one_more_beside from (message.Vote part.txn) refl _ refl refl refl;
     vote_writing = λ from txn view number reads writes part c e n d f v a w. one_more_beside from (message.Vote part.txn) refl _ refl refl refl;
     end_here = λ from txn commit c. ends_here from txn commit (doubt_of txn x.doubts);

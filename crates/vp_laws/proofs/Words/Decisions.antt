@@ -40,7 +40,7 @@ module _ (catalogue : Catalogue) (w : WorldState) (k : Known catalogue (scene_of
       let sent = sent_to w s given q.from (message.Outcome txn false) may q.comes in
       let doubted : Has (kept_at (scene_of w) s).doubts q.doubt = subst (λ (d : DurableState). Has d.doubts q.doubt) (k.views.site s x up).kept q.there in
       record {
-        used = k.names.sent _ sent;
+        used = (k.names.sent _ sent).0.0;
         over = k.ends.told _ sent;
         none = λ e there same. k.settled.aborted e q.from s there (subst (λ (t : TxnId). Has w.sent (letter q.from s (message.Outcome t false))) (sym same) sent) (q.doubt, doubted, q.named ∙ sym same);
       }
