@@ -1,5 +1,5 @@
 -- The moves of refresh and of parts of other sites' transactions keep a site well formed.
-use Rattle.std.proofs.Common.{◌≡◌, ℕ, Bool, true, false, List, [], map, refl}
+use Rattle.std.proofs.Common.{◌≡◌, ℕ, Bool, true, false, List, [], map, refl, subst, ◌∙◌}
 use Rattle.std.specs.Prelude.{Option, Some, None, IfSome, filter, not, option_map, is_some, ◌==◌, nat_lt}
 use Rattle.std.specs.List.{AllByRecursion}
 use Rattle.vp_base.specs.Identifiers.{IsView, IsTxn}
@@ -8,7 +8,7 @@ use Rattle.vp_bytes.specs.Doubts.{IsDoubt}
 use Rattle.vp_base.specs.Calls.{IsNumbered}
 use Rattle.vp_wire.specs.Grammar.{IsMessage}
 use Rattle.vp_catalog.specs.Document.{IsCatalogue}
-use Rattle.vp_model.specs.Types.{Change, ViewId, TxnId, View, Stored, Message, Input, Part, Refreshing, Doubt}
+use Rattle.vp_model.specs.Types.{Change, ViewId, TxnId, View, Stored, Message, Input, Part, Refreshing, Doubt, Sent}
 use Rattle.vp_model.specs.Types.entry
 use Rattle.vp_model.specs.Types.message
 use Rattle.vp_model.specs.Types.owner
@@ -16,13 +16,13 @@ use Rattle.vp_model.specs.Words.{same_txn, txn_before, keys, view_before, value_
 use Rattle.vp_model.specs.Catalogue.{Catalogue}
 use Rattle.vp_model.specs.Durable.{doubt_of, with_outcome}
 use Rattle.vp_model.specs.Locks.{with_lock, without_owner, with_guard, without_guard}
-use Rattle.vp_model.specs.Site.{SiteState, ParticipantState, Stepped, begin_step, force, send, change_locks, change_copies, change_participant, change_refresh}
+use Rattle.vp_model.specs.Site.{SiteState, ParticipantState, Stepped, begin_step, force, send, change_locks, change_copies, change_participant, change_refresh, with_sent}
 use Rattle.vp_model.specs.Refresh.{other_holders, refreshing_of, unanswered, newest, take_newer, unlist, end_refresh, start_refresh}
 use Rattle.vp_model.specs.Views.{part_of}
 use Rattle.vp_model.specs.Messages.{put_part, with_part, grant, with_vote, with_new_doubt, with_ended, acknowledge, end_here, with_answer}
-use Rattle.vp_model.specs.Step.{ask_again, known, inquire}
-use Rattle.vp_laws.proofs.Lists.Members.{Has, find_has}
-use Rattle.vp_laws.proofs.Moves.Table.{Comes, Requests, Asks, Joined, Tells, tells_came}
+use Rattle.vp_model.specs.Step.{known}
+use Rattle.vp_laws.proofs.Lists.Members.{Has, find_has, all_of}
+use Rattle.vp_laws.proofs.Moves.Table.{Comes, Requests, Asks, Joined, Tells, tells_came, AsksAgain}
 use Rattle.vp_laws.specs.Shapes.{IsInput, IsStored, AreCopies, IsLock, IsPart, IsRefreshing, IsShaped, IsSent}
 use Rattle.vp_laws.proofs.Lists.Items.{all_at, all_filter, all_put, all_map}
 use Rattle.vp_laws.proofs.Shapes.Numbers.{each_site, ascending_filter}
@@ -73,13 +73,6 @@ module _ (catalogue : Catalogue) (k : IsCatalogue catalogue) (x : SiteState) (sx
   keeps_answer from view rec stored c =
       let m = (came_is given from (message.RefreshAnswer view rec stored) came c).1 in
       with_refresh catalogue x _ begins (map (with_answer rec from stored)) (all_map IsRefreshing IsRefreshing (with_answer rec from stored) (λ r i. answer_is rec from stored r (m.1.1, m.1.2) i) x.refresh sx.refresh_are)
-
-  pub asks_again : (view : View) (r : Refreshing) (o : Stepped) → x.held ≡ Some view → Has x.refresh r → F o → F (ask_again catalogue view.id r o)
-  unfolding ask_again
-  asks_again view r o e h p =
-      let v : IsView view.id = some_at (λ (view : View). IsView view.id) x.held view sx.views_are.held_is e in
-      let i : IsRefreshing r = all_at IsRefreshing x.refresh sx.refresh_are r h in
-      sends_all catalogue k x sx given came (message.RefreshRequest view.id r.rec) (unanswered catalogue o.site r) o p (each_site _ (ascending_filter 1 16 _ _ (others_ascend catalogue k o.site.id o.site.held r.rec))) (v, i.0)
 
   -- ---- parts
 
@@ -136,6 +129,7 @@ module _ (catalogue : Catalogue) (k : IsCatalogue catalogue) (x : SiteState) (sx
   told_is from _ (Tells.refuse_lock txn view number rec exclusive holder r e n c) = (numbered txn view number (requests_is from txn view number rec exclusive r), conflict_is rec exclusive txn x.here.locks holder sx.locks_are c)
   told_is from _ (Tells.doubt_again txn view number reads writes c e n d) = (came_is given from (message.Prepare txn view number reads writes) came c).1.0.0
   told_is from _ (Tells.vote_again txn view number reads writes part c e n f v) = (part_of_is txn part f).0
+  told_is from _ (Tells.answer_inquiry txn c s n) = (came_is given from (message.Inquire txn) came c).1
 
   pub tells : (from : ℕ) (m : Message) → Tells x given from m → F (send m from (begin_step x))
   tells from m t = let q = tells_came x given from m t in answers_with m from _ begins (came_is given from q.0 came q.1).0 (told_is from m t)
@@ -180,10 +174,13 @@ module _ (catalogue : Catalogue) (k : IsCatalogue catalogue) (x : SiteState) (sx
       let b = with_copies catalogue x _ a (with_outcome (Some d) commit) (outcome_is commit d x.here.copies i sx.copies_are) in
       ended from txn commit (is_some x.held) _ m.0 m.1 b
 
-  -- ---- inquiries
+  again_is : (o : Stepped) → F o → (to : ℕ) (m : Message) → AsksAgain catalogue x given o to m → IsSite to × IsMessage m
+  again_is o p to _ (AsksAgain.refresh view r e h v q) =
+      let i : IsRefreshing r = all_at IsRefreshing x.refresh sx.refresh_are r h in
+      (all_at IsSite (unanswered catalogue o.site r) (each_site _ (ascending_filter 1 16 _ _ (others_ascend catalogue k o.site.id o.site.held r.rec))) to q, (some_at (λ (view : View). IsView view.id) x.held view sx.views_are.held_is e, i.0))
+  again_is o p to _ (AsksAgain.inquire txn c h e) =
+      let i : IsTxn txn = all_at IsTxn (known o.site.participant) (known_are o.site.participant p.site_is.parts_are p.site_is.doubts_are) txn h in
+      (subst IsSite e (i.site_some, i.site_fits), i)
 
-  pub inquires : (o : Stepped) → F o → F (inquire (known o.site.participant) o)
-  unfolding inquire
-  inquires o p =
-      let t = known_are o.site.participant p.site_is.parts_are p.site_is.doubts_are in
-      with_gives catalogue x o p _ (gives_sent x.id o.effects p.gives (map (λ (txn : TxnId). record { from = o.site.id; to = txn.site; message = message.Inquire txn }) (known o.site.participant)) (all_map IsTxn (IsSent x.id) (λ (txn : TxnId). record { from = o.site.id; to = txn.site; message = message.Inquire txn }) (λ txn i. (p.same, (i.site_some, i.site_fits), i)) (known o.site.participant) t))
+  pub asks_again : (o : Stepped) (ms : List Sent) → ((m : Sent) → Has ms m → (m.from ≡ o.site.id) × AsksAgain catalogue x given o m.to m.message) → F o → F (record o { effects = with_sent ms o.effects })
+  asks_again o ms all p = with_gives catalogue x o p _ (gives_sent x.id o.effects p.gives ms (all_of (IsSent x.id) ms (λ m h. let q = all m h in let i = again_is o p m.to m.message q.1 in (q.0 ∙ p.same, i.0, i.1))))

@@ -263,6 +263,7 @@ module _ (catalogue : Catalogue) (x : SiteState) (given : Input) where
   unfolding on_stale ask_again start_refresh resend_one inquire
   table = record {
     tells = λ from m t. silent (begin_step x) _ refl refl starts;
+    asks_again = λ o ms all p. silent o _ refl refl p;
     drop_view = λ l e z p. drops l;
     start_inviting = λ o s l p. invites o l;
     accept = λ from id o c e l p. accepts from id o e l;
@@ -277,7 +278,6 @@ module _ (catalogue : Catalogue) (x : SiteState) (given : Input) where
     start_refresh = λ view rec o e a h p. silent o _ refl refl p;
     end_refresh = λ rec r own o e a d v p. ends_refresh r own o p;
     keep_answer = λ from view rec stored r c e f g. silent (begin_step x) _ refl refl starts;
-    ask_again = λ view r o e h v p. silent o _ refl refl p;
     grant_read = λ from txn view number rec stored c e n v f. grants from txn view rec false (message.ReadAnswer txn number stored.value) (no_outcome from (message.ReadRequest txn view number rec) c (λ u b e. cc));
     grant_write = λ from txn view number rec stored c e n v f. grants from txn view rec true (message.WriteAnswer txn number) (no_outcome from (message.WriteRequest txn view number rec) c (λ u b e. cc));
     vote_reading = λ from txn view number reads writes part c e n d f v a w. part_changes _ refl refl (no_outcome from (message.Prepare txn view number reads writes) c (λ u b e. cc));
@@ -296,10 +296,8 @@ module _ (catalogue : Catalogue) (x : SiteState) (given : Input) where
       close = λ t why l n a z y q. same_site _;
       mark_calls = λ l c z q. same_site _;
       acknowledge = λ from txn c w. same_site _;
-      answer_inquiry = λ from txn c s n. same_site _;
     };
     resend_one = λ d o c h p. silent o _ refl refl p;
-    inquire = λ o c p. silent o _ refl refl p;
   }
 
 pub leaves-step : (catalogue : Catalogue) (x : SiteState) (given : Input) → Leaves x given (step catalogue x given)

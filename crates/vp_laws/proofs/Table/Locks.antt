@@ -536,6 +536,7 @@ module _ (catalogue : Catalogue) (x : SiteState) (given : Input) (tidy : Tidy x)
   unfolding on_stale on_accept hold fix ask_again start_txn resend_one inquire
   table = record {
     tells = λ from m t. same (begin_step x) _ refl refl refl refl refl refl starts;
+    asks_again = λ o ms all p. same o _ refl refl refl refl refl refl p;
     drop_view = λ l e z p. drops l e p;
     start_inviting = λ o s l p. invites o l p;
     accept = λ from id o c e l p. accepts from id o e l p;
@@ -550,7 +551,6 @@ module _ (catalogue : Catalogue) (x : SiteState) (given : Input) (tidy : Tidy x)
     start_refresh = λ view rec o e a h p. refreshes view rec o e p;
     end_refresh = λ rec r own o e a d v p. finishes r own o p;
     keep_answer = λ from view rec stored r c e f g. keeps_answer rec from stored;
-    ask_again = λ view r o e h v p. same o _ refl refl refl refl refl refl p;
     grant_read = λ from txn view number rec stored c e n v f. grants from txn view rec false (message.ReadAnswer txn number stored.value) f;
     grant_write = λ from txn view number rec stored c e n v f. grants from txn view rec true (message.WriteAnswer txn number) f;
     vote_reading = λ from txn view number reads writes part c e n d f v a w. shared _ (with_vote part x.participant) refl refl refl refl refl refl (voted_ok part);
@@ -569,10 +569,8 @@ module _ (catalogue : Catalogue) (x : SiteState) (given : Input) (tidy : Tidy x)
       close = λ t why l n a z y q. ends_one t why false l _ n (close-ends x.id t why l) q;
       mark_calls = λ l c z q. marks l q;
       acknowledge = λ from txn c w. quiet (lent_at x) _ refl refl refl starts;
-      answer_inquiry = λ from txn c s n. quiet (lent_at x) _ refl refl refl starts;
     };
     resend_one = λ d o c h p. same o _ refl refl refl refl refl refl p;
-    inquire = λ o c p. same o _ refl refl refl refl refl refl p;
   }
     where
       certain : (part : Part) (txn : TxnId) → part_of txn x.parts ≡ Some part → has_doubt txn x.doubts ≡ false → has_doubt part.txn x.doubts ≡ false

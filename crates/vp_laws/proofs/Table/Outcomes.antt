@@ -150,6 +150,7 @@ module _ (catalogue : Catalogue) (x : SiteState) (given : Input) where
   unfolding start_txn take_lock complete read_at write_at prepare_parts mark_calls grant on_stale on_accept hold fix drop_view start_inviting accept start_refresh ask_again resend_one inquire
   table = record {
     tells = λ from m t. none _ refl refl;
+    asks_again = λ o ms all p. alike o _ refl refl p;
     drop_view = λ l e z p. alike (put_back (begin_step x) l) _ refl refl p;
     start_inviting = λ o s left p. more o _ (entry.Promise (next_view x)) refl refl refl p;
     accept = λ from id o c e left p. more o _ (entry.Promise id) refl refl refl p;
@@ -163,7 +164,6 @@ module _ (catalogue : Catalogue) (x : SiteState) (given : Input) where
     start_refresh = λ view rec o e a q p. alike o _ refl refl p;
     end_refresh = λ rec r own o e a d v p. ends_refresh r own o p;
     keep_answer = λ from view rec stored r c e f g. none _ refl refl;
-    ask_again = λ view r o e q v p. alike o _ refl refl p;
     grant_read = λ from txn view number rec stored c e n v f. none _ refl (with_part-doubts txn view);
     grant_write = λ from txn view number rec stored c e n v f. none _ refl (with_part-doubts txn view);
     vote_reading = λ from txn view number reads writes part c e n d f v a w. none _ refl refl;
@@ -185,11 +185,9 @@ module _ (catalogue : Catalogue) (x : SiteState) (given : Input) where
       close = λ t why l q a z y h. ends t why false l _ (close-ends x.id t why l) h;
       mark_calls = λ l c z h. alike (put_back (begin_step x) l) _ refl refl h;
       acknowledge = λ from txn c w. more (begin_step x) _ (entry.Acked txn from) refl refl refl starts;
-      answer_inquiry = λ from txn c s n. none _ refl refl;
     };
     answers_inviting = λ port c s h. alike _ _ refl refl h;
     resend_one = λ d o c q h. alike o _ refl refl h;
-    inquire = λ o c h. alike o _ refl refl h;
   }
 
 pub doubts-step : (catalogue : Catalogue) (x : SiteState) (given : Input) → DoubtsStay x (step catalogue x given)

@@ -257,7 +257,6 @@ module _ (catalogue : Catalogue) (x : SiteState) (given : Input) (none : (port :
     close = λ t why l n a z y r. close_done x.id t why l r;
     mark_calls = λ l c z r. r;
     acknowledge = λ from txn c w. refl;
-    answer_inquiry = λ from txn c s n. refl;
   }
     where
       by_call : {words : Answer} {port : ℕ} → Says catalogue x given port words → ⊥
@@ -279,6 +278,7 @@ module _ (catalogue : Catalogue) (x : SiteState) (given : Input) (none : (port :
   unfolding on_accept on_stale grant drop_view start_inviting accept hold fix ask_again start_refresh resend_one inquire
   table = record {
     tells = λ from m t. refl;
+    asks_again = λ o ms all p. p;
     drop_view = λ l e z p. p;
     start_inviting = λ o s left p. p;
     accept = λ from id o c e left p. p;
@@ -293,7 +293,6 @@ module _ (catalogue : Catalogue) (x : SiteState) (given : Input) (none : (port :
     start_refresh = λ view rec o e a h p. p;
     end_refresh = λ rec r own o e a d v p. ends_refresh r own o p;
     keep_answer = λ from view rec stored r c e f g. refl;
-    ask_again = λ view r o e h v p. p;
     grant_read = λ from txn view number rec stored c e n v f. refl;
     grant_write = λ from txn view number rec stored c e n v f. refl;
     vote_reading = λ from txn view number reads writes part c e n d f v a w. refl;
@@ -301,7 +300,6 @@ module _ (catalogue : Catalogue) (x : SiteState) (given : Input) (none : (port :
     end_here = λ from txn commit c. ends_here from txn commit (doubt_of txn x.doubts);
     coordinator = moves;
     resend_one = λ d o c h p. p;
-    inquire = λ o c p. p;
   }
 
   no_refusal : Done (step catalogue x given).effects.replies
