@@ -1,11 +1,10 @@
 -- Whom a step sends to: sites of the catalogue, where all are that the site knows of.
-use Rattle.std.proofs.Common.{◌≡◌, ◌∙◌, ap, sym, subst, ℕ, Bool, true, false, cond, List, [], ◌∷◌, ◌++◌, map, refl, arith, ⊎_elim, append-nil}
+use Rattle.std.proofs.Common.{◌≡◌, ◌∙◌, ap, sym, subst, ℕ, Bool, true, false, cond, List, [], ◌∷◌, ◌++◌, refl, arith, ⊎_elim, append-nil}
 use Rattle.std.specs.Prelude.{Option, Some, None, not, ◌==◌, filter}
 use Rattle.vp_catalog.specs.Document.{IsCatalogue}
 use Rattle.vp_model.specs.Types.{ViewId, TxnId, View, Stored, Message, Sent, Input, Refreshing, Pending, Live, Ending, Doubt, Decision}
 use Rattle.vp_base.specs.declared.site.Ending.TheVariants.{Committed}
 use Rattle.vp_model.specs.Types.message
-use Rattle.vp_model.specs.Types.obstacle
 use Rattle.vp_model.specs.Words.{same_txn, txn_before, is_empty}
 use Rattle.vp_model.specs.Catalogue.{Catalogue, sites_of}
 use Rattle.vp_model.specs.Durable.{doubt_of, put_decision, with_decision, acknowledged}
@@ -14,9 +13,8 @@ use Rattle.vp_model.specs.Transactions.{last_changes, entry_of, writes_held, wri
 use Rattle.vp_model.specs.Refresh.{newest, take_newer, unlist, end_refresh, start_refresh, other_holders, unanswered}
 use Rattle.vp_model.specs.Views.{other_sites, drop_view, start_inviting, hold}
 use Rattle.vp_model.specs.Calls.{start_txn, take_lock, read_at, write_at, prepare_parts, prepare_for}
-use Rattle.vp_model.specs.Answers.{is_decided}
-use Rattle.vp_model.specs.Messages.{held_id, accept, on_accept, on_stale, grant, end_here}
-use Rattle.vp_model.specs.Step.{step, fix, probe_all, mark_calls, ask_again, resend_one, known, inquire}
+use Rattle.vp_model.specs.Messages.{accept, on_accept, on_stale, grant, end_here}
+use Rattle.vp_model.specs.Step.{step, fix, probe_all, mark_calls, resend_one}
 use Rattle.vp_laws.proofs.Lists.Members.{Has, has_none, has_one_is, has_cases, filter_has, map_has}
 use Rattle.vp_laws.proofs.Lists.Changes.{put_has}
 use Rattle.vp_laws.proofs.Moves.Frames.{Ends, close-ends, decided-ends, decide-cases}
