@@ -1,14 +1,12 @@
 -- What speaks of a site's own transactions and of what is sent for them alone is kept by all moves but the coordinator's.
-use Rattle.std.proofs.Common.{◌≡◌, ◌∙◌, ap, sym, subst, ℕ, Bool, true, false, cond, List, [], ◌∷◌, ◌++◌, refl}
+use Rattle.std.proofs.Common.{◌≡◌, ◌∙◌, ap, sym, subst, ℕ, Bool, true, false, List, [], ◌∷◌, ◌++◌, refl}
 use Rattle.std.specs.Prelude.{Option, Some, None, ◌==◌, not, filter}
 use Rattle.vp_model.specs.Types.{TxnId, Stored, Message, Sent, Commit, Input, Refreshing, Doubt, Decision}
-use Rattle.vp_model.specs.Types.entry
 use Rattle.vp_model.specs.Types.input
 use Rattle.vp_model.specs.Types.message
-use Rattle.vp_model.specs.Words.{replace_at, view_before}
 use Rattle.vp_model.specs.Catalogue.{Catalogue}
 use Rattle.vp_model.specs.Durable.{doubt_of}
-use Rattle.vp_model.specs.Site.{CoordinatorState, SiteState, Lent, Stepped, begin_step, lent, put_back, letters, force, change_copies}
+use Rattle.vp_model.specs.Site.{CoordinatorState, SiteState, Lent, Stepped, begin_step, lent, put_back, letters}
 use Rattle.vp_model.specs.Refresh.{newest, take_newer, unlist, end_refresh, start_refresh, other_holders}
 use Rattle.vp_model.specs.Views.{other_sites, drop_view, start_inviting, hold}
 use Rattle.vp_model.specs.Messages.{accept, on_accept, on_stale, grant, end_here}
@@ -16,6 +14,7 @@ use Rattle.vp_model.specs.Step.{fix, ask_again, resend_one}
 use Rattle.vp_laws.proofs.Lists.Members.{Has, has_one_is, map_has}
 use Rattle.vp_laws.proofs.Moves.Table.{next_view, OfCoordinator, Back, Tells, Table, AsksAgain}
 use Rattle.vp_laws.proofs.Moves.LocalViews.{letter}
+use Rattle.vp_laws.proofs.Moves.Frames.{take-cases}
 
 -- a message that no coordinator sends for a transaction of its own
 abbrev pub is_aside : Message → Bool
@@ -79,17 +78,9 @@ module _ (catalogue : Catalogue) (x : SiteState) (given : Input) (R : Coordinato
   one : (o : Stepped) (to : ℕ) (words : Message) → is_aside words ≡ true → o.site.id ≡ x.id → o.site.coordinator ≡ x.coordinator → o.effects.messages ≡ letter x.id to words ∷ [] → o.effects.commits ≡ [] → P o
   one o to words quiet i c ms cs = more (begin_step x) o (letter x.id to words ∷ []) i c ms cs (letter_aside x to words quiet) only_begins
 
-  takes_newer : (rec : ℕ) (own best : Stored) (o : Stepped) → P o → P (take_newer rec own best o)
-  unfolding take_newer
-  takes_newer rec own best o p = go (view_before own.date best.date)
-    where
-      go : (b : Bool) → P (cond b (force (entry.Copy rec best) (change_copies (replace_at rec best) o)) o)
-      go true = silent o (force (entry.Copy rec best) (change_copies (replace_at rec best) o)) refl refl refl refl p
-      go false = p
-
   ends_refresh : (r : Refreshing) (own : Stored) (o : Stepped) → P o → P (end_refresh catalogue r own o)
   unfolding end_refresh unlist
-  ends_refresh r own o p = silent (take_newer r.rec own (newest own r.answers) o) _ refl refl refl refl (takes_newer r.rec own (newest own r.answers) o p)
+  ends_refresh r own o p = silent (take_newer r.rec own (newest own r.answers) o) _ refl refl refl refl (take-cases P r.rec own (newest own r.answers) o (silent o _ refl refl refl refl p) p)
 
   ends_here : (from : ℕ) (txn : TxnId) (commit : Bool) (doubt : Option Doubt) → P (end_here from txn commit doubt (begin_step x))
   unfolding end_here

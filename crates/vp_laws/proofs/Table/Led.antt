@@ -1,17 +1,16 @@
 -- What a site's own transactions are: named by the site and its life, of the held view, with members of it as parts. A site
 -- without a view has none, and nothing listed. What a step asks of others for them is of the held view, and of its members.
-use Rattle.std.proofs.Common.{◌≡◌, ◌≢◌, ◌⊎◌, ◌∙◌, ap, sym, ℕ, ◌+◌, ◌≤◌, Bool, true, false, cond, List, [], ◌∷◌, ◌++◌, refl, arith, inl, inr, ⊎_elim, append-nil}
+use Rattle.std.proofs.Common.{◌≡◌, ◌≢◌, ◌⊎◌, ◌∙◌, ap, sym, ℕ, ◌+◌, ◌≤◌, Bool, true, false, List, [], ◌∷◌, ◌++◌, refl, arith, inl, inr, ⊎_elim, append-nil}
 use Rattle.std.specs.Prelude.{Option, Some, None, is_some, ◌&&◌, ◌==◌, not, filter}
 use Rattle.vp_model.specs.Types.{ViewId, TxnId, View, Stored, Op, Answer, Message, Sent, Commit, Input, Refreshing, Pending, Live, Ending, Doubt, Decision}
 use Rattle.vp_base.specs.declared.site.Ending.TheVariants.{Committed}
 use Rattle.vp_model.specs.Types.owner
 use Rattle.vp_model.specs.Locks.{without_owner}
-use Rattle.vp_model.specs.Types.entry
 use Rattle.vp_model.specs.Types.message
-use Rattle.vp_model.specs.Words.{same_txn, is_view, view_before, has, for_each, put_number, replace_at}
+use Rattle.vp_model.specs.Words.{same_txn, is_view, has, for_each, put_number}
 use Rattle.vp_model.specs.Catalogue.{Catalogue, holders}
 use Rattle.vp_model.specs.Durable.{doubt_of}
-use Rattle.vp_model.specs.Site.{ViewState, CoordinatorState, ParticipantState, SiteState, Lent, Stepped, begin_step, lent, put_back, letters, force, change_copies}
+use Rattle.vp_model.specs.Site.{ViewState, CoordinatorState, ParticipantState, SiteState, Lent, Stepped, begin_step, lent, put_back, letters}
 use Rattle.vp_model.specs.Transactions.{entry_of, with_finished, close, put_live, decided, keep_writes, complete, wait_for}
 use Rattle.vp_model.specs.Refresh.{members, newest, take_newer, unlist, end_refresh, start_refresh, other_holders}
 use Rattle.vp_model.specs.Views.{other_sites, drop_view, start_inviting, hold}
@@ -20,7 +19,7 @@ use Rattle.vp_model.specs.Messages.{with_ended, with_part, accept, on_accept, on
 use Rattle.vp_model.specs.Step.{step, with_monitor, fix, mark, probe_all, mark_calls, resend_one}
 use Rattle.vp_laws.proofs.Lists.Members.{Has, has_none, has_one_is, has_first, has_more, has_cases, has_from_test, filter_has, map_has, both_true}
 use Rattle.vp_laws.proofs.Lists.Views.{put_only, is_view_is}
-use Rattle.vp_laws.proofs.Moves.Frames.{Ends, close-ends, close-commits, decided-ends, decided-commits, decide-cases}
+use Rattle.vp_laws.proofs.Moves.Frames.{Ends, close-ends, close-commits, decided-ends, decided-commits, decide-cases, take-cases}
 use Rattle.vp_laws.proofs.Lists.Changes.{without_first_has, change_first_has}
 use Rattle.vp_laws.proofs.Moves.Table.{next_view, next_name, lent_at, Left, Handled, Back, Tells, Table, AsksAgain}
 use Rattle.vp_laws.proofs.Moves.Rows.{step-keeps}
@@ -380,18 +379,10 @@ module _ (catalogue : Catalogue) (x : SiteState) (given : Input) (tidy : Tidy x)
       (record { id = refl; life = refl; seq = refl; live = refl; held = refl; ended = λ n q. q; refresh = λ n q. absurd (let z = e in cc); monitor = λ n q. q }) refl refl
       (letters_none o.site.id (λ q. message.RefreshRequest view.id rec) (other_holders catalogue o.site rec) (λ q. refl)) l
 
-  takes_newer : (rec : ℕ) (own best : Stored) (o : Stepped) → Leads x o → Leads x (take_newer rec own best o)
-  unfolding take_newer
-  takes_newer rec own best o l = go (view_before own.date best.date)
-    where
-      go : (b : Bool) → Leads x (cond b (force (entry.Copy rec best) (change_copies (replace_at rec best) o)) o)
-      go true = silent o _ (record { id = refl; life = refl; seq = refl; live = refl; held = refl; ended = λ n q. q; refresh = λ n q. q; monitor = λ n q. q }) refl refl l
-      go false = l
-
   ends_refresh : (r : Refreshing) (own : Stored) (o : Stepped) → Leads x o → Leads x (end_refresh catalogue r own o)
   unfolding end_refresh unlist
   ends_refresh r own o l =
-      silent (take_newer r.rec own (newest own r.answers) o) _ (record { id = refl; life = refl; seq = refl; live = refl; held = refl; ended = λ n q. q; refresh = λ n q. rw q refl; monitor = λ n q. q }) refl refl (takes_newer r.rec own (newest own r.answers) o l)
+      silent (take_newer r.rec own (newest own r.answers) o) _ (record { id = refl; life = refl; seq = refl; live = refl; held = refl; ended = λ n q. q; refresh = λ n q. rw q refl; monitor = λ n q. q }) refl refl (take-cases (Leads x) r.rec own (newest own r.answers) o (silent o _ (record { id = refl; life = refl; seq = refl; live = refl; held = refl; ended = λ n q. q; refresh = λ n q. q; monitor = λ n q. q }) refl refl l) l)
 
   ended_here : (in_view : Bool) (txn : TxnId) (p : ParticipantState) → in_view ≡ false → (with_ended in_view txn p).ended ≡ p.ended
   ended_here true txn p e = cc

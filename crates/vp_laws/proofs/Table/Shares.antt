@@ -2,14 +2,13 @@
 use Rattle.std.proofs.Common.{◌≡◌, ◌≢◌, ◌⊎◌, ◌∙◌, ap, sym, subst, ℕ, Bool, true, false, cond, List, [], ◌∷◌, ◌++◌, refl, inl, inr, ⊎_elim, append-nil}
 use Rattle.std.specs.Prelude.{Option, Some, None, is_some, filter, not, ◌==◌, ◌||◌}
 use Rattle.vp_model.specs.Types.{Change, ViewId, TxnId, Message, Sent, Input, Stored, Part, Refreshing, Live, Doubt}
-use Rattle.vp_model.specs.Types.entry
 use Rattle.vp_model.specs.Types.input
 use Rattle.vp_model.specs.Types.message
-use Rattle.vp_model.specs.Words.{same_txn, txn_before, has_txn, is_empty, value_at, replace_at, view_before}
+use Rattle.vp_model.specs.Words.{same_txn, txn_before, has_txn, is_empty, value_at}
 use Rattle.vp_model.specs.Catalogue.{Catalogue}
 use Rattle.vp_model.specs.Durable.{doubt_of}
 use Rattle.vp_model.specs.Locks.{conflict}
-use Rattle.vp_model.specs.Site.{ParticipantState, SiteState, Lent, Stepped, begin_step, lent, put_back, letters, force, change_copies, send}
+use Rattle.vp_model.specs.Site.{ParticipantState, SiteState, Lent, Stepped, begin_step, lent, put_back, letters, send}
 use Rattle.vp_model.specs.Transactions.{keep_writes, complete}
 use Rattle.vp_model.specs.Refresh.{newest, take_newer, unlist, end_refresh, start_refresh, other_holders, is_doubtful}
 use Rattle.vp_model.specs.Views.{part_of, has_part, has_doubt, other_sites, drop_view, start_inviting, hold}
@@ -19,7 +18,7 @@ use Rattle.vp_model.specs.Step.{fix, mark_calls, ask_again, resend_one, step}
 use Rattle.vp_laws.proofs.Lists.Members.{Has, has_none, has_one_is, has_cases, map_has, filter_has, filter_keeps, find_has, find_true, any_true, any_false}
 use Rattle.vp_laws.proofs.Lists.Changes.{put_has, put_new, put_old}
 use Rattle.vp_model.proofs.SameTxn.{same_txn-is, same_txn-turned, same_txn-clash}
-use Rattle.vp_laws.proofs.Moves.Frames.{close-ends, decided-ends, decide-cases}
+use Rattle.vp_laws.proofs.Moves.Frames.{close-ends, decided-ends, decide-cases, take-cases}
 use Rattle.vp_laws.proofs.Moves.Table.{Comes, Closed, next_view, lent_at, Requests, Back, Tells, Table, AsksAgain}
 use Rattle.vp_laws.proofs.Moves.Rows.{step-keeps}
 use Rattle.vp_laws.proofs.Moves.LocalViews.{letter}
@@ -142,17 +141,9 @@ module _ (catalogue : Catalogue) (x : SiteState) (given : Input) where
     replies = λ m h. subst (λ (m : Sent). ReplyTo x given o.site.participant m) (has_one_is (letter x.id to words) m (rw ms at h)) (subst (λ (p : ParticipantState). ReplyTo x given p (letter x.id to words)) (sym same) reply);
   }
 
-  takes_newer : (rec : ℕ) (own best : Stored) (o : Stepped) → P o → P (take_newer rec own best o)
-  unfolding take_newer
-  takes_newer rec own best o l = go (view_before own.date best.date)
-    where
-      go : (b : Bool) → P (cond b (force (entry.Copy rec best) (change_copies (replace_at rec best) o)) o)
-      go true = silent o (force (entry.Copy rec best) (change_copies (replace_at rec best) o)) refl refl refl l
-      go false = l
-
   ends_refresh : (r : Refreshing) (own : Stored) (o : Stepped) → P o → P (end_refresh catalogue r own o)
   unfolding end_refresh unlist
-  ends_refresh r own o l = silent (take_newer r.rec own (newest own r.answers) o) _ refl refl refl (takes_newer r.rec own (newest own r.answers) o l)
+  ends_refresh r own o l = silent (take_newer r.rec own (newest own r.answers) o) _ refl refl refl (take-cases P r.rec own (newest own r.answers) o (silent o _ refl refl refl l) l)
 
   part_there : (txn : TxnId) (part : Part) → part_of txn x.parts ≡ Some part → Has x.parts part
   part_there txn part e = find_has (λ (p : Part). same_txn p.txn txn) x.parts part e

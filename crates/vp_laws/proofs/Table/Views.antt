@@ -1,24 +1,23 @@
 -- The small moves keep what a step tells of views.
-use Rattle.std.proofs.Common.{◌≡◌, ◌⊎◌, ◌∙◌, ap, sym, ℕ, Bool, true, false, List, [], ◌∷◌, refl, arith, inl, inr, ⊎_elim, cond}
+use Rattle.std.proofs.Common.{◌≡◌, ◌⊎◌, ◌∙◌, ap, sym, ℕ, Bool, true, false, List, [], ◌∷◌, refl, arith, inl, inr, ⊎_elim}
 use Rattle.std.specs.Prelude.{Option, Some, None, ◌&&◌, ◌==◌, not, option_map, filter}
 use Rattle.vp_model.specs.Types.{ViewId, TxnId, View, Stored, Message, Sent, Input, Refreshing, Pending, Live, Ending, Doubt, Decision}
 use Rattle.vp_base.specs.declared.site.Ending.TheVariants.{Committed}
 use Rattle.vp_model.specs.Types.input
 use Rattle.vp_model.specs.Types.message
-use Rattle.vp_model.specs.Words.{replace_at, view_before, is_view, has, put_number, same_view}
+use Rattle.vp_model.specs.Words.{view_before, is_view, has, put_number, same_view}
 use Rattle.vp_model.specs.Catalogue.{Catalogue}
 use Rattle.vp_model.specs.Durable.{doubt_of}
-use Rattle.vp_model.specs.Site.{ViewState, change_views, force, change_copies, SiteState, Lent, Stepped, begin_step, lent, put_back, letters}
+use Rattle.vp_model.specs.Site.{ViewState, change_views, SiteState, Lent, Stepped, begin_step, lent, put_back, letters}
 use Rattle.vp_model.specs.Transactions.{decide, keep_writes, complete}
-use Rattle.vp_model.specs.Refresh.{newest, take_newer, unlist, end_refresh, start_refresh, other_holders}
+use Rattle.vp_model.specs.Refresh.{newest, unlist, end_refresh, start_refresh, other_holders}
 use Rattle.vp_model.specs.Views.{with_invitation, is_spent, other_sites, drop_view, start_inviting, hold}
 use Rattle.vp_model.specs.Calls.{start_txn, take_lock, read_at, write_at, prepare_parts, prepare_for}
 use Rattle.vp_model.specs.Messages.{with_wait, accept, on_accept, with_acceptance, on_stale, with_heard, grant, end_here}
 use Rattle.vp_model.specs.Step.{with_monitor, step, fix, without_wait, probe_all, mark_calls, resend_one}
 use Rattle.vp_laws.proofs.Lists.Members.{Has, has_none, has_one, has_one_is, has_cases, has_from_test, map_has, both_true}
 use Rattle.vp_laws.proofs.Lists.Views.{AtMost, Precedes, AtMost-refl, AtMost-same, Precedes-at_most, from_before, same_is, is_view_is, put_keeps, put_only}
-use Rattle.vp_laws.proofs.Moves.Frames.{Ends, close-ends, decided-ends, decide-cases}
-use Rattle.vp_model.specs.Types.entry
+use Rattle.vp_laws.proofs.Moves.Frames.{Ends, close-ends, decided-ends, decide-cases, take-cases}
 use Rattle.vp_laws.proofs.Moves.Rows.{step-keeps}
 use Rattle.vp_laws.proofs.Moves.Table.{Comes, next_view, lent_at, Left, Back, Tells, Table, AsksAgain}
 use Rattle.vp_laws.proofs.Moves.LocalViews.{letter, Tidy, MaySend, Local, IsNew, is_quiet, quiet-may, beside, silent, letters_quiet, letter_quiet, may_rise}
@@ -272,17 +271,9 @@ module _ (catalogue : Catalogue) (x : SiteState) (given : Input) (tidy : Tidy x)
   starts_refresh view rec o l =
       beside x given o _ _ refl refl refl (letters_quiet x given o.site.id (λ q. message.RefreshRequest view.id rec) (other_holders catalogue o.site rec) (λ q. refl)) l
 
-  takes_newer : (rec : ℕ) (own best : Stored) (o : Stepped) → Local x given o → Local x given (take_newer rec own best o)
-  unfolding take_newer
-  takes_newer rec own best o l = go (view_before own.date best.date)
-    where
-      go : (b : Bool) → Local x given (cond b (force (entry.Copy rec best) (change_copies (replace_at rec best) o)) o)
-      go true = silent x given o _ refl refl refl l
-      go false = l
-
   ends_refresh : (r : Refreshing) (own : Stored) (o : Stepped) → Local x given o → Local x given (end_refresh catalogue r own o)
   unfolding end_refresh unlist
-  ends_refresh r own o l = silent x given _ _ refl refl refl (takes_newer r.rec own (newest own r.answers) o l)
+  ends_refresh r own o l = silent x given _ _ refl refl refl (take-cases (Local x given) r.rec own (newest own r.answers) o (silent x given o _ refl refl refl l) l)
 
   ends_here : (from : ℕ) (txn : TxnId) (commit : Bool) (doubt : Option Doubt) → Local x given (end_here from txn commit doubt (begin_step x))
   unfolding end_here
