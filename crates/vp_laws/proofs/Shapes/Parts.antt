@@ -12,11 +12,11 @@ use Rattle.vp_model.specs.Types.{Change, ViewId, TxnId, View, Stored, Message, I
 use Rattle.vp_model.specs.Types.entry
 use Rattle.vp_model.specs.Types.message
 use Rattle.vp_model.specs.Types.owner
-use Rattle.vp_model.specs.Words.{same_txn, txn_before, keys, view_before, value_at, replace_at, put}
+use Rattle.vp_model.specs.Words.{same_txn, txn_before, keys, value_at, replace_at, put}
 use Rattle.vp_model.specs.Catalogue.{Catalogue}
 use Rattle.vp_model.specs.Durable.{doubt_of, with_outcome}
 use Rattle.vp_model.specs.Locks.{with_lock, without_owner, with_guard, without_guard}
-use Rattle.vp_model.specs.Site.{SiteState, ParticipantState, Stepped, begin_step, force, send, change_locks, change_copies, change_participant, change_refresh, with_sent}
+use Rattle.vp_model.specs.Site.{SiteState, ParticipantState, Stepped, begin_step, force, send, change_locks, change_participant, change_refresh, with_sent}
 use Rattle.vp_model.specs.Refresh.{other_holders, refreshing_of, unanswered, newest, take_newer, unlist, end_refresh, start_refresh}
 use Rattle.vp_model.specs.Views.{part_of}
 use Rattle.vp_model.specs.Messages.{put_part, with_part, grant, with_vote, with_new_doubt, with_ended, acknowledge, end_here, with_answer}
@@ -31,6 +31,7 @@ use Rattle.vp_laws.proofs.Shapes.Catalogue.{others_ascend, held_is}
 use Rattle.vp_laws.proofs.Shapes.Moves.{Forms, gives_entry, gives_sent, with_gives, with_locks, with_copies, with_participant, with_refresh, some_at, with_lock_is, conflict_is, replace_is, writes_are, copy_is, newest_is, answer_is, doubt_is, known_are}
 use Rattle.vp_laws.proofs.Shapes.Views.{came_is, starts, sends, sends_all}
 use Rattle.vp_laws.proofs.Lists.Keeps.{by_test}
+use Rattle.vp_laws.proofs.Moves.Frames.{take-cases}
 
 module _ (catalogue : Catalogue) (k : IsCatalogue catalogue) (x : SiteState) (sx : IsShaped catalogue x) (given : Input) (came : IsInput given) where
   abbrev F : Stepped → Type 0
@@ -55,10 +56,9 @@ module _ (catalogue : Catalogue) (k : IsCatalogue catalogue) (x : SiteState) (sx
       sends_all catalogue k x sx given came (message.RefreshRequest view.id rec) (other_holders catalogue o.site rec) _ b (each_site _ (others_ascend catalogue k o.site.id o.site.held rec)) (v, r)
 
   takes_newer : (rec : ℕ) (own best : Stored) (o : Stepped) → IsRecord rec → IsStored best → F o → F (take_newer rec own best o)
-  unfolding take_newer
   takes_newer rec own best o r i p =
       let a = with_copies catalogue x o p (replace_at rec best) (replace_is catalogue o.site.id rec best o.site.here.copies i p.site_is.copies_are) in
-      by_test F (view_before own.date best.date) (force (entry.Copy rec best) (change_copies (replace_at rec best) o)) o (λ e. with_gives catalogue x _ a _ (gives_entry x.id _ a.gives (entry.Copy rec best) (r, i.0, i.1))) (λ e. p)
+      take-cases F rec own best o (with_gives catalogue x _ a _ (gives_entry x.id _ a.gives (entry.Copy rec best) (r, i.0, i.1))) p
 
   pub ends_refresh : (rec : ℕ) (r : Refreshing) (own : Stored) (o : Stepped) → refreshing_of rec o.site.refresh ≡ Some r → value_at r.rec o.site.copies ≡ Some own → F o → F (end_refresh catalogue r own o)
   unfolding end_refresh unlist

@@ -8,7 +8,7 @@ use Rattle.vp_model.specs.Types.message
 use Rattle.vp_model.specs.Words.{same_txn, txn_before, value_at, put_at, view_before, is_view, replace_at}
 use Rattle.vp_model.specs.Catalogue.{Catalogue}
 use Rattle.vp_model.specs.Durable.{doubt_of, with_writes}
-use Rattle.vp_model.specs.Site.{Here, ViewState, ParticipantState, send, change_participant, change_refresh, SiteState, Lent, Stepped, begin_step, lent, put_back, letters, force, change_copies}
+use Rattle.vp_model.specs.Site.{Here, ViewState, ParticipantState, send, change_participant, change_refresh, SiteState, Lent, Stepped, begin_step, lent, put_back, letters, force}
 use Rattle.vp_model.specs.Transactions.{last_changes, entry_of, keep_writes, complete, writes_held}
 use Rattle.vp_model.specs.Refresh.{refreshing_of, newest, take_newer, unlist, end_refresh, start_refresh, other_holders}
 use Rattle.vp_model.specs.Views.{part_of, has_part, has_doubt, other_sites, drop_view, start_inviting, hold}
@@ -18,7 +18,7 @@ use Rattle.vp_model.specs.Step.{step, with_monitor, fix, without_wait, probe_all
 use Rattle.vp_laws.proofs.Lists.Members.{Has, has_none, has_one_is, has_cases, filter_has, find_has, map_has, both_true}
 use Rattle.vp_laws.proofs.Lists.Views.{AtMost, AtMost-same, AtMost-trans, AtMost-along, Precedes-at_most, from_before, is_view_is, same_is}
 use Rattle.vp_laws.proofs.Lists.Changes.{put_has, replace_has, writes_has, value_has, newest_at_most}
-use Rattle.vp_laws.proofs.Moves.Frames.{Ends, close-ends, decided-ends, decide-cases}
+use Rattle.vp_laws.proofs.Moves.Frames.{Ends, close-ends, decided-ends, decide-cases, take-cases}
 use Rattle.vp_laws.proofs.Moves.Table.{Comes, next_view, lent_at, Left, Asks, Handled, Back, Tells, Table, AsksAgain}
 use Rattle.vp_laws.proofs.Moves.Rows.{step-keeps}
 use Rattle.vp_laws.proofs.Moves.LocalViews.{letter, Tidy}
@@ -221,8 +221,7 @@ module _ (catalogue : Catalogue) (x : SiteState) (given : Input) (tidy : Tidy x)
       refl (letters_undated o.site.id (λ q. message.RefreshRequest view.id rec) (other_holders catalogue o.site rec) (λ q. refl)) l
 
   takes_newer : (rec : ℕ) (own best : Stored) (o : Stepped) → AtMost best.date o.site.promise → Lies x o → Lies x (take_newer rec own best o)
-  unfolding take_newer
-  takes_newer rec own best o up l = go (view_before own.date best.date)
+  takes_newer rec own best o up l = take-cases (Lies x) rec own best o (record { id = l.id; below = newer; sent = l.sent }) l
     where
       newer : Below (record o.site { here = record o.site.here { copies = replace_at rec best o.site.here.copies } })
       newer = record {
@@ -231,10 +230,6 @@ module _ (catalogue : Catalogue) (x : SiteState) (given : Input) (tidy : Tidy x)
         copies = λ c h. ⊎_elim (λ (e : c.1 ≡ best). rw e up) (λ old. l.below.copies c old) (replace_has rec best o.site.here.copies c h);
         answers = l.below.answers;
       }
-
-      go : (b : Bool) → Lies x (cond b (force (entry.Copy rec best) (change_copies (replace_at rec best) o)) o)
-      go true = record { id = l.id; below = newer; sent = l.sent }
-      go false = l
 
   ends_refresh : (rec : ℕ) (r : Refreshing) (own : Stored) (o : Stepped) → refreshing_of rec o.site.refresh ≡ Some r → value_at r.rec o.site.copies ≡ Some own → Lies x o → Lies x (end_refresh catalogue r own o)
   unfolding end_refresh unlist take_newer

@@ -12,7 +12,7 @@ use Rattle.vp_model.specs.Words.{has_txn, same_owner, owner_before, for_each, pu
 use Rattle.vp_model.specs.Catalogue.{Catalogue}
 use Rattle.vp_model.specs.Durable.{doubt_of, put_decision, with_decision, acknowledged, with_writes}
 use Rattle.vp_model.specs.Locks.{raised, holds, with_lock, without_owner, lesser, least_owner, conflicting, conflict}
-use Rattle.vp_model.specs.Site.{Here, ViewState, CoordinatorState, ParticipantState, send, change_participant, change_refresh, SiteState, Lent, Stepped, begin_step, lent, put_back, letters, force, change_copies}
+use Rattle.vp_model.specs.Site.{Here, ViewState, CoordinatorState, ParticipantState, send, change_participant, change_refresh, SiteState, Lent, Stepped, begin_step, lent, put_back, letters, force}
 use Rattle.vp_model.specs.Transactions.{last_changes, entry_of, writing_parts, keep_writes, complete, writes_held}
 use Rattle.vp_model.specs.Refresh.{newer, refreshing_of, newest, take_newer, unlist, end_refresh, start_refresh, other_holders}
 use Rattle.vp_model.specs.Views.{outlasts, with_view, part_of, has_part, has_doubt, other_sites, drop_view, start_inviting, hold}
@@ -23,7 +23,7 @@ use Rattle.vp_model.specs.Step.{step, with_monitor, fix, without_wait, probe_all
 use Rattle.vp_laws.proofs.Lists.Members.{Has, has_first, has_more, has_none, has_one_is, has_cases, filter_has, find_has, map_has, both_true}
 use Rattle.vp_laws.proofs.Lists.Views.{is_view_is, same_is}
 use Rattle.vp_laws.proofs.Lists.Changes.{put_has, replace_has, writes_has, value_has}
-use Rattle.vp_laws.proofs.Moves.Frames.{Ends, close-ends, decided-ends, decide-cases}
+use Rattle.vp_laws.proofs.Moves.Frames.{Ends, close-ends, decided-ends, decide-cases, take-cases}
 use Rattle.vp_laws.proofs.Moves.Table.{Comes, next_view, lent_at, Requests, Asks, Handled, Back, Tells, Table, AsksAgain}
 use Rattle.vp_laws.proofs.Moves.Rows.{step-keeps}
 use Rattle.vp_laws.proofs.Moves.LocalViews.{letter, Tidy}
@@ -314,8 +314,7 @@ module _ (N : TxnId → Type 0) (A : ViewId → Type 0) where
         go false = h
 
     takes_newer : (rec : ℕ) (own best : Stored) (o : Stepped) → A best.date → Calls o → Calls (take_newer rec own best o)
-    unfolding take_newer
-    takes_newer rec own best o up l = go (view_before own.date best.date)
+    takes_newer rec own best o up l = take-cases Calls rec own best o (record { names = taken; sent = l.sent }) l
       where
         taken : Names (record o.site { here = record o.site.here { copies = replace_at rec best o.site.here.copies } })
         taken = record {
@@ -328,10 +327,6 @@ module _ (N : TxnId → Type 0) (A : ViewId → Type 0) where
           copies = λ c h. ⊎_elim (λ (e : c.1 ≡ best). subst A (sym (ap (λ (s : Stored). s.date) e)) up) (λ old. l.names.copies c old) (replace_has rec best o.site.here.copies c h);
           answers = l.names.answers;
         }
-
-        go : (b : Bool) → Calls (cond b (force (entry.Copy rec best) (change_copies (replace_at rec best) o)) o)
-        go true = record { names = taken; sent = l.sent }
-        go false = l
 
     ends_refresh : (rec : ℕ) (r : Refreshing) (own : Stored) (o : Stepped) → refreshing_of rec o.site.refresh ≡ Some r → value_at r.rec o.site.copies ≡ Some own → Calls o → Calls (end_refresh catalogue r own o)
     unfolding end_refresh unlist
