@@ -18,7 +18,7 @@ use Rattle.vp_model.specs.Step.{step, fix, probe_all, mark_calls, resend_one}
 use Rattle.vp_laws.proofs.Lists.Members.{Has, has_none, has_one_is, has_cases, filter_has, map_has}
 use Rattle.vp_laws.proofs.Lists.Changes.{put_has}
 use Rattle.vp_laws.proofs.Moves.Frames.{Ends, close-ends, decided-ends, decide-cases}
-use Rattle.vp_laws.proofs.Moves.Table.{Comes, next_view, lent_at, tells_came, Handled, Back, Table, AsksAgain}
+use Rattle.vp_laws.proofs.Moves.Table.{Comes, next_view, lent_at, sent_back_for, Handled, Back, Table, AsksAgain}
 use Rattle.vp_laws.proofs.Moves.Rows.{step-keeps}
 use Rattle.vp_laws.proofs.Moves.LocalViews.{letter, Tidy}
 use Rattle.vp_laws.proofs.Table.Led.{Led}
@@ -196,7 +196,7 @@ module _ (catalogue : Catalogue) (k : IsCatalogue catalogue) where
     table : Table catalogue x given Routed
     unfolding on_accept on_stale start_txn read_at prepare_parts complete mark_calls hold
     table = record {
-      tells = λ from m t. (calls.tells from m t, one _ from m (let q = tells_came x given from m t in from_is from q.0 q.1) refl refl);
+      sends_back = λ from m t. (calls.sends_back from m t, one _ from m (let q = sent_back_for x given from m t in from_is from q.0 q.1) refl refl);
       asks_again = λ o ms all p. (calls.asks_again o ms all p.0, more o _ ms refl refl (λ m h. again_goes o p.0.names m.to m.message (all m h).1) p.1);
       drop_view = λ l e z p. (calls.drop_view l e z p.0, drops (put_back (begin_step x) l) p.1);
       start_inviting = λ o s left l. (calls.start_inviting o s left l.0, invites o l.1);

@@ -26,7 +26,7 @@ use Rattle.vp_laws.proofs.Moves.Frames.{close-commits, close-ends}
 use Rattle.vp_laws.proofs.Lists.Changes.{without_first_has}
 use Rattle.vp_laws.proofs.Moves.LocalViews.{letter}
 use Rattle.vp_laws.specs.Votes.{is_commit}
-use Rattle.vp_laws.proofs.Moves.Table.{Closed, Comes, Handled, IsNext, Reads, Writes, Counts, remaining, IsLast, Locked, Completes, Decides, Replies, IsCallOf, Names, Says, Closes, is_abort, lent_at, OfCoordinator, Tells}
+use Rattle.vp_laws.proofs.Moves.Table.{Closed, Comes, Handled, IsNext, Reads, Writes, Counts, remaining, IsLast, Locked, Completes, Decides, Replies, IsCallOf, Names, Says, Closes, is_abort, lent_at, OfCoordinator, SendsBack}
 use Rattle.vp_laws.proofs.Lists.Keeps.{by_option, by_some, by_test}
 use Rattle.vp_model.proofs.SameTxn.{same_txn-is}
 
@@ -276,18 +276,18 @@ module _ (catalogue : Catalogue) (x : SiteState) (given : Input) (Q : Lent → T
   unfolding on_ack
   on_ack-kept from txn c = by_test Q _ _ _ (λ e. k.acknowledge from txn c e) (λ e. h)
 
-  on_inquire-kept : (from : ℕ) (txn : TxnId) → Comes given from (message.Inquire txn) → ((m : Message) → Tells x given from m → Q (lent_send x.id m from (lent_at x))) → Q (on_inquire x.id from txn (lent_at x))
+  on_inquire-kept : (from : ℕ) (txn : TxnId) → Comes given from (message.Inquire txn) → ((m : Message) → SendsBack x given from m → Q (lent_send x.id m from (lent_at x))) → Q (on_inquire x.id from txn (lent_at x))
   unfolding on_inquire
-  on_inquire-kept from txn c tells =
-      let answered = λ (s : (txn.site == x.id) ≡ true) (n : is_live txn x.live ≡ false). tells _ (Tells.answer_inquiry txn c s n) in
+  on_inquire-kept from txn c back =
+      let answered = λ (s : (txn.site == x.id) ≡ true) (n : is_live txn x.live ≡ false). back _ (SendsBack.answer_inquiry txn c s n) in
       grind (arith, nat_tests, answered, h)
 
-  pub on_answer-kept : (from : ℕ) (m : Message) → Comes given from m → ((m : Message) → Tells x given from m → Q (lent_send x.id m from (lent_at x))) → Q (on_answer catalogue x.id from m (lent_at x))
+  pub on_answer-kept : (from : ℕ) (m : Message) → Comes given from m → ((m : Message) → SendsBack x given from m → Q (lent_send x.id m from (lent_at x))) → Q (on_answer catalogue x.id from m (lent_at x))
   unfolding on_answer
-  on_answer-kept from (message.ReadAnswer txn number value) c tells = on_read_answer-kept from txn number value c
-  on_answer-kept from (message.WriteAnswer txn number) c tells = on_write_answer-kept from txn number c
-  on_answer-kept from (message.Refuse txn number why) c tells = on_refuse-kept from txn number why c
-  on_answer-kept from (message.Vote txn) c tells = on_vote-kept from txn c
-  on_answer-kept from (message.Ack txn) c tells = on_ack-kept from txn c
-  on_answer-kept from (message.Inquire txn) c tells = on_inquire-kept from txn c tells
-  on_answer-kept from m c tells = h
+  on_answer-kept from (message.ReadAnswer txn number value) c back = on_read_answer-kept from txn number value c
+  on_answer-kept from (message.WriteAnswer txn number) c back = on_write_answer-kept from txn number c
+  on_answer-kept from (message.Refuse txn number why) c back = on_refuse-kept from txn number why c
+  on_answer-kept from (message.Vote txn) c back = on_vote-kept from txn c
+  on_answer-kept from (message.Ack txn) c back = on_ack-kept from txn c
+  on_answer-kept from (message.Inquire txn) c back = on_inquire-kept from txn c back
+  on_answer-kept from m c back = h

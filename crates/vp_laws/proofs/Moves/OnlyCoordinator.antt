@@ -12,7 +12,7 @@ use Rattle.vp_model.specs.Views.{other_sites, drop_view, start_inviting, hold}
 use Rattle.vp_model.specs.Messages.{accept, on_accept, on_stale, grant, end_here}
 use Rattle.vp_model.specs.Step.{fix, ask_again, resend_one}
 use Rattle.vp_laws.proofs.Lists.Members.{Has, has_one_is, map_has}
-use Rattle.vp_laws.proofs.Moves.Table.{next_view, OfCoordinator, Back, Tells, Table, AsksAgain}
+use Rattle.vp_laws.proofs.Moves.Table.{next_view, OfCoordinator, Back, SendsBack, Table, AsksAgain}
 use Rattle.vp_laws.proofs.Moves.LocalViews.{letter}
 use Rattle.vp_laws.proofs.Moves.Frames.{take-cases}
 
@@ -53,7 +53,7 @@ module _ (catalogue : Catalogue) (x : SiteState) (given : Input) (R : Coordinato
     pub aside : (c : CoordinatorState) (ms more : List Sent) (cs : List Commit) → ((m : Sent) → Has more m → Aside x m) → R c ms cs → R c (ms ++ more) cs
     pub starts : R x.coordinator [] []
     pub moves : OfCoordinator catalogue x given OnLent
-    pub tells : (from : ℕ) (m : Message) → Tells x given from m → R x.coordinator (letter x.id from m ∷ []) []
+    pub sends_back : (from : ℕ) (m : Message) → SendsBack x given from m → R x.coordinator (letter x.id from m ∷ []) []
     pub resends : (c : CoordinatorState) (d : Decision) (ms : List Sent) (cs : List Commit) → given ≡ input.Tick → Has c.decisions d → R c ms cs → R c (ms ++ letters x.id (λ q. message.Outcome d.txn true) d.waiting) cs
 
 module _ (catalogue : Catalogue) (x : SiteState) (given : Input) (R : CoordinatorState → List Sent → List Commit → Type 0) (k : Keeps catalogue x given R) where
@@ -112,7 +112,7 @@ module _ (catalogue : Catalogue) (x : SiteState) (given : Input) (R : Coordinato
   pub only_table : Table catalogue x given P
   unfolding on_accept on_stale grant drop_view start_inviting accept hold fix ask_again start_refresh
   only_table = record {
-    tells = λ from m t. record { id = refl; kept = k.tells from m t };
+    sends_back = λ from m t. record { id = refl; kept = k.sends_back from m t };
     asks_again = λ o ms all p. more o _ ms refl refl refl refl (λ m h. let q = all m h in record { from = q.0 ∙ p.id; aside = again_aside catalogue x given o m.to m.message q.1 }) p;
     drop_view = λ l e z p. silent (put_back (begin_step x) l) (drop_view (put_back (begin_step x) l)) refl refl refl refl p;
     start_inviting = λ o s left p. many o (start_inviting catalogue (next_view x) o) (λ q. message.Invite (next_view x)) (other_sites catalogue o.site.id) refl refl refl refl (λ q. refl) p;

@@ -21,7 +21,7 @@ use Rattle.vp_model.specs.Step.{fix, without_wait, fix_view, ask_again, ask_agai
 use Rattle.vp_laws.proofs.Lists.Members.{Has, filter_has, has_first, has_more, both_true, map_has}
 use Rattle.vp_laws.proofs.Lists.Views.{is_view_is}
 use Rattle.vp_laws.proofs.Moves.Frames.{close_all-beside, close_all-none}
-use Rattle.vp_laws.proofs.Moves.Table.{Comes, Replies, Says, Left, Joined, Requests, Asks, Tells, lent_at, Back, Table, AsksAgain}
+use Rattle.vp_laws.proofs.Moves.Table.{Comes, Replies, Says, Left, Joined, Requests, Asks, SendsBack, lent_at, Back, Table, AsksAgain}
 use Rattle.vp_laws.proofs.Moves.Coordinator.{abandon-closed, abandon-kept, time_out_calls-kept, own_call-kept, on_answer-kept}
 use Rattle.vp_laws.proofs.Moves.LocalViews.{letter}
 use Rattle.vp_laws.proofs.Lists.Keeps.{by_test}
@@ -60,8 +60,8 @@ module _ (catalogue : Catalogue) (x : SiteState) (given : Input) (P : Stepped �
   on_invite-kept : (from : ℕ) (id : ViewId) → Comes given from (message.Invite id) → P (on_invite from id (begin_step x))
   unfolding on_invite
   on_invite-kept from id c =
-      let stale = λ (e : view_before id x.promise ≡ true). k.tells from _ (Tells.stale id c e) in
-      let again = λ (e : is_view x.waiting id ≡ true). k.tells from _ (Tells.accept_again id c e) in
+      let stale = λ (e : view_before id x.promise ≡ true). k.sends_back from _ (SendsBack.stale id c e) in
+      let again = λ (e : is_view x.waiting id ≡ true). k.sends_back from _ (SendsBack.accept_again id c e) in
       grind (arith, k.accept, stale, again, left, leave-kept, h)
 
   -- refresh
@@ -110,23 +110,23 @@ module _ (catalogue : Catalogue) (x : SiteState) (given : Input) (P : Stepped �
   on_read_request-kept : (from : ℕ) (txn : TxnId) (view : ViewId) (number rec : ℕ) → Comes given from (message.ReadRequest txn view number rec) → P (on_read_request from txn view number rec (begin_step x))
   unfolding on_read_request on_request lock_copy
   on_read_request-kept from txn view number rec c =
-      let refusing = λ (e : holds_view x view ≡ false). k.tells from _ (Tells.refuse_view txn view number (Asks.reads rec c) e) in
-      let locked = λ (holder : Owner) (e : holds_view x view ≡ true) (n : has_txn x.ended txn ≡ false) (f : conflict rec false txn x.locks ≡ Some holder). k.tells from _ (Tells.refuse_lock txn view number rec false holder (Requests.reads c) e n f) in
+      let refusing = λ (e : holds_view x view ≡ false). k.sends_back from _ (SendsBack.refuse_view txn view number (Asks.reads rec c) e) in
+      let locked = λ (holder : Owner) (e : holds_view x view ≡ true) (n : has_txn x.ended txn ≡ false) (f : conflict rec false txn x.locks ≡ Some holder). k.sends_back from _ (SendsBack.refuse_lock txn view number rec false holder (Requests.reads c) e n f) in
       grind (arith, refusing, locked, k.grant_read from txn view number rec, h)
 
   on_write_request-kept : (from : ℕ) (txn : TxnId) (view : ViewId) (number rec : ℕ) → Comes given from (message.WriteRequest txn view number rec) → P (on_write_request from txn view number rec (begin_step x))
   unfolding on_write_request on_request lock_copy
   on_write_request-kept from txn view number rec c =
-      let refusing = λ (e : holds_view x view ≡ false). k.tells from _ (Tells.refuse_view txn view number (Asks.writes rec c) e) in
-      let locked = λ (holder : Owner) (e : holds_view x view ≡ true) (n : has_txn x.ended txn ≡ false) (f : conflict rec true txn x.locks ≡ Some holder). k.tells from _ (Tells.refuse_lock txn view number rec true holder (Requests.writes c) e n f) in
+      let refusing = λ (e : holds_view x view ≡ false). k.sends_back from _ (SendsBack.refuse_view txn view number (Asks.writes rec c) e) in
+      let locked = λ (holder : Owner) (e : holds_view x view ≡ true) (n : has_txn x.ended txn ≡ false) (f : conflict rec true txn x.locks ≡ Some holder). k.sends_back from _ (SendsBack.refuse_lock txn view number rec true holder (Requests.writes c) e n f) in
       grind (arith, refusing, locked, k.grant_write from txn view number rec, h)
 
   on_prepare-kept : (from : ℕ) (txn : TxnId) (view : ViewId) (number : ℕ) (reads : List ℕ) (writes : List (ℕ × Change)) → Comes given from (message.Prepare txn view number reads writes) → P (on_prepare from txn view number reads writes (begin_step x))
   unfolding on_prepare first_vote
   on_prepare-kept from txn view number reads writes c =
-      let refusing = λ (e : holds_view x view ≡ false). k.tells from _ (Tells.refuse_view txn view number (Asks.prepares reads writes c) e) in
-      let doubted = λ (e : holds_view x view ≡ true) (n : has_txn x.ended txn ≡ false) (d : has_doubt txn x.doubts ≡ true). k.tells from _ (Tells.doubt_again txn view number reads writes c e n d) in
-      let voted = λ (part : Part) (e : holds_view x view ≡ true) (n : has_txn x.ended txn ≡ false) (f : part_of txn x.parts ≡ Some part) (v : part.voted ≡ true). k.tells from _ (Tells.vote_again txn view number reads writes part c e n f v) in
+      let refusing = λ (e : holds_view x view ≡ false). k.sends_back from _ (SendsBack.refuse_view txn view number (Asks.prepares reads writes c) e) in
+      let doubted = λ (e : holds_view x view ≡ true) (n : has_txn x.ended txn ≡ false) (d : has_doubt txn x.doubts ≡ true). k.sends_back from _ (SendsBack.doubt_again txn view number reads writes c e n d) in
+      let voted = λ (part : Part) (e : holds_view x view ≡ true) (n : has_txn x.ended txn ≡ false) (f : part_of txn x.parts ≡ Some part) (v : part.voted ≡ true). k.sends_back from _ (SendsBack.vote_again txn view number reads writes part c e n f v) in
       grind (arith, refusing, doubted, voted, k.vote_reading from txn view number reads writes, k.vote_writing from txn view number reads writes, h)
 
   on_outcome-kept : (from : ℕ) (txn : TxnId) (commit : Bool) → Comes given from (message.Outcome txn commit) → P (on_outcome catalogue from txn commit (begin_step x))
@@ -136,7 +136,7 @@ module _ (catalogue : Catalogue) (x : SiteState) (given : Input) (P : Stepped �
   on_refresh_request-kept : (from : ℕ) (view : ViewId) (rec : ℕ) → Comes given from (message.RefreshRequest view rec) → P (on_refresh_request from view rec (begin_step x))
   unfolding on_refresh_request
   on_refresh_request-kept from view rec c =
-      let answered = λ (stored : Stored) (e : holds_view x view ≡ true) (d : is_doubtful x rec ≡ false) (v : value_at rec x.copies ≡ Some stored). k.tells from _ (Tells.answer_refresh view rec stored c e d v) in
+      let answered = λ (stored : Stored) (e : holds_view x view ≡ true) (d : is_doubtful x rec ≡ false) (v : value_at rec x.copies ≡ Some stored). k.sends_back from _ (SendsBack.answer_refresh view rec stored c e d v) in
       grind (arith, answered, h)
 
   on_refresh_answer-kept : (from : ℕ) (view : ViewId) (rec : ℕ) (stored : Stored) → Comes given from (message.RefreshAnswer view rec stored) → P (on_refresh_answer catalogue from view rec stored (begin_step x))
@@ -157,7 +157,7 @@ module _ (catalogue : Catalogue) (x : SiteState) (given : Input) (P : Stepped �
   on_call-kept port (call.Abort txn number) comes = own_call-kept catalogue x given K k.coordinator h port (call.Abort txn number) comes
 
   answered-kept : (from : ℕ) (m : Message) → Comes given from m → P (answered catalogue from m (begin_step x))
-  answered-kept from m c = on_answer-kept catalogue x given K k.coordinator h from m c (k.tells from)
+  answered-kept from m c = on_answer-kept catalogue x given K k.coordinator h from m c (k.sends_back from)
 
   on_message-kept : (from : ℕ) (m : Message) → Comes given from m → P (on_message catalogue from m (begin_step x))
   unfolding on_message

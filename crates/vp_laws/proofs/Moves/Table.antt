@@ -215,16 +215,16 @@ pub record OfCoordinator (catalogue : Catalogue) (x : SiteState) (given : Input)
   pub mark_calls : (l : Lent) → given ≡ input.Tick → Closed x l → Q l → Q (mark_calls l)
   pub acknowledge : (from : ℕ) (txn : TxnId) → Comes given from (message.Ack txn) → waits_for txn from x.decisions ≡ true → Q (lent_coordinator (with_acknowledged txn from) (lent_force (entry.Acked txn from) (lent_at x)))
 
--- a message that only tells the site that sent one how things stand here, which is all that the step does
-pub data Tells (x : SiteState) (given : Input) (from : ℕ) : Message → Type 0 where
-  stale : (id : ViewId) → Comes given from (message.Invite id) → view_before id x.promise ≡ true → Tells x given from (message.Stale id x.promise)
-  accept_again : (id : ViewId) → Comes given from (message.Invite id) → is_view x.waiting id ≡ true → Tells x given from (message.Accept id)
-  answer_refresh : (view : ViewId) (rec : ℕ) (stored : Stored) → Comes given from (message.RefreshRequest view rec) → holds_view x view ≡ true → is_doubtful x rec ≡ false → value_at rec x.copies ≡ Some stored → Tells x given from (message.RefreshAnswer view rec stored)
-  refuse_view : (txn : TxnId) (view : ViewId) (number : ℕ) → Asks given from txn view number → holds_view x view ≡ false → Tells x given from (message.Refuse txn number (obstacle.OtherView (held_id x)))
-  refuse_lock : (txn : TxnId) (view : ViewId) (number rec : ℕ) (exclusive : Bool) (holder : Owner) → Requests given from txn view number rec exclusive → holds_view x view ≡ true → has_txn x.ended txn ≡ false → conflict rec exclusive txn x.locks ≡ Some holder → Tells x given from (message.Refuse txn number (obstacle.Held holder))
-  doubt_again : (txn : TxnId) (view : ViewId) (number : ℕ) (reads : List ℕ) (writes : List (ℕ × Change)) → Comes given from (message.Prepare txn view number reads writes) → holds_view x view ≡ true → has_txn x.ended txn ≡ false → has_doubt txn x.doubts ≡ true → Tells x given from (message.Vote txn)
-  vote_again : (txn : TxnId) (view : ViewId) (number : ℕ) (reads : List ℕ) (writes : List (ℕ × Change)) (part : Part) → Comes given from (message.Prepare txn view number reads writes) → holds_view x view ≡ true → has_txn x.ended txn ≡ false → part_of txn x.parts ≡ Some part → part.voted ≡ true → Tells x given from (message.Vote part.txn)
-  answer_inquiry : (txn : TxnId) → Comes given from (message.Inquire txn) → (txn.site == x.id) ≡ true → is_live txn x.live ≡ false → Tells x given from (message.Outcome txn (is_decided txn x.decisions))
+-- a message that goes back to the site that sent one and tells how things stand here: nothing else is done
+pub data SendsBack (x : SiteState) (given : Input) (from : ℕ) : Message → Type 0 where
+  stale : (id : ViewId) → Comes given from (message.Invite id) → view_before id x.promise ≡ true → SendsBack x given from (message.Stale id x.promise)
+  accept_again : (id : ViewId) → Comes given from (message.Invite id) → is_view x.waiting id ≡ true → SendsBack x given from (message.Accept id)
+  answer_refresh : (view : ViewId) (rec : ℕ) (stored : Stored) → Comes given from (message.RefreshRequest view rec) → holds_view x view ≡ true → is_doubtful x rec ≡ false → value_at rec x.copies ≡ Some stored → SendsBack x given from (message.RefreshAnswer view rec stored)
+  refuse_view : (txn : TxnId) (view : ViewId) (number : ℕ) → Asks given from txn view number → holds_view x view ≡ false → SendsBack x given from (message.Refuse txn number (obstacle.OtherView (held_id x)))
+  refuse_lock : (txn : TxnId) (view : ViewId) (number rec : ℕ) (exclusive : Bool) (holder : Owner) → Requests given from txn view number rec exclusive → holds_view x view ≡ true → has_txn x.ended txn ≡ false → conflict rec exclusive txn x.locks ≡ Some holder → SendsBack x given from (message.Refuse txn number (obstacle.Held holder))
+  doubt_again : (txn : TxnId) (view : ViewId) (number : ℕ) (reads : List ℕ) (writes : List (ℕ × Change)) → Comes given from (message.Prepare txn view number reads writes) → holds_view x view ≡ true → has_txn x.ended txn ≡ false → has_doubt txn x.doubts ≡ true → SendsBack x given from (message.Vote txn)
+  vote_again : (txn : TxnId) (view : ViewId) (number : ℕ) (reads : List ℕ) (writes : List (ℕ × Change)) (part : Part) → Comes given from (message.Prepare txn view number reads writes) → holds_view x view ≡ true → has_txn x.ended txn ≡ false → part_of txn x.parts ≡ Some part → part.voted ≡ true → SendsBack x given from (message.Vote part.txn)
+  answer_inquiry : (txn : TxnId) → Comes given from (message.Inquire txn) → (txn.site == x.id) ≡ true → is_live txn x.live ≡ false → SendsBack x given from (message.Outcome txn (is_decided txn x.decisions))
 
 asks_came : (given : Input) (from : ℕ) (txn : TxnId) (view : ViewId) (number : ℕ) → Asks given from txn view number → (m : Message) × Comes given from m
 asks_came given from txn view number (Asks.reads rec c) = (_, c)
@@ -235,16 +235,16 @@ requests_came : (given : Input) (from : ℕ) (txn : TxnId) (view : ViewId) (numb
 requests_came given from txn view number rec _ (Requests.reads c) = (_, c)
 requests_came given from txn view number rec _ (Requests.writes c) = (_, c)
 
--- what it is sent for
-pub tells_came : (x : SiteState) (given : Input) (from : ℕ) (m : Message) → Tells x given from m → (asked : Message) × Comes given from asked
-tells_came x given from _ (Tells.stale id c e) = (_, c)
-tells_came x given from _ (Tells.accept_again id c e) = (_, c)
-tells_came x given from _ (Tells.answer_refresh view rec stored c e d v) = (_, c)
-tells_came x given from _ (Tells.refuse_view txn view number a e) = asks_came given from txn view number a
-tells_came x given from _ (Tells.refuse_lock txn view number rec exclusive holder r e n c) = requests_came given from txn view number rec exclusive r
-tells_came x given from _ (Tells.doubt_again txn view number rs ws c e n d) = (_, c)
-tells_came x given from _ (Tells.vote_again txn view number rs ws part c e n f v) = (_, c)
-tells_came x given from _ (Tells.answer_inquiry txn c s n) = (_, c)
+-- the message that it answers
+pub sent_back_for : (x : SiteState) (given : Input) (from : ℕ) (m : Message) → SendsBack x given from m → (asked : Message) × Comes given from asked
+sent_back_for x given from _ (SendsBack.stale id c e) = (_, c)
+sent_back_for x given from _ (SendsBack.accept_again id c e) = (_, c)
+sent_back_for x given from _ (SendsBack.answer_refresh view rec stored c e d v) = (_, c)
+sent_back_for x given from _ (SendsBack.refuse_view txn view number a e) = asks_came given from txn view number a
+sent_back_for x given from _ (SendsBack.refuse_lock txn view number rec exclusive holder r e n c) = requests_came given from txn view number rec exclusive r
+sent_back_for x given from _ (SendsBack.doubt_again txn view number rs ws c e n d) = (_, c)
+sent_back_for x given from _ (SendsBack.vote_again txn view number rs ws part c e n f v) = (_, c)
+sent_back_for x given from _ (SendsBack.answer_inquiry txn c s n) = (_, c)
 
 -- a message with which a tick asks the site `to` again, whatever it did before
 pub data AsksAgain (catalogue : Catalogue) (x : SiteState) (given : Input) (o : Stepped) (to : ℕ) : Message → Type 0 where
@@ -257,8 +257,8 @@ Back x P l = P (put_back (begin_step x) l)
 
 -- P speaks of the site and what it has given so far, in a step from x for the input `given`
 pub record Table (catalogue : Catalogue) (x : SiteState) (given : Input) (P : Stepped → Type 0) : Type 0 where
-  -- what only tells the site that sent a message how things stand
-  pub tells : (from : ℕ) (m : Message) → Tells x given from m → P (send m from (begin_step x))
+  -- what is only told to the site that sent a message
+  pub sends_back : (from : ℕ) (m : Message) → SendsBack x given from m → P (send m from (begin_step x))
   -- what a tick asks others again
   pub asks_again : (o : Stepped) (ms : List Sent) → ((m : Sent) → Has ms m → (m.from ≡ o.site.id) × AsksAgain catalogue x given o m.to m.message) → P o → P (record o { effects = with_sent ms o.effects })
   -- views

@@ -22,7 +22,7 @@ use Rattle.vp_model.specs.Views.{part_of}
 use Rattle.vp_model.specs.Messages.{put_part, with_part, grant, with_vote, with_new_doubt, with_ended, acknowledge, end_here, with_answer}
 use Rattle.vp_model.specs.Step.{known}
 use Rattle.vp_laws.proofs.Lists.Members.{Has, find_has, all_of}
-use Rattle.vp_laws.proofs.Moves.Table.{Comes, Requests, Asks, Joined, Tells, tells_came, AsksAgain}
+use Rattle.vp_laws.proofs.Moves.Table.{Comes, Requests, Asks, Joined, SendsBack, sent_back_for, AsksAgain}
 use Rattle.vp_laws.specs.Shapes.{IsInput, IsStored, AreCopies, IsLock, IsPart, IsRefreshing, IsShaped, IsSent}
 use Rattle.vp_laws.proofs.Lists.Items.{all_at, all_filter, all_put, all_map}
 use Rattle.vp_laws.proofs.Shapes.Numbers.{each_site, ascending_filter}
@@ -118,21 +118,21 @@ module _ (catalogue : Catalogue) (k : IsCatalogue catalogue) (x : SiteState) (sx
   part_of_is : (txn : TxnId) (part : Part) → part_of txn x.parts ≡ Some part → IsPart part
   part_of_is txn part e = all_at IsPart x.parts sx.parts_are part (find_has (λ part. same_txn part.txn txn) x.parts part e)
 
-  told_is : (from : ℕ) (m : Message) → Tells x given from m → IsMessage m
-  told_is from _ (Tells.stale id c e) = ((came_is given from (message.Invite id) came c).1, sx.views_are.promise_is)
-  told_is from _ (Tells.accept_again id c e) = (came_is given from (message.Invite id) came c).1
-  told_is from _ (Tells.answer_refresh view rec stored c e d v) =
+  back_is : (from : ℕ) (m : Message) → SendsBack x given from m → IsMessage m
+  back_is from _ (SendsBack.stale id c e) = ((came_is given from (message.Invite id) came c).1, sx.views_are.promise_is)
+  back_is from _ (SendsBack.accept_again id c e) = (came_is given from (message.Invite id) came c).1
+  back_is from _ (SendsBack.answer_refresh view rec stored c e d v) =
       let m = (came_is given from (message.RefreshRequest view rec) came c).1 in
       let i = copy_is x.here.copies rec stored sx.copies_are.stored v in
       (m.0, (m.1, i.0, i.1))
-  told_is from _ (Tells.refuse_view txn view number a e) = (numbered txn view number (asks_is from txn view number a), now_is x.held sx.views_are.held_is)
-  told_is from _ (Tells.refuse_lock txn view number rec exclusive holder r e n c) = (numbered txn view number (requests_is from txn view number rec exclusive r), conflict_is rec exclusive txn x.here.locks holder sx.locks_are c)
-  told_is from _ (Tells.doubt_again txn view number reads writes c e n d) = (came_is given from (message.Prepare txn view number reads writes) came c).1.0.0
-  told_is from _ (Tells.vote_again txn view number reads writes part c e n f v) = (part_of_is txn part f).0
-  told_is from _ (Tells.answer_inquiry txn c s n) = (came_is given from (message.Inquire txn) came c).1
+  back_is from _ (SendsBack.refuse_view txn view number a e) = (numbered txn view number (asks_is from txn view number a), now_is x.held sx.views_are.held_is)
+  back_is from _ (SendsBack.refuse_lock txn view number rec exclusive holder r e n c) = (numbered txn view number (requests_is from txn view number rec exclusive r), conflict_is rec exclusive txn x.here.locks holder sx.locks_are c)
+  back_is from _ (SendsBack.doubt_again txn view number reads writes c e n d) = (came_is given from (message.Prepare txn view number reads writes) came c).1.0.0
+  back_is from _ (SendsBack.vote_again txn view number reads writes part c e n f v) = (part_of_is txn part f).0
+  back_is from _ (SendsBack.answer_inquiry txn c s n) = (came_is given from (message.Inquire txn) came c).1
 
-  pub tells : (from : ℕ) (m : Message) → Tells x given from m → F (send m from (begin_step x))
-  tells from m t = let q = tells_came x given from m t in answers_with m from _ begins (came_is given from q.0 came q.1).0 (told_is from m t)
+  pub sends_back : (from : ℕ) (m : Message) → SendsBack x given from m → F (send m from (begin_step x))
+  sends_back from m t = let q = sent_back_for x given from m t in answers_with m from _ begins (came_is given from q.0 came q.1).0 (back_is from m t)
 
   pub votes_reading : (from : ℕ) (txn : TxnId) (view : ViewId) (number : ℕ) (reads : List ℕ) (writes : List (ℕ × Change)) (part : Part) → Comes given from (message.Prepare txn view number reads writes) → part_of txn x.parts ≡ Some part → F (send (message.Vote part.txn) from (change_participant (with_vote part) (begin_step x)))
   votes_reading from txn view number reads writes part c e =

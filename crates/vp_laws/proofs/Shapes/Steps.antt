@@ -25,7 +25,7 @@ use Rattle.vp_laws.proofs.Lists.Keeps.{by_test}
 
 pub table : (catalogue : Catalogue) → IsCatalogue catalogue → (x : SiteState) → IsShaped catalogue x → (given : Input) → IsInput given → Table catalogue x given (Forms catalogue x)
 table catalogue k x sx given came = record {
-  tells = λ from m t. parts.tells catalogue k x sx given came from m t;
+  sends_back = λ from m t. parts.sends_back catalogue k x sx given came from m t;
   asks_again = λ o ms all p. parts.asks_again catalogue k x sx given came o ms all p;
   drop_view = λ l e z p. views.drops catalogue k x sx given came (put_back (begin_step x) l) p;
   start_inviting = λ o s left p. views.invites catalogue k x sx given came o s p;

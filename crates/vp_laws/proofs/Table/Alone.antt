@@ -50,7 +50,7 @@ module _ (catalogue : Catalogue) (x : SiteState) (given : Input) where
   }
 
   keeps : Keeps catalogue x given (Alone x)
-  keeps = record { aside = λ c ms more cs quiet r. r; starts = inl refl; moves = moves; tells = λ from m t. inl refl; resends = λ c d ms cs tick h r. r }
+  keeps = record { aside = λ c ms more cs quiet r. r; starts = inl refl; moves = moves; sends_back = λ from m t. inl refl; resends = λ c d ms cs tick h r. r }
 
 pub alone-step : (catalogue : Catalogue) (x : SiteState) (given : Input) → OnCoordinator catalogue x given (Alone x) (step catalogue x given)
 alone-step catalogue x given =

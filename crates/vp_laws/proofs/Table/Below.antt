@@ -19,7 +19,7 @@ use Rattle.vp_laws.proofs.Lists.Members.{Has, has_none, has_one_is, has_cases, f
 use Rattle.vp_laws.proofs.Lists.Views.{AtMost, AtMost-same, AtMost-trans, AtMost-along, Precedes-at_most, from_before, is_view_is, same_is}
 use Rattle.vp_laws.proofs.Lists.Changes.{put_has, replace_has, writes_has, value_has, newest_at_most}
 use Rattle.vp_laws.proofs.Moves.Frames.{Ends, close-ends, decided-ends, decide-cases, take-cases}
-use Rattle.vp_laws.proofs.Moves.Table.{Comes, next_view, lent_at, Left, Asks, Handled, Back, Tells, Table, AsksAgain}
+use Rattle.vp_laws.proofs.Moves.Table.{Comes, next_view, lent_at, Left, Asks, Handled, Back, SendsBack, Table, AsksAgain}
 use Rattle.vp_laws.proofs.Moves.Rows.{step-keeps}
 use Rattle.vp_laws.proofs.Moves.LocalViews.{letter, Tidy}
 use Rattle.vp_laws.proofs.Table.Led.{Led}
@@ -365,9 +365,9 @@ module _ (catalogue : Catalogue) (x : SiteState) (given : Input) (tidy : Tidy x)
   unfolding resend_one
   resends d o l = beside o _ (letters o.site.id (λ q. message.Outcome d.txn true) d.waiting) (self_same o.site) refl (letters_undated o.site.id (λ q. message.Outcome d.txn true) d.waiting (λ q. refl)) l
 
-  told : (from : ℕ) (m : Message) → Tells x given from m → Lies x (send m from (begin_step x))
-  told from _ (Tells.answer_refresh view rec stored c e d v) = answers_refresh from rec view stored e v
-  told from m t = one _ x.id from m refl (self_same x) refl
+  sent_back : (from : ℕ) (m : Message) → SendsBack x given from m → Lies x (send m from (begin_step x))
+  sent_back from _ (SendsBack.answer_refresh view rec stored c e d v) = answers_refresh from rec view stored e v
+  sent_back from m t = one _ x.id from m refl (self_same x) refl
 
   again_undated : (o : Stepped) (to : ℕ) (m : Message) → AsksAgain catalogue x given o to m → is_undated m ≡ true
   again_undated o to _ (AsksAgain.refresh view r e h v q) = refl
@@ -376,7 +376,7 @@ module _ (catalogue : Catalogue) (x : SiteState) (given : Input) (tidy : Tidy x)
   pub table : Table catalogue x given (Lies x)
   unfolding on_accept on_stale start_txn take_lock read_at prepare_parts complete mark_calls
   table = record {
-    tells = λ from m t. told from m t;
+    sends_back = λ from m t. sent_back from m t;
     asks_again = λ o ms all p. beside o _ ms (self_same o.site) refl (λ m h. again_undated o m.to m.message (all m h).1) p;
     drop_view = λ l e z p. drops (put_back (begin_step x) l) p;
     start_inviting = λ o s left l. invites o left l;

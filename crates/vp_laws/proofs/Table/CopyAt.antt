@@ -299,7 +299,7 @@ module _ (catalogue : Catalogue) (x : SiteState) (given : Input) (tidy : Tidy x)
   pub table : Table catalogue x given P
   unfolding on_stale on_accept hold fix ask_again start_inviting accept grant start_txn take_lock complete read_at write_at prepare_parts mark_calls resend_one inquire
   table = record {
-    tells = λ from m t. same (begin_step x) _ refl refl refl refl refl refl starts;
+    sends_back = λ from m t. same (begin_step x) _ refl refl refl refl refl refl starts;
     asks_again = λ o ms all p. same o _ refl refl refl refl refl refl p;
     drop_view = λ l e z p. drops l p;
     start_inviting = λ o s l p. fresh o _ refl refl (left_none o l) refl refl p;

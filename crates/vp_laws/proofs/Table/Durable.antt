@@ -66,7 +66,7 @@ module _ (catalogue : Catalogue) (x : SiteState) (given : Input) where
   pub table : Table catalogue x given (Folds (durable_of x))
   unfolding start_txn take_lock complete read_at write_at prepare_parts mark_calls grant on_stale on_accept hold fix drop_view start_refresh ask_again resend_one inquire apply
   table = record {
-    tells = λ from m t. refl;
+    sends_back = λ from m t. refl;
     asks_again = λ o ms all p. p;
     drop_view = λ l e z h. h;
     start_inviting = λ o s left h. invites _ o h;

@@ -60,7 +60,7 @@ module _ (catalogue : Catalogue) (x : SiteState) (given : Input) where
   }
 
   keeps : Keeps catalogue x given (FinishedNow x)
-  keeps = record { aside = λ c ms more cs quiet r. r; starts = starts; moves = moves; tells = λ from m t. starts; resends = λ c d ms cs tick h r. r }
+  keeps = record { aside = λ c ms more cs quiet r. r; starts = starts; moves = moves; sends_back = λ from m t. starts; resends = λ c d ms cs tick h r. r }
 
 pub finished-step : (catalogue : Catalogue) (x : SiteState) (given : Input) → OnCoordinator catalogue x given (FinishedNow x) (step catalogue x given)
 finished-step catalogue x given =

@@ -254,7 +254,7 @@ module _ (catalogue : Catalogue) (x : SiteState) (given : Input) where
   pub table : Table catalogue x given P
   unfolding on_stale ask_again start_refresh resend_one inquire
   table = record {
-    tells = λ from m t. silent (begin_step x) _ refl refl starts;
+    sends_back = λ from m t. silent (begin_step x) _ refl refl starts;
     asks_again = λ o ms all p. silent o _ refl refl p;
     drop_view = λ l e z p. drops l;
     start_inviting = λ o s l p. invites o l;

@@ -21,7 +21,7 @@ use Rattle.vp_laws.proofs.Lists.Members.{Has, has_none, has_one_is, has_first, h
 use Rattle.vp_laws.proofs.Lists.Views.{put_only, is_view_is}
 use Rattle.vp_laws.proofs.Moves.Frames.{Ends, close-ends, close-commits, decided-ends, decided-commits, decide-cases, take-cases}
 use Rattle.vp_laws.proofs.Lists.Changes.{without_first_has, change_first_has}
-use Rattle.vp_laws.proofs.Moves.Table.{next_view, next_name, lent_at, Left, Handled, Back, Tells, Table, AsksAgain}
+use Rattle.vp_laws.proofs.Moves.Table.{next_view, next_name, lent_at, Left, Handled, Back, SendsBack, Table, AsksAgain}
 use Rattle.vp_laws.proofs.Moves.Rows.{step-keeps}
 use Rattle.vp_laws.proofs.Moves.LocalViews.{letter, Tidy}
 use Rattle.vp_laws.proofs.Lists.Numbers.{differs}
@@ -68,9 +68,9 @@ none-may x from to (message.WriteRequest txn view number rec) e = cc
 none-may x from to (message.Prepare txn view number reads writes) e = cc
 none-may x from to m e = tt
 
-tells_none : (x : SiteState) (given : Input) (from : ℕ) (m : Message) → Tells x given from m → asks_none m ≡ true
-tells_none x given from _ (Tells.stale id c e) = refl
-tells_none x given from m t = refl
+back_none : (x : SiteState) (given : Input) (from : ℕ) (m : Message) → SendsBack x given from m → asks_none m ≡ true
+back_none x given from _ (SendsBack.stale id c e) = refl
+back_none x given from m t = refl
 
 again_none : (catalogue : Catalogue) (x : SiteState) (given : Input) (o : Stepped) (to : ℕ) (m : Message) → AsksAgain catalogue x given o to m → asks_none m ≡ true
 again_none catalogue x given o to _ (AsksAgain.refresh view r e h v q) = refl
@@ -439,7 +439,7 @@ module _ (catalogue : Catalogue) (x : SiteState) (given : Input) (tidy : Tidy x)
   pub table : Table catalogue x given (Leads x)
   unfolding on_accept on_stale take_lock
   table = record {
-    tells = λ from m t. one _ x.id from m (tells_none x given from m t) (self_same x) refl refl;
+    sends_back = λ from m t. one _ x.id from m (back_none x given from m t) (self_same x) refl refl;
     asks_again = λ o ms all p. beside o _ ms (self_same o.site) refl refl (λ m h. again_none catalogue x given o m.to m.message (all m h).1) p;
     drop_view = λ l e z p. drops (put_back (begin_step x) l) e p;
     start_inviting = λ o s left l. invites o left l;

@@ -526,7 +526,7 @@ module _ (catalogue : Catalogue) (x : SiteState) (given : Input) (tidy : Tidy x)
   pub table : Table catalogue x given P
   unfolding on_stale on_accept hold fix ask_again start_txn resend_one inquire
   table = record {
-    tells = λ from m t. same (begin_step x) _ refl refl refl refl refl refl starts;
+    sends_back = λ from m t. same (begin_step x) _ refl refl refl refl refl refl starts;
     asks_again = λ o ms all p. same o _ refl refl refl refl refl refl p;
     drop_view = λ l e z p. drops l e p;
     start_inviting = λ o s l p. invites o l p;

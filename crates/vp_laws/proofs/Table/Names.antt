@@ -24,7 +24,7 @@ use Rattle.vp_laws.proofs.Lists.Members.{Has, has_first, has_more, has_none, has
 use Rattle.vp_laws.proofs.Lists.Views.{is_view_is, same_is}
 use Rattle.vp_laws.proofs.Lists.Changes.{put_has, replace_has, writes_has, value_has}
 use Rattle.vp_laws.proofs.Moves.Frames.{Ends, close-ends, decided-ends, decide-cases, take-cases}
-use Rattle.vp_laws.proofs.Moves.Table.{Comes, next_view, lent_at, Requests, Asks, Handled, Back, Tells, Table, AsksAgain}
+use Rattle.vp_laws.proofs.Moves.Table.{Comes, next_view, lent_at, Requests, Asks, Handled, Back, SendsBack, Table, AsksAgain}
 use Rattle.vp_laws.proofs.Moves.Rows.{step-keeps}
 use Rattle.vp_laws.proofs.Moves.LocalViews.{letter, Tidy}
 use Rattle.vp_laws.proofs.Table.Led.{Led}
@@ -489,15 +489,15 @@ module _ (N : TxnId → Type 0) (A : ViewId → Type 0) where
     requested from txn view number rec false (Requests.reads c) = (arrived from (message.ReadRequest txn view number rec) c).0.0
     requested from txn view number rec true (Requests.writes c) = (arrived from (message.WriteRequest txn view number rec) c).0.0
 
-    told_named : (from : ℕ) (m : Message) → Tells x given from m → Named m
-    told_named from _ (Tells.stale id c e) = (tt, tt)
-    told_named from _ (Tells.accept_again id c e) = (tt, tt)
-    told_named from _ (Tells.answer_refresh view rec stored c e d v) = let q = value_has rec x.copies stored v in (tt, (view_of view e, (subst A (ap (λ (s : Stored). s.date) q.2) (names.copies q.0 q.1), tt)))
-    told_named from _ (Tells.refuse_view txn view number a e) = other_named txn number x.held refl (asked_named from txn view number a).0
-    told_named from _ (Tells.refuse_lock txn view number rec exclusive holder r e n c) = holder_named txn number holder (conflict_named rec exclusive txn x.locks holder names.locks c) (requested from txn view number rec exclusive r)
-    told_named from _ (Tells.doubt_again txn view number reads writes c e n d) = ((arrived from (message.Prepare txn view number reads writes) c).0, tt)
-    told_named from _ (Tells.vote_again txn view number reads writes part c e n f v) = (((names.parts part (part_there txn part f)).0, tt), tt)
-    told_named from _ (Tells.answer_inquiry txn c s n) = arrived from (message.Inquire txn) c
+    back_named : (from : ℕ) (m : Message) → SendsBack x given from m → Named m
+    back_named from _ (SendsBack.stale id c e) = (tt, tt)
+    back_named from _ (SendsBack.accept_again id c e) = (tt, tt)
+    back_named from _ (SendsBack.answer_refresh view rec stored c e d v) = let q = value_has rec x.copies stored v in (tt, (view_of view e, (subst A (ap (λ (s : Stored). s.date) q.2) (names.copies q.0 q.1), tt)))
+    back_named from _ (SendsBack.refuse_view txn view number a e) = other_named txn number x.held refl (asked_named from txn view number a).0
+    back_named from _ (SendsBack.refuse_lock txn view number rec exclusive holder r e n c) = holder_named txn number holder (conflict_named rec exclusive txn x.locks holder names.locks c) (requested from txn view number rec exclusive r)
+    back_named from _ (SendsBack.doubt_again txn view number reads writes c e n d) = ((arrived from (message.Prepare txn view number reads writes) c).0, tt)
+    back_named from _ (SendsBack.vote_again txn view number reads writes part c e n f v) = (((names.parts part (part_there txn part f)).0, tt), tt)
+    back_named from _ (SendsBack.answer_inquiry txn c s n) = arrived from (message.Inquire txn) c
 
     again_named : (o : Stepped) → Names o.site → (to : ℕ) (m : Message) → AsksAgain catalogue x given o to m → Named m
     again_named o n to _ (AsksAgain.refresh view r e h v q) = (tt, (names.held view e, tt))
@@ -506,7 +506,7 @@ module _ (N : TxnId → Type 0) (A : ViewId → Type 0) where
     pub table : Table catalogue x given Calls
     unfolding on_accept on_stale start_txn read_at prepare_parts complete mark_calls
     table = record {
-      tells = λ from m t. one _ x.id from m names (told_named from m t) refl;
+      sends_back = λ from m t. one _ x.id from m names (back_named from m t) refl;
       asks_again = λ o ms all p. more o _ ms p.names refl (λ m h. again_named o p.names m.to m.message (all m h).1) p;
       drop_view = λ l e z p. drops (put_back (begin_step x) l) p;
       start_inviting = λ o s left l. invites o l;

@@ -141,7 +141,7 @@ module _ (catalogue : Catalogue) (x : SiteState) (given : Input) where
   table : Table catalogue x given P
   unfolding start_txn take_lock complete read_at write_at prepare_parts mark_calls grant on_stale on_accept hold fix drop_view start_inviting accept start_refresh ask_again resend_one inquire
   table = record {
-    tells = λ from m t. none _ refl refl;
+    sends_back = λ from m t. none _ refl refl;
     asks_again = λ o ms all p. alike o _ refl refl p;
     drop_view = λ l e z p. alike (put_back (begin_step x) l) _ refl refl p;
     start_inviting = λ o s left p. more o _ (entry.Promise (next_view x)) refl refl refl p;

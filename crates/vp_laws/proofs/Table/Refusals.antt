@@ -17,7 +17,7 @@ use Rattle.vp_model.specs.Messages.{held_id, holds_view, accept, on_accept, on_s
 use Rattle.vp_model.specs.Step.{step, fix, mark_calls, ask_again, resend_one}
 use Rattle.vp_laws.proofs.Lists.Members.{Has, has_none, has_one_is, has_cases, map_has}
 use Rattle.vp_laws.proofs.Moves.Frames.{Ends, close-ends, decided-ends, decide-cases, take-cases}
-use Rattle.vp_laws.proofs.Moves.Table.{next_view, lent_at, Requests, Asks, Back, Tells, Table, AsksAgain}
+use Rattle.vp_laws.proofs.Moves.Table.{next_view, lent_at, Requests, Asks, Back, SendsBack, Table, AsksAgain}
 use Rattle.vp_laws.proofs.Moves.Rows.{step-keeps}
 use Rattle.vp_laws.proofs.Moves.LocalViews.{letter}
 
@@ -108,10 +108,10 @@ module _ (catalogue : Catalogue) (x : SiteState) (given : Input) where
   unfolding write_at
   writes_at t p rec sites l q = says l _ (λ q. message.WriteRequest t.txn t.view p.number rec) sites refl (λ q. refl) q
 
-  told : (from : ℕ) (m : Message) → Tells x given from m → P (send m from (begin_step x))
-  told from _ (Tells.refuse_view txn view number a e) = refusal _ from txn number (obstacle.OtherView (held_id x)) (Refused.other view a e) refl refl
-  told from _ (Tells.refuse_lock txn view number rec exclusive holder r e n c) = refusal _ from txn number (obstacle.Held holder) (Refused.held view rec exclusive holder r c) refl refl
-  told from m t = one _ from m refl refl refl
+  sent_back : (from : ℕ) (m : Message) → SendsBack x given from m → P (send m from (begin_step x))
+  sent_back from _ (SendsBack.refuse_view txn view number a e) = refusal _ from txn number (obstacle.OtherView (held_id x)) (Refused.other view a e) refl refl
+  sent_back from _ (SendsBack.refuse_lock txn view number rec exclusive holder r e n c) = refusal _ from txn number (obstacle.Held holder) (Refused.held view rec exclusive holder r c) refl refl
+  sent_back from m t = one _ from m refl refl refl
 
   again_other : (o : Stepped) (to : ℕ) (m : Message) → AsksAgain catalogue x given o to m → is_other m ≡ true
   again_other o to _ (AsksAgain.refresh view r e h v q) = refl
@@ -120,7 +120,7 @@ module _ (catalogue : Catalogue) (x : SiteState) (given : Input) where
   table : Table catalogue x given P
   unfolding on_accept on_stale grant drop_view start_inviting accept hold fix ask_again start_refresh start_txn take_lock read_at prepare_parts complete mark_calls
   table = record {
-    tells = λ from m t. told from m t;
+    sends_back = λ from m t. sent_back from m t;
     asks_again = λ o ms all p. more o _ ms refl refl (λ m h. again_other o m.to m.message (all m h).1) p;
     drop_view = λ l e z p. silent (put_back (begin_step x) l) (drop_view (put_back (begin_step x) l)) refl refl p;
     start_inviting = λ o s left p. many o (start_inviting catalogue (next_view x) o) o.site.id (λ q. message.Invite (next_view x)) (other_sites catalogue o.site.id) refl refl (λ q. refl) p;

@@ -273,7 +273,7 @@ module _ (catalogue : Catalogue) (x : SiteState) (given : Input) (none : (port :
   table : Table catalogue x given P
   unfolding on_accept on_stale grant drop_view start_inviting accept hold fix ask_again start_refresh resend_one inquire
   table = record {
-    tells = λ from m t. refl;
+    sends_back = λ from m t. refl;
     asks_again = λ o ms all p. p;
     drop_view = λ l e z p. p;
     start_inviting = λ o s left p. p;

@@ -203,7 +203,7 @@ module _ (catalogue : Catalogue) (x : SiteState) (given : Input) (led : Led x) (
   pub table : Table catalogue x given P
   unfolding drop_view on_stale on_accept hold fix ask_again start_inviting accept grant start_refresh resend_one inquire start_txn take_lock read_at write_at prepare_parts
   table = record {
-    tells = λ from m t. quiet _ (b.tells from m t) refl refl;
+    sends_back = λ from m t. quiet _ (b.sends_back from m t) refl refl;
     asks_again = λ o ms all p. silent o _ (b.asks_again o ms all p.base) refl refl refl p;
     drop_view = λ l e z p. silent (put_back (begin_step x) l) _ (b.drop_view l e z p.base) refl refl refl p;
     start_inviting = λ o s l p. silent o _ (b.start_inviting o s l p.base) refl refl refl p;

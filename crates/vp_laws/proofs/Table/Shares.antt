@@ -19,7 +19,7 @@ use Rattle.vp_laws.proofs.Lists.Members.{Has, has_none, has_one_is, has_cases, m
 use Rattle.vp_laws.proofs.Lists.Changes.{put_has, put_new, put_old}
 use Rattle.vp_model.proofs.SameTxn.{same_txn-is, same_txn-turned, same_txn-clash}
 use Rattle.vp_laws.proofs.Moves.Frames.{close-ends, decided-ends, decide-cases, take-cases}
-use Rattle.vp_laws.proofs.Moves.Table.{Comes, Closed, next_view, lent_at, Requests, Back, Tells, Table, AsksAgain}
+use Rattle.vp_laws.proofs.Moves.Table.{Comes, Closed, next_view, lent_at, Requests, Back, SendsBack, Table, AsksAgain}
 use Rattle.vp_laws.proofs.Moves.Rows.{step-keeps}
 use Rattle.vp_laws.proofs.Moves.LocalViews.{letter}
 
@@ -274,13 +274,13 @@ module _ (catalogue : Catalogue) (x : SiteState) (given : Input) where
   unfolding keep_writes
   keeps_writes t l q = hushed l _ refl q
 
-  told : (from : ℕ) (m : Message) → Tells x given from m → P (send m from (begin_step x))
-  told from _ (Tells.answer_refresh view rec stored c e d v) = replying _ x.participant from (message.RefreshAnswer view rec stored) refl refl refl (λ a h. PartNow.still h) (λ d h. DoubtNow.still h) (λ d h. inl h) (ReplyTo.refresh_answer view rec stored c e d v refl)
-  told from _ (Tells.doubt_again txn view number reads writes c e n d) = doubts_again from txn view number reads writes c e n d _ refl refl refl
-  told from _ (Tells.vote_again txn view number reads writes part c e n f v) =
+  sent_back : (from : ℕ) (m : Message) → SendsBack x given from m → P (send m from (begin_step x))
+  sent_back from _ (SendsBack.answer_refresh view rec stored c e d v) = replying _ x.participant from (message.RefreshAnswer view rec stored) refl refl refl (λ a h. PartNow.still h) (λ d h. DoubtNow.still h) (λ d h. inl h) (ReplyTo.refresh_answer view rec stored c e d v refl)
+  sent_back from _ (SendsBack.doubt_again txn view number reads writes c e n d) = doubts_again from txn view number reads writes c e n d _ refl refl refl
+  sent_back from _ (SendsBack.vote_again txn view number reads writes part c e n f v) =
       replying _ x.participant from (message.Vote part.txn) refl refl refl (λ a h. PartNow.still h) (λ d h. DoubtNow.still h) (λ d h. inl h)
       (ReplyTo.vote_again part (answered_by from txn part.txn view number reads writes c e n (part_same txn part f)) (part_there txn part f) (part_there txn part f) v refl)
-  told from m t = one _ from m refl refl refl refl
+  sent_back from m t = one _ from m refl refl refl refl
 
   again_asks : (o : Stepped) (to : ℕ) (m : Message) → AsksAgain catalogue x given o to m → is_reply m ≡ false
   again_asks o to _ (AsksAgain.refresh view r e h v q) = refl
@@ -289,7 +289,7 @@ module _ (catalogue : Catalogue) (x : SiteState) (given : Input) where
   pub table : Table catalogue x given P
   unfolding on_accept on_stale start_inviting accept hold fix ask_again start_refresh start_txn take_lock complete read_at write_at prepare_parts mark_calls resend_one
   table = record {
-    tells = λ from m t. told from m t;
+    sends_back = λ from m t. sent_back from m t;
     asks_again = λ o ms all p. more o _ ms refl refl refl (λ m h. let q = all m h in (q.0, again_asks o m.to m.message q.1)) p;
     drop_view = λ l e z p. drops l z p;
     start_inviting = λ o s left p. many o (start_inviting catalogue (next_view x) o) (λ q. message.Invite (next_view x)) (other_sites catalogue o.site.id) refl refl refl (λ q. refl) p;

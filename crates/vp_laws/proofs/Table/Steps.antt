@@ -18,7 +18,7 @@ use Rattle.vp_laws.proofs.Lists.Members.{Has, has_none, has_one_is, has_cases, m
 use Rattle.vp_laws.proofs.Lists.Changes.{without_first_has}
 use Rattle.vp_laws.proofs.Lists.Names.{Apart, named, apart_without, change_cases, apart_change, apart_more, apart_mark}
 use Rattle.vp_laws.proofs.Moves.Frames.{Ends, close-ends, close-commits, decided-ends, decided-commits, decide-cases}
-use Rattle.vp_laws.proofs.Moves.Table.{next_name, lent_at, Handled, IsNext, Reads, Writes, Counts, remaining, Locked, Completes, Decides, Closed, OfCoordinator, Tells}
+use Rattle.vp_laws.proofs.Moves.Table.{next_name, lent_at, Handled, IsNext, Reads, Writes, Counts, remaining, Locked, Completes, Decides, Closed, OfCoordinator, SendsBack}
 use Rattle.vp_laws.proofs.Moves.Rows.{step-keeps}
 use Rattle.vp_laws.proofs.Moves.LocalViews.{letter}
 use Rattle.vp_laws.proofs.Table.Led.{Led}
@@ -234,19 +234,19 @@ module _ (catalogue : Catalogue) (x : SiteState) (given : Input) (led : Led x) (
       starts_with : (c : CoordinatorState) → c.live ≡ x.live → R c [] []
       starts_with c e = record { apart = subst Apart (sym e) apart; live = λ t h. LiveNow.still (rw e at h); sent = λ m h. absurd (has_none m h); entered = λ e h. absurd (has_none e h) }
 
-  told : (from : ℕ) (m : Message) → Tells x given from m → SentFor catalogue x given x.live (letter x.id from m)
-  told from _ (Tells.answer_inquiry txn c s n) = SentFor.outcome txn (is_decided txn x.decisions) refl refl
-  told from m t = SentFor.aside (record { from = refl; aside = refl })
+  sent_back : (from : ℕ) (m : Message) → SendsBack x given from m → SentFor catalogue x given x.live (letter x.id from m)
+  sent_back from _ (SendsBack.answer_inquiry txn c s n) = SentFor.outcome txn (is_decided txn x.decisions) refl refl
+  sent_back from m t = SentFor.aside (record { from = refl; aside = refl })
 
   pub keeps : Keeps catalogue x given R
   keeps = record {
     aside = λ c ms extra cs quiet r. plus c ms extra cs (λ m h. SentFor.aside (quiet m h)) r;
     starts = starts;
     moves = moves;
-    tells = λ from m t. record {
+    sends_back = λ from m t. record {
       apart = apart;
       live = starts.live;
-      sent = λ sent h. subst (SentFor catalogue x given x.live) (has_one_is (letter x.id from m) sent h) (told from m t);
+      sent = λ sent h. subst (SentFor catalogue x given x.live) (has_one_is (letter x.id from m) sent h) (sent_back from m t);
       entered = starts.entered;
     };
     resends = λ c d ms cs tick h r. plus c ms _ cs (outcomes d.txn true d.waiting c.live) r;

@@ -185,7 +185,7 @@ module _ (catalogue : Catalogue) (x : SiteState) (given : Input) (tidy : Tidy x)
   pub table : Table catalogue x given P
   unfolding drop_view on_stale on_accept hold fix ask_again start_inviting accept grant resend_one inquire
   table = record {
-    tells = λ from m t. stays _ refl refl (b.tells from m t);
+    sends_back = λ from m t. stays _ refl refl (b.sends_back from m t);
     asks_again = λ o ms all p. same o _ refl refl refl refl (λ q g. each _ q g) (b.asks_again o ms all p.base) p;
     drop_view = λ l e z p. gone (drop_view (put_back (begin_step x) l)) refl (b.drop_view l e z p.base);
     start_inviting = λ o s l p. gone _ (left_none o l) (b.start_inviting o s l p.base);

@@ -19,7 +19,7 @@ use Rattle.vp_laws.proofs.Lists.Members.{Has, has_none, has_one, has_one_is, has
 use Rattle.vp_laws.proofs.Lists.Views.{AtMost, Precedes, AtMost-refl, AtMost-same, Precedes-at_most, from_before, same_is, is_view_is, put_keeps, put_only}
 use Rattle.vp_laws.proofs.Moves.Frames.{Ends, close-ends, decided-ends, decide-cases, take-cases}
 use Rattle.vp_laws.proofs.Moves.Rows.{step-keeps}
-use Rattle.vp_laws.proofs.Moves.Table.{Comes, next_view, lent_at, Left, Back, Tells, Table, AsksAgain}
+use Rattle.vp_laws.proofs.Moves.Table.{Comes, next_view, lent_at, Left, Back, SendsBack, Table, AsksAgain}
 use Rattle.vp_laws.proofs.Moves.LocalViews.{letter, Tidy, MaySend, Local, IsNew, is_quiet, quiet-may, beside, silent, letters_quiet, letter_quiet, may_rise}
 
 -- the acceptance of an invitation
@@ -290,10 +290,10 @@ module _ (catalogue : Catalogue) (x : SiteState) (given : Input) (tidy : Tidy x)
   unfolding resend_one
   resends d o l = beside x given o _ _ refl refl refl (letters_quiet x given o.site.id (λ q. message.Outcome d.txn true) d.waiting (λ q. refl)) l
 
-  may_tell : (from : ℕ) (m : Message) → Tells x given from m → MaySend x given x.views m
-  may_tell from _ (Tells.stale id c e) = ((from, c), refl)
-  may_tell from _ (Tells.accept_again id c e) = AtMost-same id x.promise (tidy.waiting id (is_view_is x.waiting id e)).0
-  may_tell from m t = tt
+  back_may : (from : ℕ) (m : Message) → SendsBack x given from m → MaySend x given x.views m
+  back_may from _ (SendsBack.stale id c e) = ((from, c), refl)
+  back_may from _ (SendsBack.accept_again id c e) = AtMost-same id x.promise (tidy.waiting id (is_view_is x.waiting id e)).0
+  back_may from m t = tt
 
   again_quiet : (o : Stepped) (to : ℕ) (m : Message) → AsksAgain catalogue x given o to m → is_quiet m ≡ true
   again_quiet o to _ (AsksAgain.refresh view r e h v q) = refl
@@ -302,7 +302,7 @@ module _ (catalogue : Catalogue) (x : SiteState) (given : Input) (tidy : Tidy x)
   pub table : Table catalogue x given (Local x given)
   unfolding start_txn take_lock complete read_at prepare_parts mark_calls grant on_stale
   table = record {
-    tells = λ from m t. one_more m from (may_tell from m t);
+    sends_back = λ from m t. one_more m from (back_may from m t);
     asks_again = λ o ms all p. beside x given o _ ms refl refl refl (λ m h. let q = all m h in (q.0, again_quiet o m.to m.message q.1)) p;
     drop_view = λ l e z p. drops (put_back (begin_step x) l) e refl p;
     start_inviting = invites;

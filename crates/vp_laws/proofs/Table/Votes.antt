@@ -22,7 +22,7 @@ use Rattle.vp_laws.proofs.Lists.Changes.{without_first_has}
 use Rattle.vp_model.proofs.SameTxn.{same_txn-is}
 use Rattle.vp_laws.proofs.Lists.Names.{Apart, named, apart_without, change_cases, apart_change, apart_more, apart_mark}
 use Rattle.vp_laws.specs.Votes.{is_commit}
-use Rattle.vp_laws.proofs.Moves.Table.{IsOperating, Completes, Comes, next_view, next_name, lent_at, remaining, Back, Tells, Table, AsksAgain}
+use Rattle.vp_laws.proofs.Moves.Table.{IsOperating, Completes, Comes, next_view, next_name, lent_at, remaining, Back, SendsBack, Table, AsksAgain}
 use Rattle.vp_laws.proofs.Moves.Rows.{step-keeps}
 use Rattle.vp_laws.proofs.Moves.LocalViews.{letter}
 use Rattle.vp_laws.proofs.Table.Led.{Led}
@@ -286,10 +286,10 @@ module _ (catalogue : Catalogue) (x : SiteState) (given : Input) (led : Led x) (
   ends_here from txn true (Some d) = one _ from (message.Ack txn) refl refl refl refl
   ends_here from txn false (Some d) = silent (begin_step x) _ refl refl refl begins
 
-  told : (from : ℕ) (m : Message) → Tells x given from m → Votes catalogue x given (send m from (begin_step x))
-  told from _ (Tells.doubt_again txn view number reads writes c e n d) = voted _ from txn txn view number reads writes c refl refl refl refl
-  told from _ (Tells.vote_again txn view number reads writes part c e n f v) = voted _ from txn part.txn view number reads writes c (part_same txn part f) refl refl refl
-  told from m t = one _ from m refl refl refl refl
+  sent_back : (from : ℕ) (m : Message) → SendsBack x given from m → Votes catalogue x given (send m from (begin_step x))
+  sent_back from _ (SendsBack.doubt_again txn view number reads writes c e n d) = voted _ from txn txn view number reads writes c refl refl refl refl
+  sent_back from _ (SendsBack.vote_again txn view number reads writes part c e n f v) = voted _ from txn part.txn view number reads writes c (part_same txn part f) refl refl refl
+  sent_back from m t = one _ from m refl refl refl refl
 
   again_still : (o : Stepped) (to : ℕ) (m : Message) → AsksAgain catalogue x given o to m → is_still m ≡ true
   again_still o to _ (AsksAgain.refresh view r e h v q) = refl
@@ -298,7 +298,7 @@ module _ (catalogue : Catalogue) (x : SiteState) (given : Input) (led : Led x) (
   pub table : Table catalogue x given (Votes catalogue x given)
   unfolding on_accept on_stale start_txn take_lock read_at write_at complete grant drop_view start_inviting accept hold fix ask_again resend_one
   table = record {
-    tells = λ from m t. told from m t;
+    sends_back = λ from m t. sent_back from m t;
     asks_again = λ o ms all p. alike o _ ms refl refl refl (λ m h. let q = all m h in (q.0, again_still o m.to m.message q.1)) p;
     drop_view = λ l e z p. silent (put_back (begin_step x) l) (drop_view (put_back (begin_step x) l)) refl refl refl p;
     start_inviting = λ o s left l. alike o (start_inviting catalogue (next_view x) o) (letters o.site.id (λ q. message.Invite (next_view x)) (other_sites catalogue o.site.id)) refl refl refl (letters_still o.site.id (λ q. message.Invite (next_view x)) (other_sites catalogue o.site.id) (λ q. refl)) l;

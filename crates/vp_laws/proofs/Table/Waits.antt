@@ -146,7 +146,7 @@ module _ (catalogue : Catalogue) (x : SiteState) (given : Input) (settled : (d :
     aside = λ c ms more cs quiet r. beside c c ms (ms ++ more) cs refl r;
     starts = starts;
     moves = moves;
-    tells = λ from m t. beside x.coordinator _ [] _ [] refl starts;
+    sends_back = λ from m t. beside x.coordinator _ [] _ [] refl starts;
     resends = λ c d ms cs tick h r. beside c c ms (ms ++ _) cs refl r;
   }
 
