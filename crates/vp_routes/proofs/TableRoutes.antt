@@ -1,11 +1,10 @@
 -- Whom a step sends to: sites of the catalogue, where all are that the site knows of.
-use Rattle.std.proofs.Common.{◌≡◌, ◌∙◌, ap, sym, subst, ℕ, Bool, true, false, cond, List, [], ◌∷◌, ◌++◌, map, refl, arith, ⊎_elim, append-nil}
+use Rattle.std.proofs.Common.{◌≡◌, ◌∙◌, ap, sym, subst, ℕ, Bool, true, false, cond, List, [], ◌∷◌, ◌++◌, refl, arith, ⊎_elim, append-nil}
 use Rattle.std.specs.Prelude.{Option, Some, None, not, ◌==◌, filter}
 use Rattle.vp_catalog.specs.Document.{IsCatalogue}
 use Rattle.vp_model.specs.Types.{ViewId, TxnId, View, Stored, Message, Sent, Input, Refreshing, Pending, Live, Ending, Doubt, Decision}
 use Rattle.vp_base.specs.declared.site.Ending.TheVariants.{Committed}
 use Rattle.vp_model.specs.Types.message
-use Rattle.vp_model.specs.Types.obstacle
 use Rattle.vp_model.specs.Words.{same_txn, txn_before, is_empty}
 use Rattle.vp_model.specs.Catalogue.{Catalogue, sites_of}
 use Rattle.vp_model.specs.Durable.{doubt_of, put_decision, with_decision, acknowledged}
@@ -14,13 +13,12 @@ use Rattle.vp_model.specs.Transactions.{last_changes, entry_of, writes_held, wri
 use Rattle.vp_model.specs.Refresh.{newest, take_newer, unlist, end_refresh, start_refresh, other_holders, unanswered}
 use Rattle.vp_model.specs.Views.{other_sites, drop_view, start_inviting, hold}
 use Rattle.vp_model.specs.Calls.{start_txn, take_lock, read_at, write_at, prepare_parts, prepare_for}
-use Rattle.vp_model.specs.Answers.{is_decided}
-use Rattle.vp_model.specs.Messages.{held_id, accept, on_accept, on_stale, grant, end_here}
-use Rattle.vp_model.specs.Step.{step, fix, probe_all, mark_calls, ask_again, resend_one, known, inquire}
+use Rattle.vp_model.specs.Messages.{accept, on_accept, on_stale, grant, end_here}
+use Rattle.vp_model.specs.Step.{step, fix, probe_all, mark_calls, resend_one}
 use Rattle.vp_laws.proofs.Lists.Members.{Has, has_none, has_one_is, has_cases, filter_has, map_has}
 use Rattle.vp_laws.proofs.Lists.Changes.{put_has}
 use Rattle.vp_laws.proofs.Moves.Frames.{Ends, close-ends, decided-ends, decide-cases}
-use Rattle.vp_laws.proofs.Moves.Table.{Comes, next_view, lent_at, tells_came, Handled, Back, Table}
+use Rattle.vp_laws.proofs.Moves.Table.{Comes, next_view, lent_at, sent_back_for, Handled, Back, Table, AsksAgain}
 use Rattle.vp_laws.proofs.Moves.Rows.{step-keeps}
 use Rattle.vp_laws.proofs.Moves.LocalViews.{letter, Tidy}
 use Rattle.vp_laws.proofs.Table.Led.{Led}
@@ -161,10 +159,6 @@ module _ (catalogue : Catalogue) (k : IsCatalogue catalogue) where
     unfolding end_refresh unlist
     ends_refresh r own o g = silent (take_newer r.rec own (newest own r.answers) o) _ refl refl (takes_newer r.rec own (newest own r.answers) o g)
 
-    asks_again : (view : ViewId) (r : Refreshing) (o : Stepped) → Goes o → Goes (ask_again catalogue view r o)
-    unfolding ask_again
-    asks_again view r o g = more o _ (letters o.site.id (λ q. message.RefreshRequest view r.rec) (unanswered catalogue o.site r)) refl refl (letters_to o.site.id (λ q. message.RefreshRequest view r.rec) (unanswered catalogue o.site r) (to_unanswered o.site r)) g
-
     grants : (from : ℕ) (txn : TxnId) (view : ViewId) (rec : ℕ) (exclusive : Bool) (words : Message) → S from → Goes (grant txn view rec exclusive words from (begin_step x))
     unfolding grant
     grants from txn view rec exclusive words s = one _ from words s refl refl
@@ -191,23 +185,19 @@ module _ (catalogue : Catalogue) (k : IsCatalogue catalogue) where
     unfolding resend_one
     resends d o h g = more o _ (letters o.site.id (λ q. message.Outcome d.txn true) d.waiting) refl refl (letters_to o.site.id (λ q. message.Outcome d.txn true) d.waiting (g.waiting d h)) g
 
-    inquires : (o : Stepped) → Names OfSite AnyView o.site → Goes o → Goes (inquire (known o.site.participant) o)
-    unfolding inquire
-    inquires o n g = more o _ (map (λ (txn : TxnId). letter o.site.id txn.site (message.Inquire txn)) (known o.site.participant)) refl refl inquiries g
-      where
-        inquiries : (m : Sent) → Has (map (λ (txn : TxnId). letter o.site.id txn.site (message.Inquire txn)) (known o.site.participant)) m → S m.to
-        inquiries m h =
-            let r = map_has (λ (txn : TxnId). letter o.site.id txn.site (message.Inquire txn)) (known o.site.participant) m h in
-            subst S (ap (λ (m : Sent). m.to) r.2) (named.known_named OfSite AnyView o.site n r.0 r.1)
-
     from_is : (from : ℕ) (m : Message) → Comes given from m → S from
     from_is from m c = (came from m c).0
+
+    again_goes : (o : Stepped) → Names OfSite AnyView o.site → (to : ℕ) (m : Message) → AsksAgain catalogue x given o to m → S to
+    again_goes o n to _ (AsksAgain.refresh view r e h v q) = to_unanswered o.site r to q
+    again_goes o n to _ (AsksAgain.inquire txn c h e) = subst S e (named.known_named OfSite AnyView o.site n txn h)
 
     -- each of its moves, beside what the names do
     table : Table catalogue x given Routed
     unfolding on_accept on_stale start_txn read_at prepare_parts complete mark_calls hold
     table = record {
-      tells = λ from m t. (calls.tells from m t, one _ from m (let q = tells_came x given from m t in from_is from q.0 q.1) refl refl);
+      sends_back = λ from m t. (calls.sends_back from m t, one _ from m (let q = sent_back_for x given from m t in from_is from q.0 q.1) refl refl);
+      asks_again = λ o ms all p. (calls.asks_again o ms all p.0, more o _ ms refl refl (λ m h. again_goes o p.0.names m.to m.message (all m h).1) p.1);
       drop_view = λ l e z p. (calls.drop_view l e z p.0, drops (put_back (begin_step x) l) p.1);
       start_inviting = λ o s left l. (calls.start_inviting o s left l.0, invites o l.1);
       accept = λ from id o c e left l. (calls.accept from id o c e left l.0, accepts from id o (from_is from _ c) l.1);
@@ -221,7 +211,6 @@ module _ (catalogue : Catalogue) (k : IsCatalogue catalogue) where
       start_refresh = λ view rec o e a h l. (calls.start_refresh view rec o e a h l.0, starts_refresh view rec o l.1);
       end_refresh = λ rec r own o e a d v l. (calls.end_refresh rec r own o e a d v l.0, ends_refresh r own o l.1);
       keep_answer = λ from view rec stored r c e f g. (calls.keep_answer from view rec stored r c e f g, silent (begin_step x) _ refl refl begins);
-      ask_again = λ view r o e h v l. (calls.ask_again view r o e h v l.0, asks_again view.id r o l.1);
       grant_read = λ from txn view number rec stored c e n v f. (calls.grant_read from txn view number rec stored c e n v f, grants from txn view rec false (message.ReadAnswer txn number stored.value) (from_is from _ c));
       grant_write = λ from txn view number rec stored c e n v f. (calls.grant_write from txn view number rec stored c e n v f, grants from txn view rec true (message.WriteAnswer txn number) (from_is from _ c));
       vote_reading = λ from txn view number reads writes part c e n d f v a w. (calls.vote_reading from txn view number reads writes part c e n d f v a w, one _ from (message.Vote part.txn) (from_is from _ c) refl refl);
@@ -240,11 +229,9 @@ module _ (catalogue : Catalogue) (k : IsCatalogue catalogue) where
         close = λ t why l n a z y q. (calls.coordinator.close t why l n a z y q.0, ends t why false l _ n (close-ends x.id t why l) q.1);
         mark_calls = λ l c z q. (calls.coordinator.mark_calls l c z q.0, hushed l _ refl refl q.1);
         acknowledge = λ from txn c w. (calls.coordinator.acknowledge from txn c w, record { waiting = acknowledged_waits txn from x.decisions waiting; sent = λ m h. absurd (has_none m h) });
-        answer_inquiry = λ from txn c s n. (calls.coordinator.answer_inquiry from txn c s n, one _ from (message.Outcome txn (is_decided txn x.decisions)) (from_is from _ c) refl refl);
       };
       answers_inviting = λ port c s l. (calls.answers_inviting port c s l.0, silent _ _ refl refl l.1);
       resend_one = λ d o c h l. (calls.resend_one d o c h l.0, resends d o h l.1);
-      inquire = λ o c l. (calls.inquire o c l.0, inquires o l.0.names l.1);
     }
 
     pub routes-step : Routed (step catalogue x given)

@@ -1,10 +1,8 @@
 -- No name gets above what its site has used.
 use Rattle.std.proofs.Common.{◌≡◌, ◌≢◌, ◌⊎◌, ◌∙◌, ap, sym, subst, ℕ, ◌≤◌, ◌<◌, true, List, ◌∷◌, [], arith, inl, inr, ⊎_elim}
-use Rattle.std.specs.Prelude.{Some, None, flat_map, ◌==◌, ◌&&◌}
+use Rattle.std.specs.Prelude.{Some, flat_map, ◌==◌, ◌&&◌}
 use Rattle.std.proofs.lemmas.Option.{cond_some}
-use Rattle.vp_model.specs.Types.{ViewId, TxnId, View, Owner, Obstacle, Message, Input, Lock, Live, Doubt}
-use Rattle.vp_model.specs.Types.message
-use Rattle.vp_model.specs.Types.obstacle
+use Rattle.vp_model.specs.Types.{ViewId, TxnId, View, Owner, Message, Input, Lock, Live, Doubt}
 use Rattle.vp_model.specs.Types.owner
 use Rattle.vp_model.specs.Words.{opening, same_view}
 use Rattle.vp_model.specs.Catalogue.{Catalogue, start_copies}

@@ -14,19 +14,19 @@ use Rattle.vp_model.specs.Types.obstacle
 use Rattle.vp_model.specs.Words.{same_txn, has, first, value_at, is_empty}
 use Rattle.vp_model.specs.Catalogue.{Catalogue, find_record}
 use Rattle.vp_model.specs.Locks.{conflict}
-use Rattle.vp_model.specs.Site.{SiteState, Lent, surroundings, lent_reply, CoordinatorState, letters}
+use Rattle.vp_model.specs.Site.{SiteState, Lent, surroundings, lent_reply, CoordinatorState, letters, lent_send}
 use Rattle.vp_model.specs.Transactions.{last_changes, entry_of, live_of, finished_of, close, close_all, decide}
 use Rattle.vp_model.specs.Refresh.{is_open, other_holders}
 use Rattle.vp_model.specs.Views.{abandon}
 use Rattle.vp_model.specs.Calls.{handling, begin_in, on_begin, with_record, take_lock, lock_here, answer_read, answer_write, read, read_at, write_elsewhere, write, commit, new_call, live_call, finished_call, handled, on_txn_call, own_call}
-use Rattle.vp_model.specs.Answers.{with_missing, count_in, read_answered, on_read_answer, write_answered, on_write_answer, refused_by, on_refuse, voted, on_vote, on_ack, on_inquire, on_answer}
+use Rattle.vp_model.specs.Answers.{with_missing, count_in, read_answered, on_read_answer, write_answered, on_write_answer, refused_by, on_refuse, voted, on_vote, on_ack, on_inquire, on_answer, is_live}
 use Rattle.vp_model.specs.Step.{is_marked_call, least_missing, time_out_calls}
 use Rattle.vp_laws.proofs.Lists.Members.{Has, find_has, find_true, filter_has, has_first, has_more, has_none, has_cases, map_has}
 use Rattle.vp_laws.proofs.Moves.Frames.{close-commits, close-ends}
 use Rattle.vp_laws.proofs.Lists.Changes.{without_first_has}
 use Rattle.vp_laws.proofs.Moves.LocalViews.{letter}
 use Rattle.vp_laws.specs.Votes.{is_commit}
-use Rattle.vp_laws.proofs.Moves.Table.{Closed, Comes, Handled, IsNext, Reads, Writes, Counts, remaining, IsLast, Locked, Completes, Decides, Replies, IsCallOf, Names, Says, Closes, is_abort, lent_at, OfCoordinator}
+use Rattle.vp_laws.proofs.Moves.Table.{Closed, Comes, Handled, IsNext, Reads, Writes, Counts, remaining, IsLast, Locked, Completes, Decides, Replies, IsCallOf, Names, Says, Closes, is_abort, lent_at, OfCoordinator, SendsBack}
 use Rattle.vp_laws.proofs.Lists.Keeps.{by_option, by_some, by_test}
 use Rattle.vp_model.proofs.SameTxn.{same_txn-is}
 
@@ -276,16 +276,18 @@ module _ (catalogue : Catalogue) (x : SiteState) (given : Input) (Q : Lent → T
   unfolding on_ack
   on_ack-kept from txn c = by_test Q _ _ _ (λ e. k.acknowledge from txn c e) (λ e. h)
 
-  on_inquire-kept : (from : ℕ) (txn : TxnId) → Comes given from (message.Inquire txn) → Q (on_inquire x.id from txn (lent_at x))
+  on_inquire-kept : (from : ℕ) (txn : TxnId) → Comes given from (message.Inquire txn) → ((m : Message) → SendsBack x given from m → Q (lent_send x.id m from (lent_at x))) → Q (on_inquire x.id from txn (lent_at x))
   unfolding on_inquire
-  on_inquire-kept from txn c = grind (arith, nat_tests, k.answer_inquiry from txn, h)
+  on_inquire-kept from txn c back =
+      let answered = λ (s : (txn.site == x.id) ≡ true) (n : is_live txn x.live ≡ false). back _ (SendsBack.answer_inquiry txn c s n) in
+      grind (arith, nat_tests, answered, h)
 
-  pub on_answer-kept : (from : ℕ) (m : Message) → Comes given from m → Q (on_answer catalogue x.id from m (lent_at x))
+  pub on_answer-kept : (from : ℕ) (m : Message) → Comes given from m → ((m : Message) → SendsBack x given from m → Q (lent_send x.id m from (lent_at x))) → Q (on_answer catalogue x.id from m (lent_at x))
   unfolding on_answer
-  on_answer-kept from (message.ReadAnswer txn number value) c = on_read_answer-kept from txn number value c
-  on_answer-kept from (message.WriteAnswer txn number) c = on_write_answer-kept from txn number c
-  on_answer-kept from (message.Refuse txn number why) c = on_refuse-kept from txn number why c
-  on_answer-kept from (message.Vote txn) c = on_vote-kept from txn c
-  on_answer-kept from (message.Ack txn) c = on_ack-kept from txn c
-  on_answer-kept from (message.Inquire txn) c = on_inquire-kept from txn c
-  on_answer-kept from m c = h
+  on_answer-kept from (message.ReadAnswer txn number value) c back = on_read_answer-kept from txn number value c
+  on_answer-kept from (message.WriteAnswer txn number) c back = on_write_answer-kept from txn number c
+  on_answer-kept from (message.Refuse txn number why) c back = on_refuse-kept from txn number why c
+  on_answer-kept from (message.Vote txn) c back = on_vote-kept from txn c
+  on_answer-kept from (message.Ack txn) c back = on_ack-kept from txn c
+  on_answer-kept from (message.Inquire txn) c back = on_inquire-kept from txn c back
+  on_answer-kept from m c back = h

@@ -1,16 +1,19 @@
--- What the ends of transactions leave of the coordinator's part, and what they send.
+-- What the ends of transactions leave of the coordinator's part, and what they send; what the end of a refresh takes.
 use Rattle.std.proofs.Common.{◌≡◌, ◌∙◌, ℕ, Bool, true, false, cond, List, [], ◌∷◌, ◌++◌, refl}
 use Rattle.std.specs.Prelude.{Option, Some, None}
-use Rattle.vp_model.specs.Types.{TxnId, Effects, Pending, Live, Ending}
+use Rattle.vp_model.specs.Types.{TxnId, Effects, Pending, Live, Ending, Stored}
 use Rattle.vp_base.specs.declared.site.Ending.TheVariants.{Committed}
 use Rattle.vp_model.specs.Types.owner
+use Rattle.vp_model.specs.Types.entry
 use Rattle.vp_model.specs.Types.message
 use Rattle.vp_model.specs.Catalogue.{Catalogue}
-use Rattle.vp_model.specs.Words.{is_empty}
+use Rattle.vp_model.specs.Words.{is_empty, view_before, replace_at}
 use Rattle.vp_model.specs.Locks.{without_owner}
-use Rattle.vp_model.specs.Site.{Lent, letters}
+use Rattle.vp_model.specs.Site.{Lent, letters, Stepped, force, change_copies}
 use Rattle.vp_model.specs.Transactions.{last_changes, entry_of, with_pending_reply, finish, close, close_all, with_finished, keep_writes, decided, decide}
+use Rattle.vp_model.specs.Refresh.{take_newer}
 use Rattle.vp_model.proofs.SameTxn.{same_txn-self}
+use Rattle.vp_laws.proofs.Lists.Keeps.{by_test}
 
 -- a transaction has ended: its parts are told whether it commits, and its locks go
 pub record Ends (id : ℕ) (t : Live) (why : Ending) (commit : Bool) (l now : Lent) : Type 0 where
@@ -81,3 +84,8 @@ Beside-trans a b c p q = record { copies = q.copies ∙ p.copies; seq = q.seq �
 pub close_all-beside : (id : ℕ) (why : Live → Ending) (live : List Live) (l : Lent) → Beside l (close_all id why live l)
 close_all-beside id why [] l = record { copies = refl; seq = refl; decisions = refl }
 close_all-beside id why (t ∷ live) l = Beside-trans l _ _ (close-beside id t (why t) l) (close_all-beside id why live (close id t (why t) l))
+
+-- a copy is replaced where another one is newer, or stays
+pub take-cases : (P : Stepped → Type 0) (rec : ℕ) (own best : Stored) (o : Stepped) → P (force (entry.Copy rec best) (change_copies (replace_at rec best) o)) → P o → P (take_newer rec own best o)
+unfolding take_newer
+take-cases P rec own best o newer older = by_test P (view_before own.date best.date) _ _ (λ e. newer) (λ e. older)

@@ -1,21 +1,20 @@
 -- What speaks of a site's own transactions and of what is sent for them alone is kept by all moves but the coordinator's.
-use Rattle.std.proofs.Common.{◌≡◌, ◌∙◌, ap, sym, subst, ℕ, Bool, true, false, cond, List, [], ◌∷◌, ◌++◌, map, refl}
+use Rattle.std.proofs.Common.{◌≡◌, ◌∙◌, ap, sym, subst, ℕ, Bool, true, false, List, [], ◌∷◌, ◌++◌, refl}
 use Rattle.std.specs.Prelude.{Option, Some, None, ◌==◌, not, filter}
 use Rattle.vp_model.specs.Types.{TxnId, Stored, Message, Sent, Commit, Input, Refreshing, Doubt, Decision}
-use Rattle.vp_model.specs.Types.entry
 use Rattle.vp_model.specs.Types.input
 use Rattle.vp_model.specs.Types.message
-use Rattle.vp_model.specs.Words.{replace_at, view_before}
 use Rattle.vp_model.specs.Catalogue.{Catalogue}
 use Rattle.vp_model.specs.Durable.{doubt_of}
-use Rattle.vp_model.specs.Site.{CoordinatorState, SiteState, Lent, Stepped, begin_step, lent, put_back, letters, force, change_copies}
-use Rattle.vp_model.specs.Refresh.{newest, take_newer, unlist, end_refresh, start_refresh, other_holders, unanswered}
+use Rattle.vp_model.specs.Site.{CoordinatorState, SiteState, Lent, Stepped, begin_step, lent, put_back, letters}
+use Rattle.vp_model.specs.Refresh.{newest, take_newer, unlist, end_refresh, start_refresh, other_holders}
 use Rattle.vp_model.specs.Views.{other_sites, drop_view, start_inviting, hold}
 use Rattle.vp_model.specs.Messages.{accept, on_accept, on_stale, grant, end_here}
-use Rattle.vp_model.specs.Step.{fix, ask_again, resend_one, known, inquire}
+use Rattle.vp_model.specs.Step.{fix, ask_again, resend_one}
 use Rattle.vp_laws.proofs.Lists.Members.{Has, has_one_is, map_has}
-use Rattle.vp_laws.proofs.Moves.Table.{next_view, OfCoordinator, Back, Tells, Table}
+use Rattle.vp_laws.proofs.Moves.Table.{next_view, OfCoordinator, Back, SendsBack, Table, AsksAgain}
 use Rattle.vp_laws.proofs.Moves.LocalViews.{letter}
+use Rattle.vp_laws.proofs.Moves.Frames.{take-cases}
 
 -- a message that no coordinator sends for a transaction of its own
 abbrev pub is_aside : Message → Bool
@@ -25,9 +24,9 @@ is_aside (message.Prepare txn view number reads writes) = false
 is_aside (message.Outcome txn commit) = false
 is_aside m = true
 
-tells_aside : (x : SiteState) (given : Input) (from : ℕ) (m : Message) → Tells x given from m → is_aside m ≡ true
-tells_aside x given from _ (Tells.stale id c e) = refl
-tells_aside x given from m t = refl
+again_aside : (catalogue : Catalogue) (x : SiteState) (given : Input) (o : Stepped) (to : ℕ) (m : Message) → AsksAgain catalogue x given o to m → is_aside m ≡ true
+again_aside catalogue x given o to _ (AsksAgain.refresh view r e h v q) = refl
+again_aside catalogue x given o to m a = refl
 
 pub record Aside (x : SiteState) (m : Sent) : Type 0 where
   pub from : m.from ≡ x.id
@@ -54,6 +53,7 @@ module _ (catalogue : Catalogue) (x : SiteState) (given : Input) (R : Coordinato
     pub aside : (c : CoordinatorState) (ms more : List Sent) (cs : List Commit) → ((m : Sent) → Has more m → Aside x m) → R c ms cs → R c (ms ++ more) cs
     pub starts : R x.coordinator [] []
     pub moves : OfCoordinator catalogue x given OnLent
+    pub sends_back : (from : ℕ) (m : Message) → SendsBack x given from m → R x.coordinator (letter x.id from m ∷ []) []
     pub resends : (c : CoordinatorState) (d : Decision) (ms : List Sent) (cs : List Commit) → given ≡ input.Tick → Has c.decisions d → R c ms cs → R c (ms ++ letters x.id (λ q. message.Outcome d.txn true) d.waiting) cs
 
 module _ (catalogue : Catalogue) (x : SiteState) (given : Input) (R : CoordinatorState → List Sent → List Commit → Type 0) (k : Keeps catalogue x given R) where
@@ -78,17 +78,9 @@ module _ (catalogue : Catalogue) (x : SiteState) (given : Input) (R : Coordinato
   one : (o : Stepped) (to : ℕ) (words : Message) → is_aside words ≡ true → o.site.id ≡ x.id → o.site.coordinator ≡ x.coordinator → o.effects.messages ≡ letter x.id to words ∷ [] → o.effects.commits ≡ [] → P o
   one o to words quiet i c ms cs = more (begin_step x) o (letter x.id to words ∷ []) i c ms cs (letter_aside x to words quiet) only_begins
 
-  takes_newer : (rec : ℕ) (own best : Stored) (o : Stepped) → P o → P (take_newer rec own best o)
-  unfolding take_newer
-  takes_newer rec own best o p = go (view_before own.date best.date)
-    where
-      go : (b : Bool) → P (cond b (force (entry.Copy rec best) (change_copies (replace_at rec best) o)) o)
-      go true = silent o (force (entry.Copy rec best) (change_copies (replace_at rec best) o)) refl refl refl refl p
-      go false = p
-
   ends_refresh : (r : Refreshing) (own : Stored) (o : Stepped) → P o → P (end_refresh catalogue r own o)
   unfolding end_refresh unlist
-  ends_refresh r own o p = silent (take_newer r.rec own (newest own r.answers) o) _ refl refl refl refl (takes_newer r.rec own (newest own r.answers) o p)
+  ends_refresh r own o p = silent (take_newer r.rec own (newest own r.answers) o) _ refl refl refl refl (take-cases P r.rec own (newest own r.answers) o (silent o _ refl refl refl refl p) p)
 
   ends_here : (from : ℕ) (txn : TxnId) (commit : Bool) (doubt : Option Doubt) → P (end_here from txn commit doubt (begin_step x))
   unfolding end_here
@@ -96,13 +88,6 @@ module _ (catalogue : Catalogue) (x : SiteState) (given : Input) (R : Coordinato
   ends_here from txn false None = silent (begin_step x) _ refl refl refl refl only_begins
   ends_here from txn true (Some d) = one _ from (message.Ack txn) refl refl refl refl refl
   ends_here from txn false (Some d) = silent (begin_step x) _ refl refl refl refl only_begins
-
-  inquires : (txns : List TxnId) (o : Stepped) → P o → P (inquire txns o)
-  unfolding inquire
-  inquires txns o p = more o _ (map (λ (txn : TxnId). letter o.site.id txn.site (message.Inquire txn)) txns) refl refl refl refl inquiries p
-    where
-      inquiries : (m : Sent) → Has (map (λ (txn : TxnId). letter o.site.id txn.site (message.Inquire txn)) txns) m → Aside x m
-      inquiries m h = let r = map_has (λ (txn : TxnId). letter o.site.id txn.site (message.Inquire txn)) txns m h in record { from = sym (ap (λ (m : Sent). m.from) r.2) ∙ p.id; aside = rw (← r.2) refl }
 
   resent : (d : Decision) (o : Stepped) → given ≡ input.Tick → Has o.site.decisions d → P o → P (put_back o (resend_one o.site.id d (lent o)))
   unfolding resend_one
@@ -122,13 +107,13 @@ module _ (catalogue : Catalogue) (x : SiteState) (given : Input) (R : Coordinato
     close = λ t why l n a z y q. record { id = refl; kept = m.close t why l n a z y q.kept };
     mark_calls = λ l c z q. record { id = refl; kept = m.mark_calls l c z q.kept };
     acknowledge = λ from txn c w. record { id = refl; kept = m.acknowledge from txn c w };
-    answer_inquiry = λ from txn c s n. record { id = refl; kept = m.answer_inquiry from txn c s n };
   }
 
   pub only_table : Table catalogue x given P
   unfolding on_accept on_stale grant drop_view start_inviting accept hold fix ask_again start_refresh
   only_table = record {
-    tells = λ from m t. one _ from m (tells_aside x given from m t) refl refl refl refl;
+    sends_back = λ from m t. record { id = refl; kept = k.sends_back from m t };
+    asks_again = λ o ms all p. more o _ ms refl refl refl refl (λ m h. let q = all m h in record { from = q.0 ∙ p.id; aside = again_aside catalogue x given o m.to m.message q.1 }) p;
     drop_view = λ l e z p. silent (put_back (begin_step x) l) (drop_view (put_back (begin_step x) l)) refl refl refl refl p;
     start_inviting = λ o s left p. many o (start_inviting catalogue (next_view x) o) (λ q. message.Invite (next_view x)) (other_sites catalogue o.site.id) refl refl refl refl (λ q. refl) p;
     accept = λ from id o c e left p. many o (accept from id o) (λ q. message.Accept id) (from ∷ []) refl refl refl refl (λ q. refl) p;
@@ -143,7 +128,6 @@ module _ (catalogue : Catalogue) (x : SiteState) (given : Input) (R : Coordinato
     start_refresh = λ view rec o e a h p. many o (start_refresh catalogue view rec o) (λ q. message.RefreshRequest view.id rec) (other_holders catalogue o.site rec) refl refl refl refl (λ q. refl) p;
     end_refresh = λ rec r own o e a d v p. ends_refresh r own o p;
     keep_answer = λ from view rec stored r c e f g. silent (begin_step x) _ refl refl refl refl only_begins;
-    ask_again = λ view r o e h v p. many o (ask_again catalogue view.id r o) (λ q. message.RefreshRequest view.id r.rec) (unanswered catalogue o.site r) refl refl refl refl (λ q. refl) p;
     grant_read = λ from txn view number rec stored c e n v f. one _ from (message.ReadAnswer txn number stored.value) refl refl refl refl refl;
     grant_write = λ from txn view number rec stored c e n v f. one _ from (message.WriteAnswer txn number) refl refl refl refl refl;
     vote_reading = λ from txn view number reads writes part c e n d f v a w. one _ from (message.Vote part.txn) refl refl refl refl refl;
@@ -151,5 +135,4 @@ module _ (catalogue : Catalogue) (x : SiteState) (given : Input) (R : Coordinato
     end_here = λ from txn commit c. ends_here from txn commit (doubt_of txn x.doubts);
     coordinator = own;
     resend_one = λ d o c h p. resent d o c h p;
-    inquire = λ o c p. inquires (known o.site.participant) o p;
   }

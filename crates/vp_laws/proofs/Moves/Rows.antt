@@ -1,8 +1,8 @@
 -- Every row of the table is made of the small moves, so a property that survives these is kept by a step.
-use Rattle.std.proofs.Common.{◌≡◌, ℕ, Bool, true, false, List, [], ◌∷◌, refl, arith, inl, inr}
+use Rattle.std.proofs.Common.{◌≡◌, ℕ, Bool, true, false, List, [], ◌∷◌, refl, arith, inl, inr, map, subst}
 use Rattle.std.specs.Prelude.{Option, Some, None, ◌&&◌}
 use Rattle.std.specs.Option.{option_map_or}
-use Rattle.vp_model.specs.Types.{Change, ViewId, TxnId, View, Stored, Owner, Call, Message, Input, Part, Refreshing, Decision}
+use Rattle.vp_model.specs.Types.{Change, ViewId, TxnId, View, Stored, Owner, Call, Message, Input, Part, Refreshing, Decision, Sent}
 use Rattle.vp_base.specs.declared.site.Ending.TheVariants.{ViewChanged}
 use Rattle.vp_model.specs.Types.answer
 use Rattle.vp_model.specs.Types.call
@@ -11,18 +11,19 @@ use Rattle.vp_model.specs.Types.message
 use Rattle.vp_model.specs.Words.{keys, is_view, view_before, has, has_txn, value_at}
 use Rattle.vp_model.specs.Catalogue.{Catalogue}
 use Rattle.vp_model.specs.Durable.{doubt_of}
-use Rattle.vp_model.specs.Site.{SiteState, Lent, Stepped, begin_step, lent, put_back, change_views}
-use Rattle.vp_model.specs.Refresh.{is_open, is_doubtful, refreshing_of, settle_one, settle, settle_all, start_refresh, start_refresh_all}
+use Rattle.vp_model.specs.Site.{SiteState, Lent, Stepped, begin_step, lent, put_back, change_views, letters}
+use Rattle.vp_model.specs.Refresh.{is_open, is_doubtful, refreshing_of, settle_one, settle, settle_all, start_refresh, start_refresh_all, unanswered}
 use Rattle.vp_model.specs.Views.{part_of, has_doubt, abandon, highest, is_spent, drop_view, leave, invite, usable_here, refresh_here, hold, join}
 use Rattle.vp_model.specs.Locks.{conflict}
 use Rattle.vp_model.specs.Calls.{on_regroup, on_call}
 use Rattle.vp_model.specs.Messages.{holds_view, doubted_records, on_invite, on_view_commit, on_probe_message, lock_copy, on_request, on_read_request, on_write_request, first_vote, on_prepare, end_part, on_outcome, on_refresh_request, on_refresh_answer, answered, on_message}
-use Rattle.vp_model.specs.Step.{fix, without_wait, fix_view, ask_again, ask_again_all, time_out_calls, time_out, tick_view, resend_one, resend, resend_decisions, on_tick, probe_in, on_probe, on_input, step}
-use Rattle.vp_laws.proofs.Lists.Members.{Has, filter_has, has_first, has_more, both_true}
+use Rattle.vp_model.specs.Step.{fix, without_wait, fix_view, ask_again, ask_again_all, time_out_calls, time_out, tick_view, resend_one, resend, resend_decisions, on_tick, probe_in, on_probe, on_input, step, known, inquire}
+use Rattle.vp_laws.proofs.Lists.Members.{Has, filter_has, has_first, has_more, both_true, map_has}
 use Rattle.vp_laws.proofs.Lists.Views.{is_view_is}
 use Rattle.vp_laws.proofs.Moves.Frames.{close_all-beside, close_all-none}
-use Rattle.vp_laws.proofs.Moves.Table.{Comes, Replies, Says, Left, Joined, Requests, Asks, Tells, lent_at, Back, Table}
+use Rattle.vp_laws.proofs.Moves.Table.{Comes, Replies, Says, Left, Joined, Requests, Asks, SendsBack, lent_at, Back, Table, AsksAgain}
 use Rattle.vp_laws.proofs.Moves.Coordinator.{abandon-closed, abandon-kept, time_out_calls-kept, own_call-kept, on_answer-kept}
+use Rattle.vp_laws.proofs.Moves.LocalViews.{letter}
 use Rattle.vp_laws.proofs.Lists.Keeps.{by_test}
 
 -- a record that is accessible and has a copy here
@@ -59,8 +60,8 @@ module _ (catalogue : Catalogue) (x : SiteState) (given : Input) (P : Stepped �
   on_invite-kept : (from : ℕ) (id : ViewId) → Comes given from (message.Invite id) → P (on_invite from id (begin_step x))
   unfolding on_invite
   on_invite-kept from id c =
-      let stale = λ (e : view_before id x.promise ≡ true). k.tells from _ (Tells.stale id c e) in
-      let again = λ (e : is_view x.waiting id ≡ true). k.tells from _ (Tells.accept_again id c e) in
+      let stale = λ (e : view_before id x.promise ≡ true). k.sends_back from _ (SendsBack.stale id c e) in
+      let again = λ (e : is_view x.waiting id ≡ true). k.sends_back from _ (SendsBack.accept_again id c e) in
       grind (arith, k.accept, stale, again, left, leave-kept, h)
 
   -- refresh
@@ -109,23 +110,23 @@ module _ (catalogue : Catalogue) (x : SiteState) (given : Input) (P : Stepped �
   on_read_request-kept : (from : ℕ) (txn : TxnId) (view : ViewId) (number rec : ℕ) → Comes given from (message.ReadRequest txn view number rec) → P (on_read_request from txn view number rec (begin_step x))
   unfolding on_read_request on_request lock_copy
   on_read_request-kept from txn view number rec c =
-      let refusing = λ (e : holds_view x view ≡ false). k.tells from _ (Tells.refuse_view txn view number (Asks.reads rec c) e) in
-      let locked = λ (holder : Owner) (e : holds_view x view ≡ true) (n : has_txn x.ended txn ≡ false) (f : conflict rec false txn x.locks ≡ Some holder). k.tells from _ (Tells.refuse_lock txn view number rec false holder (Requests.reads c) e n f) in
+      let refusing = λ (e : holds_view x view ≡ false). k.sends_back from _ (SendsBack.refuse_view txn view number (Asks.reads rec c) e) in
+      let locked = λ (holder : Owner) (e : holds_view x view ≡ true) (n : has_txn x.ended txn ≡ false) (f : conflict rec false txn x.locks ≡ Some holder). k.sends_back from _ (SendsBack.refuse_lock txn view number rec false holder (Requests.reads c) e n f) in
       grind (arith, refusing, locked, k.grant_read from txn view number rec, h)
 
   on_write_request-kept : (from : ℕ) (txn : TxnId) (view : ViewId) (number rec : ℕ) → Comes given from (message.WriteRequest txn view number rec) → P (on_write_request from txn view number rec (begin_step x))
   unfolding on_write_request on_request lock_copy
   on_write_request-kept from txn view number rec c =
-      let refusing = λ (e : holds_view x view ≡ false). k.tells from _ (Tells.refuse_view txn view number (Asks.writes rec c) e) in
-      let locked = λ (holder : Owner) (e : holds_view x view ≡ true) (n : has_txn x.ended txn ≡ false) (f : conflict rec true txn x.locks ≡ Some holder). k.tells from _ (Tells.refuse_lock txn view number rec true holder (Requests.writes c) e n f) in
+      let refusing = λ (e : holds_view x view ≡ false). k.sends_back from _ (SendsBack.refuse_view txn view number (Asks.writes rec c) e) in
+      let locked = λ (holder : Owner) (e : holds_view x view ≡ true) (n : has_txn x.ended txn ≡ false) (f : conflict rec true txn x.locks ≡ Some holder). k.sends_back from _ (SendsBack.refuse_lock txn view number rec true holder (Requests.writes c) e n f) in
       grind (arith, refusing, locked, k.grant_write from txn view number rec, h)
 
   on_prepare-kept : (from : ℕ) (txn : TxnId) (view : ViewId) (number : ℕ) (reads : List ℕ) (writes : List (ℕ × Change)) → Comes given from (message.Prepare txn view number reads writes) → P (on_prepare from txn view number reads writes (begin_step x))
   unfolding on_prepare first_vote
   on_prepare-kept from txn view number reads writes c =
-      let refusing = λ (e : holds_view x view ≡ false). k.tells from _ (Tells.refuse_view txn view number (Asks.prepares reads writes c) e) in
-      let doubted = λ (e : holds_view x view ≡ true) (n : has_txn x.ended txn ≡ false) (d : has_doubt txn x.doubts ≡ true). k.tells from _ (Tells.doubt_again txn view number reads writes c e n d) in
-      let voted = λ (part : Part) (e : holds_view x view ≡ true) (n : has_txn x.ended txn ≡ false) (f : part_of txn x.parts ≡ Some part) (v : part.voted ≡ true). k.tells from _ (Tells.vote_again txn view number reads writes part c e n f v) in
+      let refusing = λ (e : holds_view x view ≡ false). k.sends_back from _ (SendsBack.refuse_view txn view number (Asks.prepares reads writes c) e) in
+      let doubted = λ (e : holds_view x view ≡ true) (n : has_txn x.ended txn ≡ false) (d : has_doubt txn x.doubts ≡ true). k.sends_back from _ (SendsBack.doubt_again txn view number reads writes c e n d) in
+      let voted = λ (part : Part) (e : holds_view x view ≡ true) (n : has_txn x.ended txn ≡ false) (f : part_of txn x.parts ≡ Some part) (v : part.voted ≡ true). k.sends_back from _ (SendsBack.vote_again txn view number reads writes part c e n f v) in
       grind (arith, refusing, doubted, voted, k.vote_reading from txn view number reads writes, k.vote_writing from txn view number reads writes, h)
 
   on_outcome-kept : (from : ℕ) (txn : TxnId) (commit : Bool) → Comes given from (message.Outcome txn commit) → P (on_outcome catalogue from txn commit (begin_step x))
@@ -135,7 +136,7 @@ module _ (catalogue : Catalogue) (x : SiteState) (given : Input) (P : Stepped �
   on_refresh_request-kept : (from : ℕ) (view : ViewId) (rec : ℕ) → Comes given from (message.RefreshRequest view rec) → P (on_refresh_request from view rec (begin_step x))
   unfolding on_refresh_request
   on_refresh_request-kept from view rec c =
-      let answered = λ (stored : Stored) (e : holds_view x view ≡ true) (d : is_doubtful x rec ≡ false) (v : value_at rec x.copies ≡ Some stored). k.tells from _ (Tells.answer_refresh view rec stored c e d v) in
+      let answered = λ (stored : Stored) (e : holds_view x view ≡ true) (d : is_doubtful x rec ≡ false) (v : value_at rec x.copies ≡ Some stored). k.sends_back from _ (SendsBack.answer_refresh view rec stored c e d v) in
       grind (arith, answered, h)
 
   on_refresh_answer-kept : (from : ℕ) (view : ViewId) (rec : ℕ) (stored : Stored) → Comes given from (message.RefreshAnswer view rec stored) → P (on_refresh_answer catalogue from view rec stored (begin_step x))
@@ -156,7 +157,7 @@ module _ (catalogue : Catalogue) (x : SiteState) (given : Input) (P : Stepped �
   on_call-kept port (call.Abort txn number) comes = own_call-kept catalogue x given K k.coordinator h port (call.Abort txn number) comes
 
   answered-kept : (from : ℕ) (m : Message) → Comes given from m → P (answered catalogue from m (begin_step x))
-  answered-kept from m c = on_answer-kept catalogue x given K k.coordinator h from m c
+  answered-kept from m c = on_answer-kept catalogue x given K k.coordinator h from m c (k.sends_back from)
 
   on_message-kept : (from : ℕ) (m : Message) → Comes given from m → P (on_message catalogue from m (begin_step x))
   unfolding on_message
@@ -174,11 +175,29 @@ module _ (catalogue : Catalogue) (x : SiteState) (given : Input) (P : Stepped �
   on_message-kept from m c = answered-kept from m c
 
   -- tick and probe
+  ask_again-kept : (view : View) (r : Refreshing) (o : Stepped) → x.held ≡ Some view → Has x.refresh r → o.site.views ≡ x.views → P o → P (ask_again catalogue view.id r o)
+  unfolding ask_again
+  ask_again-kept view r o e h v p = k.asks_again o _ asked p
+    where
+      asked : (m : Sent) → Has (letters o.site.id (λ q. message.RefreshRequest view.id r.rec) (unanswered catalogue o.site r)) m → (m.from ≡ o.site.id) × AsksAgain catalogue x given o m.to m.message
+      asked m g =
+          let q = map_has (λ (q : ℕ). letter o.site.id q (message.RefreshRequest view.id r.rec)) (unanswered catalogue o.site r) m g in
+          subst (λ (m : Sent). (m.from ≡ o.site.id) × AsksAgain catalogue x given o m.to m.message) q.2 (refl, AsksAgain.refresh view r e h v q.1)
+
+  inquire-kept : given ≡ input.Tick → (o : Stepped) → P o → P (inquire (known o.site.participant) o)
+  unfolding inquire
+  inquire-kept c o p = k.asks_again o _ asked p
+    where
+      asked : (m : Sent) → Has (map (λ (txn : TxnId). letter o.site.id txn.site (message.Inquire txn)) (known o.site.participant)) m → (m.from ≡ o.site.id) × AsksAgain catalogue x given o m.to m.message
+      asked m g =
+          let q = map_has (λ (txn : TxnId). letter o.site.id txn.site (message.Inquire txn)) (known o.site.participant) m g in
+          subst (λ (m : Sent). (m.from ≡ o.site.id) × AsksAgain catalogue x given o m.to m.message) q.2 (refl, AsksAgain.inquire q.0 c q.1 refl)
+
   ask_again_all-kept : (view : View) (refresh : List Refreshing) (o : Stepped) → ((r : Refreshing) → Has refresh r → Has x.refresh r) → x.held ≡ Some view → o.site.views ≡ x.views → P o → P (ask_again_all catalogue view.id refresh o)
   unfolding ask_again
   ask_again_all-kept view [] o sub e v p = p
   ask_again_all-kept view (r ∷ refresh) o sub e v p =
-      ask_again_all-kept view refresh (ask_again catalogue view.id r o) (λ other q. sub other (has_more r refresh other q)) e v (k.ask_again view r o e (sub r (has_first r refresh)) v p)
+      ask_again_all-kept view refresh (ask_again catalogue view.id r o) (λ other q. sub other (has_more r refresh other q)) e v (ask_again-kept view r o e (sub r (has_first r refresh)) v p)
 
   time_out-kept : (view : View) → given ≡ input.Tick → x.held ≡ Some view → P (time_out catalogue view (begin_step x))
   unfolding time_out
@@ -204,7 +223,7 @@ module _ (catalogue : Catalogue) (x : SiteState) (given : Input) (P : Stepped �
   unfolding on_tick
   on_tick-kept c =
       let ticked = tick_view catalogue (begin_step x) in
-      k.inquire (resend_decisions ticked) c (resend-kept c ticked.site.decisions ticked (λ d q. q) (tick_view-kept c))
+      inquire-kept c (resend_decisions ticked) (resend-kept c ticked.site.decisions ticked (λ d q. q) (tick_view-kept c))
 
   on_probe-kept : given ≡ input.Probe → P (on_probe catalogue (begin_step x))
   unfolding on_probe probe_in

@@ -14,12 +14,12 @@ use Rattle.vp_model.specs.Words.{view_before, is_view, has, has_txn, is_empty, v
 use Rattle.vp_model.specs.Catalogue.{Catalogue, find_record, inside, total}
 use Rattle.vp_model.specs.Durable.{doubt_of}
 use Rattle.vp_model.specs.Locks.{conflict}
-use Rattle.vp_model.specs.Site.{SiteState, Lent, Stepped, begin_step, force, send, reply, change_views, change_participant, change_refresh, surroundings, lent, put_back, lent_force, lent_send, lent_reply, lent_coordinator}
+use Rattle.vp_model.specs.Site.{SiteState, Lent, Stepped, begin_step, force, send, reply, change_views, change_participant, change_refresh, surroundings, lent, put_back, lent_force, lent_reply, lent_coordinator, with_sent}
 use Rattle.vp_model.specs.Transactions.{last_changes, entry_of, last_writes, answer_of, close, decide, complete, wait_for}
 use Rattle.vp_model.specs.Refresh.{members, is_open, other_holders, is_doubtful, refreshing_of, unanswered, end_refresh, start_refresh}
 use Rattle.vp_model.specs.Views.{part_of, has_doubt, without_view, without_parts, highest, is_spent, drop_view, start_inviting, invite, hold}
 use Rattle.vp_model.specs.Calls.{next_txn, start_txn, handling, take_lock, read_at, write_at, prepare_parts}
-use Rattle.vp_model.specs.Step.{is_marked_call, least_missing, fix, without_wait, probe_all, mark_calls, ask_again, resend_one, known, inquire}
+use Rattle.vp_model.specs.Step.{is_marked_call, least_missing, fix, without_wait, probe_all, mark_calls, resend_one, known}
 use Rattle.vp_model.specs.Answers.{waits_for, with_acknowledged, is_live, is_decided}
 use Rattle.vp_model.specs.Messages.{holds_view, accept, on_accept, on_stale, with_heard, held_id, grant, has_all_locks, with_vote, with_new_doubt, end_here, with_answer}
 use Rattle.vp_laws.specs.Votes.{is_commit}
@@ -214,17 +214,17 @@ pub record OfCoordinator (catalogue : Catalogue) (x : SiteState) (given : Input)
   pub close : (t : Live) (why : Ending) (l : Lent) → Handled x t → is_abort why ≡ true → l.effects.commits ≡ [] → Closes x given t why → Q l → Q (close x.id t why l)
   pub mark_calls : (l : Lent) → given ≡ input.Tick → Closed x l → Q l → Q (mark_calls l)
   pub acknowledge : (from : ℕ) (txn : TxnId) → Comes given from (message.Ack txn) → waits_for txn from x.decisions ≡ true → Q (lent_coordinator (with_acknowledged txn from) (lent_force (entry.Acked txn from) (lent_at x)))
-  pub answer_inquiry : (from : ℕ) (txn : TxnId) → Comes given from (message.Inquire txn) → (txn.site == x.id) ≡ true → is_live txn x.live ≡ false → Q (lent_send x.id (message.Outcome txn (is_decided txn x.decisions)) from (lent_at x))
 
--- a message that only tells the site that sent one how things stand here, which is all that the step does
-pub data Tells (x : SiteState) (given : Input) (from : ℕ) : Message → Type 0 where
-  stale : (id : ViewId) → Comes given from (message.Invite id) → view_before id x.promise ≡ true → Tells x given from (message.Stale id x.promise)
-  accept_again : (id : ViewId) → Comes given from (message.Invite id) → is_view x.waiting id ≡ true → Tells x given from (message.Accept id)
-  answer_refresh : (view : ViewId) (rec : ℕ) (stored : Stored) → Comes given from (message.RefreshRequest view rec) → holds_view x view ≡ true → is_doubtful x rec ≡ false → value_at rec x.copies ≡ Some stored → Tells x given from (message.RefreshAnswer view rec stored)
-  refuse_view : (txn : TxnId) (view : ViewId) (number : ℕ) → Asks given from txn view number → holds_view x view ≡ false → Tells x given from (message.Refuse txn number (obstacle.OtherView (held_id x)))
-  refuse_lock : (txn : TxnId) (view : ViewId) (number rec : ℕ) (exclusive : Bool) (holder : Owner) → Requests given from txn view number rec exclusive → holds_view x view ≡ true → has_txn x.ended txn ≡ false → conflict rec exclusive txn x.locks ≡ Some holder → Tells x given from (message.Refuse txn number (obstacle.Held holder))
-  doubt_again : (txn : TxnId) (view : ViewId) (number : ℕ) (reads : List ℕ) (writes : List (ℕ × Change)) → Comes given from (message.Prepare txn view number reads writes) → holds_view x view ≡ true → has_txn x.ended txn ≡ false → has_doubt txn x.doubts ≡ true → Tells x given from (message.Vote txn)
-  vote_again : (txn : TxnId) (view : ViewId) (number : ℕ) (reads : List ℕ) (writes : List (ℕ × Change)) (part : Part) → Comes given from (message.Prepare txn view number reads writes) → holds_view x view ≡ true → has_txn x.ended txn ≡ false → part_of txn x.parts ≡ Some part → part.voted ≡ true → Tells x given from (message.Vote part.txn)
+-- a message that goes back to the site that sent one and tells how things stand here: nothing else is done
+pub data SendsBack (x : SiteState) (given : Input) (from : ℕ) : Message → Type 0 where
+  stale : (id : ViewId) → Comes given from (message.Invite id) → view_before id x.promise ≡ true → SendsBack x given from (message.Stale id x.promise)
+  accept_again : (id : ViewId) → Comes given from (message.Invite id) → is_view x.waiting id ≡ true → SendsBack x given from (message.Accept id)
+  answer_refresh : (view : ViewId) (rec : ℕ) (stored : Stored) → Comes given from (message.RefreshRequest view rec) → holds_view x view ≡ true → is_doubtful x rec ≡ false → value_at rec x.copies ≡ Some stored → SendsBack x given from (message.RefreshAnswer view rec stored)
+  refuse_view : (txn : TxnId) (view : ViewId) (number : ℕ) → Asks given from txn view number → holds_view x view ≡ false → SendsBack x given from (message.Refuse txn number (obstacle.OtherView (held_id x)))
+  refuse_lock : (txn : TxnId) (view : ViewId) (number rec : ℕ) (exclusive : Bool) (holder : Owner) → Requests given from txn view number rec exclusive → holds_view x view ≡ true → has_txn x.ended txn ≡ false → conflict rec exclusive txn x.locks ≡ Some holder → SendsBack x given from (message.Refuse txn number (obstacle.Held holder))
+  doubt_again : (txn : TxnId) (view : ViewId) (number : ℕ) (reads : List ℕ) (writes : List (ℕ × Change)) → Comes given from (message.Prepare txn view number reads writes) → holds_view x view ≡ true → has_txn x.ended txn ≡ false → has_doubt txn x.doubts ≡ true → SendsBack x given from (message.Vote txn)
+  vote_again : (txn : TxnId) (view : ViewId) (number : ℕ) (reads : List ℕ) (writes : List (ℕ × Change)) (part : Part) → Comes given from (message.Prepare txn view number reads writes) → holds_view x view ≡ true → has_txn x.ended txn ≡ false → part_of txn x.parts ≡ Some part → part.voted ≡ true → SendsBack x given from (message.Vote part.txn)
+  answer_inquiry : (txn : TxnId) → Comes given from (message.Inquire txn) → (txn.site == x.id) ≡ true → is_live txn x.live ≡ false → SendsBack x given from (message.Outcome txn (is_decided txn x.decisions))
 
 asks_came : (given : Input) (from : ℕ) (txn : TxnId) (view : ViewId) (number : ℕ) → Asks given from txn view number → (m : Message) × Comes given from m
 asks_came given from txn view number (Asks.reads rec c) = (_, c)
@@ -235,15 +235,21 @@ requests_came : (given : Input) (from : ℕ) (txn : TxnId) (view : ViewId) (numb
 requests_came given from txn view number rec _ (Requests.reads c) = (_, c)
 requests_came given from txn view number rec _ (Requests.writes c) = (_, c)
 
--- what it is sent for
-pub tells_came : (x : SiteState) (given : Input) (from : ℕ) (m : Message) → Tells x given from m → (asked : Message) × Comes given from asked
-tells_came x given from _ (Tells.stale id c e) = (_, c)
-tells_came x given from _ (Tells.accept_again id c e) = (_, c)
-tells_came x given from _ (Tells.answer_refresh view rec stored c e d v) = (_, c)
-tells_came x given from _ (Tells.refuse_view txn view number a e) = asks_came given from txn view number a
-tells_came x given from _ (Tells.refuse_lock txn view number rec exclusive holder r e n c) = requests_came given from txn view number rec exclusive r
-tells_came x given from _ (Tells.doubt_again txn view number rs ws c e n d) = (_, c)
-tells_came x given from _ (Tells.vote_again txn view number rs ws part c e n f v) = (_, c)
+-- the message that it answers
+pub sent_back_for : (x : SiteState) (given : Input) (from : ℕ) (m : Message) → SendsBack x given from m → (asked : Message) × Comes given from asked
+sent_back_for x given from _ (SendsBack.stale id c e) = (_, c)
+sent_back_for x given from _ (SendsBack.accept_again id c e) = (_, c)
+sent_back_for x given from _ (SendsBack.answer_refresh view rec stored c e d v) = (_, c)
+sent_back_for x given from _ (SendsBack.refuse_view txn view number a e) = asks_came given from txn view number a
+sent_back_for x given from _ (SendsBack.refuse_lock txn view number rec exclusive holder r e n c) = requests_came given from txn view number rec exclusive r
+sent_back_for x given from _ (SendsBack.doubt_again txn view number rs ws c e n d) = (_, c)
+sent_back_for x given from _ (SendsBack.vote_again txn view number rs ws part c e n f v) = (_, c)
+sent_back_for x given from _ (SendsBack.answer_inquiry txn c s n) = (_, c)
+
+-- a message with which a tick asks the site `to` again, whatever it did before
+pub data AsksAgain (catalogue : Catalogue) (x : SiteState) (given : Input) (o : Stepped) (to : ℕ) : Message → Type 0 where
+  refresh : (view : View) (r : Refreshing) → x.held ≡ Some view → Has x.refresh r → o.site.views ≡ x.views → Has (unanswered catalogue o.site r) to → AsksAgain catalogue x given o to (message.RefreshRequest view.id r.rec)
+  inquire : (txn : TxnId) → given ≡ input.Tick → Has (known o.site.participant) txn → txn.site ≡ to → AsksAgain catalogue x given o to (message.Inquire txn)
 
 -- what P says of the coordinator's part, all else being as the step began
 abbrev pub Back : SiteState → (Stepped → Type 0) → Lent → Type 0
@@ -251,8 +257,10 @@ Back x P l = P (put_back (begin_step x) l)
 
 -- P speaks of the site and what it has given so far, in a step from x for the input `given`
 pub record Table (catalogue : Catalogue) (x : SiteState) (given : Input) (P : Stepped → Type 0) : Type 0 where
-  -- what only tells the site that sent a message how things stand
-  pub tells : (from : ℕ) (m : Message) → Tells x given from m → P (send m from (begin_step x))
+  -- what is only told to the site that sent a message
+  pub sends_back : (from : ℕ) (m : Message) → SendsBack x given from m → P (send m from (begin_step x))
+  -- what a tick asks others again
+  pub asks_again : (o : Stepped) (ms : List Sent) → ((m : Sent) → Has ms m → (m.from ≡ o.site.id) × AsksAgain catalogue x given o m.to m.message) → P o → P (record o { effects = with_sent ms o.effects })
   -- views
   pub drop_view : (l : Lent) → l.live ≡ [] → Closed x l → Back x P l → P (drop_view (put_back (begin_step x) l))
   pub start_inviting : (o : Stepped) → is_spent x.views ≡ false → Left x o → P o → P (start_inviting catalogue (next_view x) o)
@@ -269,7 +277,6 @@ pub record Table (catalogue : Catalogue) (x : SiteState) (given : Input) (P : St
   pub start_refresh : (view : View) (rec : ℕ) (o : Stepped) → Joined x view o → is_open catalogue o.site rec ≡ true → Has (keys o.site.copies) rec → P o → P (start_refresh catalogue view rec o)
   pub end_refresh : (rec : ℕ) (r : Refreshing) (own : Stored) (o : Stepped) → refreshing_of rec o.site.refresh ≡ Some r → is_empty (unanswered catalogue o.site r) ≡ true → is_doubtful o.site r.rec ≡ false → value_at r.rec o.site.copies ≡ Some own → P o → P (end_refresh catalogue r own o)
   pub keep_answer : (from : ℕ) (view : ViewId) (rec : ℕ) (stored : Stored) (r : Refreshing) → Comes given from (message.RefreshAnswer view rec stored) → holds_view x view ≡ true → refreshing_of rec x.refresh ≡ Some r → has (unanswered catalogue x r) from ≡ true → P (change_refresh (map (with_answer rec from stored)) (begin_step x))
-  pub ask_again : (view : View) (r : Refreshing) (o : Stepped) → x.held ≡ Some view → Has x.refresh r → o.site.views ≡ x.views → P o → P (ask_again catalogue view.id r o)
   -- parts of other sites' transactions
   pub grant_read : (from : ℕ) (txn : TxnId) (view : ViewId) (number rec : ℕ) (stored : Stored) → Comes given from (message.ReadRequest txn view number rec) → holds_view x view ≡ true → has_txn x.ended txn ≡ false → value_at rec x.copies ≡ Some stored → conflict rec false txn x.locks ≡ None → P (grant txn view rec false (message.ReadAnswer txn number stored.value) from (begin_step x))
   pub grant_write : (from : ℕ) (txn : TxnId) (view : ViewId) (number rec : ℕ) (stored : Stored) → Comes given from (message.WriteRequest txn view number rec) → holds_view x view ≡ true → has_txn x.ended txn ≡ false → value_at rec x.copies ≡ Some stored → conflict rec true txn x.locks ≡ None → P (grant txn view rec true (message.WriteAnswer txn number) from (begin_step x))
@@ -279,4 +286,3 @@ pub record Table (catalogue : Catalogue) (x : SiteState) (given : Input) (P : St
   -- this site's transactions
   pub coordinator : OfCoordinator catalogue x given (Back x P)
   pub resend_one : (d : Decision) (o : Stepped) → given ≡ input.Tick → Has o.site.decisions d → P o → P (put_back o (resend_one o.site.id d (lent o)))
-  pub inquire : (o : Stepped) → given ≡ input.Tick → P o → P (inquire (known o.site.participant) o)

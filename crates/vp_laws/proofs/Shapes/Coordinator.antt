@@ -24,11 +24,11 @@ use Rattle.vp_model.specs.Words.{has, is_empty, put_number, for_each}
 use Rattle.vp_model.specs.Catalogue.{Catalogue, holders}
 use Rattle.vp_model.specs.Durable.{with_writes}
 use Rattle.vp_model.specs.Locks.{with_lock, without_owner}
-use Rattle.vp_model.specs.Site.{CoordinatorState, SiteState, Lent, Stepped, begin_step, lent, put_back, lent_force, lent_send, lent_reply, lent_coordinator}
+use Rattle.vp_model.specs.Site.{CoordinatorState, SiteState, Lent, Stepped, begin_step, lent, put_back, lent_force, lent_reply, lent_coordinator}
 use Rattle.vp_model.specs.Transactions.{last_changes, entry_of, last_writes, writes_held, with_pending_reply, with_finished, finish, close, writing_parts, with_kept, keep_writes, decided, decide, complete, put_live, wait_for, answer_of}
 use Rattle.vp_model.specs.Refresh.{members, other_holders}
 use Rattle.vp_model.specs.Calls.{begun, with_begun, start_txn, handling, take_lock, read_at, write_at, prepare_for, prepare_parts}
-use Rattle.vp_model.specs.Answers.{with_acknowledged, is_decided}
+use Rattle.vp_model.specs.Answers.{with_acknowledged}
 use Rattle.vp_model.specs.Step.{with_marks, mark_calls, resend_one}
 use Rattle.vp_laws.specs.Votes.{is_commit}
 use Rattle.vp_laws.proofs.Lists.Members.{Has}
@@ -350,11 +350,6 @@ module _ (catalogue : Catalogue) (k : IsCatalogue catalogue) (x : SiteState) (sx
       let s = sx.coordinator_is in
       let a = now_gives _ (lent_at x) begins (gives_entry x.id _ begins.gives (entry.Acked txn from) (m.1, m.0)) in
       now_coordinator (with_acknowledged txn from) _ a (record { seq_fits = s.seq_fits; live_are = s.live_are; finished_are = s.finished_are; decisions_are = fewer_decisions txn from x.decisions s.decisions_are })
-
-  pub answers_inquiry : (from : ℕ) (txn : TxnId) → Comes given from (message.Inquire txn) → K (lent_send x.id (message.Outcome txn (is_decided txn x.decisions)) from (lent_at x))
-  answers_inquiry from txn c =
-      let m = came_is given from (message.Inquire txn) came c in
-      now_gives _ (lent_at x) begins (gives_message x.id _ begins.gives x.id (message.Outcome txn (is_decided txn x.decisions)) from refl m.0 m.1)
 
   pub resends : (d : Decision) (o : Stepped) → Has o.site.decisions d → F o → F (put_back o (resend_one o.site.id d (lent o)))
   unfolding resend_one

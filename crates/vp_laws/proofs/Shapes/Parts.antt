@@ -1,5 +1,5 @@
 -- The moves of refresh and of parts of other sites' transactions keep a site well formed.
-use Rattle.std.proofs.Common.{◌≡◌, ℕ, Bool, true, false, List, [], map, refl}
+use Rattle.std.proofs.Common.{◌≡◌, ℕ, Bool, true, false, List, [], map, refl, subst, ◌∙◌}
 use Rattle.std.specs.Prelude.{Option, Some, None, IfSome, filter, not, option_map, is_some, ◌==◌, nat_lt}
 use Rattle.std.specs.List.{AllByRecursion}
 use Rattle.vp_base.specs.Identifiers.{IsView, IsTxn}
@@ -8,21 +8,21 @@ use Rattle.vp_bytes.specs.Doubts.{IsDoubt}
 use Rattle.vp_base.specs.Calls.{IsNumbered}
 use Rattle.vp_wire.specs.Grammar.{IsMessage}
 use Rattle.vp_catalog.specs.Document.{IsCatalogue}
-use Rattle.vp_model.specs.Types.{Change, ViewId, TxnId, View, Stored, Message, Input, Part, Refreshing, Doubt}
+use Rattle.vp_model.specs.Types.{Change, ViewId, TxnId, View, Stored, Message, Input, Part, Refreshing, Doubt, Sent}
 use Rattle.vp_model.specs.Types.entry
 use Rattle.vp_model.specs.Types.message
 use Rattle.vp_model.specs.Types.owner
-use Rattle.vp_model.specs.Words.{same_txn, txn_before, keys, view_before, value_at, replace_at, put}
+use Rattle.vp_model.specs.Words.{same_txn, txn_before, keys, value_at, replace_at, put}
 use Rattle.vp_model.specs.Catalogue.{Catalogue}
 use Rattle.vp_model.specs.Durable.{doubt_of, with_outcome}
 use Rattle.vp_model.specs.Locks.{with_lock, without_owner, with_guard, without_guard}
-use Rattle.vp_model.specs.Site.{SiteState, ParticipantState, Stepped, begin_step, force, send, change_locks, change_copies, change_participant, change_refresh}
+use Rattle.vp_model.specs.Site.{SiteState, ParticipantState, Stepped, begin_step, force, send, change_locks, change_participant, change_refresh, with_sent}
 use Rattle.vp_model.specs.Refresh.{other_holders, refreshing_of, unanswered, newest, take_newer, unlist, end_refresh, start_refresh}
 use Rattle.vp_model.specs.Views.{part_of}
 use Rattle.vp_model.specs.Messages.{put_part, with_part, grant, with_vote, with_new_doubt, with_ended, acknowledge, end_here, with_answer}
-use Rattle.vp_model.specs.Step.{ask_again, known, inquire}
-use Rattle.vp_laws.proofs.Lists.Members.{Has, find_has}
-use Rattle.vp_laws.proofs.Moves.Table.{Comes, Requests, Asks, Joined, Tells, tells_came}
+use Rattle.vp_model.specs.Step.{known}
+use Rattle.vp_laws.proofs.Lists.Members.{Has, find_has, all_of}
+use Rattle.vp_laws.proofs.Moves.Table.{Comes, Requests, Asks, Joined, SendsBack, sent_back_for, AsksAgain}
 use Rattle.vp_laws.specs.Shapes.{IsInput, IsStored, AreCopies, IsLock, IsPart, IsRefreshing, IsShaped, IsSent}
 use Rattle.vp_laws.proofs.Lists.Items.{all_at, all_filter, all_put, all_map}
 use Rattle.vp_laws.proofs.Shapes.Numbers.{each_site, ascending_filter}
@@ -31,6 +31,7 @@ use Rattle.vp_laws.proofs.Shapes.Catalogue.{others_ascend, held_is}
 use Rattle.vp_laws.proofs.Shapes.Moves.{Forms, gives_entry, gives_sent, with_gives, with_locks, with_copies, with_participant, with_refresh, some_at, with_lock_is, conflict_is, replace_is, writes_are, copy_is, newest_is, answer_is, doubt_is, known_are}
 use Rattle.vp_laws.proofs.Shapes.Views.{came_is, starts, sends, sends_all}
 use Rattle.vp_laws.proofs.Lists.Keeps.{by_test}
+use Rattle.vp_laws.proofs.Moves.Frames.{take-cases}
 
 module _ (catalogue : Catalogue) (k : IsCatalogue catalogue) (x : SiteState) (sx : IsShaped catalogue x) (given : Input) (came : IsInput given) where
   abbrev F : Stepped → Type 0
@@ -55,10 +56,9 @@ module _ (catalogue : Catalogue) (k : IsCatalogue catalogue) (x : SiteState) (sx
       sends_all catalogue k x sx given came (message.RefreshRequest view.id rec) (other_holders catalogue o.site rec) _ b (each_site _ (others_ascend catalogue k o.site.id o.site.held rec)) (v, r)
 
   takes_newer : (rec : ℕ) (own best : Stored) (o : Stepped) → IsRecord rec → IsStored best → F o → F (take_newer rec own best o)
-  unfolding take_newer
   takes_newer rec own best o r i p =
       let a = with_copies catalogue x o p (replace_at rec best) (replace_is catalogue o.site.id rec best o.site.here.copies i p.site_is.copies_are) in
-      by_test F (view_before own.date best.date) (force (entry.Copy rec best) (change_copies (replace_at rec best) o)) o (λ e. with_gives catalogue x _ a _ (gives_entry x.id _ a.gives (entry.Copy rec best) (r, i.0, i.1))) (λ e. p)
+      take-cases F rec own best o (with_gives catalogue x _ a _ (gives_entry x.id _ a.gives (entry.Copy rec best) (r, i.0, i.1))) p
 
   pub ends_refresh : (rec : ℕ) (r : Refreshing) (own : Stored) (o : Stepped) → refreshing_of rec o.site.refresh ≡ Some r → value_at r.rec o.site.copies ≡ Some own → F o → F (end_refresh catalogue r own o)
   unfolding end_refresh unlist
@@ -73,13 +73,6 @@ module _ (catalogue : Catalogue) (k : IsCatalogue catalogue) (x : SiteState) (sx
   keeps_answer from view rec stored c =
       let m = (came_is given from (message.RefreshAnswer view rec stored) came c).1 in
       with_refresh catalogue x _ begins (map (with_answer rec from stored)) (all_map IsRefreshing IsRefreshing (with_answer rec from stored) (λ r i. answer_is rec from stored r (m.1.1, m.1.2) i) x.refresh sx.refresh_are)
-
-  pub asks_again : (view : View) (r : Refreshing) (o : Stepped) → x.held ≡ Some view → Has x.refresh r → F o → F (ask_again catalogue view.id r o)
-  unfolding ask_again
-  asks_again view r o e h p =
-      let v : IsView view.id = some_at (λ (view : View). IsView view.id) x.held view sx.views_are.held_is e in
-      let i : IsRefreshing r = all_at IsRefreshing x.refresh sx.refresh_are r h in
-      sends_all catalogue k x sx given came (message.RefreshRequest view.id r.rec) (unanswered catalogue o.site r) o p (each_site _ (ascending_filter 1 16 _ _ (others_ascend catalogue k o.site.id o.site.held r.rec))) (v, i.0)
 
   -- ---- parts
 
@@ -125,20 +118,21 @@ module _ (catalogue : Catalogue) (k : IsCatalogue catalogue) (x : SiteState) (sx
   part_of_is : (txn : TxnId) (part : Part) → part_of txn x.parts ≡ Some part → IsPart part
   part_of_is txn part e = all_at IsPart x.parts sx.parts_are part (find_has (λ part. same_txn part.txn txn) x.parts part e)
 
-  told_is : (from : ℕ) (m : Message) → Tells x given from m → IsMessage m
-  told_is from _ (Tells.stale id c e) = ((came_is given from (message.Invite id) came c).1, sx.views_are.promise_is)
-  told_is from _ (Tells.accept_again id c e) = (came_is given from (message.Invite id) came c).1
-  told_is from _ (Tells.answer_refresh view rec stored c e d v) =
+  back_is : (from : ℕ) (m : Message) → SendsBack x given from m → IsMessage m
+  back_is from _ (SendsBack.stale id c e) = ((came_is given from (message.Invite id) came c).1, sx.views_are.promise_is)
+  back_is from _ (SendsBack.accept_again id c e) = (came_is given from (message.Invite id) came c).1
+  back_is from _ (SendsBack.answer_refresh view rec stored c e d v) =
       let m = (came_is given from (message.RefreshRequest view rec) came c).1 in
       let i = copy_is x.here.copies rec stored sx.copies_are.stored v in
       (m.0, (m.1, i.0, i.1))
-  told_is from _ (Tells.refuse_view txn view number a e) = (numbered txn view number (asks_is from txn view number a), now_is x.held sx.views_are.held_is)
-  told_is from _ (Tells.refuse_lock txn view number rec exclusive holder r e n c) = (numbered txn view number (requests_is from txn view number rec exclusive r), conflict_is rec exclusive txn x.here.locks holder sx.locks_are c)
-  told_is from _ (Tells.doubt_again txn view number reads writes c e n d) = (came_is given from (message.Prepare txn view number reads writes) came c).1.0.0
-  told_is from _ (Tells.vote_again txn view number reads writes part c e n f v) = (part_of_is txn part f).0
+  back_is from _ (SendsBack.refuse_view txn view number a e) = (numbered txn view number (asks_is from txn view number a), now_is x.held sx.views_are.held_is)
+  back_is from _ (SendsBack.refuse_lock txn view number rec exclusive holder r e n c) = (numbered txn view number (requests_is from txn view number rec exclusive r), conflict_is rec exclusive txn x.here.locks holder sx.locks_are c)
+  back_is from _ (SendsBack.doubt_again txn view number reads writes c e n d) = (came_is given from (message.Prepare txn view number reads writes) came c).1.0.0
+  back_is from _ (SendsBack.vote_again txn view number reads writes part c e n f v) = (part_of_is txn part f).0
+  back_is from _ (SendsBack.answer_inquiry txn c s n) = (came_is given from (message.Inquire txn) came c).1
 
-  pub tells : (from : ℕ) (m : Message) → Tells x given from m → F (send m from (begin_step x))
-  tells from m t = let q = tells_came x given from m t in answers_with m from _ begins (came_is given from q.0 came q.1).0 (told_is from m t)
+  pub sends_back : (from : ℕ) (m : Message) → SendsBack x given from m → F (send m from (begin_step x))
+  sends_back from m t = let q = sent_back_for x given from m t in answers_with m from _ begins (came_is given from q.0 came q.1).0 (back_is from m t)
 
   pub votes_reading : (from : ℕ) (txn : TxnId) (view : ViewId) (number : ℕ) (reads : List ℕ) (writes : List (ℕ × Change)) (part : Part) → Comes given from (message.Prepare txn view number reads writes) → part_of txn x.parts ≡ Some part → F (send (message.Vote part.txn) from (change_participant (with_vote part) (begin_step x)))
   votes_reading from txn view number reads writes part c e =
@@ -180,10 +174,13 @@ module _ (catalogue : Catalogue) (k : IsCatalogue catalogue) (x : SiteState) (sx
       let b = with_copies catalogue x _ a (with_outcome (Some d) commit) (outcome_is commit d x.here.copies i sx.copies_are) in
       ended from txn commit (is_some x.held) _ m.0 m.1 b
 
-  -- ---- inquiries
+  again_is : (o : Stepped) → F o → (to : ℕ) (m : Message) → AsksAgain catalogue x given o to m → IsSite to × IsMessage m
+  again_is o p to _ (AsksAgain.refresh view r e h v q) =
+      let i : IsRefreshing r = all_at IsRefreshing x.refresh sx.refresh_are r h in
+      (all_at IsSite (unanswered catalogue o.site r) (each_site _ (ascending_filter 1 16 _ _ (others_ascend catalogue k o.site.id o.site.held r.rec))) to q, (some_at (λ (view : View). IsView view.id) x.held view sx.views_are.held_is e, i.0))
+  again_is o p to _ (AsksAgain.inquire txn c h e) =
+      let i : IsTxn txn = all_at IsTxn (known o.site.participant) (known_are o.site.participant p.site_is.parts_are p.site_is.doubts_are) txn h in
+      (subst IsSite e (i.site_some, i.site_fits), i)
 
-  pub inquires : (o : Stepped) → F o → F (inquire (known o.site.participant) o)
-  unfolding inquire
-  inquires o p =
-      let t = known_are o.site.participant p.site_is.parts_are p.site_is.doubts_are in
-      with_gives catalogue x o p _ (gives_sent x.id o.effects p.gives (map (λ (txn : TxnId). record { from = o.site.id; to = txn.site; message = message.Inquire txn }) (known o.site.participant)) (all_map IsTxn (IsSent x.id) (λ (txn : TxnId). record { from = o.site.id; to = txn.site; message = message.Inquire txn }) (λ txn i. (p.same, (i.site_some, i.site_fits), i)) (known o.site.participant) t))
+  pub asks_again : (o : Stepped) (ms : List Sent) → ((m : Sent) → Has ms m → (m.from ≡ o.site.id) × AsksAgain catalogue x given o m.to m.message) → F o → F (record o { effects = with_sent ms o.effects })
+  asks_again o ms all p = with_gives catalogue x o p _ (gives_sent x.id o.effects p.gives ms (all_of (IsSent x.id) ms (λ m h. let q = all m h in let i = again_is o p m.to m.message q.1 in (q.0 ∙ p.same, i.0, i.1))))

@@ -25,7 +25,8 @@ use Rattle.vp_laws.proofs.Lists.Keeps.{by_test}
 
 pub table : (catalogue : Catalogue) → IsCatalogue catalogue → (x : SiteState) → IsShaped catalogue x → (given : Input) → IsInput given → Table catalogue x given (Forms catalogue x)
 table catalogue k x sx given came = record {
-  tells = λ from m t. parts.tells catalogue k x sx given came from m t;
+  sends_back = λ from m t. parts.sends_back catalogue k x sx given came from m t;
+  asks_again = λ o ms all p. parts.asks_again catalogue k x sx given came o ms all p;
   drop_view = λ l e z p. views.drops catalogue k x sx given came (put_back (begin_step x) l) p;
   start_inviting = λ o s left p. views.invites catalogue k x sx given came o s p;
   accept = λ from id o c e left p. views.accepts catalogue k x sx given came from id o c p;
@@ -40,7 +41,6 @@ table catalogue k x sx given came = record {
   start_refresh = λ view rec o j a h p. parts.starts_refresh catalogue k x sx given came view rec o j h p;
   end_refresh = λ rec r own o f a d e p. parts.ends_refresh catalogue k x sx given came rec r own o f e p;
   keep_answer = λ from view rec stored r c e f g. parts.keeps_answer catalogue k x sx given came from view rec stored c;
-  ask_again = λ view r o e h v p. parts.asks_again catalogue k x sx given came view r o e h p;
   grant_read = λ from txn view number rec stored c e n v f. parts.grants_read catalogue k x sx given came from txn view number rec stored c v;
   grant_write = λ from txn view number rec stored c e n v f. parts.grants_write catalogue k x sx given came from txn view number rec c;
   vote_reading = λ from txn view number reads writes part c e n d f v a w. parts.votes_reading catalogue k x sx given came from txn view number reads writes part c f;
@@ -59,10 +59,8 @@ table catalogue k x sx given came = record {
     close = λ t why l n a z y q. own.closes catalogue k x sx given came t why l y q;
     mark_calls = λ l c z q. own.marks catalogue k x sx given came l q;
     acknowledge = λ from txn c w. own.acknowledges catalogue k x sx given came from txn c;
-    answer_inquiry = λ from txn c s n. own.answers_inquiry catalogue k x sx given came from txn c;
   };
   resend_one = λ d o c h p. own.resends catalogue k x sx given came d o h p;
-  inquire = λ o c p. parts.inquires catalogue k x sx given came o p;
 }
 
 -- a step of a well-formed site on an input of its form

@@ -47,11 +47,10 @@ module _ (catalogue : Catalogue) (x : SiteState) (given : Input) where
     close = λ t why l n a z y r. inl (close-commits x.id t why l ∙ z);
     mark_calls = λ l c z r. inl z.commits;
     acknowledge = λ from txn c w. inl refl;
-    answer_inquiry = λ from txn c s n. inl refl;
   }
 
   keeps : Keeps catalogue x given (Alone x)
-  keeps = record { aside = λ c ms more cs quiet r. r; starts = inl refl; moves = moves; resends = λ c d ms cs tick h r. r }
+  keeps = record { aside = λ c ms more cs quiet r. r; starts = inl refl; moves = moves; sends_back = λ from m t. inl refl; resends = λ c d ms cs tick h r. r }
 
 pub alone-step : (catalogue : Catalogue) (x : SiteState) (given : Input) → OnCoordinator catalogue x given (Alone x) (step catalogue x given)
 alone-step catalogue x given =

@@ -8,19 +8,18 @@ use Rattle.vp_model.specs.Types.message
 use Rattle.vp_model.specs.Words.{same_txn, txn_before, value_at, put_at, view_before, is_view, replace_at}
 use Rattle.vp_model.specs.Catalogue.{Catalogue}
 use Rattle.vp_model.specs.Durable.{doubt_of, with_writes}
-use Rattle.vp_model.specs.Site.{Here, ViewState, ParticipantState, send, change_participant, change_refresh, SiteState, Lent, Stepped, begin_step, lent, put_back, letters, force, change_copies}
+use Rattle.vp_model.specs.Site.{Here, ViewState, ParticipantState, send, change_participant, change_refresh, SiteState, Lent, Stepped, begin_step, lent, put_back, letters, force}
 use Rattle.vp_model.specs.Transactions.{last_changes, entry_of, keep_writes, complete, writes_held}
-use Rattle.vp_model.specs.Refresh.{refreshing_of, newest, take_newer, unlist, end_refresh, start_refresh, other_holders, unanswered}
+use Rattle.vp_model.specs.Refresh.{refreshing_of, newest, take_newer, unlist, end_refresh, start_refresh, other_holders}
 use Rattle.vp_model.specs.Views.{part_of, has_part, has_doubt, other_sites, drop_view, start_inviting, hold}
 use Rattle.vp_model.specs.Calls.{start_txn, take_lock, read_at, write_at, prepare_parts, prepare_for}
-use Rattle.vp_model.specs.Answers.{is_decided}
 use Rattle.vp_model.specs.Messages.{put_part, with_accepted, with_seen, holds_view, accept, on_accept, on_stale, with_heard, with_part, with_vote, with_new_doubt, with_ended, with_answer, grant, end_here}
-use Rattle.vp_model.specs.Step.{step, with_monitor, fix, without_wait, probe_all, mark_calls, ask_again, resend_one, known, inquire}
+use Rattle.vp_model.specs.Step.{step, with_monitor, fix, without_wait, probe_all, mark_calls, resend_one}
 use Rattle.vp_laws.proofs.Lists.Members.{Has, has_none, has_one_is, has_cases, filter_has, find_has, map_has, both_true}
 use Rattle.vp_laws.proofs.Lists.Views.{AtMost, AtMost-same, AtMost-trans, AtMost-along, Precedes-at_most, from_before, is_view_is, same_is}
 use Rattle.vp_laws.proofs.Lists.Changes.{put_has, replace_has, writes_has, value_has, newest_at_most}
-use Rattle.vp_laws.proofs.Moves.Frames.{Ends, close-ends, decided-ends, decide-cases}
-use Rattle.vp_laws.proofs.Moves.Table.{Comes, next_view, lent_at, Left, Asks, Handled, Back, Tells, Table}
+use Rattle.vp_laws.proofs.Moves.Frames.{Ends, close-ends, decided-ends, decide-cases, take-cases}
+use Rattle.vp_laws.proofs.Moves.Table.{Comes, next_view, lent_at, Left, Asks, Handled, Back, SendsBack, Table, AsksAgain}
 use Rattle.vp_laws.proofs.Moves.Rows.{step-keeps}
 use Rattle.vp_laws.proofs.Moves.LocalViews.{letter, Tidy}
 use Rattle.vp_laws.proofs.Table.Led.{Led}
@@ -222,8 +221,7 @@ module _ (catalogue : Catalogue) (x : SiteState) (given : Input) (tidy : Tidy x)
       refl (letters_undated o.site.id (λ q. message.RefreshRequest view.id rec) (other_holders catalogue o.site rec) (λ q. refl)) l
 
   takes_newer : (rec : ℕ) (own best : Stored) (o : Stepped) → AtMost best.date o.site.promise → Lies x o → Lies x (take_newer rec own best o)
-  unfolding take_newer
-  takes_newer rec own best o up l = go (view_before own.date best.date)
+  takes_newer rec own best o up l = take-cases (Lies x) rec own best o (record { id = l.id; below = newer; sent = l.sent }) l
     where
       newer : Below (record o.site { here = record o.site.here { copies = replace_at rec best o.site.here.copies } })
       newer = record {
@@ -232,10 +230,6 @@ module _ (catalogue : Catalogue) (x : SiteState) (given : Input) (tidy : Tidy x)
         copies = λ c h. ⊎_elim (λ (e : c.1 ≡ best). rw e up) (λ old. l.below.copies c old) (replace_has rec best o.site.here.copies c h);
         answers = l.below.answers;
       }
-
-      go : (b : Bool) → Lies x (cond b (force (entry.Copy rec best) (change_copies (replace_at rec best) o)) o)
-      go true = record { id = l.id; below = newer; sent = l.sent }
-      go false = l
 
   ends_refresh : (rec : ℕ) (r : Refreshing) (own : Stored) (o : Stepped) → refreshing_of rec o.site.refresh ≡ Some r → value_at r.rec o.site.copies ≡ Some own → Lies x o → Lies x (end_refresh catalogue r own o)
   unfolding end_refresh unlist take_newer
@@ -247,11 +241,6 @@ module _ (catalogue : Catalogue) (x : SiteState) (given : Input) (tidy : Tidy x)
       silent (take_newer r.rec own (newest own r.answers) o) _
       (record { id = refl; promise = refl; held = refl; parts = refl; doubts = refl; copies = refl; refresh = λ q s h k. (q, (filter_has (λ (other : Refreshing). not (other.rec == r.rec)) _ q h).0, k) }) refl
       (takes_newer r.rec own (newest own r.answers) o up l)
-
-  asks_again : (id : ViewId) (r : Refreshing) (o : Stepped) → Lies x o → Lies x (ask_again catalogue id r o)
-  unfolding ask_again
-  asks_again id r o l =
-      beside o _ (letters o.site.id (λ q. message.RefreshRequest id r.rec) (unanswered catalogue o.site r)) (self_same o.site) refl (letters_undated o.site.id (λ q. message.RefreshRequest id r.rec) (unanswered catalogue o.site r) (λ q. refl)) l
 
   -- the held view, and its identifier is the promise
   held_is : (view : ViewId) → holds_view x view ≡ true → (v : View) × (x.held ≡ Some v) × (v.id ≡ view)
@@ -376,21 +365,19 @@ module _ (catalogue : Catalogue) (x : SiteState) (given : Input) (tidy : Tidy x)
   unfolding resend_one
   resends d o l = beside o _ (letters o.site.id (λ q. message.Outcome d.txn true) d.waiting) (self_same o.site) refl (letters_undated o.site.id (λ q. message.Outcome d.txn true) d.waiting (λ q. refl)) l
 
-  inquires : (txns : List TxnId) (o : Stepped) → Lies x o → Lies x (inquire txns o)
-  unfolding inquire
-  inquires txns o l = beside o _ _ (self_same o.site) refl inquiries l
-    where
-      inquiries : (m : Sent) → Has (map (λ (txn : TxnId). letter o.site.id txn.site (message.Inquire txn)) txns) m → is_undated m.message ≡ true
-      inquiries m h = let r = map_has (λ (txn : TxnId). letter o.site.id txn.site (message.Inquire txn)) txns m h in rw (← r.2) refl
+  sent_back : (from : ℕ) (m : Message) → SendsBack x given from m → Lies x (send m from (begin_step x))
+  sent_back from _ (SendsBack.answer_refresh view rec stored c e d v) = answers_refresh from rec view stored e v
+  sent_back from m t = one _ x.id from m refl (self_same x) refl
 
-  told : (from : ℕ) (m : Message) → Tells x given from m → Lies x (send m from (begin_step x))
-  told from _ (Tells.answer_refresh view rec stored c e d v) = answers_refresh from rec view stored e v
-  told from m t = one _ x.id from m refl (self_same x) refl
+  again_undated : (o : Stepped) (to : ℕ) (m : Message) → AsksAgain catalogue x given o to m → is_undated m ≡ true
+  again_undated o to _ (AsksAgain.refresh view r e h v q) = refl
+  again_undated o to m a = refl
 
   pub table : Table catalogue x given (Lies x)
   unfolding on_accept on_stale start_txn take_lock read_at prepare_parts complete mark_calls
   table = record {
-    tells = λ from m t. told from m t;
+    sends_back = λ from m t. sent_back from m t;
+    asks_again = λ o ms all p. beside o _ ms (self_same o.site) refl (λ m h. again_undated o m.to m.message (all m h).1) p;
     drop_view = λ l e z p. drops (put_back (begin_step x) l) p;
     start_inviting = λ o s left l. invites o left l;
     accept = λ from id o c e left l. accepts from id o e left l;
@@ -404,7 +391,6 @@ module _ (catalogue : Catalogue) (x : SiteState) (given : Input) (tidy : Tidy x)
     start_refresh = λ view rec o e a h l. starts_refresh view rec o l;
     end_refresh = λ rec r own o e a d v l. ends_refresh rec r own o e v l;
     keep_answer = λ from view rec stored r c e f g. keeps_answer from rec view stored (dated from view rec stored c) e;
-    ask_again = λ view r o e h v l. asks_again view.id r o l;
     grant_read = λ from txn view number rec stored c e n v f. grants from txn view number rec false (message.ReadAnswer txn number stored.value) (Asks.reads rec c) e refl;
     grant_write = λ from txn view number rec stored c e n v f. grants from txn view number rec true (message.WriteAnswer txn number) (Asks.writes rec c) e refl;
     vote_reading = λ from txn view number reads writes part c e n d f v a w. votes_reading from part (part_there txn part f);
@@ -423,11 +409,9 @@ module _ (catalogue : Catalogue) (x : SiteState) (given : Input) (tidy : Tidy x)
       close = λ t why l n a z y q. ends t why false l _ (close-ends x.id t why l) q;
       mark_calls = λ l c z q. hushed l _ refl refl q;
       acknowledge = λ from txn c w. hushed (lent_at x) _ refl refl begins;
-      answer_inquiry = λ from txn c s n. one _ x.id from (message.Outcome txn (is_decided txn x.decisions)) refl (self_same x) refl;
     };
     answers_inviting = λ port c s l. silent _ _ (self_same _) refl l;
     resend_one = λ d o c h l. resends d o l;
-    inquire = λ o c l. inquires (known o.site.participant) o l;
   }
 
 pub below-step : (catalogue : Catalogue) (x : SiteState) (given : Input) → Tidy x → Led x → Below x → ((from : ℕ) (txn : TxnId) (view : ViewId) (number : ℕ) → Asks given from txn view number → txn.site ≢ x.id) → ((from : ℕ) (view : ViewId) (rec : ℕ) (stored : Stored) → Comes given from (message.RefreshAnswer view rec stored) → AtMost stored.date view) → Lies x (step catalogue x given)

@@ -200,7 +200,8 @@ module _ (catalogue : Catalogue) (x : SiteState) (given : Input) (tidy : Tidy x)
   pub table : Table catalogue x given P
   unfolding on_stale on_accept hold fix ask_again start_inviting accept grant start_txn take_lock complete read_at write_at prepare_parts mark_calls resend_one inquire
   table = record {
-    tells = λ from m t. same (begin_step x) _ refl refl refl refl starts;
+    sends_back = λ from m t. same (begin_step x) _ refl refl refl refl starts;
+    asks_again = λ o ms all p. same o _ refl refl refl refl p;
     drop_view = λ l e z p. drops l p;
     start_inviting = λ o s l p. fresh o _ refl (left_none o l) refl p;
     accept = λ from id o c e l p. fresh o _ refl (left_none o l) refl p;
@@ -215,7 +216,6 @@ module _ (catalogue : Catalogue) (x : SiteState) (given : Input) (tidy : Tidy x)
     start_refresh = λ view rec o e a h p. refreshes view rec o p;
     end_refresh = λ rec r own o e a d v p. finishes rec r own o e v p;
     keep_answer = λ from view rec stored r c e f g. keeps_answer from view rec stored r c e f g;
-    ask_again = λ view r o e h v p. same o _ refl refl refl refl p;
     grant_read = λ from txn view number rec stored c e n v f. same (begin_step x) _ refl refl refl refl starts;
     grant_write = λ from txn view number rec stored c e n v f. same (begin_step x) _ refl refl refl refl starts;
     vote_reading = λ from txn view number reads writes part c e n d f v a w. same (begin_step x) _ refl refl refl refl starts;
@@ -234,10 +234,8 @@ module _ (catalogue : Catalogue) (x : SiteState) (given : Input) (tidy : Tidy x)
       close = λ t why l n a z y q. closes t why l q;
       mark_calls = λ l c z q. quiet l _ refl refl q;
       acknowledge = λ from txn c w. quiet (lent_at x) _ refl refl starts;
-      answer_inquiry = λ from txn c s n. quiet (lent_at x) _ refl refl starts;
     };
     resend_one = λ d o c h p. same o _ refl refl refl refl p;
-    inquire = λ o c p. same o _ refl refl refl refl p;
   }
 
 pub copies-step : (catalogue : Catalogue) (x : SiteState) (given : Input) → Tidy x → ((r : Refreshing) → Has x.refresh r → (v : View) × (x.held ≡ Some v)) → Copies catalogue x given (step catalogue x given)

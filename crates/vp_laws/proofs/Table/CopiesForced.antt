@@ -6,12 +6,12 @@ use Rattle.vp_model.specs.Types.{TxnId, ViewId, View, Stored, LogRecord, Input, 
 use Rattle.vp_model.specs.Types.entry
 use Rattle.vp_model.specs.Types.input
 use Rattle.vp_model.specs.Types.message
-use Rattle.vp_model.specs.Words.{same_txn, value_at, replace_at, view_before, is_empty, has}
+use Rattle.vp_model.specs.Words.{same_txn, value_at, is_empty, has}
 use Rattle.vp_model.specs.Catalogue.{Catalogue, holders}
 use Rattle.vp_model.specs.Durable.{doubt_of}
-use Rattle.vp_model.specs.Site.{SiteState, Stepped, begin_step, force, change_copies}
+use Rattle.vp_model.specs.Site.{SiteState, Stepped, begin_step}
 use Rattle.vp_model.specs.Transactions.{last_changes}
-use Rattle.vp_model.specs.Refresh.{newest, take_newer, unlist, end_refresh, settle_one, settle, settle_all, refreshing_of, unanswered, is_doubtful}
+use Rattle.vp_model.specs.Refresh.{newest, unlist, end_refresh, settle_one, settle, settle_all, refreshing_of, unanswered, is_doubtful}
 use Rattle.vp_model.specs.Messages.{doubted_records, end_here, end_part, on_outcome, on_message}
 use Rattle.vp_model.specs.Step.{on_input, step}
 use Rattle.vp_laws.specs.Decisions.{Forces, CopyComes}
@@ -22,19 +22,16 @@ use Rattle.vp_laws.proofs.Table.Outcomes.{find_none}
 use Rattle.vp_laws.proofs.Table.Copies.{AnswerNow, CopyNow, copies-step}
 use Rattle.vp_model.proofs.SameTxn.{same_txn-self}
 use Rattle.vp_laws.proofs.Lists.Keeps.{by_some, by_test}
+use Rattle.vp_laws.proofs.Moves.Frames.{take-cases}
 
 -- what was forced stays while refreshes end
 module _ (catalogue : Catalogue) (l : LogRecord) where
   abbrev P : Stepped → Type 0
   P o = Has o.effects.records l
 
-  takes_newer : (rec : ℕ) (own best : Stored) (o : Stepped) → P o → P (take_newer rec own best o)
-  unfolding take_newer
-  takes_newer rec own best o h = by_test P (view_before own.date best.date) (force (entry.Copy rec best) (change_copies (replace_at rec best) o)) o (λ newer. has_left o.effects.records _ l h) (λ older. h)
-
   ends_refresh : (r : Refreshing) (own : Stored) (o : Stepped) → P o → P (end_refresh catalogue r own o)
   unfolding end_refresh unlist
-  ends_refresh r own o h = takes_newer r.rec own (newest own r.answers) o h
+  ends_refresh r own o h = take-cases P r.rec own (newest own r.answers) o (has_left o.effects.records _ l h) h
 
   settles_one : (r : Refreshing) (o : Stepped) → P o → P (settle_one catalogue r o)
   unfolding settle_one

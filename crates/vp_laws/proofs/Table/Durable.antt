@@ -66,7 +66,8 @@ module _ (catalogue : Catalogue) (x : SiteState) (given : Input) where
   pub table : Table catalogue x given (Folds (durable_of x))
   unfolding start_txn take_lock complete read_at write_at prepare_parts mark_calls grant on_stale on_accept hold fix drop_view start_refresh ask_again resend_one inquire apply
   table = record {
-    tells = λ from m t. refl;
+    sends_back = λ from m t. refl;
+    asks_again = λ o ms all p. p;
     drop_view = λ l e z h. h;
     start_inviting = λ o s left h. invites _ o h;
     accept = λ from id o c e left h. accepts from id o h;
@@ -80,7 +81,6 @@ module _ (catalogue : Catalogue) (x : SiteState) (given : Input) where
     start_refresh = λ view rec o e a q h. h;
     end_refresh = λ rec r own o e a d v h. ends_refresh r own o h;
     keep_answer = λ from view rec stored r c e f g. refl;
-    ask_again = λ view r o e q v h. h;
     grant_read = λ from txn view number rec stored c e n v f. grants from txn view rec false (message.ReadAnswer txn number stored.value);
     grant_write = λ from txn view number rec stored c e n v f. grants from txn view rec true (message.WriteAnswer txn number);
     vote_reading = λ from txn view number reads writes part c e n d f v a w. refl;
@@ -99,11 +99,9 @@ module _ (catalogue : Catalogue) (x : SiteState) (given : Input) where
       close = λ t why l q a z y h. ends t why false l _ (close-ends x.id t why l) h;
       mark_calls = λ l c z h. h;
       acknowledge = λ from txn c w. refl;
-      answer_inquiry = λ from txn c s n. refl;
     };
     answers_inviting = λ port c s h. h;
     resend_one = λ d o c q h. h;
-    inquire = λ o c h. h;
   }
 
 pub step-folds : (catalogue : Catalogue) (x : SiteState) (given : Input) → apply_all (step catalogue x given).effects.records (durable_of x) ≡ durable_of (step catalogue x given).site

@@ -19,7 +19,7 @@ use Rattle.vp_laws.proofs.Lists.Changes.{put_has, without_first_has, change_firs
 use Rattle.vp_model.proofs.SameTxn.{same_txn-is, same_txn-not}
 use Rattle.vp_laws.proofs.Lists.Names.{Apart, named, apart_without, without_gone, apart_change, apart_more, apart_mark}
 use Rattle.vp_laws.proofs.Moves.Frames.{Ends, close-ends, close-commits, decided-ends, decided-commits, decide-cases}
-use Rattle.vp_laws.proofs.Moves.Table.{Comes, next_name, lent_at, Handled, is_abort, remaining, OfCoordinator}
+use Rattle.vp_laws.proofs.Moves.Table.{Comes, next_name, lent_at, Handled, is_abort, remaining, OfCoordinator, SendsBack}
 use Rattle.vp_laws.proofs.Moves.Rows.{step-keeps}
 use Rattle.vp_laws.proofs.Moves.LocalViews.{letter}
 use Rattle.vp_laws.proofs.Table.Led.{Led}
@@ -327,6 +327,10 @@ module _ (catalogue : Catalogue) (x : SiteState) (given : Input) (led : Led x) (
       go true e = (same_number txn.site x.id s, is_live_not txn x.live n, inl (is_decided_has txn x.decisions e))
       go false e = (same_number txn.site x.id s, is_live_not txn x.live n, inr (c, e, n), (λ g k. absurd (has_none g k)))
 
+  sent_back : (from : ℕ) (m : Message) → SendsBack x given from m → Says x given x.live [] from m
+  sent_back from _ (SendsBack.answer_inquiry txn c s n) = inquired from txn c s n
+  sent_back from m t = tt
+
   pub moves : OfCoordinator catalogue x given L
   unfolding start_txn take_lock complete read_at write_at prepare_parts mark_calls
   moves = record {
@@ -345,17 +349,6 @@ module _ (catalogue : Catalogue) (x : SiteState) (given : Input) (led : Led x) (
     close = λ t why l n a z y r. closed t why l _ n a z r.up (close-ends x.id t why l) (close-commits x.id t why l) r;
     mark_calls = λ l c z r. marks l.coordinator l.effects.messages l.effects.commits r;
     acknowledge = λ from txn c w. acknowledges txn from;
-    answer_inquiry = λ from txn c s n. record {
-      apart = apart;
-      up = same_up x.seq;
-      live = begins.live;
-      settled = settled;
-      says = λ m h. let q = has_one_is (letter x.id from (message.Outcome txn (is_decided txn x.decisions))) m h in subst (λ (m : Sent). Says x given x.live [] m.to m.message) q (inquired from txn c s n);
-      entered = λ e h. absurd (has_none e h);
-      once = inl refl;
-      decided = begins.decided;
-      finished = begins.finished;
-    };
   }
 
   keeps : Keeps catalogue x given R
@@ -363,6 +356,17 @@ module _ (catalogue : Catalogue) (x : SiteState) (given : Input) (led : Led x) (
     aside = λ c ms extra cs quiet r. more c ms extra cs (λ m h. aside-tells m.message (quiet m h).aside) r;
     starts = begins;
     moves = moves;
+    sends_back = λ from m t. record {
+      apart = apart;
+      up = same_up x.seq;
+      live = begins.live;
+      settled = settled;
+      says = λ sent h. subst (λ (m : Sent). Says x given x.live [] m.to m.message) (has_one_is (letter x.id from m) sent h) (sent_back from m t);
+      entered = λ e h. absurd (has_none e h);
+      once = inl refl;
+      decided = begins.decided;
+      finished = begins.finished;
+    };
     resends = λ c d ms cs tick h r. resends c d ms cs h r;
   }
     where

@@ -57,11 +57,10 @@ module _ (catalogue : Catalogue) (x : SiteState) (given : Input) where
     close = λ t why l n a z y r. ends t why false l (close x.id t why l) n (close-ends x.id t why l) r;
     mark_calls = λ l c z r. r;
     acknowledge = λ from txn c w. starts;
-    answer_inquiry = λ from txn c s n. starts;
   }
 
   keeps : Keeps catalogue x given (FinishedNow x)
-  keeps = record { aside = λ c ms more cs quiet r. r; starts = starts; moves = moves; resends = λ c d ms cs tick h r. r }
+  keeps = record { aside = λ c ms more cs quiet r. r; starts = starts; moves = moves; sends_back = λ from m t. starts; resends = λ c d ms cs tick h r. r }
 
 pub finished-step : (catalogue : Catalogue) (x : SiteState) (given : Input) → OnCoordinator catalogue x given (FinishedNow x) (step catalogue x given)
 finished-step catalogue x given =

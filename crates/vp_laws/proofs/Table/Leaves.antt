@@ -3,12 +3,11 @@ use Rattle.std.proofs.Common.{◌≡◌, ◌≢◌, ◌⊎◌, ◌∙◌, ap, sy
 use Rattle.std.specs.Prelude.{Option, Some, None, is_some, option_map, not, ◌&&◌, ◌||◌}
 use Rattle.std.proofs.lemmas.Bool.Decides.{nat_tests}
 use Rattle.vp_model.specs.Types.{ViewId, TxnId, View, Message, Input, Stored, Refreshing, Doubt}
-use Rattle.vp_model.specs.Types.entry
 use Rattle.vp_model.specs.Types.message
-use Rattle.vp_model.specs.Words.{same_view, same_txn, has_txn, view_before, replace_at, is_view, has, put_number}
+use Rattle.vp_model.specs.Words.{same_view, same_txn, has_txn, view_before, is_view, has, put_number}
 use Rattle.vp_model.specs.Catalogue.{Catalogue}
 use Rattle.vp_model.specs.Durable.{doubt_of}
-use Rattle.vp_model.specs.Site.{ViewState, ParticipantState, SiteState, Lent, Stepped, begin_step, put_back, force, change_copies, change_views}
+use Rattle.vp_model.specs.Site.{ViewState, ParticipantState, SiteState, Lent, Stepped, begin_step, put_back, change_views}
 use Rattle.vp_model.specs.Refresh.{newest, take_newer, unlist, end_refresh, start_refresh}
 use Rattle.vp_model.specs.Views.{drop_view, start_inviting, hold, has_part, has_doubt}
 use Rattle.vp_model.specs.Messages.{put_part, with_ended, with_acceptance, accept, on_accept, on_stale, grant, end_here}
@@ -18,6 +17,7 @@ use Rattle.vp_laws.proofs.Lists.Views.{Precedes, from_before, is_view_is}
 use Rattle.vp_laws.proofs.Moves.Table.{Comes, Left, next_view, Back, Table}
 use Rattle.vp_laws.proofs.Moves.Rows.{step-keeps}
 use Rattle.vp_laws.proofs.Table.Shares.{OutcomeComes}
+use Rattle.vp_laws.proofs.Moves.Frames.{take-cases}
 
 -- the site uses the identifier: it holds it, waits for it, or invites to it
 pub data Uses (x : SiteState) (i : ViewId) : Type 0 where
@@ -192,17 +192,9 @@ module _ (catalogue : Catalogue) (x : SiteState) (given : Input) where
       was i (Uses.awaited f) = absurd (let z = f in cc)
       was i (Uses.invited c f same) = Uses.invited c f same
 
-  takes_newer : (rec : ℕ) (own best : Stored) (o : Stepped) → P o → P (take_newer rec own best o)
-  unfolding take_newer
-  takes_newer rec own best o p = go (view_before own.date best.date)
-    where
-      go : (b : Bool) → P (cond b (force (entry.Copy rec best) (change_copies (replace_at rec best) o)) o)
-      go true = silent o (force (entry.Copy rec best) (change_copies (replace_at rec best) o)) refl refl p
-      go false = p
-
   ends_refresh : (r : Refreshing) (own : Stored) (o : Stepped) → P o → P (end_refresh catalogue r own o)
   unfolding end_refresh unlist
-  ends_refresh r own o p = silent (take_newer r.rec own (newest own r.answers) o) _ refl refl (takes_newer r.rec own (newest own r.answers) o p)
+  ends_refresh r own o p = silent (take_newer r.rec own (newest own r.answers) o) _ refl refl (take-cases P r.rec own (newest own r.answers) o (silent o _ refl refl p) p)
 
   grants : (from : ℕ) (txn : TxnId) (view : ViewId) (rec : ℕ) (exclusive : Bool) (words : Message) → ((u : TxnId) → OutcomeComes given u → ⊥) → P (grant txn view rec exclusive words from (begin_step x))
   unfolding grant
@@ -262,7 +254,8 @@ module _ (catalogue : Catalogue) (x : SiteState) (given : Input) where
   pub table : Table catalogue x given P
   unfolding on_stale ask_again start_refresh resend_one inquire
   table = record {
-    tells = λ from m t. silent (begin_step x) _ refl refl starts;
+    sends_back = λ from m t. silent (begin_step x) _ refl refl starts;
+    asks_again = λ o ms all p. silent o _ refl refl p;
     drop_view = λ l e z p. drops l;
     start_inviting = λ o s l p. invites o l;
     accept = λ from id o c e l p. accepts from id o e l;
@@ -277,7 +270,6 @@ module _ (catalogue : Catalogue) (x : SiteState) (given : Input) where
     start_refresh = λ view rec o e a h p. silent o _ refl refl p;
     end_refresh = λ rec r own o e a d v p. ends_refresh r own o p;
     keep_answer = λ from view rec stored r c e f g. silent (begin_step x) _ refl refl starts;
-    ask_again = λ view r o e h v p. silent o _ refl refl p;
     grant_read = λ from txn view number rec stored c e n v f. grants from txn view rec false (message.ReadAnswer txn number stored.value) (no_outcome from (message.ReadRequest txn view number rec) c (λ u b e. cc));
     grant_write = λ from txn view number rec stored c e n v f. grants from txn view rec true (message.WriteAnswer txn number) (no_outcome from (message.WriteRequest txn view number rec) c (λ u b e. cc));
     vote_reading = λ from txn view number reads writes part c e n d f v a w. part_changes _ refl refl (no_outcome from (message.Prepare txn view number reads writes) c (λ u b e. cc));
@@ -296,10 +288,8 @@ module _ (catalogue : Catalogue) (x : SiteState) (given : Input) where
       close = λ t why l n a z y q. same_site _;
       mark_calls = λ l c z q. same_site _;
       acknowledge = λ from txn c w. same_site _;
-      answer_inquiry = λ from txn c s n. same_site _;
     };
     resend_one = λ d o c h p. silent o _ refl refl p;
-    inquire = λ o c p. silent o _ refl refl p;
   }
 
 pub leaves-step : (catalogue : Catalogue) (x : SiteState) (given : Input) → Leaves x given (step catalogue x given)

@@ -1,29 +1,27 @@
 -- What a site's own transactions are: named by the site and its life, of the held view, with members of it as parts. A site
 -- without a view has none, and nothing listed. What a step asks of others for them is of the held view, and of its members.
-use Rattle.std.proofs.Common.{◌≡◌, ◌≢◌, ◌⊎◌, ◌∙◌, ap, sym, ℕ, ◌+◌, ◌≤◌, Bool, true, false, cond, List, [], ◌∷◌, ◌++◌, map, refl, arith, inl, inr, ⊎_elim, append-nil}
+use Rattle.std.proofs.Common.{◌≡◌, ◌≢◌, ◌⊎◌, ◌∙◌, ap, sym, ℕ, ◌+◌, ◌≤◌, Bool, true, false, List, [], ◌∷◌, ◌++◌, refl, arith, inl, inr, ⊎_elim, append-nil}
 use Rattle.std.specs.Prelude.{Option, Some, None, is_some, ◌&&◌, ◌==◌, not, filter}
 use Rattle.vp_model.specs.Types.{ViewId, TxnId, View, Stored, Op, Answer, Message, Sent, Commit, Input, Refreshing, Pending, Live, Ending, Doubt, Decision}
 use Rattle.vp_base.specs.declared.site.Ending.TheVariants.{Committed}
 use Rattle.vp_model.specs.Types.owner
 use Rattle.vp_model.specs.Locks.{without_owner}
-use Rattle.vp_model.specs.Types.entry
 use Rattle.vp_model.specs.Types.message
-use Rattle.vp_model.specs.Words.{same_txn, is_view, view_before, has, for_each, put_number, replace_at}
+use Rattle.vp_model.specs.Words.{same_txn, is_view, has, for_each, put_number}
 use Rattle.vp_model.specs.Catalogue.{Catalogue, holders}
 use Rattle.vp_model.specs.Durable.{doubt_of}
-use Rattle.vp_model.specs.Site.{ViewState, CoordinatorState, ParticipantState, SiteState, Lent, Stepped, begin_step, lent, put_back, letters, force, change_copies}
+use Rattle.vp_model.specs.Site.{ViewState, CoordinatorState, ParticipantState, SiteState, Lent, Stepped, begin_step, lent, put_back, letters}
 use Rattle.vp_model.specs.Transactions.{entry_of, with_finished, close, put_live, decided, keep_writes, complete, wait_for}
-use Rattle.vp_model.specs.Refresh.{members, newest, take_newer, unlist, end_refresh, start_refresh, other_holders, unanswered}
+use Rattle.vp_model.specs.Refresh.{members, newest, take_newer, unlist, end_refresh, start_refresh, other_holders}
 use Rattle.vp_model.specs.Views.{other_sites, drop_view, start_inviting, hold}
 use Rattle.vp_model.specs.Calls.{begun, with_begun, start_txn, take_lock, read_at, write_at, prepare_parts, prepare_for}
-use Rattle.vp_model.specs.Answers.{is_decided}
 use Rattle.vp_model.specs.Messages.{with_ended, with_part, accept, on_accept, on_stale, with_heard, grant, end_here}
-use Rattle.vp_model.specs.Step.{step, with_monitor, fix, mark, probe_all, mark_calls, ask_again, resend_one, known, inquire}
+use Rattle.vp_model.specs.Step.{step, with_monitor, fix, mark, probe_all, mark_calls, resend_one}
 use Rattle.vp_laws.proofs.Lists.Members.{Has, has_none, has_one_is, has_first, has_more, has_cases, has_from_test, filter_has, map_has, both_true}
 use Rattle.vp_laws.proofs.Lists.Views.{put_only, is_view_is}
-use Rattle.vp_laws.proofs.Moves.Frames.{Ends, close-ends, close-commits, decided-ends, decided-commits, decide-cases}
+use Rattle.vp_laws.proofs.Moves.Frames.{Ends, close-ends, close-commits, decided-ends, decided-commits, decide-cases, take-cases}
 use Rattle.vp_laws.proofs.Lists.Changes.{without_first_has, change_first_has}
-use Rattle.vp_laws.proofs.Moves.Table.{next_view, next_name, lent_at, Left, Handled, Back, Tells, Table}
+use Rattle.vp_laws.proofs.Moves.Table.{next_view, next_name, lent_at, Left, Handled, Back, SendsBack, Table, AsksAgain}
 use Rattle.vp_laws.proofs.Moves.Rows.{step-keeps}
 use Rattle.vp_laws.proofs.Moves.LocalViews.{letter, Tidy}
 use Rattle.vp_laws.proofs.Lists.Numbers.{differs}
@@ -70,9 +68,13 @@ none-may x from to (message.WriteRequest txn view number rec) e = cc
 none-may x from to (message.Prepare txn view number reads writes) e = cc
 none-may x from to m e = tt
 
-tells_none : (x : SiteState) (given : Input) (from : ℕ) (m : Message) → Tells x given from m → asks_none m ≡ true
-tells_none x given from _ (Tells.stale id c e) = refl
-tells_none x given from m t = refl
+back_none : (x : SiteState) (given : Input) (from : ℕ) (m : Message) → SendsBack x given from m → asks_none m ≡ true
+back_none x given from _ (SendsBack.stale id c e) = refl
+back_none x given from m t = refl
+
+again_none : (catalogue : Catalogue) (x : SiteState) (given : Input) (o : Stepped) (to : ℕ) (m : Message) → AsksAgain catalogue x given o to m → asks_none m ≡ true
+again_none catalogue x given o to _ (AsksAgain.refresh view r e h v q) = refl
+again_none catalogue x given o to m a = refl
 
 -- the same transactions, views and lists
 pub record SameLed (a b : SiteState) : Type 0 where
@@ -377,23 +379,10 @@ module _ (catalogue : Catalogue) (x : SiteState) (given : Input) (tidy : Tidy x)
       (record { id = refl; life = refl; seq = refl; live = refl; held = refl; ended = λ n q. q; refresh = λ n q. absurd (let z = e in cc); monitor = λ n q. q }) refl refl
       (letters_none o.site.id (λ q. message.RefreshRequest view.id rec) (other_holders catalogue o.site rec) (λ q. refl)) l
 
-  takes_newer : (rec : ℕ) (own best : Stored) (o : Stepped) → Leads x o → Leads x (take_newer rec own best o)
-  unfolding take_newer
-  takes_newer rec own best o l = go (view_before own.date best.date)
-    where
-      go : (b : Bool) → Leads x (cond b (force (entry.Copy rec best) (change_copies (replace_at rec best) o)) o)
-      go true = silent o _ (record { id = refl; life = refl; seq = refl; live = refl; held = refl; ended = λ n q. q; refresh = λ n q. q; monitor = λ n q. q }) refl refl l
-      go false = l
-
   ends_refresh : (r : Refreshing) (own : Stored) (o : Stepped) → Leads x o → Leads x (end_refresh catalogue r own o)
   unfolding end_refresh unlist
   ends_refresh r own o l =
-      silent (take_newer r.rec own (newest own r.answers) o) _ (record { id = refl; life = refl; seq = refl; live = refl; held = refl; ended = λ n q. q; refresh = λ n q. rw q refl; monitor = λ n q. q }) refl refl (takes_newer r.rec own (newest own r.answers) o l)
-
-  asks_again : (id : ViewId) (r : Refreshing) (o : Stepped) → Leads x o → Leads x (ask_again catalogue id r o)
-  unfolding ask_again
-  asks_again id r o l =
-      beside o _ (letters o.site.id (λ q. message.RefreshRequest id r.rec) (unanswered catalogue o.site r)) (self_same o.site) refl refl (letters_none o.site.id (λ q. message.RefreshRequest id r.rec) (unanswered catalogue o.site r) (λ q. refl)) l
+      silent (take_newer r.rec own (newest own r.answers) o) _ (record { id = refl; life = refl; seq = refl; live = refl; held = refl; ended = λ n q. q; refresh = λ n q. rw q refl; monitor = λ n q. q }) refl refl (take-cases (Leads x) r.rec own (newest own r.answers) o (silent o _ (record { id = refl; life = refl; seq = refl; live = refl; held = refl; ended = λ n q. q; refresh = λ n q. q; monitor = λ n q. q }) refl refl l) l)
 
   ended_here : (in_view : Bool) (txn : TxnId) (p : ParticipantState) → in_view ≡ false → (with_ended in_view txn p).ended ≡ p.ended
   ended_here true txn p e = cc
@@ -424,13 +413,6 @@ module _ (catalogue : Catalogue) (x : SiteState) (given : Input) (tidy : Tidy x)
   unfolding resend_one
   resends d o l = beside o _ (letters o.site.id (λ q. message.Outcome d.txn true) d.waiting) (self_same o.site) refl refl (letters_none o.site.id (λ q. message.Outcome d.txn true) d.waiting (λ q. refl)) l
 
-  inquires : (txns : List TxnId) (o : Stepped) → Leads x o → Leads x (inquire txns o)
-  unfolding inquire
-  inquires txns o l = beside o _ _ (self_same o.site) refl refl inquiries l
-    where
-      inquiries : (m : Sent) → Has (map (λ (txn : TxnId). letter o.site.id txn.site (message.Inquire txn)) txns) m → asks_none m.message ≡ true
-      inquiries m h = let r = map_has (λ (txn : TxnId). letter o.site.id txn.site (message.Inquire txn)) txns m h in rw (← r.2) refl
-
   begins_one : (port : ℕ) (view : View) → x.held ≡ Some view → K (start_txn (next_name x) port view.id (lent_at x))
   unfolding start_txn
   begins_one port view e = record {
@@ -457,7 +439,8 @@ module _ (catalogue : Catalogue) (x : SiteState) (given : Input) (tidy : Tidy x)
   pub table : Table catalogue x given (Leads x)
   unfolding on_accept on_stale take_lock
   table = record {
-    tells = λ from m t. one _ x.id from m (tells_none x given from m t) (self_same x) refl refl;
+    sends_back = λ from m t. one _ x.id from m (back_none x given from m t) (self_same x) refl refl;
+    asks_again = λ o ms all p. beside o _ ms (self_same o.site) refl refl (λ m h. again_none catalogue x given o m.to m.message (all m h).1) p;
     drop_view = λ l e z p. drops (put_back (begin_step x) l) e p;
     start_inviting = λ o s left l. invites o left l;
     accept = λ from id o c e left l. accepts from id o left l;
@@ -471,7 +454,6 @@ module _ (catalogue : Catalogue) (x : SiteState) (given : Input) (tidy : Tidy x)
     start_refresh = λ view rec o e a h l. starts_refresh view rec o e.held l;
     end_refresh = λ rec r own o e a d v l. ends_refresh r own o l;
     keep_answer = λ from view rec stored r c e f g. silent (begin_step x) _ (record { id = refl; life = refl; seq = refl; live = refl; held = refl; ended = λ n q. q; refresh = λ n q. rw q refl; monitor = λ n q. q }) refl refl begins;
-    ask_again = λ view r o e h v l. asks_again view.id r o l;
     grant_read = λ from txn view number rec stored c e n v f. grants from txn view rec false (message.ReadAnswer txn number stored.value) refl;
     grant_write = λ from txn view number rec stored c e n v f. grants from txn view rec true (message.WriteAnswer txn number) refl;
     vote_reading = λ from txn view number reads writes part c e n d f v a w. one _ x.id from (message.Vote part.txn) refl (plain_but _ refl refl refl refl refl refl refl) refl refl;
@@ -490,11 +472,9 @@ module _ (catalogue : Catalogue) (x : SiteState) (given : Input) (tidy : Tidy x)
       close = λ t why l n a z y q. closes t why l q;
       mark_calls = λ l c z q. marks l q;
       acknowledge = λ from txn c w. plain (lent_at x) _ refl refl refl refl begins;
-      answer_inquiry = λ from txn c s n. one _ x.id from (message.Outcome txn (is_decided txn x.decisions)) refl (self_same x) refl refl;
     };
     answers_inviting = λ port c s l. silent _ _ (self_same _) refl refl l;
     resend_one = λ d o c h l. resends d o l;
-    inquire = λ o c l. inquires (known o.site.participant) o l;
   }
 
 pub led-step : (catalogue : Catalogue) (x : SiteState) (given : Input) → Tidy x → Led x → Leads x (step catalogue x given)

@@ -141,7 +141,8 @@ module _ (catalogue : Catalogue) (x : SiteState) (given : Input) (tidy : Tidy x)
   pub table : Table catalogue x given P
   unfolding on_stale on_accept hold fix ask_again start_inviting accept grant start_txn take_lock complete read_at write_at prepare_parts mark_calls resend_one inquire
   table = record {
-    tells = λ from m t. same (begin_step x) _ refl refl refl starts;
+    sends_back = λ from m t. same (begin_step x) _ refl refl refl starts;
+    asks_again = λ o ms all p. same o _ refl refl refl p;
     drop_view = λ l e z p. drops l p;
     start_inviting = λ o s l p. fresh o _ refl (left_none o l) p;
     accept = λ from id o c e l p. fresh o _ refl (left_none o l) p;
@@ -156,7 +157,6 @@ module _ (catalogue : Catalogue) (x : SiteState) (given : Input) (tidy : Tidy x)
     start_refresh = λ view rec o e a h p. refreshes view rec o e a h p;
     end_refresh = λ rec r own o e a d v p. finishes r own o p;
     keep_answer = λ from view rec stored r c e f g. keeps_answer rec from stored;
-    ask_again = λ view r o e h v p. same o _ refl refl refl p;
     grant_read = λ from txn view number rec stored c e n v f. same (begin_step x) _ refl refl refl starts;
     grant_write = λ from txn view number rec stored c e n v f. same (begin_step x) _ refl refl refl starts;
     vote_reading = λ from txn view number reads writes part c e n d f v a w. same (begin_step x) _ refl refl refl starts;
@@ -175,10 +175,8 @@ module _ (catalogue : Catalogue) (x : SiteState) (given : Input) (tidy : Tidy x)
       close = λ t why l n a z y q. closes t why l q;
       mark_calls = λ l c z q. quiet l _ refl q;
       acknowledge = λ from txn c w. quiet (lent_at x) _ refl starts;
-      answer_inquiry = λ from txn c s n. quiet (lent_at x) _ refl starts;
     };
     resend_one = λ d o c h p. same o _ refl refl refl p;
-    inquire = λ o c p. same o _ refl refl refl p;
   }
 
 pub listing-step : (catalogue : Catalogue) (x : SiteState) (given : Input) → Tidy x → ((r : Refreshing) → Has x.refresh r → (v : View) × (x.held ≡ Some v)) → ((r : Refreshing) → Has x.refresh r → IsListed catalogue (keys x.copies) x r.rec) → Listing catalogue x given (step catalogue x given)

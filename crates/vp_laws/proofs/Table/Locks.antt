@@ -5,7 +5,6 @@ use Rattle.std.specs.List.{list_all}
 use Rattle.std.proofs.lemmas.Bool.{eqb-true}
 use Rattle.vp_model.specs.Types.{Change, ViewId, TxnId, View, Message, Input, Stored, Lock, Part, Op, Answer, Pending, Live, Ending, Refreshing, Doubt}
 use Rattle.vp_base.specs.declared.site.Ending.TheVariants.{Committed}
-use Rattle.vp_model.specs.Types.entry
 use Rattle.vp_model.specs.Types.input
 use Rattle.vp_model.specs.Types.message
 use Rattle.vp_model.specs.Types.op
@@ -14,7 +13,7 @@ use Rattle.vp_model.specs.Words.{same_txn, same_owner, txn_before, put_at, put_n
 use Rattle.vp_model.specs.Catalogue.{Catalogue}
 use Rattle.vp_model.specs.Durable.{doubt_of, without_doubt, with_writes, with_outcome}
 use Rattle.vp_model.specs.Locks.{conflict, holds, with_lock, without_owner, without_guard}
-use Rattle.vp_model.specs.Site.{ViewState, ParticipantState, CoordinatorState, Here, SiteState, Lent, Stepped, begin_step, put_back, force, change_copies}
+use Rattle.vp_model.specs.Site.{ViewState, ParticipantState, CoordinatorState, Here, SiteState, Lent, Stepped, begin_step, put_back}
 use Rattle.vp_model.specs.Transactions.{last_changes, entry_of, wait_for, last_writes, writes_held, keep_writes, complete}
 use Rattle.vp_model.specs.Refresh.{newest, take_newer, unlist, end_refresh, start_refresh, other_holders}
 use Rattle.vp_model.specs.Views.{part_of, drop_view, start_inviting, hold, has_part, has_doubt}
@@ -27,7 +26,7 @@ use Rattle.vp_laws.proofs.Lists.Views.{Precedes, is_view_is}
 use Rattle.vp_model.proofs.SameTxn.{same_txn-is, same_txn-turned}
 use Rattle.vp_laws.proofs.Lists.Names.{Apart, named, apart_without, without_gone, change_cases, apart_change, apart_more, apart_mark}
 use Rattle.vp_laws.proofs.Lists.Changes.{without_first_has, put_has, put_new, put_old, mapped_has}
-use Rattle.vp_laws.proofs.Moves.Frames.{Ends, close-ends, decided-ends, decide-cases}
+use Rattle.vp_laws.proofs.Moves.Frames.{Ends, close-ends, decided-ends, decide-cases, take-cases}
 use Rattle.vp_laws.proofs.Lists.LockTables.{same_owner_is, HasLock, free_from_none, lock_kept, lock_taken, lock_stays}
 use Rattle.vp_laws.proofs.Moves.LocalViews.{Tidy}
 use Rattle.vp_laws.proofs.Table.LocalLocks.{IsKnown, LowerDoubt, OwnLocks, LocksOk, takes, renews, shares_change, views_change, ends, ends_part, leaves, begins_refresh, ends_refresh}
@@ -140,17 +139,9 @@ module _ (catalogue : Catalogue) (x : SiteState) (given : Input) (tidy : Tidy x)
   accepts from id o e l g = moved_on o (accept from id o) l refl refl refl refl refl (accepts_only catalogue x given from id o e l) g
 
   -- refresh
-  takes_newer : (rec : ℕ) (own best : Stored) (o : Stepped) → P o → P (take_newer rec own best o)
-  unfolding take_newer
-  takes_newer rec own best o p = go (view_before own.date best.date)
-    where
-      go : (b : Bool) → P (cond b (force (entry.Copy rec best) (change_copies (replace_at rec best) o)) o)
-      go true = same o (force (entry.Copy rec best) (change_copies (replace_at rec best) o)) refl refl refl refl (replaced_keys rec best o.site.copies) refl p
-      go false = p
-
   finishes : (r : Refreshing) (own : Stored) (o : Stepped) → P o → P (end_refresh catalogue r own o)
   unfolding end_refresh unlist
-  finishes r own o p = let g = takes_newer r.rec own (newest own r.answers) o p in unguards (take_newer r.rec own (newest own r.answers) o) g
+  finishes r own o p = let g = take-cases P r.rec own (newest own r.answers) o (same o _ refl refl refl refl (replaced_keys r.rec (newest own r.answers) o.site.copies) refl p) p in unguards (take_newer r.rec own (newest own r.answers) o) g
     where
       unguards : (n : Stepped) → P n → P (record n { site = record n.site { here = record n.site.here { locks = without_guard r.rec n.site.locks }; refresh = filter (λ other. not (other.rec == r.rec)) n.site.refresh } })
       unguards n g = record {
@@ -535,7 +526,8 @@ module _ (catalogue : Catalogue) (x : SiteState) (given : Input) (tidy : Tidy x)
   pub table : Table catalogue x given P
   unfolding on_stale on_accept hold fix ask_again start_txn resend_one inquire
   table = record {
-    tells = λ from m t. same (begin_step x) _ refl refl refl refl refl refl starts;
+    sends_back = λ from m t. same (begin_step x) _ refl refl refl refl refl refl starts;
+    asks_again = λ o ms all p. same o _ refl refl refl refl refl refl p;
     drop_view = λ l e z p. drops l e p;
     start_inviting = λ o s l p. invites o l p;
     accept = λ from id o c e l p. accepts from id o e l p;
@@ -550,7 +542,6 @@ module _ (catalogue : Catalogue) (x : SiteState) (given : Input) (tidy : Tidy x)
     start_refresh = λ view rec o e a h p. refreshes view rec o e p;
     end_refresh = λ rec r own o e a d v p. finishes r own o p;
     keep_answer = λ from view rec stored r c e f g. keeps_answer rec from stored;
-    ask_again = λ view r o e h v p. same o _ refl refl refl refl refl refl p;
     grant_read = λ from txn view number rec stored c e n v f. grants from txn view rec false (message.ReadAnswer txn number stored.value) f;
     grant_write = λ from txn view number rec stored c e n v f. grants from txn view rec true (message.WriteAnswer txn number) f;
     vote_reading = λ from txn view number reads writes part c e n d f v a w. shared _ (with_vote part x.participant) refl refl refl refl refl refl (voted_ok part);
@@ -569,10 +560,8 @@ module _ (catalogue : Catalogue) (x : SiteState) (given : Input) (tidy : Tidy x)
       close = λ t why l n a z y q. ends_one t why false l _ n (close-ends x.id t why l) q;
       mark_calls = λ l c z q. marks l q;
       acknowledge = λ from txn c w. quiet (lent_at x) _ refl refl refl starts;
-      answer_inquiry = λ from txn c s n. quiet (lent_at x) _ refl refl refl starts;
     };
     resend_one = λ d o c h p. same o _ refl refl refl refl refl refl p;
-    inquire = λ o c p. same o _ refl refl refl refl refl refl p;
   }
     where
       certain : (part : Part) (txn : TxnId) → part_of txn x.parts ≡ Some part → has_doubt txn x.doubts ≡ false → has_doubt part.txn x.doubts ≡ false

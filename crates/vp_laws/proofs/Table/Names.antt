@@ -12,19 +12,19 @@ use Rattle.vp_model.specs.Words.{has_txn, same_owner, owner_before, for_each, pu
 use Rattle.vp_model.specs.Catalogue.{Catalogue}
 use Rattle.vp_model.specs.Durable.{doubt_of, put_decision, with_decision, acknowledged, with_writes}
 use Rattle.vp_model.specs.Locks.{raised, holds, with_lock, without_owner, lesser, least_owner, conflicting, conflict}
-use Rattle.vp_model.specs.Site.{Here, ViewState, CoordinatorState, ParticipantState, send, change_participant, change_refresh, SiteState, Lent, Stepped, begin_step, lent, put_back, letters, force, change_copies}
+use Rattle.vp_model.specs.Site.{Here, ViewState, CoordinatorState, ParticipantState, send, change_participant, change_refresh, SiteState, Lent, Stepped, begin_step, lent, put_back, letters, force}
 use Rattle.vp_model.specs.Transactions.{last_changes, entry_of, writing_parts, keep_writes, complete, writes_held}
-use Rattle.vp_model.specs.Refresh.{newer, refreshing_of, newest, take_newer, unlist, end_refresh, start_refresh, other_holders, unanswered}
+use Rattle.vp_model.specs.Refresh.{newer, refreshing_of, newest, take_newer, unlist, end_refresh, start_refresh, other_holders}
 use Rattle.vp_model.specs.Views.{outlasts, with_view, part_of, has_part, has_doubt, other_sites, drop_view, start_inviting, hold}
 use Rattle.vp_model.specs.Calls.{start_txn, take_lock, read_at, write_at, prepare_parts, prepare_for}
-use Rattle.vp_model.specs.Answers.{with_acknowledged, is_decided}
+use Rattle.vp_model.specs.Answers.{with_acknowledged}
 use Rattle.vp_model.specs.Messages.{put_part, with_accepted, with_seen, holds_view, accept, on_accept, on_stale, with_heard, with_part, with_vote, with_new_doubt, with_ended, with_answer, grant, end_here}
-use Rattle.vp_model.specs.Step.{step, with_monitor, fix, without_wait, probe_all, mark_calls, ask_again, resend_one, known, inquire}
+use Rattle.vp_model.specs.Step.{step, with_monitor, fix, without_wait, probe_all, mark_calls, resend_one, known}
 use Rattle.vp_laws.proofs.Lists.Members.{Has, has_first, has_more, has_none, has_one_is, has_cases, filter_has, find_has, map_has, both_true}
 use Rattle.vp_laws.proofs.Lists.Views.{is_view_is, same_is}
 use Rattle.vp_laws.proofs.Lists.Changes.{put_has, replace_has, writes_has, value_has}
-use Rattle.vp_laws.proofs.Moves.Frames.{Ends, close-ends, decided-ends, decide-cases}
-use Rattle.vp_laws.proofs.Moves.Table.{Comes, next_view, lent_at, Requests, Asks, Handled, Back, Tells, Table}
+use Rattle.vp_laws.proofs.Moves.Frames.{Ends, close-ends, decided-ends, decide-cases, take-cases}
+use Rattle.vp_laws.proofs.Moves.Table.{Comes, next_view, lent_at, Requests, Asks, Handled, Back, SendsBack, Table, AsksAgain}
 use Rattle.vp_laws.proofs.Moves.Rows.{step-keeps}
 use Rattle.vp_laws.proofs.Moves.LocalViews.{letter, Tidy}
 use Rattle.vp_laws.proofs.Table.Led.{Led}
@@ -314,8 +314,7 @@ module _ (N : TxnId → Type 0) (A : ViewId → Type 0) where
         go false = h
 
     takes_newer : (rec : ℕ) (own best : Stored) (o : Stepped) → A best.date → Calls o → Calls (take_newer rec own best o)
-    unfolding take_newer
-    takes_newer rec own best o up l = go (view_before own.date best.date)
+    takes_newer rec own best o up l = take-cases Calls rec own best o (record { names = taken; sent = l.sent }) l
       where
         taken : Names (record o.site { here = record o.site.here { copies = replace_at rec best o.site.here.copies } })
         taken = record {
@@ -328,10 +327,6 @@ module _ (N : TxnId → Type 0) (A : ViewId → Type 0) where
           copies = λ c h. ⊎_elim (λ (e : c.1 ≡ best). subst A (sym (ap (λ (s : Stored). s.date) e)) up) (λ old. l.names.copies c old) (replace_has rec best o.site.here.copies c h);
           answers = l.names.answers;
         }
-
-        go : (b : Bool) → Calls (cond b (force (entry.Copy rec best) (change_copies (replace_at rec best) o)) o)
-        go true = record { names = taken; sent = l.sent }
-        go false = l
 
     ends_refresh : (rec : ℕ) (r : Refreshing) (own : Stored) (o : Stepped) → refreshing_of rec o.site.refresh ≡ Some r → value_at r.rec o.site.copies ≡ Some own → Calls o → Calls (end_refresh catalogue r own o)
     unfolding end_refresh unlist
@@ -353,10 +348,6 @@ module _ (N : TxnId → Type 0) (A : ViewId → Type 0) where
           answers = λ q a h k. taken.names.answers q a (filter_has (λ (other : Refreshing). not (other.rec == r.rec)) _ q h).0 k;
         })
         refl taken
-
-    asks_again : (view : View) (r : Refreshing) (o : Stepped) → x.held ≡ Some view → Calls o → Calls (ask_again catalogue view.id r o)
-    unfolding ask_again
-    asks_again view r o e l = more o _ (letters o.site.id (λ q. message.RefreshRequest view.id r.rec) (unanswered catalogue o.site r)) l.names refl (letters_named o.site.id (λ q. message.RefreshRequest view.id r.rec) (unanswered catalogue o.site r) (λ q. (tt, (names.held view e, tt)))) l
 
     asked_named : (from : ℕ) (txn : TxnId) (view : ViewId) (number : ℕ) → Asks given from txn view number → N txn × A view
     asked_named from txn view number (Asks.reads rec c) = let q = arrived from (message.ReadRequest txn view number rec) c in (q.0.0, q.1.0)
@@ -477,15 +468,6 @@ module _ (N : TxnId → Type 0) (A : ViewId → Type 0) where
     unfolding resend_one
     resends d o h l = more o _ (letters o.site.id (λ q. message.Outcome d.txn true) d.waiting) l.names refl (letters_named o.site.id (λ q. message.Outcome d.txn true) d.waiting (λ q. ((l.names.decisions d h, tt), tt))) l
 
-    inquires : (o : Stepped) → Calls o → Calls (inquire (known o.site.participant) o)
-    unfolding inquire
-    inquires o l = more o _ (map (λ (txn : TxnId). letter o.site.id txn.site (message.Inquire txn)) (known o.site.participant)) l.names refl inquiries l
-      where
-        inquiries : (m : Sent) → Has (map (λ (txn : TxnId). letter o.site.id txn.site (message.Inquire txn)) (known o.site.participant)) m → Named m.message
-        inquiries m h =
-            let r = map_has (λ (txn : TxnId). letter o.site.id txn.site (message.Inquire txn)) (known o.site.participant) m h in
-            subst Named (ap (λ (m : Sent). m.message) r.2) ((known_named o.site l.names r.0 r.1, tt), tt)
-
     takes_lock : (t : Live) (rec : ℕ) (exclusive : Bool) → Has x.live t → K (take_lock t.txn rec exclusive (lent_at x))
     unfolding take_lock
     takes_lock t rec exclusive h = silent (begin_step x) _ (locks_now x (with_lock rec exclusive (owner.Txn t.txn) x.here.locks) x.coordinator refl (lock_named rec exclusive (owner.Txn t.txn) x.here.locks (own t h) names.locks) names) refl begins
@@ -507,19 +489,25 @@ module _ (N : TxnId → Type 0) (A : ViewId → Type 0) where
     requested from txn view number rec false (Requests.reads c) = (arrived from (message.ReadRequest txn view number rec) c).0.0
     requested from txn view number rec true (Requests.writes c) = (arrived from (message.WriteRequest txn view number rec) c).0.0
 
-    told_named : (from : ℕ) (m : Message) → Tells x given from m → Named m
-    told_named from _ (Tells.stale id c e) = (tt, tt)
-    told_named from _ (Tells.accept_again id c e) = (tt, tt)
-    told_named from _ (Tells.answer_refresh view rec stored c e d v) = let q = value_has rec x.copies stored v in (tt, (view_of view e, (subst A (ap (λ (s : Stored). s.date) q.2) (names.copies q.0 q.1), tt)))
-    told_named from _ (Tells.refuse_view txn view number a e) = other_named txn number x.held refl (asked_named from txn view number a).0
-    told_named from _ (Tells.refuse_lock txn view number rec exclusive holder r e n c) = holder_named txn number holder (conflict_named rec exclusive txn x.locks holder names.locks c) (requested from txn view number rec exclusive r)
-    told_named from _ (Tells.doubt_again txn view number reads writes c e n d) = ((arrived from (message.Prepare txn view number reads writes) c).0, tt)
-    told_named from _ (Tells.vote_again txn view number reads writes part c e n f v) = (((names.parts part (part_there txn part f)).0, tt), tt)
+    back_named : (from : ℕ) (m : Message) → SendsBack x given from m → Named m
+    back_named from _ (SendsBack.stale id c e) = (tt, tt)
+    back_named from _ (SendsBack.accept_again id c e) = (tt, tt)
+    back_named from _ (SendsBack.answer_refresh view rec stored c e d v) = let q = value_has rec x.copies stored v in (tt, (view_of view e, (subst A (ap (λ (s : Stored). s.date) q.2) (names.copies q.0 q.1), tt)))
+    back_named from _ (SendsBack.refuse_view txn view number a e) = other_named txn number x.held refl (asked_named from txn view number a).0
+    back_named from _ (SendsBack.refuse_lock txn view number rec exclusive holder r e n c) = holder_named txn number holder (conflict_named rec exclusive txn x.locks holder names.locks c) (requested from txn view number rec exclusive r)
+    back_named from _ (SendsBack.doubt_again txn view number reads writes c e n d) = ((arrived from (message.Prepare txn view number reads writes) c).0, tt)
+    back_named from _ (SendsBack.vote_again txn view number reads writes part c e n f v) = (((names.parts part (part_there txn part f)).0, tt), tt)
+    back_named from _ (SendsBack.answer_inquiry txn c s n) = arrived from (message.Inquire txn) c
+
+    again_named : (o : Stepped) → Names o.site → (to : ℕ) (m : Message) → AsksAgain catalogue x given o to m → Named m
+    again_named o n to _ (AsksAgain.refresh view r e h v q) = (tt, (names.held view e, tt))
+    again_named o n to _ (AsksAgain.inquire txn c h e) = ((known_named o.site n txn h, tt), tt)
 
     pub table : Table catalogue x given Calls
     unfolding on_accept on_stale start_txn read_at prepare_parts complete mark_calls
     table = record {
-      tells = λ from m t. one _ x.id from m names (told_named from m t) refl;
+      sends_back = λ from m t. one _ x.id from m names (back_named from m t) refl;
+      asks_again = λ o ms all p. more o _ ms p.names refl (λ m h. again_named o p.names m.to m.message (all m h).1) p;
       drop_view = λ l e z p. drops (put_back (begin_step x) l) p;
       start_inviting = λ o s left l. invites o l;
       accept = λ from id o c e left l. accepts from id o l;
@@ -533,7 +521,6 @@ module _ (N : TxnId → Type 0) (A : ViewId → Type 0) where
       start_refresh = λ view rec o e a h l. starts_refresh view rec o e.held l;
       end_refresh = λ rec r own o e a d v l. ends_refresh rec r own o e v l;
       keep_answer = λ from view rec stored r c e f g. keeps_answer from rec stored (arrived from (message.RefreshAnswer view rec stored) c).1.1.0;
-      ask_again = λ view r o e h v l. asks_again view r o e l;
       grant_read = λ from txn view number rec stored c e n v f. let q = asked_named from txn view number (Asks.reads rec c) in grants from txn view rec false (message.ReadAnswer txn number stored.value) q ((q.0, tt), tt);
       grant_write = λ from txn view number rec stored c e n v f. let q = asked_named from txn view number (Asks.writes rec c) in grants from txn view rec true (message.WriteAnswer txn number) q ((q.0, tt), tt);
       vote_reading = λ from txn view number reads writes part c e n d f v a w. votes_reading from part (part_there txn part f);
@@ -552,11 +539,9 @@ module _ (N : TxnId → Type 0) (A : ViewId → Type 0) where
         close = λ t why l n a z y q. ends t why false l _ n (close-ends x.id t why l) q;
         mark_calls = λ l c z q. hushed l _ refl refl refl q;
         acknowledge = λ from txn c w. silent (begin_step x) _ (coordinator_now (with_acknowledged txn from x.coordinator) (acknowledged_named txn from x.decisions names.decisions)) refl begins;
-        answer_inquiry = λ from txn c s n. one _ x.id from (message.Outcome txn (is_decided txn x.decisions)) names (arrived from (message.Inquire txn) c) refl;
       };
       answers_inviting = λ port c s l. silent _ _ l.names refl l;
       resend_one = λ d o c h l. resends d o h l;
-      inquire = λ o c l. inquires o l;
     }
 
     pub names-step : Calls (step catalogue x given)

@@ -6,10 +6,10 @@ use Rattle.vp_base.specs.declared.site.Ending.TheVariants.{Committed}
 use Rattle.vp_model.specs.Types.entry
 use Rattle.vp_model.specs.Types.input
 use Rattle.vp_model.specs.Types.message
-use Rattle.vp_model.specs.Words.{same_txn, txn_before, replace_at, view_before}
+use Rattle.vp_model.specs.Words.{same_txn, txn_before}
 use Rattle.vp_model.specs.Catalogue.{Catalogue}
 use Rattle.vp_model.specs.Durable.{doubt_of, without_doubt}
-use Rattle.vp_model.specs.Site.{SiteState, Lent, Stepped, begin_step, put_back, force, change_copies}
+use Rattle.vp_model.specs.Site.{SiteState, Lent, Stepped, begin_step, put_back}
 use Rattle.vp_model.specs.Transactions.{last_changes, entry_of, writes_held, writing_parts, keep_writes, complete}
 use Rattle.vp_model.specs.Refresh.{take_newer, newest, unlist, end_refresh, start_refresh}
 use Rattle.vp_model.specs.Views.{has_doubt, drop_view, start_inviting, hold}
@@ -19,7 +19,7 @@ use Rattle.vp_model.specs.Step.{step, fix, mark_calls, ask_again, resend_one, in
 use Rattle.vp_laws.proofs.Lists.Members.{Has, has_none, has_one, has_one_is, has_cases, has_cons, has_left, any_false, filter_keeps, find_has, find_true}
 use Rattle.vp_laws.proofs.Lists.Changes.{put_old}
 use Rattle.vp_model.proofs.SameTxn.{same_txn-is, same_txn-turned}
-use Rattle.vp_laws.proofs.Moves.Frames.{Ends, close-ends, decided-ends, decide-cases}
+use Rattle.vp_laws.proofs.Moves.Frames.{Ends, close-ends, decided-ends, decide-cases, take-cases}
 use Rattle.vp_laws.proofs.Moves.Table.{Comes, next_view, lent_at, Back, Table}
 use Rattle.vp_laws.proofs.Moves.Rows.{step-keeps}
 
@@ -90,17 +90,9 @@ module _ (catalogue : Catalogue) (x : SiteState) (given : Input) where
     stays = λ d h. ⊎_elim (λ here. inl (rw same here)) (λ (ends : IsForced o d.txn). inr (ends.0, rw is (has_left o.effects.records (r ∷ []) _ ends.1))) (p.stays d h);
   }
 
-  takes_newer : (rec : ℕ) (own best : Stored) (o : Stepped) → P o → P (take_newer rec own best o)
-  unfolding take_newer
-  takes_newer rec own best o p = go (view_before own.date best.date)
-    where
-      go : (b : Bool) → P (cond b (force (entry.Copy rec best) (change_copies (replace_at rec best) o)) o)
-      go true = more o _ (entry.Copy rec best) refl refl refl p
-      go false = p
-
   ends_refresh : (r : Refreshing) (own : Stored) (o : Stepped) → P o → P (end_refresh catalogue r own o)
   unfolding end_refresh unlist
-  ends_refresh r own o p = alike (take_newer r.rec own (newest own r.answers) o) _ refl refl (takes_newer r.rec own (newest own r.answers) o p)
+  ends_refresh r own o p = alike (take_newer r.rec own (newest own r.answers) o) _ refl refl (take-cases P r.rec own (newest own r.answers) o (more o _ (entry.Copy r.rec (newest own r.answers)) refl refl refl p) p)
 
   outcome : (from : ℕ) (txn : TxnId) (commit : Bool) (d : Doubt) → Comes given from (message.Outcome txn commit) → doubt_of txn x.doubts ≡ Some d → OutcomesCome x given (entry.Outcome txn commit ∷ [])
   outcome from txn commit d c e t b h =
@@ -149,7 +141,8 @@ module _ (catalogue : Catalogue) (x : SiteState) (given : Input) where
   table : Table catalogue x given P
   unfolding start_txn take_lock complete read_at write_at prepare_parts mark_calls grant on_stale on_accept hold fix drop_view start_inviting accept start_refresh ask_again resend_one inquire
   table = record {
-    tells = λ from m t. none _ refl refl;
+    sends_back = λ from m t. none _ refl refl;
+    asks_again = λ o ms all p. alike o _ refl refl p;
     drop_view = λ l e z p. alike (put_back (begin_step x) l) _ refl refl p;
     start_inviting = λ o s left p. more o _ (entry.Promise (next_view x)) refl refl refl p;
     accept = λ from id o c e left p. more o _ (entry.Promise id) refl refl refl p;
@@ -163,7 +156,6 @@ module _ (catalogue : Catalogue) (x : SiteState) (given : Input) where
     start_refresh = λ view rec o e a q p. alike o _ refl refl p;
     end_refresh = λ rec r own o e a d v p. ends_refresh r own o p;
     keep_answer = λ from view rec stored r c e f g. none _ refl refl;
-    ask_again = λ view r o e q v p. alike o _ refl refl p;
     grant_read = λ from txn view number rec stored c e n v f. none _ refl (with_part-doubts txn view);
     grant_write = λ from txn view number rec stored c e n v f. none _ refl (with_part-doubts txn view);
     vote_reading = λ from txn view number reads writes part c e n d f v a w. none _ refl refl;
@@ -185,11 +177,9 @@ module _ (catalogue : Catalogue) (x : SiteState) (given : Input) where
       close = λ t why l q a z y h. ends t why false l _ (close-ends x.id t why l) h;
       mark_calls = λ l c z h. alike (put_back (begin_step x) l) _ refl refl h;
       acknowledge = λ from txn c w. more (begin_step x) _ (entry.Acked txn from) refl refl refl starts;
-      answer_inquiry = λ from txn c s n. none _ refl refl;
     };
     answers_inviting = λ port c s h. alike _ _ refl refl h;
     resend_one = λ d o c q h. alike o _ refl refl h;
-    inquire = λ o c h. alike o _ refl refl h;
   }
 
 pub doubts-step : (catalogue : Catalogue) (x : SiteState) (given : Input) → DoubtsStay x (step catalogue x given)

@@ -1,26 +1,23 @@
 -- The refusals that a step sends: each is of the request that came, for a lock that conflicts or for another view.
-use Rattle.std.proofs.Common.{◌≡◌, ◌∙◌, ap, sym, ℕ, Bool, true, false, cond, List, [], ◌∷◌, ◌++◌, map, refl, ⊎_elim, append-nil}
+use Rattle.std.proofs.Common.{◌≡◌, ◌∙◌, ap, sym, ℕ, Bool, true, false, List, [], ◌∷◌, ◌++◌, refl, ⊎_elim, append-nil}
 use Rattle.std.specs.Prelude.{Option, Some, None, ◌==◌, not, filter}
 use Rattle.vp_model.specs.Types.{ViewId, TxnId, Stored, Owner, Obstacle, Message, Sent, Input, Refreshing, Pending, Live, Ending, Doubt, Decision}
 use Rattle.vp_base.specs.declared.site.Ending.TheVariants.{Committed}
-use Rattle.vp_model.specs.Types.entry
 use Rattle.vp_model.specs.Types.message
 use Rattle.vp_model.specs.Types.obstacle
-use Rattle.vp_model.specs.Words.{replace_at, view_before}
 use Rattle.vp_model.specs.Catalogue.{Catalogue}
 use Rattle.vp_model.specs.Durable.{doubt_of}
 use Rattle.vp_model.specs.Locks.{conflict}
-use Rattle.vp_model.specs.Site.{SiteState, Lent, Stepped, begin_step, lent, put_back, letters, force, change_copies, send}
+use Rattle.vp_model.specs.Site.{SiteState, Lent, Stepped, begin_step, lent, put_back, letters, send}
 use Rattle.vp_model.specs.Transactions.{keep_writes, complete}
-use Rattle.vp_model.specs.Refresh.{newest, take_newer, unlist, end_refresh, start_refresh, other_holders, unanswered}
+use Rattle.vp_model.specs.Refresh.{newest, take_newer, unlist, end_refresh, start_refresh, other_holders}
 use Rattle.vp_model.specs.Views.{other_sites, drop_view, start_inviting, hold}
 use Rattle.vp_model.specs.Calls.{start_txn, take_lock, read_at, write_at, prepare_parts, prepare_for}
-use Rattle.vp_model.specs.Answers.{is_decided}
 use Rattle.vp_model.specs.Messages.{held_id, holds_view, accept, on_accept, on_stale, grant, end_here}
-use Rattle.vp_model.specs.Step.{step, fix, mark_calls, ask_again, resend_one, known, inquire}
+use Rattle.vp_model.specs.Step.{step, fix, mark_calls, ask_again, resend_one}
 use Rattle.vp_laws.proofs.Lists.Members.{Has, has_none, has_one_is, has_cases, map_has}
-use Rattle.vp_laws.proofs.Moves.Frames.{Ends, close-ends, decided-ends, decide-cases}
-use Rattle.vp_laws.proofs.Moves.Table.{next_view, lent_at, Requests, Asks, Back, Tells, Table}
+use Rattle.vp_laws.proofs.Moves.Frames.{Ends, close-ends, decided-ends, decide-cases, take-cases}
+use Rattle.vp_laws.proofs.Moves.Table.{next_view, lent_at, Requests, Asks, Back, SendsBack, Table, AsksAgain}
 use Rattle.vp_laws.proofs.Moves.Rows.{step-keeps}
 use Rattle.vp_laws.proofs.Moves.LocalViews.{letter}
 
@@ -76,17 +73,9 @@ module _ (catalogue : Catalogue) (x : SiteState) (given : Input) where
     sent = λ m h. rw (← has_one_is (letter x.id to (message.Refuse txn number why)) m (rw ms at h)) (refl, r);
   }
 
-  takes_newer : (rec : ℕ) (own best : Stored) (o : Stepped) → P o → P (take_newer rec own best o)
-  unfolding take_newer
-  takes_newer rec own best o p = go (view_before own.date best.date)
-    where
-      go : (b : Bool) → P (cond b (force (entry.Copy rec best) (change_copies (replace_at rec best) o)) o)
-      go true = silent o (force (entry.Copy rec best) (change_copies (replace_at rec best) o)) refl refl p
-      go false = p
-
   ends_refresh : (r : Refreshing) (own : Stored) (o : Stepped) → P o → P (end_refresh catalogue r own o)
   unfolding end_refresh unlist
-  ends_refresh r own o p = silent (take_newer r.rec own (newest own r.answers) o) _ refl refl (takes_newer r.rec own (newest own r.answers) o p)
+  ends_refresh r own o p = silent (take_newer r.rec own (newest own r.answers) o) _ refl refl (take-cases P r.rec own (newest own r.answers) o (silent o _ refl refl p) p)
 
   ends_here : (from : ℕ) (txn : TxnId) (commit : Bool) (doubt : Option Doubt) → P (end_here from txn commit doubt (begin_step x))
   unfolding end_here
@@ -94,13 +83,6 @@ module _ (catalogue : Catalogue) (x : SiteState) (given : Input) where
   ends_here from txn false None = silent (begin_step x) _ refl refl begins
   ends_here from txn true (Some d) = one _ from (message.Ack txn) refl refl refl
   ends_here from txn false (Some d) = silent (begin_step x) _ refl refl begins
-
-  inquires : (txns : List TxnId) (o : Stepped) → P o → P (inquire txns o)
-  unfolding inquire
-  inquires txns o p = more o _ (map (λ (txn : TxnId). letter o.site.id txn.site (message.Inquire txn)) txns) refl refl inquiries p
-    where
-      inquiries : (m : Sent) → Has (map (λ (txn : TxnId). letter o.site.id txn.site (message.Inquire txn)) txns) m → is_other m.message ≡ true
-      inquiries m h = let r = map_has (λ (txn : TxnId). letter o.site.id txn.site (message.Inquire txn)) txns m h in rw (← r.2) refl
 
   resent : (d : Decision) (o : Stepped) → P o → P (put_back o (resend_one o.site.id d (lent o)))
   unfolding resend_one
@@ -126,15 +108,20 @@ module _ (catalogue : Catalogue) (x : SiteState) (given : Input) where
   unfolding write_at
   writes_at t p rec sites l q = says l _ (λ q. message.WriteRequest t.txn t.view p.number rec) sites refl (λ q. refl) q
 
-  told : (from : ℕ) (m : Message) → Tells x given from m → P (send m from (begin_step x))
-  told from _ (Tells.refuse_view txn view number a e) = refusal _ from txn number (obstacle.OtherView (held_id x)) (Refused.other view a e) refl refl
-  told from _ (Tells.refuse_lock txn view number rec exclusive holder r e n c) = refusal _ from txn number (obstacle.Held holder) (Refused.held view rec exclusive holder r c) refl refl
-  told from m t = one _ from m refl refl refl
+  sent_back : (from : ℕ) (m : Message) → SendsBack x given from m → P (send m from (begin_step x))
+  sent_back from _ (SendsBack.refuse_view txn view number a e) = refusal _ from txn number (obstacle.OtherView (held_id x)) (Refused.other view a e) refl refl
+  sent_back from _ (SendsBack.refuse_lock txn view number rec exclusive holder r e n c) = refusal _ from txn number (obstacle.Held holder) (Refused.held view rec exclusive holder r c) refl refl
+  sent_back from m t = one _ from m refl refl refl
+
+  again_other : (o : Stepped) (to : ℕ) (m : Message) → AsksAgain catalogue x given o to m → is_other m ≡ true
+  again_other o to _ (AsksAgain.refresh view r e h v q) = refl
+  again_other o to m a = refl
 
   table : Table catalogue x given P
   unfolding on_accept on_stale grant drop_view start_inviting accept hold fix ask_again start_refresh start_txn take_lock read_at prepare_parts complete mark_calls
   table = record {
-    tells = λ from m t. told from m t;
+    sends_back = λ from m t. sent_back from m t;
+    asks_again = λ o ms all p. more o _ ms refl refl (λ m h. again_other o m.to m.message (all m h).1) p;
     drop_view = λ l e z p. silent (put_back (begin_step x) l) (drop_view (put_back (begin_step x) l)) refl refl p;
     start_inviting = λ o s left p. many o (start_inviting catalogue (next_view x) o) o.site.id (λ q. message.Invite (next_view x)) (other_sites catalogue o.site.id) refl refl (λ q. refl) p;
     accept = λ from id o c e left p. many o (accept from id o) o.site.id (λ q. message.Accept id) (from ∷ []) refl refl (λ q. refl) p;
@@ -149,7 +136,6 @@ module _ (catalogue : Catalogue) (x : SiteState) (given : Input) where
     start_refresh = λ view rec o e a h p. many o (start_refresh catalogue view rec o) o.site.id (λ q. message.RefreshRequest view.id rec) (other_holders catalogue o.site rec) refl refl (λ q. refl) p;
     end_refresh = λ rec r own o e a d v p. ends_refresh r own o p;
     keep_answer = λ from view rec stored r c e f g. silent (begin_step x) _ refl refl begins;
-    ask_again = λ view r o e h v p. many o (ask_again catalogue view.id r o) o.site.id (λ q. message.RefreshRequest view.id r.rec) (unanswered catalogue o.site r) refl refl (λ q. refl) p;
     grant_read = λ from txn view number rec stored c e n v f. one _ from (message.ReadAnswer txn number stored.value) refl refl refl;
     grant_write = λ from txn view number rec stored c e n v f. one _ from (message.WriteAnswer txn number) refl refl refl;
     vote_reading = λ from txn view number reads writes part c e n d f v a w. one _ from (message.Vote part.txn) refl refl refl;
@@ -168,10 +154,8 @@ module _ (catalogue : Catalogue) (x : SiteState) (given : Input) where
       close = λ t why l n a z y q. ends t why false l _ (close-ends x.id t why l) q;
       mark_calls = λ l c z q. hushed l _ refl q;
       acknowledge = λ from txn c w. hushed (lent_at x) _ refl begins;
-      answer_inquiry = λ from txn c s n. one _ from (message.Outcome txn (is_decided txn x.decisions)) refl refl refl;
     };
     resend_one = λ d o c h p. resent d o p;
-    inquire = λ o c p. inquires (known o.site.participant) o p;
   }
 
 pub refusals-step : (catalogue : Catalogue) (x : SiteState) (given : Input) → Refuses x given (step catalogue x given)

@@ -7,20 +7,20 @@ use Rattle.vp_base.specs.declared.site.Ending.TheVariants.{Committed, Aborted, L
 use Rattle.vp_model.specs.Types.answer
 use Rattle.vp_model.specs.Types.call
 use Rattle.vp_model.specs.Types.input
-use Rattle.vp_model.specs.Words.{value_at, first, is_empty, view_before}
+use Rattle.vp_model.specs.Words.{value_at, first, is_empty}
 use Rattle.vp_model.specs.Catalogue.{Catalogue}
 use Rattle.vp_model.specs.Durable.{doubt_of}
 use Rattle.vp_model.specs.Locks.{conflict}
 use Rattle.vp_model.specs.Site.{SiteState, Lent, Stepped, begin_step, lent_reply, surroundings, put_back}
 use Rattle.vp_model.specs.Transactions.{last_writes, answer_of, with_pending_reply, finish, close, close_all, keep_writes, decided, decide, complete}
-use Rattle.vp_model.specs.Refresh.{other_holders, newest, take_newer, unlist, end_refresh, start_refresh}
+use Rattle.vp_model.specs.Refresh.{other_holders, newest, unlist, end_refresh, start_refresh}
 use Rattle.vp_model.specs.Views.{abandon, drop_view, leave, start_inviting, invite, is_spent, highest, hold}
 use Rattle.vp_model.specs.Calls.{handling, start_txn, begin_in, on_begin, with_record, take_lock, lock_here, answer_read, answer_write, read, read_at, write_elsewhere, write_at, write, prepare_parts, commit, new_call, live_call, finished_call, on_txn_call, own_call, on_regroup, on_call}
 use Rattle.vp_model.specs.Messages.{accept, on_accept, on_stale, grant, end_here}
 use Rattle.vp_model.specs.Step.{fix, mark_calls, ask_again, resend_one, inquire, on_input, step}
 use Rattle.vp_laws.specs.Refusals.{is_not_done, RefusalsChangeNothing}
 use Rattle.vp_laws.proofs.Lists.Members.{has_of, has_one_is, any_false, either_false}
-use Rattle.vp_laws.proofs.Moves.Frames.{decide-cases}
+use Rattle.vp_laws.proofs.Moves.Frames.{decide-cases, take-cases}
 use Rattle.vp_laws.proofs.Moves.Table.{next_name, lent_at, Completes, Says, OfCoordinator, Back, Table}
 use Rattle.vp_laws.proofs.Moves.Rows.{step-keeps}
 use Rattle.vp_laws.proofs.Lists.Keeps.{by_option, by_some, by_test}
@@ -218,13 +218,9 @@ module _ (catalogue : Catalogue) (x : SiteState) (given : Input) (none : (port :
   abbrev P : Stepped → Type 0
   P o = Done o.effects.replies
 
-  takes_newer : (rec : ℕ) (own best : Stored) (o : Stepped) → P o → P (take_newer rec own best o)
-  unfolding take_newer
-  takes_newer rec own best o p = by_test P (view_before own.date best.date) _ _ (λ newer. p) (λ older. p)
-
   ends_refresh : (r : Refreshing) (own : Stored) (o : Stepped) → P o → P (end_refresh catalogue r own o)
   unfolding end_refresh unlist
-  ends_refresh r own o p = takes_newer r.rec own (newest own r.answers) o p
+  ends_refresh r own o p = take-cases P r.rec own (newest own r.answers) o p p
 
   ends_here : (from : ℕ) (txn : TxnId) (commit : Bool) (doubt : Option Doubt) → P (end_here from txn commit doubt (begin_step x))
   unfolding end_here
@@ -257,7 +253,6 @@ module _ (catalogue : Catalogue) (x : SiteState) (given : Input) (none : (port :
     close = λ t why l n a z y r. close_done x.id t why l r;
     mark_calls = λ l c z r. r;
     acknowledge = λ from txn c w. refl;
-    answer_inquiry = λ from txn c s n. refl;
   }
     where
       by_call : {words : Answer} {port : ℕ} → Says catalogue x given port words → ⊥
@@ -278,7 +273,8 @@ module _ (catalogue : Catalogue) (x : SiteState) (given : Input) (none : (port :
   table : Table catalogue x given P
   unfolding on_accept on_stale grant drop_view start_inviting accept hold fix ask_again start_refresh resend_one inquire
   table = record {
-    tells = λ from m t. refl;
+    sends_back = λ from m t. refl;
+    asks_again = λ o ms all p. p;
     drop_view = λ l e z p. p;
     start_inviting = λ o s left p. p;
     accept = λ from id o c e left p. p;
@@ -293,7 +289,6 @@ module _ (catalogue : Catalogue) (x : SiteState) (given : Input) (none : (port :
     start_refresh = λ view rec o e a h p. p;
     end_refresh = λ rec r own o e a d v p. ends_refresh r own o p;
     keep_answer = λ from view rec stored r c e f g. refl;
-    ask_again = λ view r o e h v p. p;
     grant_read = λ from txn view number rec stored c e n v f. refl;
     grant_write = λ from txn view number rec stored c e n v f. refl;
     vote_reading = λ from txn view number reads writes part c e n d f v a w. refl;
@@ -301,7 +296,6 @@ module _ (catalogue : Catalogue) (x : SiteState) (given : Input) (none : (port :
     end_here = λ from txn commit c. ends_here from txn commit (doubt_of txn x.doubts);
     coordinator = moves;
     resend_one = λ d o c h p. p;
-    inquire = λ o c p. p;
   }
 
   no_refusal : Done (step catalogue x given).effects.replies

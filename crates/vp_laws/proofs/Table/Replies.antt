@@ -203,7 +203,8 @@ module _ (catalogue : Catalogue) (x : SiteState) (given : Input) (led : Led x) (
   pub table : Table catalogue x given P
   unfolding drop_view on_stale on_accept hold fix ask_again start_inviting accept grant start_refresh resend_one inquire start_txn take_lock read_at write_at prepare_parts
   table = record {
-    tells = λ from m t. quiet _ (b.tells from m t) refl refl;
+    sends_back = λ from m t. quiet _ (b.sends_back from m t) refl refl;
+    asks_again = λ o ms all p. silent o _ (b.asks_again o ms all p.base) refl refl refl p;
     drop_view = λ l e z p. silent (put_back (begin_step x) l) _ (b.drop_view l e z p.base) refl refl refl p;
     start_inviting = λ o s l p. silent o _ (b.start_inviting o s l p.base) refl refl refl p;
     accept = λ from id o c e l p. silent o _ (b.accept from id o c e l p.base) refl refl refl p;
@@ -218,7 +219,6 @@ module _ (catalogue : Catalogue) (x : SiteState) (given : Input) (led : Led x) (
     start_refresh = λ view rec o e a h p. silent o _ (b.start_refresh view rec o e a h p.base) refl refl refl p;
     end_refresh = λ rec r own o e a d v p. ends_refresh r own o (b.end_refresh rec r own o e a d v p.base) p;
     keep_answer = λ from view rec stored r c e f g. quiet _ (b.keep_answer from view rec stored r c e f g) refl refl;
-    ask_again = λ view r o e h v p. silent o _ (b.ask_again view r o e h v p.base) refl refl refl p;
     grant_read = λ from txn view number rec stored c e n v f. quiet _ (b.grant_read from txn view number rec stored c e n v f) refl refl;
     grant_write = λ from txn view number rec stored c e n v f. quiet _ (b.grant_write from txn view number rec stored c e n v f) refl refl;
     vote_reading = λ from txn view number reads writes part c e n d f v a w. quiet _ (b.vote_reading from txn view number reads writes part c e n d f v a w) refl refl;
@@ -237,10 +237,8 @@ module _ (catalogue : Catalogue) (x : SiteState) (given : Input) (led : Led x) (
       close = λ t why l n a z y q. closes t why l (m.close t why l n a z y q.base) n a z q;
       mark_calls = λ l c z q. marks l (m.mark_calls l c z q.base) q;
       acknowledge = λ from txn c w. quiet _ (m.acknowledge from txn c w) refl refl;
-      answer_inquiry = λ from txn c s n. quiet _ (m.answer_inquiry from txn c s n) refl refl;
     };
     resend_one = λ d o c h p. silent o _ (b.resend_one d o c h p.base) refl refl refl p;
-    inquire = λ o c p. silent o _ (b.inquire o c p.base) refl refl refl p;
   }
 
 pub replies-step : (catalogue : Catalogue) (x : SiteState) (given : Input) → Led x → Apart x.live → Replying x (step catalogue x given).site.live (step catalogue x given).effects.commits (step catalogue x given).effects.replies

@@ -1,27 +1,25 @@
 -- Where each part and each doubt of a step comes from, and what each answer to another site answers.
-use Rattle.std.proofs.Common.{◌≡◌, ◌≢◌, ◌⊎◌, ◌∙◌, ap, sym, subst, ℕ, Bool, true, false, cond, List, [], ◌∷◌, ◌++◌, map, refl, inl, inr, ⊎_elim, append-nil}
+use Rattle.std.proofs.Common.{◌≡◌, ◌≢◌, ◌⊎◌, ◌∙◌, ap, sym, subst, ℕ, Bool, true, false, cond, List, [], ◌∷◌, ◌++◌, refl, inl, inr, ⊎_elim, append-nil}
 use Rattle.std.specs.Prelude.{Option, Some, None, is_some, filter, not, ◌==◌, ◌||◌}
 use Rattle.vp_model.specs.Types.{Change, ViewId, TxnId, Message, Sent, Input, Stored, Part, Refreshing, Live, Doubt}
-use Rattle.vp_model.specs.Types.entry
 use Rattle.vp_model.specs.Types.input
 use Rattle.vp_model.specs.Types.message
-use Rattle.vp_model.specs.Words.{same_txn, txn_before, has_txn, is_empty, value_at, replace_at, view_before}
+use Rattle.vp_model.specs.Words.{same_txn, txn_before, has_txn, is_empty, value_at}
 use Rattle.vp_model.specs.Catalogue.{Catalogue}
 use Rattle.vp_model.specs.Durable.{doubt_of}
 use Rattle.vp_model.specs.Locks.{conflict}
-use Rattle.vp_model.specs.Site.{ParticipantState, SiteState, Lent, Stepped, begin_step, lent, put_back, letters, force, change_copies, send}
+use Rattle.vp_model.specs.Site.{ParticipantState, SiteState, Lent, Stepped, begin_step, lent, put_back, letters, send}
 use Rattle.vp_model.specs.Transactions.{keep_writes, complete}
-use Rattle.vp_model.specs.Refresh.{newest, take_newer, unlist, end_refresh, start_refresh, other_holders, unanswered, is_doubtful}
+use Rattle.vp_model.specs.Refresh.{newest, take_newer, unlist, end_refresh, start_refresh, other_holders, is_doubtful}
 use Rattle.vp_model.specs.Views.{part_of, has_part, has_doubt, other_sites, drop_view, start_inviting, hold}
 use Rattle.vp_model.specs.Calls.{start_txn, take_lock, read_at, write_at, prepare_parts, prepare_for}
-use Rattle.vp_model.specs.Answers.{is_decided}
 use Rattle.vp_model.specs.Messages.{holds_view, put_part, with_part, with_vote, with_new_doubt, with_ended, has_all_locks, accept, on_accept, on_stale, grant, end_here}
-use Rattle.vp_model.specs.Step.{fix, mark_calls, ask_again, resend_one, known, inquire, step}
+use Rattle.vp_model.specs.Step.{fix, mark_calls, ask_again, resend_one, step}
 use Rattle.vp_laws.proofs.Lists.Members.{Has, has_none, has_one_is, has_cases, map_has, filter_has, filter_keeps, find_has, find_true, any_true, any_false}
 use Rattle.vp_laws.proofs.Lists.Changes.{put_has, put_new, put_old}
 use Rattle.vp_model.proofs.SameTxn.{same_txn-is, same_txn-turned, same_txn-clash}
-use Rattle.vp_laws.proofs.Moves.Frames.{close-ends, decided-ends, decide-cases}
-use Rattle.vp_laws.proofs.Moves.Table.{Comes, Closed, next_view, lent_at, Requests, Back, Tells, Table}
+use Rattle.vp_laws.proofs.Moves.Frames.{close-ends, decided-ends, decide-cases, take-cases}
+use Rattle.vp_laws.proofs.Moves.Table.{Comes, Closed, next_view, lent_at, Requests, Back, SendsBack, Table, AsksAgain}
 use Rattle.vp_laws.proofs.Moves.Rows.{step-keeps}
 use Rattle.vp_laws.proofs.Moves.LocalViews.{letter}
 
@@ -143,17 +141,9 @@ module _ (catalogue : Catalogue) (x : SiteState) (given : Input) where
     replies = λ m h. subst (λ (m : Sent). ReplyTo x given o.site.participant m) (has_one_is (letter x.id to words) m (rw ms at h)) (subst (λ (p : ParticipantState). ReplyTo x given p (letter x.id to words)) (sym same) reply);
   }
 
-  takes_newer : (rec : ℕ) (own best : Stored) (o : Stepped) → P o → P (take_newer rec own best o)
-  unfolding take_newer
-  takes_newer rec own best o l = go (view_before own.date best.date)
-    where
-      go : (b : Bool) → P (cond b (force (entry.Copy rec best) (change_copies (replace_at rec best) o)) o)
-      go true = silent o (force (entry.Copy rec best) (change_copies (replace_at rec best) o)) refl refl refl l
-      go false = l
-
   ends_refresh : (r : Refreshing) (own : Stored) (o : Stepped) → P o → P (end_refresh catalogue r own o)
   unfolding end_refresh unlist
-  ends_refresh r own o l = silent (take_newer r.rec own (newest own r.answers) o) _ refl refl refl (takes_newer r.rec own (newest own r.answers) o l)
+  ends_refresh r own o l = silent (take_newer r.rec own (newest own r.answers) o) _ refl refl refl (take-cases P r.rec own (newest own r.answers) o (silent o _ refl refl refl l) l)
 
   part_there : (txn : TxnId) (part : Part) → part_of txn x.parts ≡ Some part → Has x.parts part
   part_there txn part e = find_has (λ (p : Part). same_txn p.txn txn) x.parts part e
@@ -271,13 +261,6 @@ module _ (catalogue : Catalogue) (x : SiteState) (given : Input) where
     replies = λ m h. let q = z.messages m h in ReplyTo.other (rw q.1 refl);
   }
 
-  inquires : (txns : List TxnId) (o : Stepped) → P o → P (inquire txns o)
-  unfolding inquire
-  inquires txns o l = more o (inquire txns o) (map (λ (txn : TxnId). letter o.site.id txn.site (message.Inquire txn)) txns) refl refl refl inquiries l
-    where
-      inquiries : (m : Sent) → Has (map (λ (txn : TxnId). letter o.site.id txn.site (message.Inquire txn)) txns) m → (m.from ≡ o.site.id) × (is_reply m.message ≡ false)
-      inquiries m h = let r = map_has (λ (txn : TxnId). letter o.site.id txn.site (message.Inquire txn)) txns m h in rw (← r.2) (refl, refl)
-
   abbrev K : Lent → Type 0
   K = Back x P
 
@@ -291,18 +274,23 @@ module _ (catalogue : Catalogue) (x : SiteState) (given : Input) where
   unfolding keep_writes
   keeps_writes t l q = hushed l _ refl q
 
-  told : (from : ℕ) (m : Message) → Tells x given from m → P (send m from (begin_step x))
-  told from _ (Tells.answer_refresh view rec stored c e d v) = replying _ x.participant from (message.RefreshAnswer view rec stored) refl refl refl (λ a h. PartNow.still h) (λ d h. DoubtNow.still h) (λ d h. inl h) (ReplyTo.refresh_answer view rec stored c e d v refl)
-  told from _ (Tells.doubt_again txn view number reads writes c e n d) = doubts_again from txn view number reads writes c e n d _ refl refl refl
-  told from _ (Tells.vote_again txn view number reads writes part c e n f v) =
+  sent_back : (from : ℕ) (m : Message) → SendsBack x given from m → P (send m from (begin_step x))
+  sent_back from _ (SendsBack.answer_refresh view rec stored c e d v) = replying _ x.participant from (message.RefreshAnswer view rec stored) refl refl refl (λ a h. PartNow.still h) (λ d h. DoubtNow.still h) (λ d h. inl h) (ReplyTo.refresh_answer view rec stored c e d v refl)
+  sent_back from _ (SendsBack.doubt_again txn view number reads writes c e n d) = doubts_again from txn view number reads writes c e n d _ refl refl refl
+  sent_back from _ (SendsBack.vote_again txn view number reads writes part c e n f v) =
       replying _ x.participant from (message.Vote part.txn) refl refl refl (λ a h. PartNow.still h) (λ d h. DoubtNow.still h) (λ d h. inl h)
       (ReplyTo.vote_again part (answered_by from txn part.txn view number reads writes c e n (part_same txn part f)) (part_there txn part f) (part_there txn part f) v refl)
-  told from m t = one _ from m refl refl refl refl
+  sent_back from m t = one _ from m refl refl refl refl
+
+  again_asks : (o : Stepped) (to : ℕ) (m : Message) → AsksAgain catalogue x given o to m → is_reply m ≡ false
+  again_asks o to _ (AsksAgain.refresh view r e h v q) = refl
+  again_asks o to m a = refl
 
   pub table : Table catalogue x given P
   unfolding on_accept on_stale start_inviting accept hold fix ask_again start_refresh start_txn take_lock complete read_at write_at prepare_parts mark_calls resend_one
   table = record {
-    tells = λ from m t. told from m t;
+    sends_back = λ from m t. sent_back from m t;
+    asks_again = λ o ms all p. more o _ ms refl refl refl (λ m h. let q = all m h in (q.0, again_asks o m.to m.message q.1)) p;
     drop_view = λ l e z p. drops l z p;
     start_inviting = λ o s left p. many o (start_inviting catalogue (next_view x) o) (λ q. message.Invite (next_view x)) (other_sites catalogue o.site.id) refl refl refl (λ q. refl) p;
     accept = λ from id o c e left p. many o (accept from id o) (λ q. message.Accept id) (from ∷ []) refl refl refl (λ q. refl) p;
@@ -317,7 +305,6 @@ module _ (catalogue : Catalogue) (x : SiteState) (given : Input) where
     start_refresh = λ view rec o e a h p. many o (start_refresh catalogue view rec o) (λ q. message.RefreshRequest view.id rec) (other_holders catalogue o.site rec) refl refl refl (λ q. refl) p;
     end_refresh = λ rec r own o e a d v p. ends_refresh r own o p;
     keep_answer = λ from view rec stored r c e f g. silent (begin_step x) _ refl refl refl starts;
-    ask_again = λ view r o e h v p. many o (ask_again catalogue view.id r o) (λ q. message.RefreshRequest view.id r.rec) (unanswered catalogue o.site r) refl refl refl (λ q. refl) p;
     grant_read = λ from txn view number rec stored c e n v f.
         let g : Granted x given from txn number rec false stored = record { view = view; comes = Requests.reads c; held = e; going = n; copy = v; free = f } in
         grants from txn number rec false stored g (message.ReadAnswer txn number stored.value) (ReplyTo.read_answer txn number rec stored g refl);
@@ -342,10 +329,8 @@ module _ (catalogue : Catalogue) (x : SiteState) (given : Input) where
       close = λ t why l n a z y q. asking l _ (λ q. message.Outcome t.txn false) t.parts (close-ends x.id t why l).messages (λ q. refl) q;
       mark_calls = λ l c z q. hushed l _ refl q;
       acknowledge = λ from txn c w. hushed (lent_at x) _ refl starts;
-      answer_inquiry = λ from txn c s n. asking (lent_at x) _ (λ q. message.Outcome txn (is_decided txn x.decisions)) (from ∷ []) refl (λ q. refl) starts;
     };
     resend_one = λ d o c h p. many o (put_back o (resend_one o.site.id d (lent o))) (λ q. message.Outcome d.txn true) d.waiting refl refl refl (λ q. refl) p;
-    inquire = λ o c p. inquires (known o.site.participant) o p;
   }
 
 pub shares-step : (catalogue : Catalogue) (x : SiteState) (given : Input) → Shares x given (step catalogue x given)

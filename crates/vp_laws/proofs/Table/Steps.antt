@@ -1,7 +1,7 @@
 -- Where each live transaction, each request and each entry of a step comes from.
 use Rattle.std.proofs.Common.{◌≡◌, ◌≢◌, ◌∙◌, ap, sym, subst, ℕ, Bool, true, false, List, [], ◌∷◌, ◌++◌, map, refl, ⊎_elim, append-nil}
 use Rattle.std.specs.Prelude.{Some, None}
-use Rattle.vp_model.specs.Types.{TxnId, View, Sent, Commit, Input, Effects, Op, Answer, Pending, Live, Ending}
+use Rattle.vp_model.specs.Types.{TxnId, View, Sent, Commit, Input, Effects, Op, Answer, Pending, Live, Ending, Message}
 use Rattle.vp_base.specs.declared.site.Ending.TheVariants.{Committed}
 use Rattle.vp_model.specs.Types.input
 use Rattle.vp_model.specs.Types.message
@@ -18,7 +18,7 @@ use Rattle.vp_laws.proofs.Lists.Members.{Has, has_none, has_one_is, has_cases, m
 use Rattle.vp_laws.proofs.Lists.Changes.{without_first_has}
 use Rattle.vp_laws.proofs.Lists.Names.{Apart, named, apart_without, change_cases, apart_change, apart_more, apart_mark}
 use Rattle.vp_laws.proofs.Moves.Frames.{Ends, close-ends, close-commits, decided-ends, decided-commits, decide-cases}
-use Rattle.vp_laws.proofs.Moves.Table.{next_name, lent_at, Handled, IsNext, Reads, Writes, Counts, remaining, Locked, Completes, Decides, Closed, OfCoordinator}
+use Rattle.vp_laws.proofs.Moves.Table.{next_name, lent_at, Handled, IsNext, Reads, Writes, Counts, remaining, Locked, Completes, Decides, Closed, OfCoordinator, SendsBack}
 use Rattle.vp_laws.proofs.Moves.Rows.{step-keeps}
 use Rattle.vp_laws.proofs.Moves.LocalViews.{letter}
 use Rattle.vp_laws.proofs.Table.Led.{Led}
@@ -229,22 +229,26 @@ module _ (catalogue : Catalogue) (x : SiteState) (given : Input) (led : Led x) (
     close = λ t why l n a z y r. closes t why l r;
     mark_calls = λ l c z r. marks l c z r;
     acknowledge = λ from txn c w. starts_with (with_acknowledged txn from x.coordinator) refl;
-    answer_inquiry = λ from txn c s n. record {
-      apart = apart;
-      live = starts.live;
-      sent = λ m h. let e = has_one_is (letter x.id from (message.Outcome txn (is_decided txn x.decisions))) m h in SentFor.outcome txn (is_decided txn x.decisions) (sym (ap (λ (m : Sent). m.from) e)) (sym (ap (λ (m : Sent). m.message) e));
-      entered = starts.entered;
-    };
   }
     where
       starts_with : (c : CoordinatorState) → c.live ≡ x.live → R c [] []
       starts_with c e = record { apart = subst Apart (sym e) apart; live = λ t h. LiveNow.still (rw e at h); sent = λ m h. absurd (has_none m h); entered = λ e h. absurd (has_none e h) }
+
+  sent_back : (from : ℕ) (m : Message) → SendsBack x given from m → SentFor catalogue x given x.live (letter x.id from m)
+  sent_back from _ (SendsBack.answer_inquiry txn c s n) = SentFor.outcome txn (is_decided txn x.decisions) refl refl
+  sent_back from m t = SentFor.aside (record { from = refl; aside = refl })
 
   pub keeps : Keeps catalogue x given R
   keeps = record {
     aside = λ c ms extra cs quiet r. plus c ms extra cs (λ m h. SentFor.aside (quiet m h)) r;
     starts = starts;
     moves = moves;
+    sends_back = λ from m t. record {
+      apart = apart;
+      live = starts.live;
+      sent = λ sent h. subst (SentFor catalogue x given x.live) (has_one_is (letter x.id from m) sent h) (sent_back from m t);
+      entered = starts.entered;
+    };
     resends = λ c d ms cs tick h r. plus c ms _ cs (outcomes d.txn true d.waiting c.live) r;
   }
     where

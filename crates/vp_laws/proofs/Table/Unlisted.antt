@@ -185,7 +185,8 @@ module _ (catalogue : Catalogue) (x : SiteState) (given : Input) (tidy : Tidy x)
   pub table : Table catalogue x given P
   unfolding drop_view on_stale on_accept hold fix ask_again start_inviting accept grant resend_one inquire
   table = record {
-    tells = λ from m t. stays _ refl refl (b.tells from m t);
+    sends_back = λ from m t. stays _ refl refl (b.sends_back from m t);
+    asks_again = λ o ms all p. same o _ refl refl refl refl (λ q g. each _ q g) (b.asks_again o ms all p.base) p;
     drop_view = λ l e z p. gone (drop_view (put_back (begin_step x) l)) refl (b.drop_view l e z p.base);
     start_inviting = λ o s l p. gone _ (left_none o l) (b.start_inviting o s l p.base);
     accept = λ from id o c e l p. gone _ (left_none o l) (b.accept from id o c e l p.base);
@@ -200,7 +201,6 @@ module _ (catalogue : Catalogue) (x : SiteState) (given : Input) (tidy : Tidy x)
     start_refresh = λ view rec o e a h p. refreshes view rec o (b.start_refresh view rec o e a h p.base) p;
     end_refresh = λ rec r own o e a d v p. finishes rec r own o e a d v (b.end_refresh rec r own o e a d v p.base) p;
     keep_answer = λ from view rec stored r c e f g. first _ refl (λ q h. (with_answer rec from stored q, mapped_has (with_answer rec from stored) x.refresh q h, rec_same rec from stored q)) (b.keep_answer from view rec stored r c e f g);
-    ask_again = λ view r o e h v p. same o _ refl refl refl refl (λ q g. each _ q g) (b.ask_again view r o e h v p.base) p;
     grant_read = λ from txn view number rec stored c e n v f. stays _ refl refl (b.grant_read from txn view number rec stored c e n v f);
     grant_write = λ from txn view number rec stored c e n v f. stays _ refl refl (b.grant_write from txn view number rec stored c e n v f);
     vote_reading = λ from txn view number reads writes part c e n d f v a w. stays _ refl refl (b.vote_reading from txn view number reads writes part c e n d f v a w);
@@ -219,10 +219,8 @@ module _ (catalogue : Catalogue) (x : SiteState) (given : Input) (tidy : Tidy x)
       close = λ t why l n a z y q. stays _ refl refl (b.coordinator.close t why l n a z y q.base);
       mark_calls = λ l c z q. stays _ refl refl (b.coordinator.mark_calls l c z q.base);
       acknowledge = λ from txn c w. stays _ refl refl (b.coordinator.acknowledge from txn c w);
-      answer_inquiry = λ from txn c s n. stays _ refl refl (b.coordinator.answer_inquiry from txn c s n);
     };
     resend_one = λ d o c h p. same o _ refl refl refl refl (λ q g. each _ q g) (b.resend_one d o c h p.base) p;
-    inquire = λ o c p. same o _ refl refl refl refl (λ q g. each _ q g) (b.inquire o c p.base) p;
   }
 
   starts : P (begin_step x)

@@ -1,26 +1,25 @@
 -- The small moves keep what a step tells of views.
-use Rattle.std.proofs.Common.{◌≡◌, ◌⊎◌, ◌∙◌, ap, sym, ℕ, Bool, true, false, List, [], ◌∷◌, map, refl, arith, inl, inr, ⊎_elim, cond}
+use Rattle.std.proofs.Common.{◌≡◌, ◌⊎◌, ◌∙◌, ap, sym, ℕ, Bool, true, false, List, [], ◌∷◌, refl, arith, inl, inr, ⊎_elim}
 use Rattle.std.specs.Prelude.{Option, Some, None, ◌&&◌, ◌==◌, not, option_map, filter}
 use Rattle.vp_model.specs.Types.{ViewId, TxnId, View, Stored, Message, Sent, Input, Refreshing, Pending, Live, Ending, Doubt, Decision}
 use Rattle.vp_base.specs.declared.site.Ending.TheVariants.{Committed}
 use Rattle.vp_model.specs.Types.input
 use Rattle.vp_model.specs.Types.message
-use Rattle.vp_model.specs.Words.{replace_at, view_before, is_view, has, put_number, same_view}
+use Rattle.vp_model.specs.Words.{view_before, is_view, has, put_number, same_view}
 use Rattle.vp_model.specs.Catalogue.{Catalogue}
 use Rattle.vp_model.specs.Durable.{doubt_of}
-use Rattle.vp_model.specs.Site.{ViewState, change_views, force, change_copies, SiteState, Lent, Stepped, begin_step, lent, put_back, letters}
+use Rattle.vp_model.specs.Site.{ViewState, change_views, SiteState, Lent, Stepped, begin_step, lent, put_back, letters}
 use Rattle.vp_model.specs.Transactions.{decide, keep_writes, complete}
-use Rattle.vp_model.specs.Refresh.{newest, take_newer, unlist, end_refresh, start_refresh, other_holders, unanswered}
+use Rattle.vp_model.specs.Refresh.{newest, unlist, end_refresh, start_refresh, other_holders}
 use Rattle.vp_model.specs.Views.{with_invitation, is_spent, other_sites, drop_view, start_inviting, hold}
 use Rattle.vp_model.specs.Calls.{start_txn, take_lock, read_at, write_at, prepare_parts, prepare_for}
 use Rattle.vp_model.specs.Messages.{with_wait, accept, on_accept, with_acceptance, on_stale, with_heard, grant, end_here}
-use Rattle.vp_model.specs.Step.{with_monitor, step, fix, without_wait, probe_all, mark_calls, ask_again, resend_one, known, inquire}
+use Rattle.vp_model.specs.Step.{with_monitor, step, fix, without_wait, probe_all, mark_calls, resend_one}
 use Rattle.vp_laws.proofs.Lists.Members.{Has, has_none, has_one, has_one_is, has_cases, has_from_test, map_has, both_true}
 use Rattle.vp_laws.proofs.Lists.Views.{AtMost, Precedes, AtMost-refl, AtMost-same, Precedes-at_most, from_before, same_is, is_view_is, put_keeps, put_only}
-use Rattle.vp_laws.proofs.Moves.Frames.{Ends, close-ends, decided-ends, decide-cases}
-use Rattle.vp_model.specs.Types.entry
+use Rattle.vp_laws.proofs.Moves.Frames.{Ends, close-ends, decided-ends, decide-cases, take-cases}
 use Rattle.vp_laws.proofs.Moves.Rows.{step-keeps}
-use Rattle.vp_laws.proofs.Moves.Table.{Comes, next_view, lent_at, Left, Back, Tells, Table}
+use Rattle.vp_laws.proofs.Moves.Table.{Comes, next_view, lent_at, Left, Back, SendsBack, Table, AsksAgain}
 use Rattle.vp_laws.proofs.Moves.LocalViews.{letter, Tidy, MaySend, Local, IsNew, is_quiet, quiet-may, beside, silent, letters_quiet, letter_quiet, may_rise}
 
 -- the acceptance of an invitation
@@ -272,21 +271,9 @@ module _ (catalogue : Catalogue) (x : SiteState) (given : Input) (tidy : Tidy x)
   starts_refresh view rec o l =
       beside x given o _ _ refl refl refl (letters_quiet x given o.site.id (λ q. message.RefreshRequest view.id rec) (other_holders catalogue o.site rec) (λ q. refl)) l
 
-  takes_newer : (rec : ℕ) (own best : Stored) (o : Stepped) → Local x given o → Local x given (take_newer rec own best o)
-  unfolding take_newer
-  takes_newer rec own best o l = go (view_before own.date best.date)
-    where
-      go : (b : Bool) → Local x given (cond b (force (entry.Copy rec best) (change_copies (replace_at rec best) o)) o)
-      go true = silent x given o _ refl refl refl l
-      go false = l
-
   ends_refresh : (r : Refreshing) (own : Stored) (o : Stepped) → Local x given o → Local x given (end_refresh catalogue r own o)
   unfolding end_refresh unlist
-  ends_refresh r own o l = silent x given _ _ refl refl refl (takes_newer r.rec own (newest own r.answers) o l)
-
-  asks_again : (id : ViewId) (r : Refreshing) (o : Stepped) → Local x given o → Local x given (ask_again catalogue id r o)
-  unfolding ask_again
-  asks_again id r o l = beside x given o _ _ refl refl refl (letters_quiet x given o.site.id (λ q. message.RefreshRequest id r.rec) (unanswered catalogue o.site r) (λ q. refl)) l
+  ends_refresh r own o l = silent x given _ _ refl refl refl (take-cases (Local x given) r.rec own (newest own r.answers) o (silent x given o _ refl refl refl l) l)
 
   ends_here : (from : ℕ) (txn : TxnId) (commit : Bool) (doubt : Option Doubt) → Local x given (end_here from txn commit doubt (begin_step x))
   unfolding end_here
@@ -303,22 +290,20 @@ module _ (catalogue : Catalogue) (x : SiteState) (given : Input) (tidy : Tidy x)
   unfolding resend_one
   resends d o l = beside x given o _ _ refl refl refl (letters_quiet x given o.site.id (λ q. message.Outcome d.txn true) d.waiting (λ q. refl)) l
 
-  inquires : (txns : List TxnId) (o : Stepped) → Local x given o → Local x given (inquire txns o)
-  unfolding inquire
-  inquires txns o l = beside x given o _ _ refl refl refl inquiries l
-    where
-      inquiries : (m : Sent) → Has (map (λ (txn : TxnId). letter o.site.id txn.site (message.Inquire txn)) txns) m → (m.from ≡ o.site.id) × (is_quiet m.message ≡ true)
-      inquiries m h = let r = map_has (λ (txn : TxnId). letter o.site.id txn.site (message.Inquire txn)) txns m h in rw (← r.2) (refl, refl)
+  back_may : (from : ℕ) (m : Message) → SendsBack x given from m → MaySend x given x.views m
+  back_may from _ (SendsBack.stale id c e) = ((from, c), refl)
+  back_may from _ (SendsBack.accept_again id c e) = AtMost-same id x.promise (tidy.waiting id (is_view_is x.waiting id e)).0
+  back_may from m t = tt
 
-  may_tell : (from : ℕ) (m : Message) → Tells x given from m → MaySend x given x.views m
-  may_tell from _ (Tells.stale id c e) = ((from, c), refl)
-  may_tell from _ (Tells.accept_again id c e) = AtMost-same id x.promise (tidy.waiting id (is_view_is x.waiting id e)).0
-  may_tell from m t = tt
+  again_quiet : (o : Stepped) (to : ℕ) (m : Message) → AsksAgain catalogue x given o to m → is_quiet m ≡ true
+  again_quiet o to _ (AsksAgain.refresh view r e h v q) = refl
+  again_quiet o to m a = refl
 
   pub table : Table catalogue x given (Local x given)
   unfolding start_txn take_lock complete read_at prepare_parts mark_calls grant on_stale
   table = record {
-    tells = λ from m t. one_more m from (may_tell from m t);
+    sends_back = λ from m t. one_more m from (back_may from m t);
+    asks_again = λ o ms all p. beside x given o _ ms refl refl refl (λ m h. let q = all m h in (q.0, again_quiet o m.to m.message q.1)) p;
     drop_view = λ l e z p. drops (put_back (begin_step x) l) e refl p;
     start_inviting = invites;
     accept = accepts;
@@ -332,7 +317,6 @@ module _ (catalogue : Catalogue) (x : SiteState) (given : Input) (tidy : Tidy x)
     start_refresh = λ view rec o e a h l. starts_refresh view rec o l;
     end_refresh = λ rec r own o e a d v l. ends_refresh r own o l;
     keep_answer = λ from view rec stored r c e f g. silent x given (begin_step x) _ refl refl refl begins;
-    ask_again = λ view r o e h v l. asks_again view.id r o l;
     grant_read = λ from txn view number rec stored c e n v f. one_more_beside from _ refl _ refl refl refl;
     grant_write = λ from txn view number rec stored c e n v f. one_more_beside from _ refl _ refl refl refl;
     vote_reading = λ from txn view number reads writes part c e n d f v a w. one_more_beside from (message.Vote part.txn) refl _ refl refl refl;
@@ -351,11 +335,9 @@ module _ (catalogue : Catalogue) (x : SiteState) (given : Input) (tidy : Tidy x)
       close = λ t why l h a z y q. ends t why false l _ (close-ends x.id t why l) q;
       mark_calls = λ l c z q. hushed l _ refl q;
       acknowledge = λ from txn c w. hushed (lent_at x) _ refl begins;
-      answer_inquiry = λ from txn c s n. one_more _ from tt;
     };
     answers_inviting = λ port c s l. silent x given _ _ refl refl refl l;
     resend_one = λ d o c h l. resends d o l;
-    inquire = λ o c l. inquires (known o.site.participant) o l;
   }
 
 pub local-step : (catalogue : Catalogue) (x : SiteState) (given : Input) → Tidy x → Local x given (step catalogue x given)

@@ -1,30 +1,28 @@
 -- Prepares and votes: a prepare speaks of a live transaction whose commit is pending, and a vote answers a prepare.
-use Rattle.std.proofs.Common.{◌≡◌, ◌∙◌, ap, sym, ℕ, Bool, true, false, cond, List, [], ◌∷◌, ◌++◌, map, refl, inl, inr, ⊎_elim, append-nil, subst}
+use Rattle.std.proofs.Common.{◌≡◌, ◌∙◌, ap, sym, ℕ, Bool, true, false, List, [], ◌∷◌, ◌++◌, map, refl, inl, inr, ⊎_elim, append-nil, subst}
 use Rattle.std.specs.Prelude.{Option, Some, None, is_some, ◌==◌, not, filter}
 use Rattle.vp_model.specs.Types.{Change, ViewId, TxnId, View, Stored, Op, Answer, Message, Sent, Input, Part, Refreshing, Pending, Live, Ending, Doubt}
 use Rattle.vp_base.specs.declared.site.Ending.TheVariants.{Committed}
 use Rattle.vp_model.specs.Types.answer
-use Rattle.vp_model.specs.Types.entry
 use Rattle.vp_model.specs.Types.message
 use Rattle.vp_model.specs.Types.input
-use Rattle.vp_model.specs.Words.{same_txn, change_first, without_first, view_before, for_each, put_number, replace_at}
+use Rattle.vp_model.specs.Words.{same_txn, change_first, without_first, for_each, put_number}
 use Rattle.vp_model.specs.Catalogue.{Catalogue}
 use Rattle.vp_model.specs.Durable.{doubt_of}
-use Rattle.vp_model.specs.Site.{CoordinatorState, reply, SiteState, Lent, Stepped, begin_step, lent, put_back, letters, force, change_copies, change_views, change_refresh, send}
+use Rattle.vp_model.specs.Site.{CoordinatorState, reply, SiteState, Lent, Stepped, begin_step, lent, put_back, letters, change_views, change_refresh, send}
 use Rattle.vp_model.specs.Transactions.{last_changes, entry_of, keep_writes, complete, wait_for, writes_held}
-use Rattle.vp_model.specs.Refresh.{newest, take_newer, unlist, end_refresh, start_refresh, other_holders, unanswered}
+use Rattle.vp_model.specs.Refresh.{newest, take_newer, unlist, end_refresh, start_refresh, other_holders}
 use Rattle.vp_model.specs.Views.{part_of, other_sites, drop_view, start_inviting, invite, hold}
 use Rattle.vp_model.specs.Calls.{begun, start_txn, take_lock, read_at, write_at, prepare_parts, prepare_for, records_read_at}
-use Rattle.vp_model.specs.Answers.{is_decided}
 use Rattle.vp_model.specs.Messages.{with_answer, accept, on_accept, on_stale, with_heard, grant, end_here}
-use Rattle.vp_model.specs.Step.{marked_call, without_wait, step, fix, mark, probe_all, mark_calls, ask_again, resend_one, known, inquire}
+use Rattle.vp_model.specs.Step.{marked_call, without_wait, step, fix, mark, probe_all, mark_calls, ask_again, resend_one}
 use Rattle.vp_laws.proofs.Lists.Members.{Has, has_none, has_one_is, has_cases, find_true, map_has}
-use Rattle.vp_laws.proofs.Moves.Frames.{Ends, close-ends, decided-ends, decide-cases}
+use Rattle.vp_laws.proofs.Moves.Frames.{Ends, close-ends, decided-ends, decide-cases, take-cases}
 use Rattle.vp_laws.proofs.Lists.Changes.{without_first_has}
 use Rattle.vp_model.proofs.SameTxn.{same_txn-is}
 use Rattle.vp_laws.proofs.Lists.Names.{Apart, named, apart_without, change_cases, apart_change, apart_more, apart_mark}
 use Rattle.vp_laws.specs.Votes.{is_commit}
-use Rattle.vp_laws.proofs.Moves.Table.{IsOperating, Completes, Comes, next_view, next_name, lent_at, remaining, Back, Tells, Table}
+use Rattle.vp_laws.proofs.Moves.Table.{IsOperating, Completes, Comes, next_view, next_name, lent_at, remaining, Back, SendsBack, Table, AsksAgain}
 use Rattle.vp_laws.proofs.Moves.Rows.{step-keeps}
 use Rattle.vp_laws.proofs.Moves.LocalViews.{letter}
 use Rattle.vp_laws.proofs.Table.Led.{Led}
@@ -277,17 +275,9 @@ module _ (catalogue : Catalogue) (x : SiteState) (given : Input) (led : Led x) (
   unfolding start_refresh
   starts_refresh view rec o l = alike o _ (letters o.site.id (λ q. message.RefreshRequest view.id rec) (other_holders catalogue o.site rec)) refl refl refl (letters_still o.site.id (λ q. message.RefreshRequest view.id rec) (other_holders catalogue o.site rec) (λ q. refl)) l
 
-  takes_newer : (rec : ℕ) (own best : Stored) (o : Stepped) → Votes catalogue x given o → Votes catalogue x given (take_newer rec own best o)
-  unfolding take_newer
-  takes_newer rec own best o l = go (view_before own.date best.date)
-    where
-      go : (b : Bool) → Votes catalogue x given (cond b (force (entry.Copy rec best) (change_copies (replace_at rec best) o)) o)
-      go true = silent o (force (entry.Copy rec best) (change_copies (replace_at rec best) o)) refl refl refl l
-      go false = l
-
   ends_refresh : (r : Refreshing) (own : Stored) (o : Stepped) → Votes catalogue x given o → Votes catalogue x given (end_refresh catalogue r own o)
   unfolding end_refresh unlist
-  ends_refresh r own o l = silent (take_newer r.rec own (newest own r.answers) o) _ refl refl refl (takes_newer r.rec own (newest own r.answers) o l)
+  ends_refresh r own o l = silent (take_newer r.rec own (newest own r.answers) o) _ refl refl refl (take-cases (Votes catalogue x given) r.rec own (newest own r.answers) o (silent o _ refl refl refl l) l)
 
   ends_here : (from : ℕ) (txn : TxnId) (commit : Bool) (doubt : Option Doubt) → Votes catalogue x given (end_here from txn commit doubt (begin_step x))
   unfolding end_here
@@ -296,22 +286,20 @@ module _ (catalogue : Catalogue) (x : SiteState) (given : Input) (led : Led x) (
   ends_here from txn true (Some d) = one _ from (message.Ack txn) refl refl refl refl
   ends_here from txn false (Some d) = silent (begin_step x) _ refl refl refl begins
 
-  inquires : (txns : List TxnId) (o : Stepped) → Votes catalogue x given o → Votes catalogue x given (inquire txns o)
-  unfolding inquire
-  inquires txns o l = alike o _ (map (λ (txn : TxnId). letter o.site.id txn.site (message.Inquire txn)) txns) refl refl refl inquiries l
-    where
-      inquiries : (m : Sent) → Has (map (λ (txn : TxnId). letter o.site.id txn.site (message.Inquire txn)) txns) m → (m.from ≡ o.site.id) × (is_still m.message ≡ true)
-      inquiries m h = let r = map_has (λ (txn : TxnId). letter o.site.id txn.site (message.Inquire txn)) txns m h in rw (← r.2) (refl, refl)
+  sent_back : (from : ℕ) (m : Message) → SendsBack x given from m → Votes catalogue x given (send m from (begin_step x))
+  sent_back from _ (SendsBack.doubt_again txn view number reads writes c e n d) = voted _ from txn txn view number reads writes c refl refl refl refl
+  sent_back from _ (SendsBack.vote_again txn view number reads writes part c e n f v) = voted _ from txn part.txn view number reads writes c (part_same txn part f) refl refl refl
+  sent_back from m t = one _ from m refl refl refl refl
 
-  told : (from : ℕ) (m : Message) → Tells x given from m → Votes catalogue x given (send m from (begin_step x))
-  told from _ (Tells.doubt_again txn view number reads writes c e n d) = voted _ from txn txn view number reads writes c refl refl refl refl
-  told from _ (Tells.vote_again txn view number reads writes part c e n f v) = voted _ from txn part.txn view number reads writes c (part_same txn part f) refl refl refl
-  told from m t = one _ from m refl refl refl refl
+  again_still : (o : Stepped) (to : ℕ) (m : Message) → AsksAgain catalogue x given o to m → is_still m ≡ true
+  again_still o to _ (AsksAgain.refresh view r e h v q) = refl
+  again_still o to m a = refl
 
   pub table : Table catalogue x given (Votes catalogue x given)
   unfolding on_accept on_stale start_txn take_lock read_at write_at complete grant drop_view start_inviting accept hold fix ask_again resend_one
   table = record {
-    tells = λ from m t. told from m t;
+    sends_back = λ from m t. sent_back from m t;
+    asks_again = λ o ms all p. alike o _ ms refl refl refl (λ m h. let q = all m h in (q.0, again_still o m.to m.message q.1)) p;
     drop_view = λ l e z p. silent (put_back (begin_step x) l) (drop_view (put_back (begin_step x) l)) refl refl refl p;
     start_inviting = λ o s left l. alike o (start_inviting catalogue (next_view x) o) (letters o.site.id (λ q. message.Invite (next_view x)) (other_sites catalogue o.site.id)) refl refl refl (letters_still o.site.id (λ q. message.Invite (next_view x)) (other_sites catalogue o.site.id) (λ q. refl)) l;
     accept = λ from id o c e left l. alike o (accept from id o) (letter o.site.id from (message.Accept id) ∷ []) refl refl refl (letter_still o.site.id from (message.Accept id) refl) l;
@@ -325,7 +313,6 @@ module _ (catalogue : Catalogue) (x : SiteState) (given : Input) (led : Led x) (
     start_refresh = λ view rec o e a h l. starts_refresh view rec o l;
     end_refresh = λ rec r own o e a d v l. ends_refresh r own o l;
     keep_answer = λ from view rec stored r c e f g. silent (begin_step x) (change_refresh (map (with_answer rec from stored)) (begin_step x)) refl refl refl begins;
-    ask_again = λ view r o e h v l. alike o (ask_again catalogue view.id r o) (letters o.site.id (λ q. message.RefreshRequest view.id r.rec) (unanswered catalogue o.site r)) refl refl refl (letters_still o.site.id (λ q. message.RefreshRequest view.id r.rec) (unanswered catalogue o.site r) (λ q. refl)) l;
     grant_read = λ from txn view number rec stored c e n v f. one (grant txn view rec false (message.ReadAnswer txn number stored.value) from (begin_step x)) from (message.ReadAnswer txn number stored.value) refl refl refl refl;
     grant_write = λ from txn view number rec stored c e n v f. one (grant txn view rec true (message.WriteAnswer txn number) from (begin_step x)) from (message.WriteAnswer txn number) refl refl refl refl;
     vote_reading = λ from txn view number reads writes part c e n d f v a w. voted _ from txn part.txn view number reads writes c (part_same txn part f) refl refl refl;
@@ -344,11 +331,9 @@ module _ (catalogue : Catalogue) (x : SiteState) (given : Input) (led : Led x) (
       close = λ t why l n a z y q. ends t why false l _ (close-ends x.id t why l) q;
       mark_calls = λ l c z q. marks l q;
       acknowledge = λ from txn c w. hushed (lent_at x) _ refl refl begins;
-      answer_inquiry = λ from txn c s n. plain (lent_at x) _ (letter x.id from (message.Outcome txn (is_decided txn x.decisions)) ∷ []) refl refl (letter_still x.id from (message.Outcome txn (is_decided txn x.decisions)) refl) begins;
     };
     answers_inviting = λ port c s l. silent (invite catalogue (begin_step x)) (reply (answer.Inviting (next_view x)) port (invite catalogue (begin_step x))) refl refl refl l;
     resend_one = λ d o c h l. alike o (put_back o (resend_one o.site.id d (lent o))) (letters o.site.id (λ q. message.Outcome d.txn true) d.waiting) refl refl refl (letters_still o.site.id (λ q. message.Outcome d.txn true) d.waiting (λ q. refl)) l;
-    inquire = λ o c l. inquires (known o.site.participant) o l;
   }
 
 pub votes-step : (catalogue : Catalogue) (x : SiteState) (given : Input) → Led x → Apart x.live → Votes catalogue x given (step catalogue x given)

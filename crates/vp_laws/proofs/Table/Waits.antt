@@ -139,7 +139,6 @@ module _ (catalogue : Catalogue) (x : SiteState) (given : Input) (settled : (d :
     close = λ t why l n a z y r. closes t why l r;
     mark_calls = λ l c z r. beside l.coordinator _ l.effects.messages _ l.effects.commits refl r;
     acknowledge = λ from txn c w. acknowledges txn from c;
-    answer_inquiry = λ from txn c s n. beside x.coordinator _ [] _ [] refl starts;
   }
 
   keeps : Keeps catalogue x given R
@@ -147,6 +146,7 @@ module _ (catalogue : Catalogue) (x : SiteState) (given : Input) (settled : (d :
     aside = λ c ms more cs quiet r. beside c c ms (ms ++ more) cs refl r;
     starts = starts;
     moves = moves;
+    sends_back = λ from m t. beside x.coordinator _ [] _ [] refl starts;
     resends = λ c d ms cs tick h r. beside c c ms (ms ++ _) cs refl r;
   }
 
