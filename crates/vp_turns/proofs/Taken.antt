@@ -1,5 +1,5 @@
 -- What a step of a site gives has the form of frames, and is its turn.
-use Rattle.std.proofs.Common.{◌≡◌, ap, refl, ℕ, true, false, List, [], ◌∷◌, ◌++◌, map, flat_map, length, ◌<◌, subst, arith}
+use Rattle.std.proofs.Common.{◌≡◌, refl, ℕ, true, false, List, [], ◌∷◌, ◌++◌, map, flat_map, length, ◌<◌, subst, arith}
 use Rattle.std.proofs.lemmas.Bool.{false≢true}
 use Rattle.std.specs.List.{AllByRecursion}
 use Rattle.vp_model.specs.Types.{Sent, Reply}
@@ -9,9 +9,9 @@ use Rattle.vp_model.specs.Site.{Stepped}
 use Rattle.vp_catalog.specs.Document.{IsCatalogueSoFar, IsCatalogue}
 use Rattle.vp_laws.specs.Shapes.{IsSent, IsReply}
 use Rattle.vp_laws.specs.ShapeLaws.{GivenAreFrames, message_frame, reply_frame}
+use Rattle.vp_outside.specs.declared.datagram.Datagram.{Datagram}
 use Rattle.vp_wire.specs.Grammar.{IsFrame}
 use Rattle.vp_runs.specs.Turns.{step_turn, message_datagram, reply_datagram, datagrams_of}
-use Rattle.vp_turns.specs.declared.turned.Outcome.{Outcome}
 use Rattle.vp_turns.specs.Taking.{Does}
 
 module _ (catalogue : Catalogue) (id : ℕ) (frames : GivenAreFrames) (is : IsCatalogue catalogue) (listed : has (sites_of catalogue) id ≡ true) where
@@ -24,20 +24,11 @@ module _ (catalogue : Catalogue) (id : ℕ) (frames : GivenAreFrames) (is : IsCa
   replies_are_frames (reply ∷ replies) all = (frames.reply catalogue id reply is listed all.0, replies_are_frames replies all.1)
 
 -- what is sent and committed of a step is its turn
-pub does : (catalogue : Catalogue) (id : ℕ) (o : Stepped) (outcome : Outcome) → outcome ≡ record {
-      datagrams = flat_map (message_datagram catalogue) o.effects.messages ++ map (reply_datagram id) o.effects.replies;
-      commits = o.effects.commits;
-      stop = false;
-    }
-    → Does (step_turn catalogue id o) o.site o.effects.records outcome
+pub does : (catalogue : Catalogue) (id : ℕ) (o : Stepped) (datagrams : List Datagram)
+    → datagrams ≡ flat_map (message_datagram catalogue) o.effects.messages ++ map (reply_datagram id) o.effects.replies
+    → Does (step_turn catalogue id o) o.site o.effects.records (record { datagrams = datagrams; commits = o.effects.commits; stop = false })
 unfolding datagrams_of
-does catalogue id o outcome is = record {
-  site_is = refl;
-  records_are = refl;
-  datagrams_are = ap (λ (t : Outcome). t.datagrams) is;
-  commits_are = ap (λ (t : Outcome). t.commits) is;
-  stop_is = ap (λ (t : Outcome). t.stop) is;
-}
+does catalogue id o datagrams sent = record { site_is = refl; records_are = refl; datagrams_are = sent; commits_are = refl; stop_is = refl }
 
 -- a catalogue of which some site is one has a site
 pub is_catalogue : (catalogue : Catalogue) (id : ℕ) → IsCatalogueSoFar catalogue → has (sites_of catalogue) id ≡ true → IsCatalogue catalogue

@@ -34,8 +34,9 @@ fn step(site: Site, catalog: &Catalog, input: Input) -> Result<(Site, Batch, Out
         messages,
         replies,
     } = effects;
+    let datagrams = datagrams_of(catalog, id, messages, replies)?;
     let outcome = Outcome {
-        datagrams: datagrams_of(catalog, id, messages, replies)?,
+        datagrams,
         commits,
         stop: false,
     };

@@ -1,4 +1,4 @@
-use Rattle.std.proofs.Common.{◌∙◌, sym, ap, subst}
+use Rattle.std.proofs.Common.{false, sym, subst}
 use Rattle.std.specs.List.{AllByRecursion}
 use Rattle.vp_model.specs.Types.{Reply}
 use Rattle.vp_model.specs.Site.{Stepped}
@@ -25,5 +25,7 @@ datagrams_of-requires-clause-replies c =
 
 pub returns : goal.returns
 returns c =
-    subst (λ (o : Stepped). Does (step_turn c.args.catalog.now c.args.site.id o) c.in_ok-site.site c.in_ok-site.effects.records c.outcome) c.in_ok-site.ensures
-    (does c.args.catalog.now c.args.site.id (record { site = c.in_ok-site.site; effects = c.in_ok-site.effects }) c.outcome (search rules))
+    let sent = rw c.id-id.ensures at c.in_ok-datagrams.ensures in
+    subst (λ (o : Stepped). Does (step_turn c.args.catalog.now c.args.site.id o) c.in_ok-site.site c.in_ok-site.effects.records
+        (record { datagrams = c.in_ok-datagrams.datagrams; commits = c.in_ok-site.effects.commits; stop = false })) c.in_ok-site.ensures
+    (does c.args.catalog.now c.args.site.id (record { site = c.in_ok-site.site; effects = c.in_ok-site.effects }) c.in_ok-datagrams.datagrams sent)
