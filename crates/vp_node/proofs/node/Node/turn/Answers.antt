@@ -14,4 +14,3 @@ use Rattle.vp_node.specs.Nodes.{NodeValue, MaySave, turn_of, what_comes}
 use Rattle.vp_node.proofs.Kept.{leaves_settled, may_keep_none}
 use Rattle.vp_node.proofs.Turning.{brings, settled, saves_none, leaves_saves}
 use Rattle.vp_node.proofs.node.Node.turn.Goals as goal
-
