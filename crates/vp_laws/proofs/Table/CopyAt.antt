@@ -18,7 +18,7 @@ use Rattle.vp_model.specs.Refresh.{newer, newest, take_newer, unlist, end_refres
 use Rattle.vp_model.specs.Views.{drop_view, start_inviting, hold}
 use Rattle.vp_model.specs.Calls.{start_txn, take_lock, read_at, write_at, prepare_parts}
 use Rattle.vp_model.specs.Messages.{holds_view, with_answer, accept, on_accept, on_stale, grant, end_here}
-use Rattle.vp_model.specs.Step.{fix, mark_calls, ask_again, resend_one, inquire, step}
+use Rattle.vp_model.specs.Step.{fix, mark_calls, ask_again, resend_one, inquire}
 use Rattle.vp_laws.proofs.Lists.Members.{Has, has_none, has_one, has_one_is, has_first, has_more, has_cons, map_has, filter_has, find_has, find_true, any_false, both_true, has_test}
 use Rattle.vp_model.proofs.SameTxn.{same_txn-is, same_txn-clash}
 use Rattle.vp_laws.proofs.Lists.Changes.{put_has}
@@ -28,7 +28,6 @@ use Rattle.vp_laws.proofs.Moves.LocalViews.{Tidy}
 use Rattle.vp_laws.proofs.Moves.Table.{Comes, Left, lent_at, Back, Table}
 use Rattle.vp_laws.specs.Decisions.{dated_at}
 use Rattle.vp_laws.proofs.Table.Copies.{AnswerNow, replaced_from, value_pair, newest_from}
-use Rattle.vp_laws.proofs.Moves.Rows.{step-keeps}
 use Rattle.vp_laws.proofs.Journal.UpTo.{up_to_from}
 
 -- no doubt on the record has been made a copy, and no entry of this step wrote it here
@@ -336,6 +335,3 @@ module _ (catalogue : Catalogue) (x : SiteState) (given : Input) (tidy : Tidy x)
     };
     resend_one = λ d o c h p. same o _ refl refl refl refl refl refl p;
   }
-
-pub copies_at-step : (catalogue : Catalogue) (x : SiteState) (given : Input) → Tidy x → ((r : Refreshing) → Has x.refresh r → (v : View) × (x.held ≡ Some v)) → CopiesAt catalogue x given (step catalogue x given)
-copies_at-step catalogue x given tidy listed = step-keeps catalogue x given (CopiesAt catalogue x given) (table catalogue x given tidy listed) (starts catalogue x given tidy listed)

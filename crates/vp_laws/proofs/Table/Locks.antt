@@ -21,7 +21,7 @@ use Rattle.vp_model.specs.Calls.{begun, start_txn, take_lock, read_at, write_at,
 use Rattle.vp_model.specs.Messages.{put_part, with_vote, with_new_doubt, with_answer, has_all_locks, accept, on_accept, on_stale, grant, end_here}
 use Rattle.vp_model.specs.Step.{fix, mark, marked_call, mark_calls, ask_again, resend_one, known, inquire, step}
 use Rattle.vp_laws.specs.Votes.{is_commit}
-use Rattle.vp_laws.proofs.Lists.Members.{Has, has_none, has_left, has_first, has_more, has_cons, has_cases, has_one_is, map_has, filter_keeps, find_has, find_true, any_true, any_false, both_true, either_true}
+use Rattle.vp_laws.proofs.Lists.Members.{Has, has_none, has_left, has_first, has_more, has_cons, has_cases, has_one_is, map_has, filter_keeps, find_true, any_true, any_false, both_true, either_true}
 use Rattle.vp_laws.proofs.Lists.Views.{Precedes, is_view_is}
 use Rattle.vp_model.proofs.SameTxn.{same_txn-is, same_txn-turned}
 use Rattle.vp_laws.proofs.Lists.Names.{Apart, named, apart_without, without_gone, change_cases, apart_change, apart_more, apart_mark}
@@ -222,9 +222,6 @@ module _ (catalogue : Catalogue) (x : SiteState) (given : Input) (tidy : Tidy x)
           go false = refl
 
   -- parts
-  part_there : (txn : TxnId) (part : Part) → part_of txn x.parts ≡ Some part → Has x.parts part
-  part_there txn part e = find_has (λ (p : Part). same_txn p.txn txn) x.parts part e
-
   -- the parts with one more, or with another one of its name
   put_known : (part : Part) (txn : TxnId) → ((p : Part) × Has x.parts p × (p.txn ≡ txn)) → (p : Part) × Has (put_part part x.parts) p × (p.txn ≡ txn)
   put_known part txn (p, h, e) = split (same_txn part.txn p.txn) refl

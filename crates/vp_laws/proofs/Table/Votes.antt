@@ -238,10 +238,6 @@ module _ (catalogue : Catalogue) (x : SiteState) (given : Input) (led : Led x) (
     id = refl;
   }
 
-  -- the same live transactions, and other words than prepares and votes
-  plain : (l now : Lent) (more : List Sent) → now.live ≡ l.live → now.effects.messages ≡ l.effects.messages ++ more → ((m : Sent) → Has more m → (m.from ≡ x.id) × (is_still m.message ≡ true)) → K l → K now
-  plain l now more v ms still q = alike (put_back (begin_step x) l) (put_back (begin_step x) now) more v refl ms still q
-
   hushed : (l now : Lent) → now.live ≡ l.live → now.effects.messages ≡ l.effects.messages → K l → K now
   hushed l now v ms q = silent (put_back (begin_step x) l) (put_back (begin_step x) now) v refl ms q
 
