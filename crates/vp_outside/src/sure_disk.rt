@@ -5,6 +5,7 @@ ghost use Rattle.std.specs.Io.{ReadsAtMost};
 ghost use Rattle.vp_outside.specs.Disk.{half_of};
 ghost use Rattle.vp_outside.specs.Changes.{asked_of, changes_of, content_of, state_after};
 ghost use Rattle.vp_outside.specs.DiskLaws.{IsDisk-after};
+ghost use Rattle.vp_outside.specs.Images.{LeavesImages};
 ghost use Rattle.vp_outside.specs.declared.changes.Change.TheVariants.{Attached, Wrote, Cut, Synced, Laid};
 
 use crate::changes::Change;
@@ -76,10 +77,7 @@ impl SureDisk {
     pub fn half(&self, half: u8) -> &[u8]
         ensures { result.now ≡ half_of half (content_of (changes_of (asked_of self.now) self.now)) }
     {
-        match self.place {
-            None => self.unnamed.half(half),
-            Some(place) => self.named[place].log.half(half),
-        }
+        self.attached_log().half(half)
     }
 
     // The calls below do what the disk's calls do, and are put on record.
@@ -151,6 +149,42 @@ impl SureDisk {
             Some(place) => self.named[place].log = laid,
         }
         Ok(())
+    }
+
+    pub(crate) fn lay_copy(&mut self, log: &LogBytes) -> Result<(), NoMemory>
+        ensures ok { OnOk result (self.new ≡ Laid log.now.0 log.now.1 ∷ self.old) }
+        ensures err { OnErr result (self.new ≡ self.old) }
+    {
+        self.lay(
+            log.half(0).to_vec(self.alloc)?,
+            log.half(1).to_vec(self.alloc)?,
+        )
+    }
+
+    pub(crate) fn attached_log(&self) -> &LogBytes
+        ensures { result.now ≡ content_of (changes_of (asked_of self.now) self.now) }
+    {
+        match self.place {
+            None => &self.unnamed,
+            Some(place) => &self.named[place].log,
+        }
+    }
+
+    /// A disk with the same logs, as if they had always been there.
+    pub(crate) fn laid(&self) -> Result<SureDisk, NoMemory>
+        ensures { IfOk result (LeavesImages true self.now) }
+    {
+        let mut disk = SureDisk::new(self.alloc);
+        disk.lay_copy(&self.unnamed)?;
+        // the first of a name counts, and the last that is laid
+        for kept in self.named.iter().rev() {
+            disk.attach_log(&kept.name)?;
+            disk.lay_copy(&kept.log)?;
+        }
+        if let Some(place) = self.place {
+            disk.attach_log(&self.named[place].name)?;
+        }
+        Ok(disk)
     }
 }
 
