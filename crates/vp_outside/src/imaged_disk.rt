@@ -1,6 +1,6 @@
 //! A disk in memory, and what a stop may leave of it.
 
-ghost use Rattle.std.specs.Prelude.{◌≡◌, ◌∷◌, [], ◌+◌, ◌≤◌, ◌^◌, IfOk, IsTrue, OnErr, OnOk, length};
+ghost use Rattle.std.specs.Prelude.{◌≡◌, ◌∷◌, [], ◌+◌, ◌≤◌, ◌^◌, IfOk, IsTrue, OnErr, OnOk, length, true};
 ghost use Rattle.vp_outside.specs.Changes.{asked_of, changes_of, content_of};
 ghost use Rattle.vp_outside.specs.Disk.{half_of};
 ghost use Rattle.vp_outside.specs.Images.{LeavesImages};
@@ -18,6 +18,17 @@ use vp_base::{NoMemory, Word};
 pub struct Images {
     pub late: SureDisk,
     pub synced: SureDisk,
+}
+
+impl Images {
+    fn laid(late: &SureDisk, synced: &SureDisk) -> Result<Images, NoMemory>
+        ensures { IfOk result (λ images. LeavesImages true late.now images.late × LeavesImages true synced.now images.synced) }
+    {
+        Ok(Images {
+            late: late.laid()?,
+            synced: synced.laid()?,
+        })
+    }
 }
 
 /// A disk in memory that fails only for want of it. Each call that changes it makes the images first, so that a stop takes no memory.
@@ -67,14 +78,10 @@ impl ImagedDisk {
     fn images(&self) -> Result<Images, NoMemory>
         ensures { IfOk result (AreImages self.now) }
     {
-        let (late, synced) = match &self.images {
-            None => (&self.disk, &self.disk),
-            Some(images) => (&images.late, &images.synced),
-        };
-        Ok(Images {
-            late: late.laid()?,
-            synced: synced.laid()?,
-        })
+        match &self.images {
+            None => Images::laid(&self.disk, &self.disk),
+            Some(images) => Images::laid(&images.late, &images.synced),
+        }
     }
 
     // The calls below are those of the disk.

@@ -6,6 +6,7 @@ ghost use Rattle.vp_outside.specs.Disk.{half_of};
 ghost use Rattle.vp_outside.specs.Changes.{asked_of, changes_of, content_of, state_after};
 ghost use Rattle.vp_outside.specs.DiskLaws.{IsDisk-after};
 ghost use Rattle.vp_outside.specs.Images.{LeavesImages};
+ghost use Rattle.vp_outside.specs.NamedLogs.{laid_over};
 ghost use Rattle.vp_outside.specs.declared.changes.Change.TheVariants.{Attached, Wrote, Cut, Synced, Laid};
 
 use crate::changes::Change;
@@ -155,10 +156,8 @@ impl SureDisk {
         ensures ok { OnOk result (self.new ≡ Laid log.now.0 log.now.1 ∷ self.old) }
         ensures err { OnErr result (self.new ≡ self.old) }
     {
-        self.lay(
-            log.half(0).to_vec(self.alloc)?,
-            log.half(1).to_vec(self.alloc)?,
-        )
+        let alloc = self.alloc;
+        self.lay(log.half(0).to_vec(alloc)?, log.half(1).to_vec(alloc)?)
     }
 
     pub(crate) fn attached_log(&self) -> &LogBytes
@@ -176,15 +175,23 @@ impl SureDisk {
     {
         let mut disk = SureDisk::new(self.alloc);
         disk.lay_copy(&self.unnamed)?;
-        // the first of a name counts, and the last that is laid
-        for kept in self.named.iter().rev() {
-            disk.attach_log(&kept.name)?;
-            disk.lay_copy(&kept.log)?;
-        }
-        if let Some(place) = self.place {
-            disk.attach_log(&self.named[place].name)?;
-        }
+        let Some(place) = self.place else {
+            return Ok(disk);
+        };
+        disk.lay_named(&self.named)?;
+        disk.attach_log(&self.named[place].name)?;
         Ok(disk)
+    }
+
+    // Puts a copy of each log under its name. Of two with one name the first counts, so it is laid last.
+    fn lay_named(&mut self, logs: &[NamedLog]) -> Result<(), NoMemory>
+        ensures { OnOk result (self.new ≡ laid_over logs.now self.old) }
+    {
+        for kept in logs.iter().rev() {
+            self.attach_log(&kept.name)?;
+            self.lay_copy(&kept.log)?;
+        }
+        Ok(())
     }
 }
 
