@@ -10,7 +10,7 @@ fn word(alloc: Global, text: &[u8]) -> Result<Word, AllocError> {
 }
 
 /// A disk with a log of that name, which is a closed gate and an empty half.
-fn laid(alloc: Global, name: &Word) -> Result<MemDisk, AllocError> {
+fn laid(alloc: Global, name: &Word) -> Result<MemDisk, OutFault> {
     let mut disk = MemDisk::new(alloc, Vec::new(alloc));
     disk.lay(name, b"0".to_vec(alloc)?, Vec::new(alloc))?;
     Ok(disk)
@@ -71,10 +71,12 @@ fn fails(disk: &mut MemDisk, name: &Word) -> Result<bool, OutFault> {
     let told = (disk.length(0), disk.read(0, 0, &mut buf));
     let changed = (disk.write_at(0, 0, b"X"), disk.cut(0, 0), disk.sync());
     let failed = Err(OutFault::Failed);
-    Ok(told == (Err(Failed), Err(Failed))
-        && buf == *b"---"
-        && changed == (failed, failed, failed)
-        && disk.attach(name) == failed)
+    Ok(
+        told == (Err(Failed), Err(Failed))
+            && buf == *b"---"
+            && changed == (failed, failed, failed)
+            && disk.attach(name) == failed,
+    )
 }
 
 #[test]
@@ -135,7 +137,10 @@ fn each_log_is_left_as_it_was_last_synced(rt: HostRuntime) -> Result<(), Fail> {
     let two = word(alloc, b"two")?;
     let mut disk = two_logs(alloc, &one, &two)?;
     disk.leave(false);
-    assert!(rt; has(&disk, b"other", b""), "it is still the log that was chosen");
+    assert!(rt;
+        has(&disk, b"other", b""),
+        "it is still the log that was chosen"
+    );
     assert!(rt; keeps(&mut disk, &one, b"1batch0", b"")?);
     assert!(rt; keeps(&mut disk, &two, b"other", b"")?);
     Ok(())
@@ -164,6 +169,9 @@ fn each_log_is_left_as_it_is(rt: HostRuntime) -> Result<(), Fail> {
     assert!(rt; keeps(&mut disk, &two, b"o", b"half")?);
     assert!(rt; keeps(&mut disk, &one, b"1", b"half")?);
     disk.leave(false);
-    assert!(rt; keeps(&mut disk, &two, b"o", b"half")?, "nothing was done since");
+    assert!(rt;
+        keeps(&mut disk, &two, b"o", b"half")?,
+        "nothing was done since"
+    );
     Ok(())
 }

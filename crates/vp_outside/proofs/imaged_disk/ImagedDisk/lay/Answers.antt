@@ -9,6 +9,7 @@ invariant_of-self-2 c =
     let images = c.in_ok-images.images in
     let are = subst (λ old. AreImages old images) (sym c.self.view_is) c.in_ok-images.ensures in
     let log = c.of_halves-laid.result in
-    rw c.in_ok-lay_copy-3.ensures.ok
-    ( left_laid true log.0 log.1 disk images.late are.0 c.in_ok-images-2.field-0 (rw c.in_ok-lay_copy.ensures.ok at c.in_ok-images-2.ensures)
-    , left_laid false log.0 log.1 disk images.synced are.1 c.in_ok-images-3.field-0 (rw c.in_ok-lay_copy-2.ensures.ok at c.in_ok-images-3.ensures))
+    rw c.in_ok-lay_copy-3.ensures.ok (
+      left_laid true log.0 log.1 disk images.late are.0 c.in_ok-images-2.field-0 (rw c.in_ok-lay_copy.ensures.ok at c.in_ok-images-2.ensures),
+      left_laid false log.0 log.1 disk images.synced are.1 c.in_ok-images-3.field-0 (rw c.in_ok-lay_copy-2.ensures.ok at c.in_ok-images-3.ensures),
+    )

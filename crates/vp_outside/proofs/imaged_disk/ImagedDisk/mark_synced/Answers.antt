@@ -12,6 +12,7 @@ invariant_of-self-2 c =
     let are = subst (λ old. AreImages old images) (sym c.self.view_is) c.in_ok-images.ensures in
     let log = c.attached_log.result.now in
     let same = c.attached_log.ensures ∙ ap (λ asked. content_of (changes_of asked images.late)) are.0.asked ∙ are.0.images (asked_of disk) in
-    rw c.in_ok-mark_synced.ensures.ok
-    ( left_unchanged true Synced (λ earlier. refl) disk images.late refl are.0
-    , left_changed false Synced (Laid log.0 log.1) disk images.synced are.1 refl refl same c.in_ok-images-2.field-0 (rw c.in_ok-lay_copy.ensures.ok at c.in_ok-images-2.ensures))
+    rw c.in_ok-mark_synced.ensures.ok (
+      left_unchanged true Synced (λ earlier. refl) disk images.late refl are.0,
+      left_changed false Synced (Laid log.0 log.1) disk images.synced are.1 refl refl same c.in_ok-images-2.field-0 (rw c.in_ok-lay_copy.ensures.ok at c.in_ok-images-2.ensures),
+    )
