@@ -1,5 +1,5 @@
 -- Logs that are laid anew.
-use Rattle.std.proofs.Common.{◌≡◌, ◌∙◌, ⊎_elim, List, [], ◌∷◌, ℕ, Bool, true, false, cond, get_or, refl, sym, ap, Option, Some, None}
+use Rattle.std.proofs.Common.{◌≡◌, ◌∙◌, ⊎_elim, List, [], ◌∷◌, ℕ, true, false, cond, get_or, refl, sym, ap, Option, Some, None}
 use Rattle.std.proofs.lemmas.List.Quantifiers.{position-Some}
 use Rattle.std.proofs.lemmas.Slice.Eq.{bytes_eq-Decides}
 use Rattle.std.specs.Prelude.{find}

@@ -1,7 +1,7 @@
 -- What a stop leaves of a disk in memory is one of the images that a crash may leave, and how the images change with it.
-use Rattle.std.proofs.Common.{◌≡◌, ◌∙◌, inl, ⊎_elim, ℕ, List, [], ◌∷◌, Bool, true, false, refl, sym, ap, subst, Option, Some}
-use Rattle.std.specs.Prelude.{length, take}
-use Rattle.vp_outside.specs.Disk.{Halves, in_half, written, Torn, MaybeCut, Only}
+use Rattle.std.proofs.Common.{◌≡◌, ◌∙◌, inl, ⊎_elim, ℕ, List, [], ◌∷◌, Bool, true, false, refl, sym, ap, subst, Option}
+use Rattle.std.specs.Prelude.{length}
+use Rattle.vp_outside.specs.Disk.{Torn, MaybeCut, Only}
 use Rattle.vp_outside.specs.Changes.{asked_of, is_same_log, changes_of, content_of, MayLeave, state_after}
 use Rattle.vp_outside.specs.DiskLaws.{MayLeave-content}
 use Rattle.vp_outside.specs.Images.{synced_of, image_of, OnlyLays, LeavesImages, IsLeftByCrash}

@@ -1,5 +1,5 @@
 -- The disks that are kept beside a disk in memory, one of which a stop puts in its place.
-use Rattle.std.specs.Prelude.{Bool, true, false, List, Option, Some, None}
+use Rattle.std.specs.Prelude.{true, false, List, Option, Some, None}
 use Rattle.vp_outside.specs.Images.{OnlyLays, LeavesImages}
 use Rattle.vp_outside.specs.declared.changes.Change.{Change}
 use Rattle.vp_outside.specs.declared.imaged_disk.Images.{Images}

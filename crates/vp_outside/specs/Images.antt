@@ -1,5 +1,5 @@
 -- What a stop may leave of a disk in memory: all that was done, or of each log what it was at its last sync.
-use Rattle.std.specs.Prelude.{◌≡◌, ◌↔◌, ℕ, Bool, if◌then◌else◌, List, [], ◌∷◌, Option, Some}
+use Rattle.std.specs.Prelude.{◌≡◌, ℕ, Bool, if◌then◌else◌, List, [], ◌∷◌, Option, Some}
 use Rattle.vp_outside.specs.Disk.{Halves, DiskState, Only}
 use Rattle.vp_outside.specs.Changes.{asked_of, changes_of, content_of}
 use Rattle.vp_outside.specs.declared.changes.Change.{Change}

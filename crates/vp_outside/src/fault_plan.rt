@@ -3,7 +3,7 @@
 ghost use Rattle.std.specs.Prelude.{if◌then◌else◌, ◌≡◌, ◌↔◌, IsTrue};
 ghost use Rattle.vp_outside.specs.Causes.{count_after};
 
-/// The numbers of the calls that are to fail, the first of which has number 1, and a stop, behind which each call fails.
+/// The calls that are to fail: those with these numbers, counted from 1, and each one behind a stop.
 #[derive(Drop)]
 pub struct FaultPlan {
     pub failing: Vec<u64>,

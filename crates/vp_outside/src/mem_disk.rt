@@ -74,7 +74,7 @@ impl MemDisk {
         self.disk.half(half)
     }
 
-    /// The next calls, so many, go by the plan. Each later one fails.
+    /// So many calls more go by the plan, and each later one fails, until `leave`.
     pub fn stop_after(&mut self, calls: u64)
         ensures same { record_of self.new ≡ record_of self.old }
         ensures attached { is_attached self.new ≡ is_attached self.old }

@@ -1,4 +1,4 @@
-use Rattle.std.proofs.Common.{◌≡◌, List, Option, None, true, false, subst}
+use Rattle.std.proofs.Common.{List, Option, true, false, subst}
 use Rattle.std.specs.Prelude.{IfOk, Result, Ok, Err}
 use Rattle.vp_outside.specs.Images.{OnlyLays, LeavesImages}
 use Rattle.vp_outside.specs.ImagedDisks.{AreImages, KeepsImages}

@@ -1,4 +1,4 @@
-use Rattle.std.proofs.Common.{◌≡◌, sym, subst, Option, None}
+use Rattle.std.proofs.Common.{◌≡◌, subst, Option, None}
 use Rattle.vp_outside.specs.Images.{LeavesImages}
 use Rattle.vp_outside.specs.ImagedDisks.{KeepsImages}
 use Rattle.vp_outside.specs.declared.imaged_disk.Images.{Images}

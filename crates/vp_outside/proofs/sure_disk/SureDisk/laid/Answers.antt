@@ -1,4 +1,4 @@
-use Rattle.std.proofs.Common.{◌≡◌, ◌∷◌, ℕ, Option, None, Some, true, reverse, subst}
+use Rattle.std.proofs.Common.{◌≡◌, ◌∷◌, ℕ, Option, None, true, reverse, subst}
 use Rattle.vp_outside.specs.Images.{LeavesImages}
 use Rattle.vp_outside.specs.NamedLogs.{Keeps, laid_over}
 use Rattle.vp_outside.specs.declared.changes.Change.TheVariants.{Attached}
