@@ -3,3 +3,5 @@
 
 #[cfg(test)]
 mod disks;
+#[cfg(test)]
+mod stops;

@@ -76,7 +76,7 @@ module _ {X : Type 0} (p : X → Bool) where
 
 -- ---- logs
 
-bytes_differ : (x y : List ℕ) → (x ≡ y → ⊥) → bytes_eq x y ≡ false
+pub bytes_differ : (x y : List ℕ) → (x ≡ y → ⊥) → bytes_eq x y ≡ false
 bytes_differ x y differ = by (bytes_eq x y) (bytes_eq-Decides x y)
   where
     by : (b : Bool) → Decides b (x ≡ y) → b ≡ false

@@ -1,29 +1,39 @@
 -- What a plan of failing calls does at a call.
-use Rattle.std.specs.Prelude.{◌≡◌, ◌↔◌, Contains, Result, OnOk, IsErrOf}
+use Rattle.std.specs.Prelude.{◌≡◌, ◌↔◌, ◌⊎◌, ℕ, ◌-◌, Contains, Option, Some, None, option_map, Result, OnOk, IsErrOf}
+use Rattle.std.specs.Global.{Vec}
 use Rattle.vp_outside.specs.Causes.{count_after}
 use Rattle.vp_outside.specs.declared.fault_plan.FaultPlan.{FaultPlan}
 use Rattle.vp_outside.specs.declared.sink.OutFault.{OutFault}
 use Rattle.vp_outside.specs.declared.sink.OutFault.TheVariants.{Failed, NoMemory}
 
--- A call was counted, and it failed exactly where its number is in the plan.
-pub record CountsCall (old new : FaultPlan) (failed : Type 0) : Type 0 where
-  pub same_plan : new.failing ≡ old.failing
-  pub counted : new.calls ≡ count_after old.calls 1
-  pub planned : failed ↔ Contains old.failing.items new.calls
+-- the plan with these calls to fail, before its first call
+abbrev pub unstarted : Vec ℕ → FaultPlan
+unstarted failing = record { failing = failing; calls = 0; faults = 0; until_stop = None }
+
+-- how many calls are left before the stop, behind one of them
+abbrev pub one_nearer : Option ℕ → Option ℕ
+one_nearer until_stop = option_map (λ calls. calls - 1) until_stop
+
+-- the next call is to fail: its number is in the plan, or the plan has stopped
+abbrev pub FailsNext : FaultPlan → Type 0
+FailsNext plan = Contains plan.failing.items (count_after plan.calls 1) ⊎ (plan.until_stop ≡ Some 0)
 
 -- the plan after a call that is done
 abbrev pub passed : FaultPlan → FaultPlan
-passed plan = record plan { calls = count_after plan.calls 1 }
+passed plan = record plan { calls = count_after plan.calls 1; until_stop = one_nearer plan.until_stop }
 
 -- the plan after a call that failed
 abbrev pub failed : FaultPlan → FaultPlan
-failed plan = record plan { calls = count_after plan.calls 1; faults = count_after plan.faults 1 }
+failed plan = record plan { calls = count_after plan.calls 1; faults = count_after plan.faults 1; until_stop = one_nearer plan.until_stop }
 
--- the next call is to fail
-abbrev pub FailsNext : FaultPlan → Type 0
-FailsNext plan = Contains plan.failing.items (count_after plan.calls 1)
+-- A call was counted, and it failed exactly where it was to fail.
+pub record CountsCall (old new : FaultPlan) (failed : Type 0) : Type 0 where
+  pub same_plan : new.failing ≡ old.failing
+  pub counted : new.calls ≡ count_after old.calls 1
+  pub nearer : new.until_stop ≡ one_nearer old.until_stop
+  pub planned : failed ↔ FailsNext old
 
--- A call was counted as done or as failed, and not at all where it found no memory. What the plan names isn't done.
+-- A call was counted as done or as failed, and not at all where it found no memory. What is to fail isn't done.
 pub record GoesByPlan {T : Type 0} (old new : FaultPlan) (result : Result T OutFault) : Type 0 where
   pub done : OnOk result (new ≡ passed old)
   pub not_planned : OnOk result (FailsNext old → ⊥)

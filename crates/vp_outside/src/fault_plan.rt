@@ -1,26 +1,29 @@
 //! Which calls of an object in memory fail.
 
-ghost use Rattle.std.specs.Prelude.{if◌then◌else◌, ◌≡◌, ◌↔◌, Contains, IsTrue};
+ghost use Rattle.std.specs.Prelude.{if◌then◌else◌, ◌≡◌, ◌↔◌, IsTrue};
 ghost use Rattle.vp_outside.specs.Causes.{count_after};
 
-/// The numbers of the calls that are to fail. The first call has number 1.
+/// The calls that are to fail: those with these numbers, counted from 1, and each one behind a stop.
 #[derive(Drop)]
 pub struct FaultPlan {
     pub failing: Vec<u64>,
     pub calls: u64,
     pub faults: u64,
+    /// How many calls are left before the stop, where there is one.
+    pub until_stop: Option<u64>,
 }
 
 impl FaultPlan {
-    ghost use Rattle.vp_outside.specs.Plans.{CountsCall, FailsNext, failed, passed};
+    ghost use Rattle.vp_outside.specs.Plans.{CountsCall, FailsNext, failed, passed, unstarted};
 
     pub fn new(failing: Vec<u64>) -> FaultPlan
-        ensures { result ≡ record { failing = failing; calls = 0; faults = 0 } }
+        ensures { result ≡ unstarted failing }
     {
         FaultPlan {
             failing,
             calls: 0,
             faults: 0,
+            until_stop: None,
         }
     }
 
@@ -28,7 +31,7 @@ impl FaultPlan {
     pub fn fails_next(&self) -> bool
         ensures { IsTrue result ↔ FailsNext self.now }
     {
-        self.failing.contains(&self.calls.saturating_add(1))
+        self.until_stop == Some(0) || self.failing.contains(&self.calls.saturating_add(1))
     }
 
     /// Counts a call that is done.
@@ -36,6 +39,7 @@ impl FaultPlan {
         ensures { self.new ≡ passed self.old }
     {
         self.calls = self.calls.saturating_add(1);
+        self.until_stop = self.until_stop.map(|calls| calls.saturating_sub(1));
     }
 
     /// Counts a call that fails, and the fault.

@@ -6,6 +6,7 @@ mod changes;
 mod datagram;
 mod disk;
 mod fault_plan;
+mod imaged_disk;
 mod link;
 mod links;
 mod log_bytes;

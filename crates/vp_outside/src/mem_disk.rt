@@ -1,26 +1,27 @@
 //! A disk in memory, some calls of which fail.
 
-ghost use Rattle.std.specs.Prelude.{◌≡◌, ◌⊎◌, ◌+◌, ◌<◌, ◌≤◌, ◌^◌, ◌∷◌, [], IfOk, IsErr, IsErrOf, List, ℕ, OnErr, OnOk, Some, false, is_ok, length};
+ghost use Rattle.std.specs.Prelude.{◌≡◌, ◌⊎◌, ◌+◌, ◌<◌, ◌≤◌, ◌^◌, ◌∷◌, [], IfOk, IsErr, IsErrOf, List, ℕ, None, OnErr, OnOk, Some, false, is_ok, length};
 ghost use Rattle.vp_outside.specs.Causes.{HasCause};
 ghost use Rattle.vp_outside.specs.Disk.{Gives, Torn, Written, half_of};
 ghost use Rattle.vp_outside.specs.DiskCalls.{Changes, Syncs};
 ghost use Rattle.std.specs.declared.option.Option.{Option};
 ghost use Rattle.vp_outside.specs.Changes.{state_after};
 ghost use Rattle.vp_outside.specs.DiskLaws.{IsDisk-after};
+ghost use Rattle.vp_outside.specs.Images.{IsLeftByCrash, LeavesImages};
 
 use crate::disk::Disk;
 use crate::fault_plan::FaultPlan;
+use crate::imaged_disk::ImagedDisk;
 use crate::log_bytes::{fits, give};
 use crate::sink::OutFault;
 use crate::source::Failed;
-use crate::sure_disk::SureDisk;
 use std::alloc::Global;
 use vp_base::{NoMemory, Word};
 
 /// A disk in memory, with a plan of the calls that fail. It tells its logs, and keeps a record of the calls that changed them. At first
-/// no log is attached.
+/// no log is attached. It can be stopped, and left as a crash may leave it.
 pub struct MemDisk {
-    disk: SureDisk,
+    disk: ImagedDisk,
     attached: bool,
     /// The calls that fail. A call that finds no memory isn't counted there.
     pub plan: FaultPlan,
@@ -38,16 +39,17 @@ impl Drop for MemDisk {
 
 impl MemDisk {
     ghost use Rattle.vp_outside.specs.MemDisks.{attached_of, is_attached, record_of};
+    ghost use Rattle.vp_outside.specs.Plans.{unstarted};
     ghost use Rattle.vp_outside.specs.declared.changes.Change.TheVariants.{Attached, Laid};
 
     /// The calls with these numbers will fail. The first call has number 1.
     pub fn new(alloc: Global, failing: Vec<u64>) -> MemDisk
         ensures record { record_of result ≡ [] }
         ensures attached { is_attached result ≡ false }
-        ensures plan { result.plan ≡ record { failing = failing; calls = 0; faults = 0 } }
+        ensures plan { result.plan ≡ unstarted failing }
     {
         MemDisk {
-            disk: SureDisk::new(alloc),
+            disk: ImagedDisk::new(alloc),
             attached: false,
             plan: FaultPlan::new(failing),
         }
@@ -70,6 +72,27 @@ impl MemDisk {
         ensures { result.now ≡ half_of half (attached_of self.now) }
     {
         self.disk.half(half)
+    }
+
+    /// So many calls more go by the plan, and each later one fails, until `leave`.
+    pub fn stop_after(&mut self, calls: u64)
+        ensures same { record_of self.new ≡ record_of self.old }
+        ensures attached { is_attached self.new ≡ is_attached self.old }
+        ensures plan { self.new.plan ≡ record self.old.plan { until_stop = Some calls } }
+    {
+        self.plan.until_stop = Some(calls);
+    }
+
+    /// Ends the stop, and leaves each log as a crash at this moment may leave it: as it is where `late`, else as it was last synced. The
+    /// record begins again with that. It takes no memory.
+    pub fn leave(&mut self, late: bool)
+        ensures images { LeavesImages late (record_of self.old) (record_of self.new) }
+        ensures crash { IsLeftByCrash (⟦<MemDisk as Disk>⟧.state self.old) (⟦<MemDisk as Disk>⟧.state self.new) }
+        ensures attached { is_attached self.new ≡ is_attached self.old }
+        ensures plan { self.new.plan ≡ record self.old.plan { until_stop = None } }
+    {
+        self.disk.leave(late);
+        self.plan.until_stop = None;
     }
 }
 

@@ -2,7 +2,7 @@
 
 ghost use Rattle.std.specs.Prelude.{◌≡◌, ◌<◌, [], Some, length, min, IsErr, IsErrOf, IfOk};
 ghost use Rattle.vp_outside.specs.Output.{Puts};
-ghost use Rattle.vp_outside.specs.Plans.{CountsCall};
+ghost use Rattle.vp_outside.specs.Plans.{CountsCall, unstarted};
 
 use crate::fault_plan::FaultPlan;
 use crate::sink::{OutFault, Sink};
@@ -23,7 +23,7 @@ impl TextSink {
     /// The calls with these numbers will fail. The first call has number 1.
     pub fn new(alloc: Global, failing: Vec<u64>) -> TextSink
         ensures held { (⟦<TextSink as Sink>⟧.state result).held ≡ Some [] }
-        ensures plan { result.plan ≡ record { failing = failing; calls = 0; faults = 0 } }
+        ensures plan { result.plan ≡ unstarted failing }
         ensures most { result.most ≡ usize.MAX }
     {
         TextSink {

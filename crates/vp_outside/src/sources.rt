@@ -2,7 +2,7 @@
 
 ghost use Rattle.std.specs.Prelude.{◌≡◌, ◌+◌, ◌-◌, ◌<◌, ◌≤◌, ◌==◌, ◌++◌, if◌then◌else◌, nat_lt, min, false, Some, length, take, drop, vec_len, IsErr, IfOk, IfSome};
 ghost use Rattle.vp_outside.specs.Input.{Takes};
-ghost use Rattle.vp_outside.specs.Plans.{CountsCall};
+ghost use Rattle.vp_outside.specs.Plans.{CountsCall, unstarted};
 
 use crate::fault_plan::FaultPlan;
 use crate::source::{Failed, Source};
@@ -63,7 +63,7 @@ impl TextSource {
     pub fn new(bytes: Vec<u8>, failing: Vec<u64>) -> TextSource
         ensures left { (⟦<TextSource as Source>⟧.state result).left ≡ Some bytes.items }
         ensures taken { (⟦<TextSource as Source>⟧.state result).taken ≡ 0 }
-        ensures plan { result.plan ≡ record { failing = failing; calls = 0; faults = 0 } }
+        ensures plan { result.plan ≡ unstarted failing }
         ensures most { result.most ≡ usize.MAX }
     {
         TextSource {

@@ -5,6 +5,8 @@ ghost use Rattle.std.specs.Io.{ReadsAtMost};
 ghost use Rattle.vp_outside.specs.Disk.{half_of};
 ghost use Rattle.vp_outside.specs.Changes.{asked_of, changes_of, content_of, state_after};
 ghost use Rattle.vp_outside.specs.DiskLaws.{IsDisk-after};
+ghost use Rattle.vp_outside.specs.Images.{LeavesImages};
+ghost use Rattle.vp_outside.specs.NamedLogs.{laid_over};
 ghost use Rattle.vp_outside.specs.declared.changes.Change.TheVariants.{Attached, Wrote, Cut, Synced, Laid};
 
 use crate::changes::Change;
@@ -76,10 +78,7 @@ impl SureDisk {
     pub fn half(&self, half: u8) -> &[u8]
         ensures { result.now ≡ half_of half (content_of (changes_of (asked_of self.now) self.now)) }
     {
-        match self.place {
-            None => self.unnamed.half(half),
-            Some(place) => self.named[place].log.half(half),
-        }
+        self.attached_log().half(half)
     }
 
     // The calls below do what the disk's calls do, and are put on record.
@@ -149,6 +148,48 @@ impl SureDisk {
         match self.place {
             None => self.unnamed = laid,
             Some(place) => self.named[place].log = laid,
+        }
+        Ok(())
+    }
+
+    pub(crate) fn lay_copy(&mut self, log: &LogBytes) -> Result<(), NoMemory>
+        ensures ok { OnOk result (self.new ≡ Laid log.now.0 log.now.1 ∷ self.old) }
+        ensures err { OnErr result (self.new ≡ self.old) }
+    {
+        let alloc = self.alloc;
+        self.lay(log.half(0).to_vec(alloc)?, log.half(1).to_vec(alloc)?)
+    }
+
+    pub(crate) fn attached_log(&self) -> &LogBytes
+        ensures { result.now ≡ content_of (changes_of (asked_of self.now) self.now) }
+    {
+        match self.place {
+            None => &self.unnamed,
+            Some(place) => &self.named[place].log,
+        }
+    }
+
+    /// A disk with the same logs, as if they had always been there.
+    pub(crate) fn laid(&self) -> Result<SureDisk, NoMemory>
+        ensures { IfOk result (LeavesImages true self.now) }
+    {
+        let mut disk = SureDisk::new(self.alloc);
+        disk.lay_copy(&self.unnamed)?;
+        let Some(place) = self.place else {
+            return Ok(disk);
+        };
+        disk.lay_named(&self.named)?;
+        disk.attach_log(&self.named[place].name)?;
+        Ok(disk)
+    }
+
+    // Puts a copy of each log under its name. Of two with one name the first counts, so it is laid last.
+    fn lay_named(&mut self, logs: &[NamedLog]) -> Result<(), NoMemory>
+        ensures { OnOk result (self.new ≡ laid_over logs.now self.old) }
+    {
+        for kept in logs.iter().rev() {
+            self.attach_log(&kept.name)?;
+            self.lay_copy(&kept.log)?;
         }
         Ok(())
     }

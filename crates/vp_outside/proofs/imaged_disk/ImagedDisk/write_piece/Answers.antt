@@ -1,0 +1,19 @@
+use Rattle.std.proofs.Common.{ap, refl, false, true, subst, sym}
+use Rattle.vp_outside.specs.Disk.{in_half, written}
+use Rattle.vp_outside.specs.Changes.{asked_of}
+use Rattle.vp_outside.specs.declared.changes.Change.TheVariants.{Wrote}
+use Rattle.vp_outside.specs.ImagedDisks.{AreImages}
+use Rattle.vp_outside.proofs.LeftImages.{left_changed, left_unchanged}
+use Rattle.vp_outside.proofs.imaged_disk.ImagedDisk.write_piece.Goals as goal
+
+pub invariant_of-self-2 : goal.invariant_of-self-2
+invariant_of-self-2 c =
+    let disk = c.self.inside.disk in
+    let images = c.in_ok-images.images in
+    let are = subst (λ old. AreImages old images) (sym c.self.view_is) c.in_ok-images.ensures in
+    let change = Wrote c.args.half c.args.at c.args.piece.now in
+    let same = ap (in_half c.args.half (written c.args.at c.args.piece.now)) (are.0.images (asked_of disk)) in
+    rw c.in_ok-write_piece-2.ensures.ok (
+      left_changed true change change disk images.late are.0 refl refl same c.in_ok-images-2.field-0 (rw c.in_ok-write_piece.ensures.ok at c.in_ok-images-2.ensures),
+      left_unchanged false change (λ earlier. refl) disk images.synced refl are.1,
+    )

@@ -1,0 +1,162 @@
+//! A disk in memory, and what a stop may leave of it.
+
+ghost use Rattle.std.specs.Prelude.{◌≡◌, ◌∷◌, [], ◌+◌, ◌≤◌, ◌^◌, IfOk, IsTrue, OnErr, OnOk, length, true};
+ghost use Rattle.vp_outside.specs.Changes.{asked_of, changes_of, content_of};
+ghost use Rattle.vp_outside.specs.Disk.{half_of};
+ghost use Rattle.vp_outside.specs.Images.{LeavesImages};
+ghost use Rattle.vp_outside.specs.declared.changes.Change.TheVariants.{Attached, Wrote, Cut, Synced, Laid};
+
+use crate::log_bytes::LogBytes;
+use crate::sure_disk::SureDisk;
+use std::alloc::Global;
+use std::marker::Model;
+use vp_base::{NoMemory, Word};
+
+/// The disks that a stop may leave: one with all that was done, and one with each log as it was last synced. Nothing was done on them but
+/// to lay their logs.
+#[derive(Drop)]
+pub struct Images {
+    pub late: SureDisk,
+    pub synced: SureDisk,
+}
+
+impl Images {
+    fn laid(late: &SureDisk, synced: &SureDisk) -> Result<Images, NoMemory>
+        ensures { IfOk result (λ images. LeavesImages true late.now images.late × LeavesImages true synced.now images.synced) }
+    {
+        Ok(Images {
+            late: late.laid()?,
+            synced: synced.laid()?,
+        })
+    }
+}
+
+/// A disk in memory that fails only for want of it. Each call that changes it makes the images first, so that a stop takes no memory.
+pub struct ImagedDisk {
+    disk: SureDisk,
+    images: Option<Images>,
+}
+
+impl Drop for ImagedDisk {
+    fn drop(self) {
+        let ImagedDisk { disk: _, images: _ } = self;
+    }
+}
+
+impl Model for ImagedDisk {
+    ghost use Rattle.std.specs.Prelude.{List};
+    ghost use Rattle.vp_outside.specs.declared.changes.Change.{Change};
+    ghost use Rattle.vp_outside.specs.ImagedDisks.{KeepsImages};
+
+    ghost Value = { List Change };
+
+    ghost view = { λ d. d.disk };
+
+    ghost invariant = { λ d. KeepsImages d.disk d.images };
+}
+
+impl ImagedDisk {
+    ghost use Rattle.vp_outside.specs.ImagedDisks.{AreImages};
+
+    pub fn new(alloc: Global) -> ImagedDisk
+        ensures { result ≡ [] }
+    {
+        ImagedDisk {
+            disk: SureDisk::new(alloc),
+            images: None,
+        }
+    }
+
+    /// The bytes of a half of the attached log.
+    pub fn half(&self, half: u8) -> &[u8]
+        ensures { result.now ≡ half_of half (content_of (changes_of (asked_of self.now) self.now)) }
+    {
+        self.disk.half(half)
+    }
+
+    // both images once more
+    fn images(&self) -> Result<Images, NoMemory>
+        ensures { IfOk result (AreImages self.now) }
+    {
+        match &self.images {
+            None => Images::laid(&self.disk, &self.disk),
+            Some(images) => Images::laid(&images.late, &images.synced),
+        }
+    }
+
+    // The calls below are those of the disk.
+
+    pub fn attach_log(&mut self, name: &Word) -> Result<(), NoMemory>
+        ensures ok { OnOk result (self.new ≡ Attached name.now ∷ self.old) }
+        ensures err { OnErr result (self.new ≡ self.old) }
+    {
+        let mut images = self.images()?;
+        images.late.attach_log(name)?;
+        images.synced.attach_log(name)?;
+        self.disk.attach_log(name)?;
+        self.images = Some(images);
+        Ok(())
+    }
+
+    pub fn write_piece(&mut self, half: u8, at: u64, piece: &[u8]) -> Result<(), NoMemory>
+        requires { at + length piece.now ≤ 2 ^ 62 }
+        ensures ok { OnOk result (self.new ≡ Wrote half at piece.now ∷ self.old) }
+        ensures err { OnErr result (self.new ≡ self.old) }
+    {
+        let mut images = self.images()?;
+        images.late.write_piece(half, at, piece)?;
+        images.late = images.late.laid()?;
+        self.disk.write_piece(half, at, piece)?;
+        self.images = Some(images);
+        Ok(())
+    }
+
+    pub fn cut_half(&mut self, half: u8, length: u64) -> Result<(), NoMemory>
+        ensures ok { OnOk result (self.new ≡ Cut half length ∷ self.old) }
+        ensures err { OnErr result (self.new ≡ self.old) }
+    {
+        let mut images = self.images()?;
+        images.late.cut_half(half, length)?;
+        images.late = images.late.laid()?;
+        self.disk.cut_half(half, length)?;
+        self.images = Some(images);
+        Ok(())
+    }
+
+    pub fn mark_synced(&mut self) -> Result<(), NoMemory>
+        ensures ok { OnOk result (self.new ≡ Synced ∷ self.old) }
+        ensures err { OnErr result (self.new ≡ self.old) }
+    {
+        let mut images = self.images()?;
+        images.synced.lay_copy(images.late.attached_log())?;
+        images.synced = images.synced.laid()?;
+        self.disk.mark_synced()?;
+        self.images = Some(images);
+        Ok(())
+    }
+
+    pub fn lay(&mut self, first: Vec<u8>, second: Vec<u8>) -> Result<(), NoMemory>
+        ensures ok { OnOk result (self.new ≡ Laid first.items second.items ∷ self.old) }
+        ensures err { OnErr result (self.new ≡ self.old) }
+    {
+        let mut images = self.images()?;
+        let laid = LogBytes::of_halves(first, second);
+        images.late.lay_copy(&laid)?;
+        images.late = images.late.laid()?;
+        images.synced.lay_copy(&laid)?;
+        images.synced = images.synced.laid()?;
+        self.disk.lay_copy(&laid)?;
+        self.images = Some(images);
+        Ok(())
+    }
+
+    /// Its image takes its place: the one with all that was done where `late`, else the one with each log as it was last synced.
+    pub fn leave(&mut self, late: bool)
+        ensures { LeavesImages late self.old self.new }
+    {
+        if let Some(images) = self.images.take() {
+            let Images { late: all, synced } = images;
+            self.disk = if late { all } else { synced };
+        }
+    }
+}
