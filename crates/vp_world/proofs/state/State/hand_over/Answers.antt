@@ -22,4 +22,4 @@ pub returns : goal.returns
 returns c =
     let w = the_view c.self.inside in
     let m = deliver_comes c.args.catalog.now c.args.k c.args.sent w w.places refl c.is_up.result c.is_up.ensures c.has.result c.has.ensures c.if-not-is_up.false c.if-has.false c.deliver.new.self c.in_ok-deliver.ensures.delivered in
-    rw (← c.self.view_is) (does_along (deliver c.args.catalog.now c.args.k c.args.sent w) (at_site c.args.catalog.now c.args.sent.to (input.Message c.args.sent.from c.args.sent.message) (record w { sent = c.deliver.new.self.sent; delivered = c.deliver.new.self.delivered })) c.at_site.new.self c.at_site.result m c.at_site.ensures)
+    rw (← c.self.view_is) (does_along (deliver c.args.catalog.now c.args.k c.args.sent w) (at_site c.args.catalog.now c.args.sent.to (input.Message c.args.sent.from c.args.sent.message) (record w { sent = c.deliver.new.self.sent; delivered = c.deliver.new.self.delivered })) c.at_site.new.self c.at_site.result m (rw (← c.into_message-message.ensures) c.at_site.ensures))
