@@ -8,8 +8,8 @@ ghost use Rattle.vp_runs.specs.Arrivals.{IsArrival};
 ghost use Rattle.vp_runs.specs.Turns.{step_turn, quiet_turn, turn_on};
 ghost use Rattle.vp_turns.specs.Taking.{Does};
 
-use crate::turned::Outcome;
 use crate::sending::datagrams_of;
+use crate::turned::Outcome;
 use std::alloc::Global;
 use vp_base::{Batch, Effects, Input, NoMemory};
 use vp_catalog::Catalog;

@@ -27,5 +27,5 @@ pub returns : goal.returns
 returns c =
     let sent = rw c.id-id.ensures at c.in_ok-datagrams.ensures in
     subst (λ (o : Stepped). Does (step_turn c.args.catalog.now c.args.site.id o) c.in_ok-site.site c.in_ok-site.effects.records
-        (record { datagrams = c.in_ok-datagrams.datagrams; commits = c.in_ok-site.effects.commits; stop = false })) c.in_ok-site.ensures
+    (record { datagrams = c.in_ok-datagrams.datagrams; commits = c.in_ok-site.effects.commits; stop = false })) c.in_ok-site.ensures
     (does c.args.catalog.now c.args.site.id (record { site = c.in_ok-site.site; effects = c.in_ok-site.effects }) c.in_ok-datagrams.datagrams sent)
