@@ -1,26 +1,30 @@
-use Rattle.std.proofs.Common.{◌≡◌, ◌<◌, ◌^◌, List, ℕ, Some, subst, arith}
+use Rattle.std.proofs.Common.{◌≡◌, ◌∙◌, ◌<◌, ◌^◌, List, ℕ, Some, ap, sym, arith}
 use Rattle.vp_outside.specs.declared.datagram.Datagram.{Datagram}
-use Rattle.vp_cluster.specs.Hosts.{Takes}
-use Rattle.vp_cluster.proofs.Hosting.{host_with, parts_node, parts_take}
+use Rattle.vp_runs.specs.Arrivals.{arrival}
+use Rattle.vp_node.specs.Nodes.{what_comes}
+use Rattle.vp_cluster.proofs.Hosting.{parts_node, parts_take}
 use Rattle.vp_cluster.proofs.host.Host.take.Goals as goal
 
-pub turn-requires-clause-node : goal.turn-requires-clause-node
-turn-requires-clause-node c = (parts_node c.args.catalog.now _ c.args.self.now c.self.view_is c.in-Some.node (cc) c.requires.host).1
+pub take-requires-clause-node : goal.take-requires-clause-node
+take-requires-clause-node c = (parts_node c.args.catalog.now _ c.args.self.now c.self.view_is c.in-Some.node (cc) c.requires.host).1
 
-pub turn-requires-clause-kept : goal.turn-requires-clause-kept
-turn-requires-clause-kept c = (parts_node c.args.catalog.now _ c.args.self.now c.self.view_is c.in-Some.node (cc) c.requires.host).2
+pub take-requires-clause-kept : goal.take-requires-clause-kept
+take-requires-clause-kept c = (parts_node c.args.catalog.now _ c.args.self.now c.self.view_is c.in-Some.node (cc) c.requires.host).2
 
 pub returns-clause-takes : goal.returns-clause-takes
 returns-clause-takes c =
     let letter = c.args.letter.now in
+    let node = c.in-Some.node in
     let h = c.in-Ok.ensures in
-    let d : Datagram = record { port = letter.from; bytes = c.deref.result.now } in
-    let up : c.self.inside.node ≡ Some c.in-Some.node = cc in
+    let d : Datagram = record { port = letter.from; bytes = letter.bytes } in
+    let up : c.self.inside.node ≡ Some node = cc in
     let fits : letter.from < 2 ^ 16 = omega arith in
-    subst
-    (λ (bytes : List ℕ). Takes c.args.catalog.now (record { port = letter.from; bytes = bytes }) c.args.self.now (host_with c.self.inside.id c.self.inside.port c.turn.new.disk (Some c.in-Ok.node)) c.in-Ok.turned.datagrams)
-    c.deref.ensures
-    (parts_take c.args.catalog.now _ c.args.self.now c.self.view_is d c.turn.new.disk c.in-Some.node c.in-Ok.node c.in-Ok.turned up fits c.requires.host h.others.stays.same_name h.turned h.saved h.node h.kept)
+    let same = (parts_node c.args.catalog.now _ c.args.self.now c.self.view_is node up c.requires.host).0 in
+    let what_is : c.in_ok-what.what ≡ what_comes c.args.catalog.now node d = c.in_ok-what.ensures.what
+    ∙ (ap (λ (bytes : List ℕ). arrival c.args.catalog.now c.self.inside.id (record { port = letter.from; bytes = bytes })) c.deref.ensures
+    ∙ ap (λ (id : ℕ). arrival c.args.catalog.now id d) (sym same)) in
+    parts_take c.args.catalog.now _ c.args.self.now c.self.view_is d _ node c.in-Ok.node c.in-Ok.outcome up fits c.requires.host h.others.stays.same_name
+    (rw what_is at h.took) (rw what_is at h.saved) h.node h.kept
 
 pub returns-clause-host : goal.returns-clause-host
 returns-clause-host c = (returns-clause-takes c).stays.host

@@ -1,10 +1,12 @@
 use Rattle.std.proofs.Common.{◌≡◌, Err, ap, sym, subst}
+use Rattle.std.specs.Prelude.{IfSome}
 use Rattle.vp_model.specs.Step.{durable_of}
 use Rattle.vp_model.specs.Site.{SiteState}
 use Rattle.vp_records.specs.Records.{CanBeSaved}
 use Rattle.vp_records.specs.Batches.{IsBatch}
 use Rattle.vp_laws.specs.Shapes.{IsShaped}
 use Rattle.vp_outside.specs.Disk.{log_of, Becomes}
+use Rattle.vp_stable.specs.Halves.{AreSettled}
 use Rattle.vp_stable.proofs.Writes.{becomes-as}
 use Rattle.vp_runs.specs.Turns.{turn_on}
 use Rattle.vp_runs.proofs.Shaped.{turn_shaped}
@@ -15,6 +17,12 @@ use Rattle.vp_node.proofs.Kept.{leaves_settled, may_keep_none, keeps_may}
 use Rattle.vp_node.proofs.Turning.{same_id, brings, can_be_saved, settled, saves_none, saves_as, leaves_saves, keeps_on}
 use Rattle.vp_node.proofs.Faults.{append_ends, append_causes, gave_err}
 use Rattle.vp_node.proofs.node.Node.take.Goals as goal
+
+pub keep-requires-clause-kept : goal.keep-requires-clause-kept
+keep-requires-clause-kept g c honest =
+    let disk = g.D.Disk.state c.args.disk.now in
+    subst (λ (n : NodeValue). IfSome (log_of disk) (λ log. AreSettled n.at log (disk.may_leave disk.asked))) (sym c.self.view_is)
+    (settled c.args.catalog.now c.args.self (disk.may_leave disk.asked) (log_of disk) (c.requires.kept honest))
 
 pub keep-requires-clause-form : goal.keep-requires-clause-form
 keep-requires-clause-form g c =
@@ -64,6 +72,13 @@ returns-in_err-keep-clause-any_moment g c honest =
     let at_is = ap (λ (n : NodeValue). n.at) c.self.view_is in
     let kept = rw (site_is, records_are, at_is) at (c.keep.ensures.any_moment honest) in
     leaves_saves c.args.catalog.now c.args.self turn follows (disk.may_leave disk.asked) disk (g.D.Disk.state c.keep.new.disk) (log_of disk) (c.requires.kept honest) kept
+
+pub returns-clause-saved : goal.returns-clause-saved
+returns-clause-saved g c =
+    let site_is = subst (λ (n : NodeValue). c.in_ok-site.site ≡ (turn_on c.args.catalog.now n.site c.args.what).site) c.self.view_is c.in_ok-site.ensures.site_is in
+    let records_are = subst (λ (n : NodeValue). c.in_ok-site.records ≡ (turn_on c.args.catalog.now n.site c.args.what).batch) c.self.view_is c.in_ok-site.ensures.records_are in
+    let at_is = ap (λ (n : NodeValue). n.at) c.self.view_is in
+    rw (site_is, records_are, at_is) at c.in_ok-keep.ensures.kept_at
 
 pub returns-clause-left : goal.returns-clause-left
 returns-clause-left g c honest =
