@@ -16,9 +16,7 @@ use Rattle.vp_outside.specs.Changes.{asked_of, changes_of, content_of, state_aft
 use Rattle.vp_outside.specs.declared.changes.Change.{Change}
 use Rattle.vp_outside.specs.declared.datagram.Datagram.{Datagram}
 use Rattle.vp_stable.specs.Halves.{StandsAt, HaveBatches, HasGeneration, ReadAlike, HalvesAreOneLog}
-use Rattle.vp_runs.specs.declared.arrival.Arrival.{Arrival}
-use Rattle.vp_runs.specs.declared.arrival.Arrival.TheVariants.{Bad, Stray, Stops, Gives}
-use Rattle.vp_runs.specs.Arrivals.{arrival, IsArrival}
+use Rattle.vp_runs.specs.Arrivals.{arrival}
 use Rattle.vp_runs.specs.Runs.{start_node, after_turn}
 use Rattle.vp_runs.specs.Turns.{turn_on}
 use Rattle.vp_runs.proofs.Shaped.{arrives}
