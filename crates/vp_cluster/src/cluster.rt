@@ -59,7 +59,7 @@ pub fn run(schedule: &Schedule, out: &mut Vec<u8>) -> Result<Ran, WorldEnd>
     let alloc = *out.allocator();
     let catalog = schedule.catalog.copy_of()?;
     let mut cluster = Cluster {
-        nodes: Nodes::begin(alloc, schedule.catalog.copy_of()?)?,
+        nodes: Nodes::begin(schedule.catalog.copy_of()?)?,
         trace: TraceText {
             bytes: replace(out, Vec::new(alloc)),
         },

@@ -47,9 +47,10 @@ fn letter_in(letters: &[Letter], k: u32) -> Option<&Letter>
 
 impl Nodes {
     /// Each site of the catalogue is in its first life.
-    pub fn begin(alloc: Global, catalog: Catalog) -> Result<Nodes, NoMemory>
+    pub fn begin(catalog: Catalog) -> Result<Nodes, NoMemory>
         ensures { IfOk result (Begin catalog) }
     {
+        let alloc = catalog.sites().allocator();
         Ok(Nodes {
             hosts: begin_all(&catalog)?,
             letters: Vec::new(alloc),

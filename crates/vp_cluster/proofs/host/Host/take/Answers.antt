@@ -5,11 +5,11 @@ use Rattle.vp_node.specs.Nodes.{what_comes}
 use Rattle.vp_cluster.proofs.Hosting.{parts_node, parts_take}
 use Rattle.vp_cluster.proofs.host.Host.take.Goals as goal
 
-pub take-requires-clause-node : goal.take-requires-clause-node
-take-requires-clause-node c = (parts_node c.args.catalog.now _ c.args.self.now c.self.view_is c.in-Some.node (cc) c.requires.host).1
+pub take-requires-2-clause-node : goal.take-requires-2-clause-node
+take-requires-2-clause-node c = (parts_node c.args.catalog.now _ c.args.self.now c.self.view_is c.in-Some.node (cc) c.requires.host).1
 
-pub take-requires-clause-kept : goal.take-requires-clause-kept
-take-requires-clause-kept c = (parts_node c.args.catalog.now _ c.args.self.now c.self.view_is c.in-Some.node (cc) c.requires.host).2
+pub take-requires-2-clause-kept : goal.take-requires-2-clause-kept
+take-requires-2-clause-kept c = (parts_node c.args.catalog.now _ c.args.self.now c.self.view_is c.in-Some.node (cc) c.requires.host).2
 
 pub returns-clause-takes : goal.returns-clause-takes
 returns-clause-takes c =

@@ -1,10 +1,9 @@
-use Rattle.std.proofs.Common.{refl, subst}
-use Rattle.vp_catalog.specs.Document.{IsCatalogueSoFar}
+use Rattle.std.proofs.Common.{refl}
 use Rattle.vp_cluster.proofs.Begun.{nodes_begin}
 use Rattle.vp_cluster.proofs.nodes.Nodes.begin.Goals as goal
 
 -- src/nodes.rt:50:5
 pub returns : goal.returns
 returns c =
-    nodes_begin c.args.catalog (record { catalogue = c.args.catalog; hosts = c.in_ok-begin_all.field-0.items; letters = c.new.result.items }) (subst IsCatalogueSoFar c.catalog.view_is c.catalog.invariant.1) refl
+    nodes_begin c.args.catalog (record { catalogue = c.args.catalog; hosts = c.in_ok-begin_all.field-0.items; letters = c.new.result.items }) c.sites.ensures.so_far refl
     c.in_ok-begin_all.ensures c.new.ensures.items
