@@ -2,7 +2,7 @@
 
 use std::alloc::Global;
 use std::test::Fail;
-use vp_base::{Call, Event, Shown, SiteId};
+use vp_base::{Call, Event, Line, Shown, SiteId};
 use vp_catalog::Catalog;
 use vp_world::World;
 
@@ -15,15 +15,15 @@ fn new_world(alloc: Global) -> Result<World, Fail> {
     }
 }
 
-fn next(world: World, event: &Event) -> Result<(World, Shown), Fail> {
+fn next(world: World, event: &Event) -> Result<(World, Line), Fail> {
     match world.next(event) {
-        Ok((world, line)) => Ok((world, line.shown)),
+        Ok(done) => Ok(done),
         Err(_) => Err(Fail::from("the world ended")),
     }
 }
 
-/// What the restart of site 2 shows after its crash.
-fn restarted(alloc: Global) -> Result<Shown, Fail> {
+/// The line of the restart of site 2 after its crash.
+fn restarted(alloc: Global) -> Result<Line, Fail> {
     let site = SiteId::of(2);
     let (world, _) = next(new_world(alloc)?, &Event::Crash { site })?;
     Ok(next(world, &Event::Restart { site })?.1)
@@ -49,15 +49,15 @@ fn parted(world: World) -> Result<World, Fail> {
 
 #[test]
 fn a_site_starts_in_its_second_life(rt: HostRuntime) -> Result<(), Fail> {
-    let shown = restarted(rt.alloc())?;
-    assert!(rt; matches!(shown, Shown::Life { life: 2 }));
+    let line = restarted(rt.alloc())?;
+    assert!(rt; matches!(line.shown, Shown::Life { life: 2 }));
     Ok(())
 }
 
 #[test]
 fn a_cut_pair_waits(rt: HostRuntime) -> Result<(), Fail> {
     let world = parted(inviting(rt.alloc())?)?;
-    let (_, shown) = next(world, &Event::Deliver { k: 1 })?;
-    assert!(rt; matches!(shown, Shown::Parted { .. }));
+    let (_, line) = next(world, &Event::Deliver { k: 1 })?;
+    assert!(rt; matches!(line.shown, Shown::Parted { .. }));
     Ok(())
 }
