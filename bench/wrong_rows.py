@@ -67,7 +67,7 @@ def without_worked_schedules(copy):
     crate = copy / "crates/vp_model"
     (crate / "src/lib.rt").write_text((crate / "src/lib.rt").read_text().replace("pub mod worked;", ""))
     lib = crate / "proofs/Lib.antt"
-    kept = [line for line in lib.read_text().splitlines() if "RunGrows" in line or not line.startswith("pub mod")]
+    kept = [line for line in lib.read_text().splitlines() if any(it in line for it in ("RunGrows", "SameTxn", "PlayedInParts")) or not line.startswith("pub mod")]
     lib.write_text("\n".join(kept) + "\n")
     for name in ("worked", "Computed"):
         shutil.rmtree(crate / "proofs" / name)
