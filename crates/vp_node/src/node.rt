@@ -81,6 +81,13 @@ impl Node {
         self.site.life()
     }
 
+    /// The site and its log, apart.
+    pub fn into_parts(self) -> (Site, Log)
+        ensures { result ≡ (self.site, self.at) }
+    {
+        (self.site, self.log)
+    }
+
     /// Takes what came. Its records are synced before it returns, and nothing is sent here. After a fault or want of memory the node is
     /// gone, as after a crash.
     pub fn take<D: Disk>(

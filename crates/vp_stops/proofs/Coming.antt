@@ -18,14 +18,14 @@ module _ (s : Schedule) (step : ℕ) (kept : Bool) (m : Moment) (site : ℕ) (at
   abbrev pub front : List Event
   front = singles (take step (moments_of s))
 
-  front_single : AllByRecursion IsSingle front
+  pub front_single : AllByRecursion IsSingle front
   front_single = all_events (take step (moments_of s)) (all_taken (λ (m : Moment). IsSingle m.line.event) step (moments_of s) goes.single)
 
   -- the steps in the event's place
   abbrev pub stop : List Event
   stop = stop_at kept site m.line.event
 
-  stop_single : AllByRecursion IsSingle stop
+  pub stop_single : AllByRecursion IsSingle stop
   stop_single = go kept
     where
       go : (b : Bool) → AllByRecursion IsSingle (stop_at b site m.line.event)
@@ -47,7 +47,7 @@ module _ (s : Schedule) (step : ℕ) (kept : Bool) (m : Moment) (site : ℕ) (at
   abbrev pub whole : List Event
   whole = front ++ (stop ++ singles rest.moments)
 
-  whole_single : AllByRecursion IsSingle whole
+  pub whole_single : AllByRecursion IsSingle whole
   whole_single = all_append IsSingle front (stop ++ singles rest.moments) front_single (all_append IsSingle stop (singles rest.moments) stop_single (all_events rest.moments rest_goes.single))
 
   -- the schedule's world

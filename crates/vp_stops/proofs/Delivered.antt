@@ -64,7 +64,7 @@ module _ (catalogue : Catalogue) (w : WorldState) (numbers : List ℕ) where
   next_alike (event.Crash s) = crashes_alike s
   next_alike (event.Restart s) = restarts_alike s
 
-next_same : (catalogue : Catalogue) (e : Event) (v w : WorldState) → SameButDelivered v w → SameButDelivered (next catalogue e v).world (next catalogue e w).world
+pub next_same : (catalogue : Catalogue) (e : Event) (v w : WorldState) → SameButDelivered v w → SameButDelivered (next catalogue e v).world (next catalogue e w).world
 next_same catalogue e v w same = subst (λ (v : WorldState). SameButDelivered (next catalogue e v).world (next catalogue e w).world) (sym same.1) (next_alike catalogue w same.0 e)
 
 -- ---- single steps, one after the other

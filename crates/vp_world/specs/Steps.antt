@@ -1,13 +1,16 @@
 -- What a step of a site gives the world, and how a site starts again.
-use Rattle.std.specs.Prelude.{ℕ, ◌≡◌, ◌<◌, Bool, Result, Ok, Err, ◌+◌, ◌-◌, ◌^◌, ◌==◌, ◌&&◌, not, if◌then◌else◌, is_some, List, ◌++◌, length, Option, Some, None, option_map, option_and_then, option_to_list}
+use Rattle.std.specs.Prelude.{ℕ, ◌≡◌, ◌<◌, Bool, Result, Ok, Err, ◌+◌, ◌-◌, ◌^◌, ◌==◌, ◌&&◌, not, if◌then◌else◌, is_some, List, [], ◌∷◌, ◌++◌, length, Option, Some, None, option_map, option_and_then, option_to_list}
 use Rattle.std.specs.Option.{option_map_or}
-use Rattle.vp_model.specs.Types.{ViewId, View, Input, Shown}
+use Rattle.vp_model.specs.Types.{ViewId, View, Sent, Input, Event, Shown}
+use Rattle.vp_model.specs.Types.event
 use Rattle.vp_model.specs.Types.shown
 use Rattle.vp_model.specs.Words.{same_view}
 use Rattle.vp_model.specs.Catalogue.{Catalogue}
 use Rattle.vp_model.specs.Site.{SiteState, Stepped}
 use Rattle.vp_model.specs.Step.{step}
-use Rattle.vp_model.specs.World.{Place, WorldState, Moved, place_of, after_step, restart_place}
+use Rattle.vp_model.specs.World.{Place, WorldState, Moved, place_of, site_of, message_at, is_cut, next, after_step, restart_place}
+use Rattle.vp_model.specs.Justified.{site_named}
+use Rattle.vp_model.specs.Told.{is_step}
 use Rattle.vp_site.specs.declared.fault.StartFault.{StartFault}
 use Rattle.vp_site.specs.declared.fault.StartFault.TheVariants as fault
 use Rattle.vp_world.specs.declared.place.Taken.{Taken}
@@ -45,6 +48,30 @@ takes_in t w =
       };
       shown = shown.Step t.effects.commits (length w.sent + 1) t.effects.messages t.effects.replies;
     }
+
+-- which site takes a step
+
+-- the site whose step the event is in this world
+abbrev pub taker : Catalogue → Event → WorldState → Option ℕ
+taker catalogue e w = option_and_then (λ site. if is_step (next catalogue e w).shown then Some site else None) (site_named w e)
+
+-- the same by what stands in its way
+abbrev pub if_up : WorldState → ℕ → Option ℕ
+if_up w site = if is_some (site_of w site) then Some site else None
+
+abbrev pub receiver : WorldState → ℕ → Option ℕ
+receiver w k = option_and_then (λ (sent : Sent). if is_cut w sent.from sent.to then None else if_up w sent.to) (message_at w k)
+
+abbrev pub taker_now : Event → WorldState → Option ℕ
+taker_now (event.Call site words) w = if_up w site
+taker_now (event.Deliver k) w = receiver w k
+taker_now (event.Tick site) w = if_up w site
+taker_now (event.Probe site) w = if_up w site
+taker_now _ w = None
+
+-- the world where this message counts as delivered too
+abbrev pub passed_over : ℕ → WorldState → WorldState
+passed_over k w = record w { delivered = w.delivered ++ k ∷ [] }
 
 -- how a site starts
 

@@ -1,6 +1,6 @@
 //! What the world keeps, and what an event does to it.
 
-ghost use Rattle.std.specs.Prelude.{◌≡◌, ◌≤◌, ◌<◌, ◌+◌, ◌++◌, ◌∷◌, [], OnOk, IfOk, IsSome, Some, None, is_some, if◌then◌else◌, length, map, option_to_list, option_and_then};
+ghost use Rattle.std.specs.Prelude.{◌≡◌, ◌≤◌, ◌<◌, ◌+◌, ◌++◌, ◌∷◌, [], OnOk, OnErr, IfOk, IsSome, Some, None, is_some, if◌then◌else◌, length, map, option_to_list, option_and_then};
 ghost use Rattle.vp_base.specs.declared.event.Event.TheVariants as event;
 ghost use Rattle.vp_base.specs.declared.event.Input.TheVariants as input;
 ghost use Rattle.vp_base.specs.declared.event.Shown.TheVariants as shown;
@@ -12,7 +12,7 @@ ghost use Rattle.vp_world.specs.Limits.{Ends, Does, too_many, too_many_steps};
 ghost use Rattle.vp_mail.specs.Posted.{message_in, posted, are_too_many, Refuses};
 ghost use Rattle.vp_mail.specs.Queues.{AreSited};
 ghost use Rattle.vp_world.specs.Known.{IsWithinLimits};
-ghost use Rattle.vp_world.specs.Steps.{takes_in};
+ghost use Rattle.vp_world.specs.Steps.{takes_in, if_up, receiver, taker_now, passed_over};
 ghost use Rattle.vp_world.specs.Heads.{is_open, head_of, lesser};
 
 use crate::end::WorldEnd;
@@ -267,6 +267,58 @@ impl State {
         match self.mail.message(k)? {
             None => Ok(Shown::NoMessage),
             Some(sent) => self.hand_over(catalog, k, sent),
+        }
+    }
+
+    /// The site, where it is up.
+    fn if_up(&self, id: SiteId) -> Option<SiteId>
+        ensures { result ≡ if_up self.now id }
+    {
+        if self.places.is_up(id) {
+            Some(id)
+        } else {
+            None
+        }
+    }
+
+    /// The receiver of message `k`, where it may be delivered now.
+    fn receiver(&self, k: u32) -> Result<Option<SiteId>, NoMemory>
+        ensures { IfOk result (λ site. site ≡ receiver self.now k) }
+    {
+        match self.mail.message(k)? {
+            None => Ok(None),
+            Some(sent) => {
+                if self.cuts.has(sent.from, sent.to) {
+                    Ok(None)
+                } else {
+                    Ok(self.if_up(sent.to))
+                }
+            }
+        }
+    }
+
+    /// The site whose step the event is now.
+    pub fn taker(&self, event: &Event) -> Result<Option<SiteId>, NoMemory>
+        ensures { IfOk result (λ site. site ≡ taker_now event.now self.now) }
+    {
+        match event {
+            Event::Call { site, .. } => Ok(self.if_up(*site)),
+            Event::Deliver { k } => self.receiver(*k),
+            Event::Tick { site } => Ok(self.if_up(*site)),
+            Event::Probe { site } => Ok(self.if_up(*site)),
+            _ => Ok(None),
+        }
+    }
+
+    /// Message `k` counts as delivered, and is handed to nobody. Without memory the state stays as it is.
+    pub fn pass_over(&mut self, k: u32) -> Result<(), NoMemory>
+        requires { IsSome (message_at self.old k) }
+        ensures passed { OnOk result (self.new ≡ passed_over k self.old) }
+        ensures err { OnErr result (self.new ≡ self.old) }
+    {
+        match self.mail.message(k)? {
+            None => Ok(()),
+            Some(sent) => self.mail.deliver(k, &sent),
         }
     }
 

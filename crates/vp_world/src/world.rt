@@ -1,10 +1,11 @@
 //! The world of a schedule.
 
-ghost use Rattle.std.specs.Prelude.{◌≡◌, IfOk, is_some, length, option_and_then};
+ghost use Rattle.std.specs.Prelude.{◌≡◌, ◌≤◌, IfOk, IsSome, OnErr, OnOk, is_some, length, option_and_then};
 ghost use Rattle.vp_model.specs.Limits.{world_limits, refused};
 ghost use Rattle.vp_model.specs.Generated.{newest};
-ghost use Rattle.vp_model.specs.World.{start_world, site_of, is_cut, next, flowing};
+ghost use Rattle.vp_model.specs.World.{start_world, site_of, is_cut, message_at, next, flowing};
 ghost use Rattle.vp_world.specs.Limits.{Ends};
+ghost use Rattle.vp_world.specs.Steps.{taker, passed_over};
 
 use crate::end::WorldEnd;
 use crate::state::State;
@@ -62,6 +63,23 @@ impl World {
         self.state.flowing()
     }
 
+    /// The site whose step the event is now. It is none where the site is down or the catalogue lacks it, where there is no such message or its
+    /// pair is cut, and for an event that is no site's step.
+    pub fn taker(&self, event: &Event) -> Result<Option<SiteId>, NoMemory>
+        ensures { IfOk result (λ site. site ≡ taker self.now.catalogue event.now self.now.world) }
+    {
+        self.state.taker(event)
+    }
+
+    /// Message `k`, which was sent, counts as delivered, and is handed to nobody: no flow delivers it. Without memory the world stays as it is.
+    pub fn pass_over(&mut self, k: u32) -> Result<(), NoMemory>
+        requires { IsSome (message_at self.old.world k) }
+        ensures passed { OnOk result (self.new ≡ record self.old { world = passed_over k self.old.world }) }
+        ensures err { OnErr result (self.new ≡ self.old) }
+    {
+        self.state.pass_over(k)
+    }
+
     /// The newest live transaction of the site: none where the site is down or has no live one.
     pub fn newest(&self, site: SiteId) -> Option<Newest>
         ensures { result ≡ option_and_then (λ site. newest site.live) (site_of self.now.world site) }
@@ -84,7 +102,8 @@ impl World {
 
     /// How many messages were sent.
     pub fn messages(&self) -> usize
-        ensures { result ≡ length self.now.world.sent }
+        ensures count { result ≡ length self.now.world.sent }
+        ensures few { result ≤ 2000000 }
     {
         self.state.messages()
     }

@@ -10,4 +10,4 @@ serial_commits-requires-clause-serial c = soak_serial c.args.seed c.args.count c
 
 pub returns-in-Ok : goal.returns-in-Ok
 returns-in-Ok c =
-    soak_done c.args.seed c.args.count c.in-Ok.world c.make.new.self c.in-Ok.ensures c.in_ok-serial-in-Ok.serial c.in_ok-serial-in-Ok.ensures c.messages.result c.messages.ensures c.print_summary.new.out.items (search rules)
+    soak_done c.args.seed c.args.count c.in-Ok.world c.make.new.self c.in-Ok.ensures c.in_ok-serial-in-Ok.serial c.in_ok-serial-in-Ok.ensures c.messages.result c.messages.ensures.count c.print_summary.new.out.items (search rules)
