@@ -85,7 +85,7 @@ numbered catalogue n (event.Flow count) w = flow_numbered catalogue n count (run
 numbered catalogue n e w = step_numbered catalogue n e (run_in w) tt
 
 -- moments are only added
-run_grows : (catalogue : Catalogue) (n : ℕ) (events : List Event) (run : Run) → (rest : List Moment) × ((run_from catalogue n events run).moments ≡ run.moments ++ rest)
+pub run_grows : (catalogue : Catalogue) (n : ℕ) (events : List Event) (run : Run) → (rest : List Moment) × ((run_from catalogue n events run).moments ≡ run.moments ++ rest)
 unfolding run_from
 run_grows catalogue n [] run = ([], sym (append-nil run.moments))
 run_grows catalogue n (e ∷ events) run =
