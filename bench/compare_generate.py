@@ -13,7 +13,7 @@ import random
 import subprocess
 import sys
 
-from comparison import arguments
+from comparison import arguments, reference_in
 
 
 def drawn(k):
@@ -48,7 +48,7 @@ def difference(program, reference, k):
 
 def main():
     program, seed, count, folder = arguments(300)
-    reference = os.path.join(folder, "vporacle")
+    reference = os.path.join(reference_in(folder), "vporacle")
     with multiprocessing.Pool() as pool:
         found = pool.starmap(difference, ((program, reference, k) for k in range(seed, seed + count)))
     bad = [words for words, _ in found if words]

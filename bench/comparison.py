@@ -9,9 +9,17 @@ import sys
 REFERENCE = pathlib.Path(__file__).resolve().parent.parent.parent / "shared/oracle"
 
 
+def reference_in(folder):
+    """The folder of the reference implementation. Where it isn't there, that is said, and the run ends with status 2."""
+    if not pathlib.Path(folder).is_dir():
+        print(f"no reference in {folder}, so nothing is run; its folder may be given as the word REFERENCE", file=sys.stderr)
+        sys.exit(2)
+    return folder
+
+
 def modules(folder, *names):
     """Modules of the reference implementation."""
-    sys.path.insert(0, str(folder))
+    sys.path.insert(0, str(reference_in(folder)))
     return [importlib.import_module(name) for name in names]
 
 
