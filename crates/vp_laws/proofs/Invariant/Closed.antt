@@ -10,7 +10,9 @@ use Rattle.vp_laws.proofs.Invariant.HasLeft.{HasLeft}
 
 -- the site has left all views below, and has no doubt on the record of such a view
 pub record ClosedAt (w : Scene) (q rec : ℕ) (i : ViewId) : Type 0 where
+  -- it has left each lower view
   pub left : (j : ViewId) → Precedes j i → HasLeft w q j
+  -- no doubt of a lower view there writes the record
   pub certain : (d : Doubt) → Has (kept_at w q).doubts d → Has (keys d.writes) rec → Precedes d.view i → ⊥
 
 -- no transaction of a lower view that writes the record can be decided any more
@@ -23,5 +25,7 @@ InForce catalogue w rec v = accessible catalogue rec v.members ≡ true
 
 -- both: what is known of each record that is used in the view
 pub record Open (catalogue : Catalogue) (w : Scene) (rec : ℕ) (v : View) : Type 0 where
+  -- it is closed for the view
   pub closed : Closed catalogue w rec v
+  -- it is accessible in the view
   pub usable : InForce catalogue w rec v

@@ -16,11 +16,17 @@ AgreedAs w i v = Has w.agreed v × (v.id ≡ i)
 
 -- a holder in an entry's view of a record that it wrote
 pub record Affected (catalogue : Catalogue) (w : Scene) (e : Commit) (s : ℕ) : Type 0 where
+  -- the entry's view
   pub view : View
+  -- as it was agreed
   pub agreed : AgreedAs w e.view view
+  -- a record
   pub rec : ℕ
+  -- that the entry wrote
   pub wrote : Wrote e rec
+  -- and of which the site has a copy
   pub holder : Has (holders catalogue rec) s
+  -- the site is a member of the view
   pub member : Has view.members s
 
 pub record InvEntered (catalogue : Catalogue) (w : Scene) : Type 0 where

@@ -9,5 +9,7 @@ use Rattle.vp_laws.proofs.Worlds.Scenes.{Scene, plain_at, promise_at}
 
 -- the site has left the view, and will not use it again
 pub record HasLeft (w : Scene) (q : ℕ) (i : ViewId) : Type 0 where
+  -- its promise is at least that view
   pub promised : AtMost i (promise_at w q)
+  -- while it is up it neither holds that view, nor waits for it, nor invites to it
   pub unused : (x : SiteState) → plain_at w q ≡ Some x → Uses x i → ⊥

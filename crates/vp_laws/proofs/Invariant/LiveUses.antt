@@ -15,8 +15,11 @@ use Rattle.vp_laws.proofs.Invariant.Ops.{HasUsed, record_of}
 use Rattle.vp_laws.proofs.Moves.Calls.{waiting, done, reading, writing, read_not_write, reads_same, writes_same, unmarked, no_commit_reads, no_commit_writes}
 
 pub record LiveUses (catalogue : Catalogue) (held : Option View) (t : Live) : Type 0 where
+  -- each record that its operations have used
   pub usable : (rec : ℕ) → HasUsed t.ops rec → is_usable_in catalogue held rec ≡ true
+  -- the record of its pending read
   pub reading : (p : Pending) (rec : ℕ) → t.pending ≡ Some p → Reads catalogue p rec → is_usable_in catalogue held rec ≡ true
+  -- the record of its pending write
   pub writing : (p : Pending) (rec : ℕ) (value : List ℕ) → t.pending ≡ Some p → Writes catalogue p rec value → is_usable_in catalogue held rec ≡ true
 
 module _ (catalogue : Catalogue) (x : SiteState) (given : Input) (all : (u : Live) → Has x.live u → LiveUses catalogue x.held u) where

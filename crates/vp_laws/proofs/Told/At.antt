@@ -33,9 +33,13 @@ use Rattle.vp_laws.proofs.Lists.Pairs.{not_copied}
 pub record ToldAt (catalogue : Catalogue) (w : Scene) (lines : List Line) : Type 0 where
   -- all that is known of sites and messages
   pub known : Known catalogue w
+  -- the lines tell each live transaction's operations, and the call that is pending
   pub live : (s : ℕ) (x : SiteState) (t : Live) → plain_at w s ≡ Some x → Has x.live t → TellsCall catalogue lines t.txn (length t.answers) t.pending t.ops
+  -- and each entry's operations
   pub entries : (e : Commit) → Has w.journal e → Tells catalogue lines e.txn e.ops
+  -- of a transaction whose name was not used they tell nothing
   pub fresh : (u : TxnId) → (UsedTxn w u → ⊥) → IsUnheard lines u
+  -- an answer that a site keeps was reported
   pub kept : (s : ℕ) (x : SiteState) (a : Answer) → plain_at w s ≡ Some x → IsKept x a → IsReported lines a
 
 -- replies that were given before change no reports

@@ -36,8 +36,11 @@ fits_on lines l a h u r e = let q = h u r e in (q.0, taken_on lines l u r.0 q.0 
 silent_fits : (lines : List Line) (a : Answer) → ((u : TxnId) → reported u a ≡ None) → Fits lines a
 silent_fits lines a none u r e = let z = none u in cc
 
+-- what was answered, and what a site may answer again, fits the call of its number
 record FitsAt (w : Scene) (lines : List Line) : Type 0 where
+  -- each answer of the lines
   given : (l : Line) → Has lines l → (a : Answer) → Has (answers_in l) a → Fits lines a
+  -- each answer that a site keeps
   kept : (s : ℕ) (x : SiteState) (a : Answer) → plain_at w s ≡ Some x → IsKept x a → Fits lines a
 
 given_on : (w : Scene) (lines : List Line) (line : Line) → FitsAt w lines → ((a : Answer) → Has (answers_in line) a → Fits (lines ++ line ∷ []) a) → (l : Line) → Has (lines ++ line ∷ []) l → (a : Answer) → Has (answers_in l) a → Fits (lines ++ line ∷ []) a
