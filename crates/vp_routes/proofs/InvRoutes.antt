@@ -45,16 +45,24 @@ module _ (catalogue : Catalogue) (k : IsCatalogue catalogue) where
   abbrev A : ViewId → Type 0
   A = AnyView catalogue k
 
-  -- what a site keeps on its log
+  -- the transactions that a site has kept are of sites of the catalogue
   pub record KeptRoutes (d : DurableState) : Type 0 where
+    -- those in doubt
     pub doubts : (a : Doubt) → Has d.doubts a → N a.txn
+    -- those that are decided
     pub decisions : (a : Decision) → Has d.decisions a → N a.txn
+    -- and whom decisions wait for are such sites
     pub waiting : (a : Decision) → Has d.decisions a → (q : ℕ) → Has a.waiting q → S q
 
+  -- whom a site knows of, and between whom messages go, are sites of the catalogue
   pub record InvRoutes (w : Scene) : Type 0 where
+    -- the transactions named at a site that is up are of such sites
     pub names : (s : ℕ) (x : SiteState) → plain_at w s ≡ Some x → Names N A x
+    -- the parts of its live transactions are at such sites
     pub parts : (s : ℕ) (x : SiteState) (t : Live) → plain_at w s ≡ Some x → Has x.live t → (q : ℕ) → Has t.parts q → S q
+    -- so it is of what a site has kept, up or down
     pub kept : (s : ℕ) → KeptRoutes (kept_at w s)
+    -- each message goes from such a site to such a site, and names their transactions alone
     pub sent : (m : Sent) → Has w.sent m → S m.from × S m.to × Named N A m.message
 
   -- ---- a site that starts
