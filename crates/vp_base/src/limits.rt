@@ -15,10 +15,10 @@ pub const MOST_LIVE: usize = 1024;
 /// The ended transactions whose ends a site keeps.
 pub const MOST_FINISHED: usize = 1024;
 
-/// The lines of events of a schedule; and the deliveries that one flow asks for.
+/// The events of a schedule.
 pub const MOST_EVENTS: u32 = 100_000;
 
-/// The steps of a world: each event but a flow, and each delivery of a flow.
+/// The steps of a world: each event but a flow, and each delivery of a flow; and the deliveries that one flow of a schedule asks for.
 pub const MOST_STEPS: u32 = 100_000;
 
 /// The messages that are sent in a world.
