@@ -191,10 +191,10 @@ class Torment:
             return None
         return dict(zip(self.names, (value.value for value in values)))
 
-    def _joined(self, initiator):
+    def _joined(self, inviter):
         """The balances that all sites read in a view of all of them, or None where there is none yet."""
-        self.clients[0].asked(initiator, self.reference.base.Call("regroup"))
-        for sites in ([initiator], self.sites, self.sites):
+        self.clients[0].asked(inviter, self.reference.base.Call("regroup"))
+        for sites in ([inviter], self.sites, self.sites):
             self._pause(0.3)
             for site in sites:
                 self._order(site, self.reference.wire.TickFrame)
@@ -207,8 +207,8 @@ class Torment:
         for site in self.sites:
             self._start(site)
         self.loop.run(lambda: all(node.lives[-1].has_begun() for node in self.nodes.values()), 60)
-        for initiator in itertools.islice(itertools.cycle(self.sites), 20):
-            balances = self._joined(initiator)
+        for inviter in itertools.islice(itertools.cycle(self.sites), 20):
+            balances = self._joined(inviter)
             if balances is not None:
                 return balances
         raise Fault("the sites don't come to read the same balances")

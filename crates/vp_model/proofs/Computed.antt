@@ -12,7 +12,7 @@ pub mod RepeatedViewCommit
 pub mod CrashAfterDecision
 pub mod CrashBeforeDecision
 pub mod ForgottenDecision
-pub mod TwoInitiators
+pub mod TwoInviters
 pub mod OtherRefusals
 pub mod TooManyOps
 pub mod TooManyLive

@@ -24,7 +24,7 @@ ghost use Rattle.vp_model.specs.Worked.RepeatedViewCommit as repeated_view_commi
 ghost use Rattle.vp_model.specs.Worked.CrashAfterDecision as crash_after_decision;
 ghost use Rattle.vp_model.specs.Worked.CrashBeforeDecision as crash_before_decision;
 ghost use Rattle.vp_model.specs.Worked.ForgottenDecision as forgotten_decision;
-ghost use Rattle.vp_model.specs.Worked.TwoInitiators as two_initiators;
+ghost use Rattle.vp_model.specs.Worked.TwoInviters as two_inviters;
 ghost use Rattle.vp_model.specs.Worked.OtherRefusals as other_refusals;
 ghost use Rattle.vp_model.specs.Worked.TooManyOps as too_many_ops;
 ghost use Rattle.vp_model.specs.Worked.TooManyLive as many_live;
@@ -122,10 +122,10 @@ pub fn forgotten_decision()
     ensures history { order (journal_of forgotten_decision.schedule) ≡ forgotten_decision.history }
 {}
 
-/// Two initiators.
-pub fn two_initiators()
-    ensures lines { numbered_lines two_initiators.schedule ≡ two_initiators.lines }
-    ensures history { order (journal_of two_initiators.schedule) ≡ two_initiators.history }
+/// Two inviters.
+pub fn two_inviters()
+    ensures lines { numbered_lines two_inviters.schedule ≡ two_inviters.lines }
+    ensures history { order (journal_of two_inviters.schedule) ≡ two_inviters.history }
 {}
 
 /// Other refusals.
