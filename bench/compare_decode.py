@@ -3,7 +3,7 @@
 
 usage: compare_decode.py PROGRAM [SEED [COUNT [REFERENCE]]]
 
-PROGRAM is built by `build.py frames PROGRAM`; REFERENCE is the folder of the reference implementation's modules. A third of the
+PROGRAM is built by `build.py answer_frames PROGRAM`; REFERENCE is the folder of the reference implementation's modules. A third of the
 inputs are frames of any kind, with fields at the edges of their ranges; the others are damaged: cut, joined, a bit, a byte or
 a run of bytes changed, put in or taken out, a list disordered, a count changed, another kind. Of each the answers have to agree:
 the place where it is no frame, or the frame's sender, receiver and text with each of its fields, and the bytes that it is encoded to.
