@@ -22,6 +22,7 @@ BELOW = {
     "answer_batches": "vp_records vp_base",
     "answer_logs": "vp_stable vp_records vp_outside vp_base",
     "time_logs": "vp_stable vp_records vp_outside vp_base",
+    "answer_stops": "vp_stopping vp_cluster vp_schedule vp_onecopy vp_world vp_catalog vp_base",
     "time_runs": "vp_cluster vp_playing vp_schedule vp_world vp_base",
 }
 MODULES = {"answer_batches": ["record_text"], "answer_logs": ["record_text"]}

@@ -9,8 +9,8 @@ use Rattle.vp_text.proofs.Items.{all_push}
 use Rattle.vp_model.specs.Words.{value_at}
 use Rattle.vp_model.specs.Catalogue.{Catalogue}
 use Rattle.vp_catalog.specs.Document.{AreSites, IsCatalogueSoFar}
-use Rattle.vp_cluster.specs.Hosts.{HostValue, address_of, IsHost, Begins}
-use Rattle.vp_cluster.specs.Nodes.{NodesValue, AreHosts, AreBegun, Begin, host_at}
+use Rattle.vp_cluster.specs.Hosts.{HostValue, address_of, Begins}
+use Rattle.vp_cluster.specs.Nodes.{NodesValue, AreBegun, Begin, host_at}
 
 -- ---- the sites of a catalogue
 

@@ -1,15 +1,15 @@
 -- What the change of one host is to all of them.
 use Rattle.std.proofs.Common.{◌≡◌, ◌∙◌, ap, sym, subst, ℕ, ◌<◌, Bool, List, ◌++◌, length, take, get_or, set, Some, None, refl, arith, map, ◌==◌}
-use Rattle.std.specs.Prelude.{Result, Ok, Err, OnOk, IfOk}
+use Rattle.std.specs.Prelude.{Option, Result, Ok, Err, OnOk, IfOk}
 use Rattle.std.specs.List.{position}
 use Rattle.vp_model.specs.Words.{value_at}
 use Rattle.std.proofs.lemmas.Bool.Decides.{nat_tests}
 use Rattle.std.proofs.lemmas.List.Quantifiers.{position-Some}
 use Rattle.vp_lists.proofs.Found.{find_none, find_some}
 use Rattle.vp_model.specs.Catalogue.{Catalogue}
-use Rattle.vp_cluster.specs.Hosts.{HostValue, address_of, IsHost, Stays, Takes}
+use Rattle.vp_cluster.specs.Hosts.{HostValue, address_of, IsHost, Stays, Stops, Takes}
 use Rattle.vp_cluster.specs.Letters.{as_received, sent_from}
-use Rattle.vp_cluster.specs.Nodes.{NodesValue, AreHosts, ChangesAt, ChangesOf, Comes}
+use Rattle.vp_cluster.specs.Nodes.{NodesValue, AreHosts, ChangesAt, ChangesOf, Comes, StopsWith}
 use Rattle.vp_cluster.specs.declared.letter.Letter.{Letter}
 use Rattle.vp_outside.specs.declared.datagram.Datagram.{Datagram}
 use Rattle.vp_cluster.proofs.Replaced.{finds_new, finds_others, maps_same, all_set}
@@ -80,3 +80,9 @@ pub letter_came : (letter : Letter) (count : ℕ) (catalogue : Catalogue) (hosts
     → ChangesAt letter.to (λ host after. Takes catalogue (as_received letter) host after given) hosts after → more ≡ letters ++ map (sent_from letter.to) (take count given)
     → Comes letter count old (record { catalogue = catalogue; hosts = after; letters = more })
 letter_came letter count catalogue hosts after letters more given old is changes put = subst (λ (old : NodesValue). Comes letter count old (record { catalogue = catalogue; hosts = after; letters = more })) is (given, changes, put)
+
+pub letter_stops : (letter : Letter) (catalogue : Catalogue) (hosts after : List HostValue) (letters : List Letter) (kept : Option Bool) (old new : NodesValue) → record { catalogue = catalogue; hosts = hosts; letters = letters } ≡ old
+    → new.hosts ≡ after → ChangesAt letter.to (λ host after. Stops catalogue (as_received letter) host after kept) hosts after → StopsWith letter kept old new
+letter_stops letter catalogue hosts after letters kept old new is same changes =
+    subst (λ (old : NodesValue). StopsWith letter kept old new) is
+    (subst (λ (after : List HostValue). ChangesAt letter.to (λ host after. Stops catalogue (as_received letter) host after kept) hosts after) (sym same) changes)

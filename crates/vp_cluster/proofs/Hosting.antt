@@ -4,13 +4,11 @@ use Rattle.std.specs.declared.option.Option.{Option}
 use Rattle.std.specs.declared.option.Option.TheVariants.{Some, None}
 use Rattle.std.specs.Prelude.{is_some, IfSome}
 use Rattle.vp_records.proofs.Held.{is_there}
-use Rattle.vp_catalog.specs.Document.{IsCatalogue}
 use Rattle.vp_model.specs.Types.{LogRecord}
 use Rattle.vp_model.specs.Words.{has, value_at, keys}
 use Rattle.vp_model.specs.Catalogue.{Catalogue, sites_of}
 use Rattle.vp_model.specs.Site.{SiteState}
 use Rattle.vp_model.specs.Step.{start}
-use Rattle.vp_laws.specs.Shapes.{IsShaped}
 use Rattle.vp_outside.specs.Disk.{Steps}
 use Rattle.vp_outside.specs.Changes.{asked_of, changes_of, content_of, state_after}
 use Rattle.vp_outside.specs.declared.changes.Change.{Change}
@@ -18,7 +16,6 @@ use Rattle.vp_outside.specs.declared.datagram.Datagram.{Datagram}
 use Rattle.vp_stable.specs.Halves.{StandsAt, HaveBatches, HasGeneration, ReadAlike, HalvesAreOneLog}
 use Rattle.vp_runs.specs.Arrivals.{arrival}
 use Rattle.vp_runs.specs.Runs.{start_node, after_turn}
-use Rattle.vp_runs.specs.Turns.{turn_on}
 use Rattle.vp_runs.proofs.Shaped.{arrives}
 use Rattle.vp_node.specs.Nodes.{NodeValue, IsNode, IsKept, Starts, IsSpent, Gives, Saves, turn_of}
 use Rattle.vp_turns.specs.declared.turned.Outcome.{Outcome}
@@ -240,6 +237,10 @@ module _ (catalogue : Catalogue) (parts host : HostValue) (same : parts ≡ host
 
   pub parts_node : (node : NodeValue) → parts.node ≡ Some node → IsHost catalogue host → (node.site.id ≡ parts.id) × IsNode catalogue node × IsKept catalogue node (told parts)
   parts_node node up is = its_node catalogue parts node up (known is)
+
+  -- its log stands where its node says
+  pub parts_stand : (node : NodeValue) → parts.node ≡ Some node → IsHost catalogue host → (batches : List (List LogRecord)) × StandsAt node.at batches (log_in parts)
+  parts_stand node up is = let kept = (parts_node node up is).2 tt in (kept.batches, kept.stands)
 
   pub parts_crash : IsHost catalogue host → Crashes catalogue host (host_with parts.id parts.port parts.disk None)
   parts_crash is = subst (λ h. Crashes catalogue h (host_with parts.id parts.port parts.disk None)) same (crashes catalogue parts (known is))

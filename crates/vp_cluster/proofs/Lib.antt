@@ -1,10 +1,13 @@
+pub mod Acting
+mod Appending
 mod Begun
 mod Calls
 mod Changing
+mod HostStops
 mod Hosting
 mod Replaced
-mod Running
-mod Tied
+pub mod Running
+pub mod Tied
 mod TiedLetters
-mod TiedLines
+pub mod TiedLines
 mod TiedMoments

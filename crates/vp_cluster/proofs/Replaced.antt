@@ -1,7 +1,5 @@
 -- A list with another item at one place.
-use Rattle.std.proofs.Common.{◌≡◌, ◌∙◌, ℕ, ◌+◌, ◌<◌, ◌≤◌, suc, zero, cond, ap, sym, Bool, true, false, List, [], ◌∷◌, ◌++◌, length, take, get_or, set, Some, refl, arith, map}
-use Rattle.std.proofs.lemmas.List.{map-append}
-use Rattle.std.proofs.Math.Seq.{take-suc, take-length}
+use Rattle.std.proofs.Common.{◌≡◌, ℕ, ◌<◌, suc, zero, cond, ap, Bool, true, false, List, [], ◌∷◌, length, get_or, set, Some, refl, arith, map}
 use Rattle.std.specs.List.{AllByRecursion, find, position}
 use Rattle.std.proofs.lemmas.List.Quantifiers.{position-Some}
 

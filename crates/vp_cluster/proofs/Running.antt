@@ -1,7 +1,6 @@
 -- What the run of a schedule comes to.
 use Rattle.std.proofs.Common.{◌≡◌, ◌∙◌, inl, inr, ap, sym, subst, ℕ, true, List, [], ◌∷◌, ◌++◌, map, Some, None, refl}
 use Rattle.std.specs.Prelude.{Result, Ok, Err}
-use Rattle.std.specs.Result.{IsErrAnd}
 use Rattle.std.specs.List.{AllByRecursion, flat_map}
 use Rattle.vp_text.specs.Printing.{is_begun}
 use Rattle.vp_text.proofs.Printing.{begun_none, begun_first, begun_then, begun_whole}

@@ -9,7 +9,7 @@ use Rattle.vp_model.specs.Catalogue.{Catalogue}
 use Rattle.vp_model.specs.World.{Place, WorldState, Moment, Schedule, start_place, start_world, run_of, moments_of, numbered_lines}
 use Rattle.vp_model.specs.Limits.{Limits, limit_reached, lines_within}
 use Rattle.vp_laws.specs.ShapeLaws.{IsEvent}
-use Rattle.vp_laws.proofs.Lists.Members.{Has, has_first, has_more}
+use Rattle.vp_laws.proofs.Lists.Members.{Has, has_first, has_left, has_more}
 use Rattle.vp_laws.proofs.Worlds.Events.{in_each}
 use Rattle.vp_laws.proofs.Worlds.Sites.{With}
 use Rattle.vp_laws.proofs.Invariant.Views.{InvViews}
@@ -26,7 +26,8 @@ use Rattle.vp_kept.proofs.Coming.{has_port}
 use Rattle.vp_cluster.specs.Nodes.{NodesValue, Begin}
 use Rattle.vp_cluster.specs.Clusters.{HasSite, AreTied}
 use Rattle.vp_cluster.proofs.TiedLetters.{has_site}
-use Rattle.vp_cluster.proofs.TiedMoments.{Facts, Folds, folds_now, tied_on}
+use Rattle.vp_cluster.proofs.Acting.{Facts}
+use Rattle.vp_cluster.proofs.TiedMoments.{Folds, folds_now, tied_on}
 use Rattle.vp_cluster.proofs.TiedLines.{FollowAll, follow_moments}
 
 module _ (catalogue : Catalogue) (k : IsCatalogue catalogue) where
@@ -69,7 +70,7 @@ module _ (catalogue : Catalogue) (k : IsCatalogue catalogue) where
 -- ---- a schedule
 
 module _ (s : Schedule) (k : IsCatalogue s.catalogue) (i : AllByRecursion IsEvent s.events) where
-  facts : (m : Moment) → Has (moments_of s) m → Facts s.catalogue m
+  pub facts : (m : Moment) → Has (moments_of s) m → Facts s.catalogue m
   facts m has = record {
     event_is = events_are s.catalogue s.events i m has;
     views = (in_each s.catalogue (InvViews s.catalogue) (views_last s.catalogue) s.events m has).0;
@@ -80,6 +81,12 @@ module _ (s : Schedule) (k : IsCatalogue s.catalogue) (i : AllByRecursion IsEven
   pub nodes_are_tied : (begun ended : NodesValue) → Begin s.catalogue begun → FollowAll (numbered_lines s) begun ended → AreTied s.catalogue (moments_of s) (run_of s).world ended
   nodes_are_tied begun ended begin h =
       goes_on s.catalogue k [] (moments_of s) (start_world s.catalogue) (run_of s).world begun ended facts (first_tied s.catalogue k begun begin) (first_folds s.catalogue k) (moments_follow s.catalogue s.events) h
+
+  -- nodes that have followed the first moments are tied to these
+  pub front_tied : (ms more : List Moment) → moments_of s ≡ ms ++ more → (w : WorldState) (begun now : NodesValue) → Begin s.catalogue begun → Follow s.catalogue (start_world s.catalogue) ms w
+      → FollowAll (map (λ (m : Moment). (m.number, m.line)) ms) begun now → AreTied s.catalogue ms w now
+  front_tied ms more are w begun now begin along h =
+      goes_on s.catalogue k [] ms (start_world s.catalogue) w begun now (λ m has. facts m (subst (λ all. Has all m) (sym are) (has_left ms more m has))) (first_tied s.catalogue k begun begin) (first_folds s.catalogue k) along h
 
   -- where no limit is reached, nodes that follow the lines of the trace are tied to the whole schedule
   pub traces_tie : (limits : Limits) → limit_reached limits s ≡ None → (begun ended : NodesValue) → Begin s.catalogue begun → FollowAll (lines_within limits s) begun ended → AreTied s.catalogue (moments_of s) (run_of s).world ended

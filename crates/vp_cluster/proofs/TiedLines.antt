@@ -17,7 +17,7 @@ module _ {S : Type 0} (sees : ℕ × Line → S → S → Type 0) where
   sees_split (x ∷ xs) ys old new h = let more = sees_split xs ys h.0 new h.2 in (more.0, (h.0, h.1, more.1), more.2)
 
 -- the nodes do what each line tells
-abbrev follows_line : ℕ × Line → NodesValue → NodesValue → Type 0
+abbrev pub follows_line : ℕ × Line → NodesValue → NodesValue → Type 0
 follows_line line old new = Follows line.1 old new
 
 abbrev pub FollowAll : List (ℕ × Line) → NodesValue → NodesValue → Type 0

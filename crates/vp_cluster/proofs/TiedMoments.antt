@@ -1,10 +1,9 @@
 -- Nodes that follow the line of one moment stay tied to it.
 use Rattle.std.proofs.Common.{◌≡◌, ◌≢◌, ◌∙◌, ap, sym, subst, ℕ, ◌+◌, false, List, ◌∷◌, [], ◌++◌, length, map, refl, ⊎_elim}
-use Rattle.std.specs.Prelude.{Option, Some, None, take, option_and_then}
+use Rattle.std.specs.Prelude.{Option, Some, None, take}
 use Rattle.std.proofs.lemmas.List.{map-append}
 use Rattle.std.proofs.lemmas.List.Sums.{fold-append}
 use Rattle.vp_catalog.specs.Document.{IsCatalogue}
-use Rattle.vp_wire.specs.Grammar.{IsFrame}
 use Rattle.vp_model.specs.Types.{LogRecord, Event, Sent, Shown, Effects}
 use Rattle.vp_model.specs.Types.event
 use Rattle.vp_model.specs.Types.shown
@@ -15,34 +14,26 @@ use Rattle.vp_model.specs.Site.{SiteState}
 use Rattle.vp_model.specs.Step.{step, start, durable_of}
 use Rattle.vp_model.specs.Told.{is_step}
 use Rattle.vp_model.specs.World.{Place, WorldState, Moment, place_of, after_step, restart_place}
-use Rattle.vp_laws.specs.ShapeLaws.{IsEvent, message_frame}
 use Rattle.vp_laws.proofs.Lists.Members.{Has, has_right}
 use Rattle.vp_laws.proofs.Lists.Views.{same_site}
-use Rattle.vp_laws.proofs.Worlds.Scenes.{scene_of, kept_in, up-place, place-id}
-use Rattle.vp_laws.proofs.Invariant.Views.{InvViews}
+use Rattle.vp_laws.proofs.Worlds.Scenes.{place-id}
 use Rattle.vp_laws.proofs.Table.Views.{local-step}
 use Rattle.vp_laws.proofs.Table.Durable.{step-folds}
 use Rattle.vp_outside.specs.declared.datagram.Datagram.{Datagram}
-use Rattle.vp_runs.specs.Arrivals.{arrival}
 use Rattle.vp_runs.specs.Keeping.{durable_in, kept_with}
 use Rattle.vp_runs.specs.Runs.{start_node, after_turn}
-use Rattle.vp_runs.specs.Turns.{Turn, turn_on, step_turn, datagrams_of, reply_datagram}
+use Rattle.vp_runs.specs.Turns.{Turn, step_turn, datagrams_of, reply_datagram}
 use Rattle.vp_kept.specs.Kept.{with_life, kept_after, kept_in as batches_in}
 use Rattle.vp_kept.proofs.Happened.{Leaves, LeavesIt, LeavesOthers, Acts, put_down, RestartEffect, IsPlain, Effect, named, happened}
 use Rattle.vp_kept.proofs.Folds.{folds_on}
 use Rattle.vp_cluster.specs.declared.letter.Letter.{Letter}
 use Rattle.vp_cluster.specs.Letters.{letter_of, as_received, sent_from, letter_for}
-use Rattle.vp_cluster.specs.Hosts.{HostValue, IsAt, node_at, turn_at, Takes, Crashes, Restarts}
+use Rattle.vp_cluster.specs.Hosts.{HostValue, IsAt, node_at, Takes, Crashes, Restarts}
 use Rattle.vp_cluster.specs.Nodes.{NodesValue, host_at, ChangesOf, Comes, Steps, Does, Follows}
 use Rattle.vp_cluster.specs.Clusters.{HasSite, AreTied}
-use Rattle.vp_cluster.proofs.TiedLetters.{ports_differ, Brings, brought, posted}
-
--- what is known of a moment of a schedule
-pub record Facts (catalogue : Catalogue) (m : Moment) : Type 0 where
-  pub event_is : IsEvent m.line.event
-  pub views : InvViews catalogue (scene_of m.before)
-  pub sent : (sent : Sent) → Has m.before.sent sent → IsFrame (message_frame sent) × Has (sites_of catalogue) sent.from
-  pub routed : (sent : Sent) → Has m.after.sent sent → Has (sites_of catalogue) sent.to
+use Rattle.vp_cluster.proofs.TiedLetters.{ports_differ, Brings, posted}
+use Rattle.vp_cluster.proofs.Acting.{Facts}
+use Rattle.vp_cluster.proofs.Acting as acting
 
 -- what each site has to keep is what its log folds to
 abbrev pub Folds : Catalogue → List Moment → WorldState → Type 0
@@ -148,13 +139,8 @@ module _ (catalogue : Catalogue) (k : IsCatalogue catalogue) (m : Moment) (momen
     abbrev taken : Turn
     taken = step_turn catalogue a.x.id (step catalogue a.x a.given)
 
-    known : Has (sites_of catalogue) s
-    known = let p = up-place (place_of s m.before.places) a.x a.up in facts.views.known s p.0 p.1
-
-    letter : (letter : Letter) × (letter_of catalogue old.letters m.line.event ≡ Some letter) × Brings catalogue k s a.given letter
-    letter =
-        subst (λ (letters : List Letter). (letter : Letter) × (letter_of catalogue letters m.line.event ≡ Some letter) × Brings catalogue k s a.given letter) (sym tied.letters)
-        (brought catalogue k m.line.event m.before s a.given facts.event_is facts.sent known a.gives)
+    abbrev letter : (letter : Letter) × (letter_of catalogue old.letters m.line.event ≡ Some letter) × Brings catalogue k s a.given letter
+    letter = acting.letter catalogue k m moments old facts tied s a
 
     comes : Comes letter.0 (length effects.messages) old new
     comes =
@@ -162,35 +148,23 @@ module _ (catalogue : Catalogue) (k : IsCatalogue catalogue) (m : Moment) (momen
         let steps = subst (λ (what : Shown). Steps m.line.event what old new) a.shown_is (plain_steps m.line.event m.line.shown old new plain follows.does) in
         steps letter.0 (ap (λ (c : Catalogue). letter_of c old.letters m.line.event) tied.catalogue_is ∙ letter.1)
 
-    own : HasSite catalogue moments m.before old s letter.0.to
-    own = tied.sites s letter.0.to letter.2.to_is
-
-    up_is : own.place.up ≡ Some a.x
-    up_is = ap (option_and_then (λ (place : Place). place.up)) (sym own.place_is) ∙ a.up
+    abbrev own : HasSite catalogue moments m.before old s letter.0.to
+    own = acting.own catalogue k m moments old facts tied s a
 
     is_id : a.x.id ≡ s
-    is_id = (facts.views.site s a.x a.up).id
-
-    durable_is : own.place.durable ≡ durable_of a.x
-    durable_is = sym ((facts.views.site s a.x a.up).kept ∙ ap kept_in own.place_is)
-
-    turn_is : turn_at old.catalogue a.x (as_received letter.0) ≡ taken
-    unfolding turn_on
-    turn_is =
-        ap (λ (c : Catalogue). turn_at c a.x (as_received letter.0)) tied.catalogue_is
-        ∙ ap (turn_on catalogue a.x) (ap (λ (id : ℕ). arrival catalogue id (as_received letter.0)) is_id ∙ letter.2.comes)
+    is_id = acting.is_id catalogue k m moments old facts tied s a
 
     host_now : (after : HostValue) × (host_at letter.0.to new.hosts ≡ Some after) × Takes old.catalogue (as_received letter.0) own.host after comes.0
     host_now = comes.1.there own.host own.host_is
 
     done : IsAt (after_turn (node_at a.x (log s)) taken).batches (Some taken.site) host_now.0 × (comes.0 ≡ taken.datagrams)
     done =
-        let was = subst (λ (up : Option SiteState). IsAt (log s) up own.host) up_is own.at in
-        subst (λ (turn : Turn). IsAt (after_turn (node_at a.x (log s)) turn).batches (Some turn.site) host_now.0 × (comes.0 ≡ turn.datagrams)) turn_is
+        let was = subst (λ (up : Option SiteState). IsAt (log s) up own.host) (acting.up_is catalogue k m moments old facts tied s a) own.at in
+        subst (λ (turn : Turn). IsAt (after_turn (node_at a.x (log s)) turn).batches (Some turn.site) host_now.0 × (comes.0 ≡ turn.datagrams)) (acting.turn_is catalogue k m moments old facts tied s a)
         (host_now.2.up (log s) a.x was)
 
     left : (after_step (step catalogue a.x a.given) own.place).durable ≡ durable_of (step catalogue a.x a.given).site
-    left = ap (apply_all effects.records) durable_is ∙ step-folds catalogue a.x a.given
+    left = ap (apply_all effects.records) (acting.durable_is catalogue k m moments old facts tied s a) ∙ step-folds catalogue a.x a.given
 
     own_now : HasSite catalogue (moments ++ m ∷ []) m.after new s letter.0.to
     own_now =

@@ -1,5 +1,5 @@
 -- A host: a node in memory, with the disk that keeps its log.
-use Rattle.std.specs.Prelude.{◌≡◌, ℕ, ◌-◌, ◌^◌, true, List, [], Option, Some, None, IfSome, option_map}
+use Rattle.std.specs.Prelude.{◌≡◌, ◌≢◌, ℕ, ◌-◌, ◌^◌, Bool, true, if◌then◌else◌, List, [], ◌∷◌, ◌++◌, length, Option, Some, None, IfSome, IfNone, option_map}
 use Rattle.vp_model.specs.Types.{LogRecord}
 use Rattle.vp_model.specs.Words.{value_at}
 use Rattle.vp_model.specs.Catalogue.{Catalogue}
@@ -26,9 +26,13 @@ pub record HostValue : Type 0 where
 abbrev pub told : HostValue → DiskState
 told host = state_after host.disk true 0
 
+-- the halves of the log on a disk in memory
+abbrev pub log_on : List Change → Halves
+log_on changes = content_of (changes_of (asked_of changes) changes)
+
 -- the halves of its log
 abbrev pub log_in : HostValue → Halves
-log_in host = content_of (changes_of (asked_of host.disk) host.disk)
+log_in host = log_on host.disk
 
 -- its site with them
 abbrev pub site_log : HostValue → ℕ × List ℕ × List ℕ
@@ -70,6 +74,21 @@ pub record Takes (catalogue : Catalogue) (d : Datagram) (old new : HostValue) (g
   pub up : (batches : List (List LogRecord)) (site : SiteState) → IsAt batches (Some site) old
       → IsAt (after_turn (node_at site batches) (turn_at catalogue site d)).batches (Some (turn_at catalogue site d).site) new × (given ≡ (turn_at catalogue site d).datagrams)
   pub down : (batches : List (List LogRecord)) → IsAt batches None old → IsAt batches None new × (given ≡ [])
+
+-- these batches, with another one behind them or without
+abbrev pub with_batch : Bool → List LogRecord → List (List LogRecord) → List (List LogRecord)
+with_batch kept batch batches = if kept then batches ++ batch ∷ [] else batches
+
+-- So many batches are recovered of a log, and it has them still.
+abbrev pub Counts : ℕ → Halves → Halves → Type 0
+Counts count old new = (batches : List (List LogRecord)) → HaveBatches batches old → (count ≡ length batches) × HaveBatches batches new
+
+-- A datagram comes to it, and its site stops within the append of the turn's batch: it is down then, and the log has the batch or not, as is
+-- answered. Nothing is answered where it was down, or the turn has no batch.
+pub record Stops (catalogue : Catalogue) (d : Datagram) (old new : HostValue) (kept : Option Bool) : Type 0 where
+  pub stays : Stays catalogue old new
+  pub up : (batches : List (List LogRecord)) (site : SiteState) → IsAt batches (Some site) old → IfNone kept ((turn_at catalogue site d).batch ≡ [])
+      × IfSome kept (λ k. ((turn_at catalogue site d).batch ≢ []) × IsAt (with_batch k (turn_at catalogue site d).batch batches) None new)
 
 -- Its site goes down, and the log stays.
 pub record Crashes (catalogue : Catalogue) (old new : HostValue) : Type 0 where

@@ -1,5 +1,5 @@
 -- The nodes of a cluster: what they do of each line of a trace.
-use Rattle.std.specs.Prelude.{◌≡◌, ◌≢◌, ℕ, ◌==◌, List, [], ◌++◌, map, find, length, take, Option, Some, None}
+use Rattle.std.specs.Prelude.{◌≡◌, ◌≢◌, ℕ, ◌==◌, Bool, List, [], ◌++◌, map, find, length, take, Option, Some, None}
 use Rattle.std.specs.List.{AllByRecursion}
 use Rattle.vp_model.specs.Types.{Event, Shown, Line}
 use Rattle.vp_model.specs.Types.event
@@ -8,7 +8,7 @@ use Rattle.vp_model.specs.Words.{value_at}
 use Rattle.vp_model.specs.Catalogue.{Catalogue}
 use Rattle.vp_outside.specs.declared.datagram.Datagram.{Datagram}
 use Rattle.vp_cluster.specs.declared.letter.Letter.{Letter}
-use Rattle.vp_cluster.specs.Hosts.{HostValue, address_of, IsHost, Takes, Crashes, Restarts, Begins}
+use Rattle.vp_cluster.specs.Hosts.{HostValue, address_of, IsHost, Takes, Stops, Crashes, Restarts, Begins}
 use Rattle.vp_cluster.specs.Letters.{letter_of, as_received, sent_from}
 
 -- what contracts see of the nodes: their catalogue, their hosts, and the letters of the messages that were sent so far, in order
@@ -46,6 +46,10 @@ abbrev pub Comes : Letter → ℕ → NodesValue → NodesValue → Type 0
 Comes letter count old new = (given : List Datagram)
     × ChangesAt letter.to (λ host after. Takes old.catalogue (as_received letter) host after given) old.hosts new.hosts
     × (new.letters ≡ old.letters ++ map (sent_from letter.to) (take count given))
+
+-- The letter comes to its receiver, whose site stops within the append of its batch.
+abbrev pub StopsWith : Letter → Option Bool → NodesValue → NodesValue → Type 0
+StopsWith letter kept old new = ChangesAt letter.to (λ host after. Stops old.catalogue (as_received letter) host after kept) old.hosts new.hosts
 
 -- a step with these messages
 abbrev pub Steps : Event → Shown → NodesValue → NodesValue → Type 0

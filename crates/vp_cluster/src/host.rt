@@ -1,12 +1,13 @@
 //! A host: a node in memory, with the disk that keeps its log.
 
 ghost use Rattle.std.specs.Prelude.{◌≡◌, OnErr, OnOk, IfOk, Some};
-ghost use Rattle.vp_cluster.specs.Hosts.{IsHost, Begins, Takes, Crashes, Restarts, log_in, site_log, address_of};
+ghost use Rattle.vp_cluster.specs.Hosts.{IsHost, Begins, Takes, Crashes, Restarts, Stops, log_in, site_log, address_of};
 ghost use Rattle.vp_cluster.specs.Letters.{as_received};
 ghost use Rattle.vp_model.specs.Words.{value_at};
 ghost use Rattle.vp_outside.specs.Disk.{half_of};
 
 use crate::letter::Letter;
+use crate::stopping::{Stop, append_stopped, count_batches};
 use std::alloc::Global;
 use std::marker::Model;
 use vp_base::{NoMemory, Seq, SiteId, Word};
@@ -14,7 +15,7 @@ use vp_catalog::Catalog;
 use vp_node::{Node, NodeEnd};
 use vp_outside::{Datagrams, SureDisk};
 use vp_stable::halves_are_one_log;
-use vp_turns::arrival;
+use vp_turns::{arrival, take};
 
 /// A site with both halves of its log.
 pub type SiteLog = (SiteId, Word, Word);
@@ -115,6 +116,36 @@ impl Host {
         ensures { Crashes catalog.now self.old self.new }
     {
         self.node = None;
+    }
+
+    /// The letter comes, and its site stops within the append that this asks for: it is down then, and its log is as that leaves it. Answers whether
+    /// the batch is there; none where the site was down, or the letter asks for none.
+    pub fn stop(
+        &mut self,
+        catalog: &Catalog,
+        letter: &Letter,
+        stop: &Stop,
+    ) -> Result<Option<bool>, NoMemory>
+        requires host { IsHost catalog.now self.old }
+        ensures stops { IfOk result (Stops catalog.now (as_received letter.now) self.old self.new) }
+        ensures host { IsHost catalog.now self.new }
+        ensures place { address_of self.new ≡ address_of self.old }
+    {
+        let Some(node) = self.node.take() else {
+            return Ok(None);
+        };
+        let alloc = catalog.sites().allocator();
+        let what = arrival(alloc, catalog, self.id, letter.from, &letter.bytes)?;
+        let (site, log) = node.into_parts();
+        let (_, batch, _) = take(site, catalog, what)?;
+        if batch.as_slice().is_empty() {
+            return Ok(None);
+        }
+        let mut left = append_stopped(alloc, log, &batch, &self.disk, stop)?;
+        let before = count_batches(alloc, &mut self.disk)?;
+        let after = count_batches(alloc, &mut left)?;
+        self.disk = left;
+        Ok(Some(after != before))
     }
 
     /// The site starts from its log, where it is down and a life is left. Without memory it stays down.

@@ -2,12 +2,13 @@
 
 ghost use Rattle.std.specs.Prelude.{◌≡◌, ◌==◌, ◌<◌, OnOk, IfOk, IfSome, length, map};
 ghost use Rattle.std.specs.List.{position};
-ghost use Rattle.vp_cluster.specs.Hosts.{Takes, Crashes, Restarts, site_log};
+ghost use Rattle.vp_cluster.specs.Hosts.{Takes, Crashes, Restarts, Stops, site_log};
 ghost use Rattle.vp_cluster.specs.Letters.{as_received};
 ghost use Rattle.vp_cluster.specs.Nodes.{AreBegun, AreHosts, ChangesAt, ChangesOf};
 
 use crate::host::{Host, SiteLog};
 use crate::letter::Letter;
+use crate::stopping::Stop;
 use std::alloc::Global;
 use vp_base::{NoMemory, SiteId};
 use vp_catalog::Catalog;
@@ -55,6 +56,23 @@ pub fn take_at(
     match index_of(hosts, letter.to) {
         None => Ok(Datagrams::new(catalog.sites().allocator())),
         Some(i) => hosts[i].take(catalog, letter),
+    }
+}
+
+/// The letter comes to the host at its port, whose site stops within the append that this asks for.
+pub fn stop_at(
+    hosts: &mut [Host],
+    catalog: &Catalog,
+    letter: &Letter,
+    stop: &Stop,
+) -> Result<Option<bool>, NoMemory>
+    requires { AreHosts catalog.now hosts.old }
+    ensures stops { IfOk result (λ kept. ChangesAt letter.now.to (λ host after. Stops catalog.now (as_received letter.now) host after kept) hosts.old hosts.new) }
+    ensures hosts { AreHosts catalog.now hosts.new }
+{
+    match index_of(hosts, letter.to) {
+        None => Ok(None),
+        Some(i) => hosts[i].stop(catalog, letter, stop),
     }
 }
 

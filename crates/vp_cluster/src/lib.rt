@@ -8,6 +8,9 @@ mod host;
 mod hosts;
 mod letter;
 mod nodes;
+mod stopping;
 
 pub use cluster::{Ran, run};
 pub use host::{Logs, SiteLog};
+pub use nodes::Nodes;
+pub use stopping::Stop;

@@ -4,12 +4,13 @@ ghost use Rattle.std.specs.Prelude.{◌≡◌, OnOk, IfOk, Some, None, length, m
 ghost use Rattle.vp_laws.specs.ShapeLaws.{IsEvent};
 ghost use Rattle.vp_cluster.specs.Hosts.{Crashes, Restarts, site_log};
 ghost use Rattle.vp_cluster.specs.Letters.{letter_of, in_order};
-ghost use Rattle.vp_cluster.specs.Nodes.{Begin, ChangesOf, Comes, Does, Follows};
+ghost use Rattle.vp_cluster.specs.Nodes.{Begin, ChangesOf, Comes, Does, Follows, StopsWith};
 ghost use Rattle.vp_cluster.specs.declared.letter.Letter.{Letter};
 
 use crate::host::{Host, Logs};
-use crate::hosts::{begin_all, crash_at, logs_of, restart_at, take_at};
+use crate::hosts::{begin_all, crash_at, logs_of, restart_at, stop_at, take_at};
 use crate::letter::{Letter, put_letters, to_site};
+use crate::stopping::Stop;
 use std::alloc::Global;
 use std::marker::Model;
 use vp_base::{CopyOf, Event, Line, NoMemory, Shown, SiteId};
@@ -104,6 +105,24 @@ impl Nodes {
         match self.letter(event)? {
             None => Ok(()),
             Some(letter) => self.take(&letter, count),
+        }
+    }
+
+    /// The letter comes, and its site stops within the append that this asks for.
+    fn stop_by(&mut self, letter: &Letter, stop: &Stop) -> Result<Option<bool>, NoMemory>
+        ensures { IfOk result (λ kept. StopsWith letter.now kept self.old self.new) }
+    {
+        stop_at(&mut self.hosts, &self.catalog, letter, stop)
+    }
+
+    /// A step of a site, which stops within the append of its batch. Answers whether the batch is in the log; none where there is none.
+    pub fn stop(&mut self, event: &Event, stop: &Stop) -> Result<Option<bool>, NoMemory>
+        requires { IsEvent event.now }
+        ensures { IfOk result (λ kept. (letter : Letter) → letter_of self.old.catalogue self.old.letters event.now ≡ Some letter → StopsWith letter kept self.old self.new) }
+    {
+        match self.letter(event)? {
+            None => Ok(None),
+            Some(letter) => self.stop_by(&letter, stop),
         }
     }
 

@@ -6,7 +6,7 @@ use Rattle.std.specs.List.{AllByRecursion}
 use Rattle.vp_text.proofs.Items.{all_append}
 use Rattle.vp_model.specs.Types.{Event}
 use Rattle.vp_model.specs.World.{WorldState, Run, Moment, Schedule, start_world, start_run, run_from, run_of, moments_of}
-use Rattle.vp_stops.specs.Stopped.{stop_at, passed_over, pass_over, stopped_world, follow, raised, first_lost, lost, singles, run_in, run_behind}
+use Rattle.vp_stops.specs.Stopped.{stop_at, passed_numbers, pass_over, stopped_world, follow, raised, first_lost, lost, singles, run_in, run_behind}
 use Rattle.vp_stops.specs.Laws.{SameButDelivered, StoppedRunsAreSchedules}
 use Rattle.vp_stops.proofs.Delivered.{IsSingle, steps_to, steps_more, steps_same, run_is}
 use Rattle.vp_stops.proofs.Behind.{Goes, schedule_goes, behind_goes, followed, led_to, single_at, all_taken, all_events}
@@ -61,8 +61,8 @@ module _ (s : Schedule) (step : ℕ) (kept : Bool) (m : Moment) (site : ℕ) (at
 
   begins_same : SameButDelivered (stopped_world s.catalogue kept site m) world_then
   begins_same =
-      subst (λ (w : WorldState). SameButDelivered (pass_over (passed_over kept m) w) world_then) (sym stopped_is)
-      (world_then.delivered ++ passed_over kept m, refl)
+      subst (λ (w : WorldState). SameButDelivered (pass_over (passed_numbers kept m) w) world_then) (sym stopped_is)
+      (world_then.delivered ++ passed_numbers kept m, refl)
 
   pub comes_to : SameButDelivered rest.world (run_of (record { catalogue = s.catalogue; events = whole })).world
   comes_to =

@@ -42,8 +42,8 @@ abbrev pub message_taken : Event → List ℕ
 message_taken (event.Deliver k) = k ∷ []
 message_taken _ = []
 
-abbrev pub passed_over : Bool → Moment → List ℕ
-passed_over kept m = message_taken m.line.event ++ range_with_len (first_lost m) (lost kept m)
+abbrev pub passed_numbers : Bool → Moment → List ℕ
+passed_numbers kept m = message_taken m.line.event ++ range_with_len (first_lost m) (lost kept m)
 
 -- the world where these messages count as delivered too
 abbrev pub pass_over : List ℕ → WorldState → WorldState
@@ -55,7 +55,7 @@ run_in w = record { moments = []; world = w }
 
 abbrev pub stopped_world : Catalogue → Bool → ℕ → Moment → WorldState
 stopped_world catalogue kept site m =
-    pass_over (passed_over kept m) (run_from catalogue 1 (stop_at kept site m.line.event) (run_in m.before)).world
+    pass_over (passed_numbers kept m) (run_from catalogue 1 (stop_at kept site m.line.event) (run_in m.before)).world
 
 -- ---- what follows
 

@@ -1,0 +1,18 @@
+use Rattle.std.proofs.Common.{◌≡◌, ◌∙◌, ◌++◌, ap, subst, length, take, drop, arith}
+use Rattle.std.proofs.Math.Seq.{take-append_seam}
+use Rattle.std.specs.Vec.{with_items}
+use Rattle.vp_cluster.specs.Hosts.{Stops}
+use Rattle.vp_cluster.specs.Letters.{as_received}
+use Rattle.vp_cluster.specs.Nodes.{ChangesAt}
+use Rattle.vp_cluster.proofs.Changing.{answered_so, letter_stops}
+use Rattle.vp_cluster.proofs.nodes.Nodes.stop_by.Goals as goal
+
+pub returns : goal.returns
+returns c =
+    let long : c.self.inside.hosts.len ≡ length c.stop_at.new.hosts = omega (arith, c.stop_at.auto.hosts, c.deref_mut.ensures.len) in
+    let items : (with_items c.self.inside.hosts c.stop_at.new.hosts).items ≡ c.stop_at.new.hosts = ap (λ n. take n (c.stop_at.new.hosts ++ drop (length c.stop_at.new.hosts) c.self.inside.hosts.items)) long ∙ take-append_seam c.stop_at.new.hosts (drop (length c.stop_at.new.hosts) c.self.inside.hosts.items) in
+    answered_so c.stop_at.result _ _
+    (λ kept h. letter_stops c.args.letter.now c.self.inside.catalog c.self.inside.hosts.items c.stop_at.new.hosts c.self.inside.letters.items kept c.args.self.now
+    (record { catalogue = c.self.inside.catalog; hosts = (with_items c.self.inside.hosts c.stop_at.new.hosts).items; letters = c.self.inside.letters.items }) c.self.view_is items
+    (subst (λ hosts. ChangesAt c.args.letter.now.to (λ host after. Stops c.self.inside.catalog (as_received c.args.letter.now) host after kept) hosts c.stop_at.new.hosts) c.deref_mut.ensures.value h))
+    c.stop_at.ensures.stops

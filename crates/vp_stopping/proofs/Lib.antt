@@ -1,0 +1,10 @@
+mod Coming
+mod Crashing
+mod Ending
+mod Front
+mod Going
+mod InPlace
+mod Rejoined
+mod SingleLimits
+mod TiedStops
+mod Walking

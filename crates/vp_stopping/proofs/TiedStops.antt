@@ -1,0 +1,162 @@
+-- What a stop of a node says of the step of a schedule.
+use Rattle.std.proofs.Common.{◌≡◌, ◌≢◌, ◌∙◌, ap, sym, subst, ℕ, Bool, true, false, List, ◌∷◌, [], refl}
+use Rattle.std.specs.Prelude.{Option, Some, None, not, ◌==◌, ◌&&◌, if◌then◌else◌, option_and_then}
+use Rattle.std.specs.Option.{option_map_or}
+use Rattle.vp_catalog.specs.Document.{IsCatalogue}
+use Rattle.vp_model.specs.Types.{LogRecord, Event}
+use Rattle.vp_model.specs.Words.{is_empty}
+use Rattle.vp_model.specs.Catalogue.{Catalogue}
+use Rattle.vp_model.specs.Site.{SiteState}
+use Rattle.vp_model.specs.Step.{step}
+use Rattle.vp_model.specs.Told.{is_step}
+use Rattle.vp_model.specs.Justified.{site_named}
+use Rattle.vp_model.specs.World.{Moment, next, moment}
+use Rattle.vp_laws.proofs.Lists.Numbers.{eq_self}
+use Rattle.vp_outside.specs.Disk.{Halves}
+use Rattle.vp_stable.specs.Halves.{HaveBatches}
+use Rattle.vp_runs.specs.Turns.{Turn}
+use Rattle.vp_kept.specs.Kept.{input_of, forced, forced_at, kept_in as batches_in}
+use Rattle.vp_kept.proofs.Happened.{Acts, Effect, effect, named}
+use Rattle.vp_stops.specs.Stopped.{appends, appender}
+use Rattle.vp_world.specs.Steps.{taker}
+use Rattle.vp_cluster.specs.declared.letter.Letter.{Letter}
+use Rattle.vp_cluster.specs.Letters.{letter_of, as_received}
+use Rattle.vp_cluster.specs.Hosts.{HostValue, IsAt, Stops, with_batch, turn_at, log_in}
+use Rattle.vp_cluster.specs.Nodes.{NodesValue, StopsWith}
+use Rattle.vp_cluster.specs.Clusters.{AreTied}
+use Rattle.vp_cluster.proofs.Acting.{Facts}
+use Rattle.vp_cluster.proofs.Acting as acting
+
+-- what a stop of the nodes says, for a site and for none
+abbrev pub StopsFor : Event → NodesValue → NodesValue → Option Bool → Type 0
+StopsFor e old new kept = (letter : Letter) → letter_of old.catalogue old.letters e ≡ Some letter → StopsWith letter kept old new
+
+-- where a site is named, it may be this one
+appender_by : (catalogue : Catalogue) (m : Moment) (o : Option ℕ) → site_named m.before m.line.event ≡ o → appender catalogue m ≡ option_and_then (λ site. if appends catalogue m site then Some site else None) o
+appender_by catalogue m o e = ap (option_and_then (λ site. if appends catalogue m site then Some site else None)) e
+
+nobody_steps : (catalogue : Catalogue) (m : Moment) → is_step m.line.shown ≡ false → appender catalogue m ≡ None
+nobody_steps catalogue m none = go (site_named m.before m.line.event) refl
+  where
+    never : (site : ℕ) → appends catalogue m site ≡ false
+    never site = ap (λ b. (b && option_map_or (λ named. named == site) (site_named m.before m.line.event) false) && not (is_empty (forced_at catalogue site m))) none
+
+    go : (o : Option ℕ) → site_named m.before m.line.event ≡ o → appender catalogue m ≡ None
+    go None e = appender_by catalogue m None e
+    go (Some site) e = appender_by catalogue m (Some site) e ∙ ap (λ (b : Bool). if b then Some site else None) (never site)
+
+module _ (catalogue : Catalogue) (m : Moment) (s : ℕ) (a : Acts catalogue m s) where
+  abbrev records : List LogRecord
+  records = (step catalogue a.x a.given).effects.records
+
+  names : site_named m.before m.line.event ≡ Some s
+  names = (named m.line.event m.before s a.given a.gives).1
+
+  forced_is : forced_at catalogue s m ≡ records
+  forced_is = ap (λ o. forced catalogue o (input_of m.before m.line.event)) a.up ∙ ap (forced catalogue (Some a.x)) (named m.line.event m.before s a.given a.gives).2
+
+  steps : is_step m.line.shown ≡ true
+  steps = ap is_step a.shown_is
+
+  appends_is : appends catalogue m s ≡ not (is_empty records)
+  appends_is =
+      ap (λ b. (b && option_map_or (λ named. named == s) (site_named m.before m.line.event) false) && not (is_empty (forced_at catalogue s m))) steps
+      ∙ ap (λ o. option_map_or (λ named. named == s) o false && not (is_empty (forced_at catalogue s m))) names
+      ∙ ap (λ b. b && not (is_empty (forced_at catalogue s m))) (eq_self s)
+      ∙ ap (λ r. not (is_empty r)) forced_is
+
+  appender_is : appender catalogue m ≡ (if not (is_empty records) then Some s else None)
+  appender_is = appender_by catalogue m (Some s) names ∙ ap (λ (b : Bool). if b then Some s else None) appends_is
+
+is_there : (records : List LogRecord) → records ≢ [] → not (is_empty records) ≡ true
+is_there [] some = absurd (some refl)
+is_there (r ∷ rest) some = refl
+
+module _ (catalogue : Catalogue) (k : IsCatalogue catalogue) (m : Moment) (moments : List Moment) (old new : NodesValue) (facts : Facts catalogue m) (tied : AreTied catalogue moments m.before old)
+    (is : m ≡ moment m.number m.before m.line.event (next catalogue m.line.event m.before)) where
+  abbrev e : Event
+  e = m.line.event
+
+  -- the step of a site
+  module _ (s : ℕ) (a : Acts catalogue m s) where
+    abbrev letter : Letter
+    letter = (acting.letter catalogue k m moments old facts tied s a).0
+
+    comes : letter_of old.catalogue old.letters e ≡ Some letter
+    comes = ap (λ (c : Catalogue). letter_of c old.letters e) tied.catalogue_is ∙ (acting.letter catalogue k m moments old facts tied s a).1
+
+    stops : (kept : Option Bool) → StopsFor e old new kept → (host : HostValue) × Stops old.catalogue (as_received letter) (acting.own catalogue k m moments old facts tied s a).host host kept
+    stops kept h =
+        let own = acting.own catalogue k m moments old facts tied s a in
+        let there = (h letter comes).there own.host own.host_is in
+        (there.0, there.2)
+
+    turn_batch : (turn_at old.catalogue a.x (as_received letter)).batch ≡ records catalogue m s a
+    turn_batch = ap (λ (turn : Turn). turn.batch) (acting.turn_is catalogue k m moments old facts tied s a)
+
+    at : IsAt (batches_in catalogue s moments) (Some a.x) (acting.own catalogue k m moments old facts tied s a).host
+    at =
+        let own = acting.own catalogue k m moments old facts tied s a in
+        subst (λ (up : Option SiteState). IsAt (batches_in catalogue s moments) up own.host) (acting.up_is catalogue k m moments old facts tied s a) own.at
+
+    none_acts : StopsFor e old new None → appender catalogue m ≡ None
+    none_acts h =
+        let (host, stop) = stops None h in
+        let none = (stop.up (batches_in catalogue s moments) a.x at).0 in
+        appender_is catalogue m s a ∙ ap (λ r. if not (is_empty r) then Some s else None) (sym turn_batch ∙ none)
+
+    abbrev Left : Bool → Type 0
+    Left kept = (appender catalogue m ≡ Some s) × ((log : Halves) × HaveBatches (with_batch kept (forced_at catalogue s m) (batches_in catalogue s moments)) log)
+
+    some_acts : (kept : Bool) → StopsFor e old new (Some kept) → Left kept
+    some_acts kept h =
+        let (host, stop) = stops (Some kept) h in
+        let some = (stop.up (batches_in catalogue s moments) a.x at).1 in
+        let batch = turn_batch ∙ sym (forced_is catalogue m s a) in (
+          appender_is catalogue m s a ∙ ap (λ (b : Bool). if b then Some s else None) (is_there (records catalogue m s a) (λ none. some.0 (turn_batch ∙ none))),
+          (log_in host, subst (λ r. HaveBatches (with_batch kept r (batches_in catalogue s moments)) (log_in host)) batch some.1.has),
+        )
+
+  what : Effect catalogue m
+  what = subst (Effect catalogue) (sym is) (effect catalogue m.number e m.before)
+
+  shows : is_step (next catalogue e m.before).shown ≡ is_step m.line.shown
+  shows = ap (λ (n : Moment). is_step n.line.shown) (sym is)
+
+  taker_by : (o : Option ℕ) → site_named m.before e ≡ o → taker catalogue e m.before ≡ option_and_then (λ site. if is_step m.line.shown then Some site else None) o
+  taker_by o named = ap (option_and_then (λ site. if is_step (next catalogue e m.before).shown then Some site else None)) named ∙ ap (λ b. option_and_then (λ site. if b then Some site else None) o) shows
+
+  taker_acts : (s : ℕ) (a : Acts catalogue m s) → taker catalogue e m.before ≡ Some s
+  taker_acts s a = taker_by (Some s) (names catalogue m s a) ∙ ap (λ b. if b then Some s else None) (steps catalogue m s a)
+
+  -- nobody is named
+  unnamed : site_named m.before e ≡ None → (taker catalogue e m.before ≡ None) × (appender catalogue m ≡ None)
+  unnamed none = (taker_by None none, appender_by catalogue m None none)
+
+  idle : is_step m.line.shown ≡ false → taker catalogue e m.before ≡ None
+  idle none = go (site_named m.before e) refl
+    where
+      go : (o : Option ℕ) → site_named m.before e ≡ o → taker catalogue e m.before ≡ None
+      go None named = taker_by None named
+      go (Some site) named = taker_by (Some site) named ∙ ap (λ b. if b then Some site else None) none
+
+  pub nothing_appended : ((site : ℕ) → taker catalogue e m.before ≡ Some site → StopsFor e old new None) → appender catalogue m ≡ None
+  nothing_appended h = by what
+    where
+      by : Effect catalogue m → appender catalogue m ≡ None
+      by (Effect.acts s a others) = none_acts s a (h s (taker_acts s a))
+      by (Effect.crashes s is sent own others) = (unnamed (ap (site_named m.before) is)).1
+      by (Effect.restarts s is sent own others) = (unnamed (ap (site_named m.before) is)).1
+      by (Effect.stands plain none sent all) = nobody_steps catalogue m none
+
+  pub batch_appended : (site : ℕ) (kept : Bool) → taker catalogue e m.before ≡ Some site → StopsFor e old new (Some kept)
+      → (appender catalogue m ≡ Some site) × ((log : Halves) × HaveBatches (with_batch kept (forced_at catalogue site m) (batches_in catalogue site moments)) log)
+  batch_appended site kept takes h = by what
+    where
+      by : Effect catalogue m → (appender catalogue m ≡ Some site) × ((log : Halves) × HaveBatches (with_batch kept (forced_at catalogue site m) (batches_in catalogue site moments)) log)
+      by (Effect.acts s a others) =
+          let same : s ≡ site = (let z = sym (taker_acts s a) ∙ takes in cc) in
+          subst (λ s. (appender catalogue m ≡ Some s) × ((log : Halves) × HaveBatches (with_batch kept (forced_at catalogue s m) (batches_in catalogue s moments)) log)) same (some_acts s a kept h)
+      by (Effect.crashes s is sent own others) = absurd (let z = sym (unnamed (ap (site_named m.before) is)).0 ∙ takes in cc)
+      by (Effect.restarts s is sent own others) = absurd (let z = sym (unnamed (ap (site_named m.before) is)).0 ∙ takes in cc)
+      by (Effect.stands plain none sent all) = absurd (let z = sym (idle none) ∙ takes in cc)

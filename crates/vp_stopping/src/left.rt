@@ -1,0 +1,87 @@
+//! What is left of a schedule's events, of which one single step is done after the other.
+
+ghost use Rattle.std.specs.Prelude.{◌≡◌, ◌+◌, ◌≤◌, IfOk, OnOk, map};
+ghost use Rattle.std.specs.List.{AllByRecursion};
+ghost use Rattle.vp_stopping.specs.Left.{next_single, left_then, CanRise};
+ghost use Rattle.vp_stops.specs.Stopped.{raised};
+
+use std::alloc::Global;
+use std::collections::VecDeque;
+use std::marker::Model;
+use vp_base::{CopyOf, Event, NoMemory};
+use vp_world::World;
+
+/// The events that are left: of a flow in progress, the deliveries that are.
+#[derive(Drop)]
+pub struct Left {
+    events: VecDeque<Event>,
+}
+
+impl Model for Left {
+    ghost use Rattle.std.specs.Prelude.{List};
+    ghost use Rattle.vp_model.specs.Types.{Event};
+
+    ghost Value = { List Event };
+
+    ghost view = { λ l. l.events.items };
+}
+
+/// The event under the number that its message has where so many messages, from the first of them on, were put before it.
+fn raised(event: Event, first: u32, count: u32) -> Event
+    requires rises { CanRise event }
+    requires few { count ≤ 2000000 }
+    ensures { result ≡ raised first count event }
+{
+    match event {
+        Event::Deliver { k } if first <= k => Event::Deliver { k: k + count },
+        other => other,
+    }
+}
+
+impl Left {
+    /// All of these.
+    pub fn of(alloc: Global, events: &[Event]) -> Result<Left, NoMemory>
+        ensures { IfOk result (λ left. left ≡ events.now) }
+    {
+        let mut left = VecDeque::new(alloc);
+        for event in events {
+            left.push_back(event.copy_of()?)?;
+        }
+        Ok(Left { events: left })
+    }
+
+    /// Takes the next single step in this world; none where no event is left that has one.
+    pub fn next(&mut self, world: &World) -> Result<Option<Event>, NoMemory>
+        ensures next { IfOk result (λ event. event ≡ next_single world.now.world self.old) }
+        ensures left { OnOk result (self.new ≡ left_then world.now.world self.old) }
+    {
+        while let Some(event) = self.events.pop_front() {
+            match event {
+                Event::Flow { count } => {
+                    if count > 0
+                        && let Some(k) = world.flowing()
+                    {
+                        self.events.push_front(Event::Flow { count: count - 1 })?;
+                        return Ok(Some(Event::Deliver { k }));
+                    }
+                }
+                single => return Ok(Some(single)),
+            }
+        }
+        Ok(None)
+    }
+
+    /// The deliveries keep their messages, where so many were put before them, from the first of these on.
+    pub fn raise(&mut self, first: u32, count: u32) -> Result<(), NoMemory>
+        requires rise { AllByRecursion CanRise self.old }
+        requires few { count ≤ 2000000 }
+        ensures { OnOk result (self.new ≡ map (raised first count) self.old) }
+    {
+        let mut events = VecDeque::new(*self.events.allocator());
+        while let Some(event) = self.events.pop_front() {
+            events.push_back(raised(event, first, count))?;
+        }
+        self.events = events;
+        Ok(())
+    }
+}

@@ -1,0 +1,265 @@
+//! The run of a schedule through nodes, one of which stops within a step.
+
+ghost use Rattle.std.specs.Prelude.{◌≡◌, ◌≤◌, ◌+◌, ◌-◌, ◌++◌, ◌∷◌, ℕ, [], IfOk, IsSome, OnOk, Some, length, IfSome, option_to_list};
+ghost use Rattle.std.specs.List.{AllByRecursion, range_with_len};
+ghost use Rattle.vp_laws.specs.ShapeLaws.{IsEvent};
+ghost use Rattle.vp_model.specs.Limits.{world_limits, limit_in, refused};
+ghost use Rattle.vp_model.specs.World.{next, message_at, run_from};
+ghost use Rattle.vp_schedule.specs.Document.{IsSchedule};
+ghost use Rattle.vp_stops.specs.Stopped.{appender, message_taken, pass_over, run_in, singles, stop_at, stopped_world};
+ghost use Rattle.vp_world.specs.Limits.{Ends};
+ghost use Rattle.vp_world.specs.Steps.{taker};
+ghost use Rattle.vp_stopping.specs.Left.{CanRise, left_then, next_single};
+ghost use Rattle.vp_cluster.specs.Nodes.{Follows};
+ghost use Rattle.vp_stopping.specs.RanStopped.{RunsStopped};
+ghost use Rattle.vp_stopping.specs.Singles.{AreBefore, ComesTo, GoesOn, HaveDone, IsBegun, StopsIn, moment_in, run_in_place};
+
+use crate::left::Left;
+use vp_base::{Commits, CopyOf, Event, Events, Line, NoMemory, SiteId};
+use vp_cluster::{Nodes, Stop};
+use vp_schedule::Schedule;
+use vp_world::{World, WorldEnd};
+
+/// What a run comes to that stops within a step: a schedule, with its commits in the order of the steps.
+#[derive(Drop)]
+pub struct Stopped {
+    pub schedule: Schedule,
+    pub commits: Commits,
+}
+
+/// A site that stopped within a step, and whether the batch of that step is in its log.
+#[derive(Clone, Copy)]
+struct StoppedSite {
+    site: SiteId,
+    kept: bool,
+}
+
+/// The message that the event delivers.
+fn message_taken(event: &Event) -> Option<u32>
+    ensures { option_to_list result ≡ message_taken event.now }
+{
+    match event {
+        Event::Deliver { k } => Some(*k),
+        _ => None,
+    }
+}
+
+/// A run of single steps: its world, and what was done.
+#[derive(Drop)]
+struct Steps {
+    world: World,
+    done: Events,
+}
+
+impl Steps {
+    /// Does one step, and answers its line.
+    fn step(self, event: Event) -> Result<(Steps, Line), WorldEnd>
+        ensures done { IfOk result (λ it. HaveDone self.world.catalogue (self.done ++ event ∷ []) (next self.world.catalogue event self.world.world).world it.0) }
+        ensures line { IfOk result (λ it. it.1 ≡ record { event = event; shown = (next self.world.catalogue event self.world.world).shown }) }
+        ensures end { Ends (refused world_limits self.world.catalogue event self.world.world) result }
+    {
+        let Steps { world, mut done } = self;
+        let (world, line) = world.next(&event)?;
+        done.push(event)?;
+        Ok((Steps { world, done }, line))
+    }
+
+    /// The message counts as delivered.
+    fn pass(&mut self, taken: Option<u32>) -> Result<(), NoMemory>
+        requires { IfSome taken (λ k. IsSome (message_at self.old.world.world k)) }
+        ensures { OnOk result (HaveDone self.old.world.catalogue self.old.done (pass_over (option_to_list taken) self.old.world.world) self.new) }
+    {
+        match taken {
+            None => Ok(()),
+            Some(k) => self.world.pass_over(k),
+        }
+    }
+
+    /// The messages behind the first so many are handed to nobody.
+    fn lose(&mut self, before: u32) -> Result<(), NoMemory>
+        requires { before ≤ length self.old.world.world.sent }
+        ensures { OnOk result (HaveDone self.old.world.catalogue self.old.done
+            (pass_over (range_with_len (before + 1) (length self.old.world.world.sent - before)) self.old.world.world) self.new) }
+    {
+        for sent in before..self.world.messages() as u32 {
+            self.world.pass_over(sent + 1)?;
+        }
+        Ok(())
+    }
+
+    /// The site crashes in the step of the event, or behind it where that is kept.
+    fn crash(self, site: SiteId, event: Event, kept: bool) -> Result<Steps, WorldEnd>
+        requires taken { taker self.world.catalogue event self.world.world ≡ Some site }
+        ensures done { IfOk result (HaveDone self.world.catalogue (self.done ++ stop_at kept site event)
+            (run_in_place self.world.catalogue kept site event self.world.world).world) }
+        ensures end { Ends (limit_in world_limits (run_in_place self.world.catalogue kept site event self.world.world).moments) result }
+    {
+        if !kept {
+            let (steps, _) = self.step(Event::Crash { site })?;
+            return Ok(steps);
+        }
+        let (steps, _) = self.step(event)?;
+        let (steps, _) = steps.step(Event::Crash { site })?;
+        Ok(steps)
+    }
+
+    /// The site stops in the step of the event, with its batch in the log or not, and is down. The messages of that step are handed to
+    /// nobody, and the one that it took counts as delivered.
+    fn stop(self, site: SiteId, event: Event, kept: bool) -> Result<Steps, WorldEnd>
+        requires taken { taker self.world.catalogue event self.world.world ≡ Some site }
+        ensures done { IfOk result (HaveDone self.world.catalogue (self.done ++ stop_at kept site event)
+            (stopped_world self.world.catalogue kept site (moment_in self.world.catalogue event self.world.world))) }
+        ensures end { Ends (limit_in world_limits (run_in_place self.world.catalogue kept site event self.world.world).moments) result }
+    {
+        let taken = message_taken(&event);
+        let before = self.world.messages() as u32;
+        let mut steps = self.crash(site, event, kept)?;
+        steps.pass(taken)?;
+        steps.lose(before)?;
+        Ok(steps)
+    }
+
+    /// Does all that is left.
+    fn go_on(self, left: Left) -> Result<Steps, WorldEnd>
+        ensures done { IfOk result (HaveDone self.world.catalogue (self.done ++ singles (run_from self.world.catalogue 1 left (run_in self.world.world)).moments)
+            (run_from self.world.catalogue 1 left (run_in self.world.world)).world) }
+        ensures end { Ends (limit_in world_limits (run_from self.world.catalogue 1 left (run_in self.world.world)).moments) result }
+    {
+        let mut left = left;
+        let mut steps = self;
+        while let Some(event) = left.next(&steps.world)? {
+            (steps, _) = steps.step(event)?;
+        }
+        Ok(steps)
+    }
+}
+
+/// A run through nodes that has come up to some step.
+#[derive(Drop)]
+struct Front {
+    nodes: Nodes,
+    steps: Steps,
+    left: Left,
+}
+
+impl Front {
+    fn begin(schedule: &Schedule) -> Result<Front, NoMemory>
+        ensures { IfOk result (IsBegun schedule.now) }
+    {
+        let catalog = &schedule.catalog;
+        let alloc = catalog.sites().allocator();
+        Ok(Front {
+            nodes: Nodes::begin(catalog.copy_of()?)?,
+            steps: Steps {
+                world: World::new(catalog.copy_of()?)?,
+                done: Events::new(alloc),
+            },
+            left: Left::of(alloc, schedule.events.as_slice())?,
+        })
+    }
+
+    /// Does the step, and so do the nodes.
+    fn step(self, event: Event) -> Result<Front, WorldEnd>
+        requires { IsEvent event }
+        ensures done { IfOk result (λ new. HaveDone self.steps.world.catalogue (self.steps.done ++ event ∷ [])
+            (next self.steps.world.catalogue event self.steps.world.world).world new.steps) }
+        ensures left { IfOk result (λ new. new.left ≡ self.left) }
+        ensures nodes { IfOk result (λ new. Follows (record { event = event; shown = (next self.steps.world.catalogue event self.steps.world.world).shown }) self.nodes new.nodes) }
+        ensures end { Ends (refused world_limits self.steps.world.catalogue event self.steps.world.world) result }
+    {
+        let Front {
+            mut nodes,
+            steps,
+            left,
+        } = self;
+        let (steps, line) = steps.step(event)?;
+        nodes.follow(&line)?;
+        Ok(Front { nodes, steps, left })
+    }
+
+    /// Stops the site that takes the event within that step; none where it appends no batch.
+    fn stop(&mut self, event: &Event, stop: &Stop) -> Result<Option<StoppedSite>, NoMemory>
+        requires { IsEvent event.now }
+        ensures stops { IfOk result (StopsIn event.now self.old self.new) }
+        ensures steps { OnOk result (self.new.steps ≡ self.old.steps) }
+        ensures left { OnOk result (self.new.left ≡ self.old.left) }
+    {
+        match self.steps.world.taker(event)? {
+            None => Ok(None),
+            Some(site) => match self.nodes.stop(event, stop)? {
+                None => Ok(None),
+                Some(kept) => Ok(Some(StoppedSite { site, kept })),
+            },
+        }
+    }
+}
+
+/// The run before a step, with the event of that step; none where there are fewer.
+fn come_to(schedule: &Schedule, step: u32) -> Result<Option<(Front, Event)>, WorldEnd>
+    requires schedule { IsSchedule schedule.now }
+    requires step { 1 ≤ step }
+    ensures { ComesTo schedule.now step result }
+{
+    let mut front = Front::begin(schedule)?;
+    for _ in 1..step {
+        match front.left.next(&front.steps.world)? {
+            None => return Ok(None),
+            Some(event) => front = front.step(event)?,
+        }
+    }
+    match front.left.next(&front.steps.world)? {
+        None => Ok(None),
+        Some(event) => Ok(Some((front, event))),
+    }
+}
+
+/// The site stops in the step of the event, and the run goes on behind that to the end.
+fn go_on(
+    schedule: &Schedule,
+    front: Front,
+    event: Event,
+    at: StoppedSite,
+) -> Result<Stopped, WorldEnd>
+    requires taken { taker front.steps.world.catalogue event front.steps.world.world ≡ Some at.site }
+    requires rise { AllByRecursion CanRise front.left }
+    ensures { (step : ℕ) (h : AreBefore schedule.now step event front.steps front.left) → appender schedule.now.catalogue h.m ≡ Some at.site → GoesOn schedule.now step at.kept result }
+{
+    let Front {
+        nodes: _,
+        steps,
+        mut left,
+    } = front;
+    let before = steps.world.messages() as u32;
+    let steps = steps.stop(at.site, event, at.kept)?;
+    left.raise(before + 1, steps.world.messages() as u32 - before)?;
+    let Steps { world, done } = steps.go_on(left)?;
+    Ok(Stopped {
+        schedule: Schedule {
+            catalog: schedule.catalog.copy_of()?,
+            events: done,
+        },
+        commits: world.journal().copy_of()?,
+    })
+}
+
+/// Runs the schedule through nodes up to a step, and stops the site that takes it within the append of its batch. The site is down then, and
+/// nothing that the step sends is handed over; the run goes on behind that. None where there is no such step, or it appends no batch.
+pub fn run_stopped(schedule: &Schedule, stop: &Stop) -> Result<Option<Stopped>, WorldEnd>
+    requires schedule { IsSchedule schedule.now }
+    requires calls { stop.now.calls ≤ 4 }
+    ensures { RunsStopped schedule.now stop.now.step result }
+{
+    if stop.step == 0 {
+        return Ok(None);
+    }
+    let Some((mut front, event)) = come_to(schedule, stop.step)? else {
+        return Ok(None);
+    };
+    match front.stop(&event, stop)? {
+        None => {
+            front.step(event)?;
+            Ok(None)
+        }
+        Some(at) => Ok(Some(go_on(schedule, front, event, at)?)),
+    }
+}

@@ -1,0 +1,106 @@
+//! A coordinator that stops within its decision.
+
+ghost use Rattle.std.specs.Prelude.{◌≤◌};
+
+use crate::texts::{DECISION, schedule_text};
+use std::alloc::Global;
+use std::test::Fail;
+use vp_base::NoMemory;
+use vp_cluster::Stop;
+use vp_schedule::read;
+use vp_stopping::run_stopped;
+
+const HEAD: &str = "\
+site 1 7001
+site 2 7002
+record x 10 1:1 2:1
+events
+call 1 begin
+call 1 1.1.1 1 write x 11
+deliver 1
+deliver 2
+call 1 1.1.1 2 commit
+deliver 3
+";
+
+/// The decision isn't in the log: the vote is lost.
+const WITHOUT: &str = "\
+crash 1
+crash 1
+restart 1
+tick 1
+deliver 7
+deliver 8
+call 2 begin
+call 2 2.1.1 1 read x
+call 2 2.1.1 2 commit
+";
+
+/// It is, and nobody gets the outcome, which is message 5.
+const WITH: &str = "\
+deliver 4
+crash 1
+crash 1
+restart 1
+tick 1
+deliver 8
+deliver 9
+call 2 begin
+call 2 2.1.1 1 read x
+call 2 2.1.1 2 commit
+";
+
+/// The text of the schedule that the run comes to; nothing where it can't stop there.
+fn comes_to(alloc: Global, stop: &Stop) -> Result<Vec<u8>, NoMemory>
+    requires { stop.now.calls ≤ 4 }
+{
+    let Ok(schedule) = read(alloc, DECISION.as_bytes()) else {
+        return Err(NoMemory);
+    };
+    match run_stopped(&schedule, stop) {
+        Ok(Some(stopped)) => schedule_text(alloc, &stopped.schedule),
+        Ok(None) => Ok(Vec::new(alloc)),
+        Err(_) => Err(NoMemory),
+    }
+}
+
+#[test]
+fn a_decision_is_there_behind_its_last_call(rt: HostRuntime) -> Result<(), Fail> {
+    let alloc = rt.alloc();
+    for (calls, late, rest) in [
+        (0, false, WITHOUT),
+        (0, true, WITHOUT),
+        (1, false, WITHOUT),
+        (1, true, WITHOUT),
+        (2, false, WITHOUT),
+        (2, true, WITHOUT),
+        (3, false, WITHOUT),
+        (3, true, WITH),
+        (4, false, WITH),
+        (4, true, WITH),
+    ] {
+        let mut wanted = Vec::from_slice(alloc, HEAD.as_bytes())?;
+        wanted.extend_from_slice(rest.as_bytes())?;
+        let stop = Stop {
+            step: 7,
+            calls,
+            late,
+        };
+        assert!(rt; comes_to(alloc, &stop)? == wanted, "{calls} {late}");
+    }
+    Ok(())
+}
+
+#[test]
+fn other_steps_append_nothing(rt: HostRuntime) -> Result<(), Fail> {
+    let alloc = rt.alloc();
+    for step in [0, 1, 2, 4, 5, 8, 9, 13, 16, 100] {
+        let stop = Stop {
+            step,
+            calls: 2,
+            late: true,
+        };
+        assert!(rt; comes_to(alloc, &stop)?.is_empty(), "{step}");
+    }
+    Ok(())
+}

@@ -1,0 +1,10 @@
+//! The tests of runs that stop within a step, outside the crate that makes them: a crate with tests is proved twice.
+#![tactic(auto)]
+
+#[cfg(test)]
+mod decision;
+#[cfg(test)]
+mod serial;
+mod texts;
+
+pub use texts::{DECISION, HELD_LOCK, LATE_COMMIT, history_text, schedule_text};
