@@ -7,7 +7,6 @@ ghost use Rattle.vp_site.specs.Starting.{Starts};
 
 use crate::fault::StartFault;
 use crate::messages::on_input;
-use std::alloc::Global;
 use std::marker::Model;
 use vp_base::{CopyOf, Effects, Input, LogRecord, Newest, NoMemory, SiteId, View, ViewId};
 use vp_catalog::Catalog;
@@ -38,15 +37,6 @@ impl Model for Site {
 }
 
 impl Site {
-    /// The site that keeps this.
-    fn keeping(alloc: Global, state: SiteState) -> Result<Site, NoMemory>
-        ensures { IfOk result (λ site. site ≡ state) }
-    {
-        Ok(Site {
-            kept: Box::new(alloc, state)?,
-        })
-    }
-
     fn state(&self) -> &SiteState
         ensures { result.now ≡ self.now }
     {
@@ -66,9 +56,8 @@ impl Site {
             return Err(StartFault::LivesSpent { life: u32::MAX });
         }
         let life = durable.life() + 1;
-        let state = live(catalog, id, durable)?;
-        let site = Site::keeping(catalog.sites().allocator(), state)?;
-        Ok((site, LogRecord::Start { life }))
+        let kept = live(catalog, id, durable)?;
+        Ok((Site { kept }, LogRecord::Start { life }))
     }
 
     /// What the input does to the site. Without memory the site is gone, as in a crash.
@@ -76,11 +65,10 @@ impl Site {
     pub fn step(self, catalog: &Catalog, input: &Input) -> Result<(Site, Effects), NoMemory>
         ensures { IfOk result (λ r. record { site = r.0; effects = r.1 } ≡ step catalog.now self input.now) }
     {
-        let alloc = catalog.sites().allocator();
-        let mut stepped = Stepped::begin(alloc, Box::into_inner(self.kept));
+        let mut stepped = Stepped::begin(catalog.sites().allocator(), self.kept);
         on_input(&mut stepped, catalog, input)?;
         let Stepped { site, effects } = stepped;
-        Ok((Site::keeping(alloc, site)?, effects))
+        Ok((Site { kept: site }, effects))
     }
 
     /// What the site has after a crash at this moment, once its records are forced.
@@ -134,14 +122,14 @@ impl Site {
 
 /// What a site keeps as it begins its next life.
 #[tactic(auto, unfolding(vp_model::specs::Step::start))]
-fn live(catalog: &Catalog, id: SiteId, durable: Durable) -> Result<SiteState, NoMemory>
+fn live(catalog: &Catalog, id: SiteId, durable: Durable) -> Result<Box<SiteState>, NoMemory>
     requires { durable.life < 2 ^ 32 - 1 }
-    ensures { IfOk result (λ site. site ≡ start catalog.now id durable) }
+    ensures { IfOk result (λ kept. kept.value ≡ start catalog.now id durable) }
 {
     let alloc = catalog.sites().allocator();
     let is_opening = durable.life() == 0 && durable.promise() == OPENING;
     let mut locks = Locks::new(alloc);
-    Ok(SiteState {
+    let state = SiteState {
         views: Views::start(catalog, id, durable.promise(), is_opening)?,
         participant: Participant::restore(alloc, &durable, &mut locks)?,
         refresh: Refresh::none(alloc),
@@ -150,5 +138,6 @@ fn live(catalog: &Catalog, id: SiteId, durable: Durable) -> Result<SiteState, No
             locks,
             copies: durable.into_copies(),
         },
-    })
+    };
+    Ok(Box::new(alloc, state)?)
 }
