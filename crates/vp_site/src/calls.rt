@@ -7,7 +7,7 @@ ghost use Rattle.vp_model.specs.Calls.{own_call, on_regroup, on_call};
 use crate::views::invite;
 use vp_base::{Answer, Call, NoMemory};
 use vp_catalog::Catalog;
-use vp_stepped::Stepped;
+use vp_stepped::{SiteState, Stepped};
 
 /// A call that the coordinator does.
 fn own_call(
@@ -18,7 +18,7 @@ fn own_call(
 ) -> Result<(), NoMemory>
     ensures { OnOk result (stepped.new ≡ by_coordinator (own_call catalog.now port call.now) stepped.old) }
 {
-    let site = &mut stepped.site;
+    let site: &mut SiteState = &mut stepped.site;
     let promise = site.views.promise();
     site.coordinator.call(
         catalog,

@@ -9,7 +9,7 @@ use crate::tick::{on_probe, on_tick};
 use crate::views::{on_accept, on_invite, on_probe_message, on_stale, on_view_commit};
 use vp_base::{CopyOf, Input, Message, NoMemory, SiteId, View};
 use vp_catalog::Catalog;
-use vp_stepped::{Prepare, RefreshAnswer, Request, Stepped};
+use vp_stepped::{Prepare, RefreshAnswer, Request, SiteState, Stepped};
 
 /// What a message does to the transactions of this site.
 fn answered(
@@ -20,7 +20,7 @@ fn answered(
 ) -> Result<(), NoMemory>
     ensures { OnOk result (stepped.new ≡ answered catalog.now from message.now stepped.old) }
 {
-    let site = &mut stepped.site;
+    let site: &mut SiteState = &mut stepped.site;
     site.coordinator.on_answer(catalog, &mut site.here, from, message, &mut stepped.effects)
 }
 

@@ -22,10 +22,10 @@ use vp_views::Views;
 /// The identifier of the view that all sites begin in.
 const OPENING: ViewId = ViewId { number: 0, site: 0 };
 
-/// A site that is up.
+/// A site that is up. What it keeps stands in a box, so that little is moved where a site goes from call to call.
 #[derive(Drop)]
 pub struct Site {
-    state: SiteState,
+    kept: Box<SiteState>,
 }
 
 impl Model for Site {
@@ -33,10 +33,16 @@ impl Model for Site {
 
     ghost Value = { State };
 
-    ghost view = { λ s. s.state };
+    ghost view = { λ s. s.kept.value };
 }
 
 impl Site {
+    fn state(&self) -> &SiteState
+        ensures { result.now ≡ self.now }
+    {
+        &self.kept
+    }
+
     /// The site begins its next life with what its log has kept. The record is to be forced to the log before the site does
     /// anything else.
     pub fn start(
@@ -50,8 +56,8 @@ impl Site {
             return Err(StartFault::LivesSpent { life: u32::MAX });
         }
         let life = durable.life() + 1;
-        let state = live(catalog, id, durable)?;
-        Ok((Site { state }, LogRecord::Start { life }))
+        let kept = live(catalog, id, durable)?;
+        Ok((Site { kept }, LogRecord::Start { life }))
     }
 
     /// What the input does to the site. Without memory the site is gone, as in a crash.
@@ -59,70 +65,71 @@ impl Site {
     pub fn step(self, catalog: &Catalog, input: &Input) -> Result<(Site, Effects), NoMemory>
         ensures { IfOk result (λ r. record { site = r.0; effects = r.1 } ≡ step catalog.now self input.now) }
     {
-        let mut stepped = Stepped::begin(catalog.sites().allocator(), self.state);
+        let mut stepped = Stepped::begin(catalog.sites().allocator(), self.kept);
         on_input(&mut stepped, catalog, input)?;
         let Stepped { site, effects } = stepped;
-        Ok((Site { state: site }, effects))
+        Ok((Site { kept: site }, effects))
     }
 
     /// What the site has after a crash at this moment, once its records are forced.
     pub fn durable(&self) -> Result<Durable, NoMemory>
         ensures { IfOk result (λ d. d ≡ durable_of self.now) }
     {
+        let state = self.state();
         Ok(Durable::new(
-            self.state.views.promise(),
-            self.state.coordinator.life(),
-            self.state.here.copies.copy_of()?,
-            self.state.participant.in_doubt()?,
-            self.state.coordinator.decisions()?,
+            state.views.promise(),
+            state.coordinator.life(),
+            state.here.copies.copy_of()?,
+            state.participant.in_doubt()?,
+            state.coordinator.decisions()?,
         ))
     }
 
     pub fn id(&self) -> SiteId
         ensures { result ≡ self.now.id }
     {
-        self.state.coordinator.id()
+        self.state().coordinator.id()
     }
 
     /// The number of its life, which its start forces to the log.
     pub fn life(&self) -> u32
         ensures { result ≡ self.now.life }
     {
-        self.state.coordinator.life()
+        self.state().coordinator.life()
     }
 
     /// The view that the site holds.
     pub fn held(&self) -> Option<&View>
         ensures { option_copied result ≡ self.now.held }
     {
-        self.state.views.held()
+        self.state().views.held()
     }
 
     /// The identifier that the site invites to.
     pub fn inviting(&self) -> Option<ViewId>
         ensures { result ≡ option_map (λ inviting. inviting.0) self.now.inviting }
     {
-        self.state.views.inviting()
+        self.state().views.inviting()
     }
 
     /// The newest live transaction, where there is one.
     pub fn newest(&self) -> Option<Newest>
         ensures { result ≡ newest self.now.live }
     {
-        self.state.coordinator.newest()
+        self.state().coordinator.newest()
     }
 }
 
 /// What a site keeps as it begins its next life.
 #[tactic(auto, unfolding(vp_model::specs::Step::start))]
-fn live(catalog: &Catalog, id: SiteId, durable: Durable) -> Result<SiteState, NoMemory>
+fn live(catalog: &Catalog, id: SiteId, durable: Durable) -> Result<Box<SiteState>, NoMemory>
     requires { durable.life < 2 ^ 32 - 1 }
-    ensures { IfOk result (λ site. site ≡ start catalog.now id durable) }
+    ensures { IfOk result (λ kept. kept.value ≡ start catalog.now id durable) }
 {
     let alloc = catalog.sites().allocator();
     let is_opening = durable.life() == 0 && durable.promise() == OPENING;
     let mut locks = Locks::new(alloc);
-    Ok(SiteState {
+    let state = SiteState {
         views: Views::start(catalog, id, durable.promise(), is_opening)?,
         participant: Participant::restore(alloc, &durable, &mut locks)?,
         refresh: Refresh::none(alloc),
@@ -131,5 +138,6 @@ fn live(catalog: &Catalog, id: SiteId, durable: Durable) -> Result<SiteState, No
             locks,
             copies: durable.into_copies(),
         },
-    })
+    };
+    Ok(Box::new(alloc, state)?)
 }

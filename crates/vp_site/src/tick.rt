@@ -30,7 +30,7 @@ fn fix_view(stepped: &mut Stepped, catalog: &Catalog) -> Result<(), NoMemory>
 fn time_out_calls(stepped: &mut Stepped) -> Result<(), NoMemory>
     ensures { OnOk result (stepped.new ≡ by_coordinator (λ at. time_out_calls at.id) stepped.old) }
 {
-    let site = &mut stepped.site;
+    let site: &mut SiteState = &mut stepped.site;
     site.coordinator.tick(&mut site.here, &mut stepped.effects)
 }
 

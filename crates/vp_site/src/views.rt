@@ -12,14 +12,14 @@ use vp_base::{NoMemory, SiteId, View, ViewId};
 use vp_catalog::Catalog;
 use vp_lists::view_comes_before;
 use vp_refresh::Refresh;
-use vp_stepped::Stepped;
+use vp_stepped::{SiteState, Stepped};
 use vp_views::InviteFault;
 
 /// The undecided transactions of this site are aborted.
 fn abandon(stepped: &mut Stepped) -> Result<(), NoMemory>
     ensures { OnOk result (stepped.new ≡ by_coordinator (λ at. abandon at.id) stepped.old) }
 {
-    let site = &mut stepped.site;
+    let site: &mut SiteState = &mut stepped.site;
     site.coordinator.leave(&mut site.here, &mut stepped.effects)
 }
 
@@ -28,7 +28,7 @@ fn abandon(stepped: &mut Stepped) -> Result<(), NoMemory>
 fn drop_view(stepped: &mut Stepped)
     ensures { stepped.new ≡ drop_view stepped.old }
 {
-    let site = &mut stepped.site;
+    let site: &mut SiteState = &mut stepped.site;
     site.participant.leave(&mut site.here.locks);
     site.refresh = Refresh::none(site.here.copies.allocator());
     site.views.leave();

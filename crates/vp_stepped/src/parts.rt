@@ -13,6 +13,7 @@ ghost use Rattle.vp_participant.specs.Refusals.{lock_refusal, lock_refused};
 ghost use Rattle.vp_stepped.specs.Requests.{asked};
 ghost use Rattle.vp_stepped.specs.Ballots.{told};
 
+use crate::state::SiteState;
 use crate::stepped::Stepped;
 use vp_base::{
     CallNo, LogRecord, Message, NoMemory, Obstacle, RecId, Recs, SiteId, TxnId, ViewId, Writes,
@@ -80,7 +81,7 @@ impl Stepped {
         ensures granted { OnOk result (self.new ≡ self.old |> change_locks (with_lock request.now.rec exclusive (owner.Txn request.now.txn)) |> change_participant (with_part request.now.txn request.now.view)) }
         ensures refused { IfSome (lock_refused result) (λ why. self.new ≡ self.old) }
     {
-        let site = &mut self.site;
+        let site: &mut SiteState = &mut self.site;
         let locks = &mut site.here.locks;
         let held = site.views.held();
         let Request { txn, view, rec, .. } = *request;
@@ -174,7 +175,7 @@ impl Stepped {
     pub fn on_prepare(&mut self, from: SiteId, asked: &Prepare<'_>) -> Result<(), NoMemory>
         ensures { OnOk result (self.new ≡ on_prepare from asked.now.txn asked.now.view asked.now.number asked.now.reads.now asked.now.writes.now self.old) }
     {
-        let site = &mut self.site;
+        let site: &mut SiteState = &mut self.site;
         let voted = site.participant.prepare(
             &site.here.locks,
             site.views.held(),
@@ -201,7 +202,7 @@ impl Stepped {
         ensures part { OnOk result (self.new ≡ self.old |> change_participant (with_ended (is_some self.old.site.held) txn) |> change_locks (without_owner (owner.Txn txn))) }
         ensures doubt { IfOk result (λ settled. settled.doubt ≡ doubt_ended txn self.old.site.doubts) }
     {
-        let site = &mut self.site;
+        let site: &mut SiteState = &mut self.site;
         let held = site.views.held();
         site.participant
             .outcome(&mut site.here.locks, held, txn, commit)
@@ -217,7 +218,8 @@ impl Stepped {
         ensures { OnOk result (self.new ≡ end_doubt txn commit (record { txn = txn; view = doubt.now.0; writes = doubt.now.1 }) self.old) }
     {
         if commit {
-            write_copies(&mut self.site.here.copies, &doubt.0, doubt.1.as_slice())?;
+            let site: &mut SiteState = &mut self.site;
+            write_copies(&mut site.here.copies, &doubt.0, doubt.1.as_slice())?;
         }
         self.force(LogRecord::Outcome { txn, commit })
     }

@@ -7,6 +7,7 @@ ghost use Rattle.vp_model.specs.Refresh.{is_doubtful, is_open, refreshing_of, un
 ghost use Rattle.vp_model.specs.Views.{usable_here, refresh_here};
 ghost use Rattle.vp_model.specs.Messages.{on_refresh_request, on_refresh_answer};
 
+use crate::state::SiteState;
 use crate::stepped::Stepped;
 use std::mem;
 use vp_base::{
@@ -28,14 +29,14 @@ impl Stepped {
     fn is_doubtful(&self, rec: RecId) -> bool
         ensures { result ≡ is_doubtful self.now.site rec }
     {
-        self.site.participant.doubts(rec)
+        self.site().participant.doubts(rec)
     }
 
     /// The other holders in the view that have not answered for the copy under refresh.
     fn unanswered(&self, catalog: &Catalog, rec: RecId) -> Result<Option<Sites>, NoMemory>
         ensures { IfOk result (λ sites. sites ≡ option_map (unanswered catalog.now self.now.site) (refreshing_of rec self.now.site.refresh)) }
     {
-        let site = &self.site;
+        let site = self.site();
         site.refresh
             .missing(catalog, self.id(), site.views.held(), rec)
     }
@@ -68,7 +69,8 @@ impl Stepped {
         if !view_comes_before(&own.date, &best.date) {
             return Ok(());
         }
-        replace_copy(&mut self.site.here.copies, rec, &best)?;
+        let site: &mut SiteState = &mut self.site;
+        replace_copy(&mut site.here.copies, rec, &best)?;
         self.force(LogRecord::Copy { rec, stored: best })
     }
 
@@ -77,15 +79,16 @@ impl Stepped {
     fn unlist(&mut self, rec: RecId)
         ensures { self.new ≡ unlist rec self.old }
     {
-        self.site.here.locks.unguard(rec);
-        self.site.refresh.unlist(rec);
+        let site: &mut SiteState = &mut self.site;
+        site.here.locks.unguard(rec);
+        site.refresh.unlist(rec);
     }
 
     /// The refresh of the copy ends with the newest of the own copy and the answers.
     fn end_refresh(&mut self, rec: RecId, own: &Stored) -> Result<(), NoMemory>
         ensures { OnOk result (self.new ≡ for_some (refreshing_of rec self.old.site.refresh) (λ r o. o |> take_newer rec own.now (newest own.now r.answers) |> unlist rec) self.old) }
     {
-        match self.site.refresh.newest(rec, own)? {
+        match self.site().refresh.newest(rec, own)? {
             None => Ok(()),
             Some(best) => {
                 self.take_newer(rec, own, best)?;
@@ -125,7 +128,7 @@ impl Stepped {
         ensures { OnOk result (self.new ≡ start_refresh catalog.now view.now rec self.old) }
     {
         let id = self.id();
-        let site = &mut self.site;
+        let site: &mut SiteState = &mut self.site;
         site.here.locks.guard(rec)?;
         site.refresh.begin(rec)?;
         let others = catalog.other_holders(id, site.views.held(), rec)?;
@@ -151,14 +154,14 @@ impl Stepped {
         ensures { result ≡ is_open catalog.now self.now.site rec }
     {
         let none = Sites::new(catalog.sites().allocator());
-        catalog.accessible(rec, members_of(self.site.views.held(), &none))
+        catalog.accessible(rec, members_of(self.site().views.held(), &none))
     }
 
     /// The records with a copy here that may be used in the held view.
     fn usable_here(&self, catalog: &Catalog) -> Result<Vec<RecId>, NoMemory>
         ensures { IfOk result (λ recs. recs.items ≡ usable_here catalog.now self.now.site) }
     {
-        let copies = &self.site.here.copies;
+        let copies = &self.site().here.copies;
         Ok(
             copies
                 .as_slice()
@@ -212,7 +215,8 @@ impl Stepped {
         if !self.holds_view(answer.view) || !self.awaits(catalog, rec, from)? {
             return Ok(());
         }
-        self.site.refresh.on_answer(from, rec, answer.stored)?;
+        let site: &mut SiteState = &mut self.site;
+        site.refresh.on_answer(from, rec, answer.stored)?;
         self.settle(catalog, rec)
     }
 }

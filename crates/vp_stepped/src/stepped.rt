@@ -13,10 +13,10 @@ use vp_base::{
 };
 use vp_lists::value_at;
 
-/// A site with what its step has given so far. After want of memory both may only be dropped.
+/// A site, in its box, with what its step has given so far. After want of memory both may only be dropped.
 #[derive(Drop)]
 pub struct Stepped {
-    pub site: SiteState,
+    pub site: Box<SiteState>,
     pub effects: Effects,
 }
 
@@ -25,12 +25,12 @@ impl Model for Stepped {
 
     ghost Value = { SteppedState };
 
-    ghost view = { λ o. record { site = o.site; effects = o.effects } };
+    ghost view = { λ o. record { site = o.site.value; effects = o.effects } };
 }
 
 impl Stepped {
-    pub fn begin(alloc: Global, site: SiteState) -> Stepped
-        ensures { result ≡ begin_step site }
+    pub fn begin(alloc: Global, site: Box<SiteState>) -> Stepped
+        ensures { result ≡ begin_step site.value }
     {
         Stepped {
             site,
@@ -38,10 +38,16 @@ impl Stepped {
         }
     }
 
+    pub(crate) fn site(&self) -> &SiteState
+        ensures { result.now ≡ self.now.site }
+    {
+        &self.site
+    }
+
     pub fn id(&self) -> SiteId
         ensures { result ≡ self.now.site.id }
     {
-        self.site.coordinator.id()
+        self.site().coordinator.id()
     }
 
     /// The record is to be forced to the log.
@@ -69,14 +75,14 @@ impl Stepped {
     pub fn held_id(&self) -> Option<ViewId>
         ensures { result ≡ held_id self.now.site }
     {
-        self.site.views.held().map(|view| view.id)
+        self.site().views.held().map(|view| view.id)
     }
 
     /// The held view.
     pub fn held_view(&self) -> Result<Option<View>, NoMemory>
         ensures { IfOk result (λ held. held ≡ self.now.site.held) }
     {
-        match self.site.views.held() {
+        match self.site().views.held() {
             None => Ok(None),
             Some(view) => Ok(Some(view.copy_of()?)),
         }
@@ -85,7 +91,7 @@ impl Stepped {
     pub fn holds_view(&self, id: ViewId) -> bool
         ensures { result ≡ holds_view self.now.site id }
     {
-        match self.site.views.held() {
+        match self.site().views.held() {
             None => false,
             Some(view) => view.id == id,
         }
@@ -95,7 +101,7 @@ impl Stepped {
     pub fn copy_here(&self, rec: RecId) -> Result<Option<Stored>, NoMemory>
         ensures { IfOk result (λ stored. stored ≡ value_at rec self.now.site.copies) }
     {
-        match value_at(self.site.here.copies.as_slice(), rec) {
+        match value_at(self.site().here.copies.as_slice(), rec) {
             None => Ok(None),
             Some(stored) => Ok(Some(stored.copy_of()?)),
         }

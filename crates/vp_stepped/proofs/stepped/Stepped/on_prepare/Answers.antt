@@ -8,6 +8,6 @@ returns-in-Ok c =
     let asked = c.args.asked.now in
     let row =
     prepare_row c.args.from asked.view asked.number asked.reads.now asked.writes.now c.args.self.now asked.txn c.in-Ok.voted c.prepare-voted.new.self
-    (rw (← c.self.view_is, ← c.site.view_is) (search rules))
-    (rw (← c.self.view_is, ← c.site.view_is) (search rules)) in
-    subst (λ (o : Stepped). OnOk c.cast.result (c.cast.new.self ≡ o)) row (rw (← c.self.view_is, ← c.site.view_is, ← c.site-inside.view_is) c.cast.ensures)
+    (search rules)
+    (search rules) in
+    subst (λ (o : Stepped). OnOk c.cast.result (c.cast.new.self ≡ o)) row (search rules)
