@@ -15,6 +15,10 @@ CountsTaken before now result = MatchResult result (λ n. now ≡ count_after be
 abbrev pub TellsEnd : {E : Type 0} → Bool → Result ℕ E → List ℕ → Type 0
 TellsEnd ended result buf = IfOk result (λ n. 0 < length buf → (IsTrue ended ↔ (n ≡ 0)))
 
+-- a call that asked for no byte or got no answer leaves what was found before
+abbrev pub KeepsEnd : {E : Type 0} → Bool → Bool → Result ℕ E → List ℕ → Type 0
+KeepsEnd before ended result buf = MatchResult result (λ _. length buf ≡ 0 → ended ≡ before) (λ _. ended ≡ before)
+
 -- ---- what a source tells
 
 -- The counts stand still at 2^64 - 1.
@@ -45,6 +49,7 @@ pub record Takes {E : Type 0} (buf : List ℕ) (old new : SourceState) (result :
   pub bytes : ReadConsumes old.left new.left result buf
   pub count : CountsTaken old.taken new.taken result
   pub end : TellsEnd new.ended result buf
+  pub kept_end : KeepsEnd old.ended new.ended result buf
   pub cause : HasCause old.faults new.faults result
 
 -- ---- what the answers of a whole input say

@@ -1,6 +1,6 @@
 //! Readers and writers of the standard library as sources and sinks.
 
-ghost use Rattle.std.specs.Prelude.{◌≡◌, IsErrOf};
+ghost use Rattle.std.specs.Prelude.{◌≡◌, false, IsErrOf};
 ghost use Rattle.vp_outside.specs.Output.{Puts};
 ghost use Rattle.vp_outside.specs.declared.sink.OutFault.TheVariants.{NoMemory as OutOfMemory};
 
@@ -21,6 +21,7 @@ impl<R: Read> Reading<R> {
     pub fn new(inner: R) -> Reading<R>
         ensures left { (⟦<Reading<R> as Source>⟧.state result).left ≡ R.remaining inner }
         ensures taken { (⟦<Reading<R> as Source>⟧.state result).taken ≡ 0 }
+        ensures ended { (⟦<Reading<R> as Source>⟧.state result).ended ≡ false }
         ensures faults { (⟦<Reading<R> as Source>⟧.state result).faults ≡ 0 }
     {
         Reading {

@@ -63,6 +63,7 @@ impl TextSource {
     pub fn new(bytes: Vec<u8>, failing: Vec<u64>) -> TextSource
         ensures left { (⟦<TextSource as Source>⟧.state result).left ≡ Some bytes.items }
         ensures taken { (⟦<TextSource as Source>⟧.state result).taken ≡ 0 }
+        ensures ended { (⟦<TextSource as Source>⟧.state result).ended ≡ false }
         ensures plan { result.plan ≡ unstarted failing }
         ensures most { result.most ≡ usize.MAX }
     {
@@ -110,6 +111,7 @@ impl SureSource {
     pub fn new(bytes: Vec<u8>) -> SureSource
         ensures left { (⟦<SureSource as Source>⟧.state result).left ≡ Some bytes.items }
         ensures taken { (⟦<SureSource as Source>⟧.state result).taken ≡ 0 }
+        ensures ended { (⟦<SureSource as Source>⟧.state result).ended ≡ false }
     {
         SureSource {
             text: Text::new(bytes),

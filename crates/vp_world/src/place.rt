@@ -57,7 +57,7 @@ fn newly_agreed(inviting: Option<ViewId>, held: Option<&View>) -> Result<Option<
 impl Place {
     /// The site in its first life.
     #[tactic(auto, unfolding(vp_model::specs::Durable::apply))]
-    pub fn start(catalog: &Catalog, id: SiteId) -> Result<Place, StartFault>
+    pub fn start(catalog: &Catalog, id: SiteId) -> Result<Place, NoMemory>
         ensures { IfOk result (λ place. place ≡ start_place catalog.now id) }
     {
         let mut place = Place {
@@ -65,8 +65,12 @@ impl Place {
             durable: Durable::empty(catalog.copies(id)?),
             up: None,
         };
-        place.begin_life(catalog)?;
-        Ok(place)
+        match place.begin_life(catalog) {
+            Ok(()) => Ok(place),
+            // a first life is never the last one
+            Err(StartFault::LivesSpent { .. }) => unreachable!(),
+            Err(StartFault::NoMemory) => Err(NoMemory),
+        }
     }
 
     pub fn id(&self) -> SiteId

@@ -15,7 +15,6 @@ use std::alloc::Global;
 use std::marker::Model;
 use vp_base::{Input, Newest, NoMemory, Shown, SiteId};
 use vp_catalog::Catalog;
-use vp_site::StartFault;
 
 /// The sites of the world, in the order of the catalogue.
 #[derive(Drop)]
@@ -38,16 +37,9 @@ fn start_all(alloc: Global, catalog: &Catalog) -> Result<Vec<Place>, NoMemory>
 {
     let mut places = Vec::new(alloc);
     for site in catalog.sites().as_slice() {
-        places.push(start_place(catalog, *site)?)?;
+        places.push(Place::start(catalog, *site)?)?;
     }
     Ok(places)
-}
-
-fn start_place(catalog: &Catalog, site: SiteId) -> Result<Place, NoMemory>
-    ensures { IfOk result (λ place. place ≡ start_place catalog.now site) }
-{
-    // a first life is never the last one
-    Place::start(catalog, site).map_err(|_| NoMemory)
 }
 
 fn place_at(places: &[Place], id: SiteId) -> Option<usize>

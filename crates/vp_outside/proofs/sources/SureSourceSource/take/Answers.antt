@@ -13,5 +13,6 @@ returns c =
       bytes = rw (gave.bytes, gave.at) next;
       count = grind (arith, common_steps);
       end = grind (arith, common_steps);
+      kept_end = grind (arith, common_steps);
       cause = grind (arith, common_steps);
     }
