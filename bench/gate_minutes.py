@@ -5,10 +5,12 @@ gate_minutes.py [FOLDER [WORD ..]]
 
 Runs `rt ci WORD ..` in FOLDER (here, if none is named) and looks at its processes twice a second. What an earlier run kept is not done
 again and so costs nothing: the table is whole where nothing was kept, or where a WORD is --anew. The run's own output goes to standard
-error, the table, in Markdown, to standard output; so it is where this script is ended before the run. The status is the run's.
+error, the table, in Markdown, to standard output, and behind it each edit with its seconds, the dearest first; so it is where this script
+is ended before the run. The status is the run's. Other work on the machine makes each job dearer: leave the machine to the run.
 """
 
 import os
+import pathlib
 import re
 import signal
 import subprocess
@@ -50,7 +52,42 @@ def job_of(number):
     return crate, "tests" if "--test" in words else "check"
 
 
-def look(top, jobs, known):
+def edited(edit):
+    """The files of its crate that an edit changes, with what it makes of them."""
+    texts, file, old = {}, "", ""
+    for line in edit.read_text(encoding="utf-8").splitlines():
+        word, _, rest = line.partition(":")
+        if word == "file":
+            file = rest.strip()
+            texts.setdefault(file, (edit.parent.parent / file).read_text(encoding="utf-8"))
+        elif word == "old":
+            old = rest.removeprefix(" ")
+        elif word == "new":
+            texts[file] = texts[file].replace(old, rest.removeprefix(" "))
+    return texts
+
+
+def edits_below(folder):
+    """The edits of each crate, by its name: the name of each with what it makes of which files."""
+    found = {}
+    for edit in sorted(pathlib.Path(folder, "crates").glob("*/must-fail/*.edit")):
+        found.setdefault(edit.parts[-3], []).append((edit.stem, edited(edit)))
+    return found
+
+
+def edit_of(number, crate, edits):
+    """The edit that a process of the prover tries."""
+    try:
+        room = pathlib.Path(os.readlink(f"/proc/{number}/cwd"))
+        for name, texts in edits.get(crate, ()):
+            if all((room / file).read_text(encoding="utf-8") == text for file, text in texts.items()):
+                return name
+    except OSError:
+        pass
+    return "(none)"
+
+
+def look(top, jobs, known, edits):
     """Notes what each job below the process `top` has used so far."""
     live = processes()
     below = {}
@@ -62,7 +99,8 @@ def look(top, jobs, known):
 
     def walk(number):
         if number not in known:
-            known[number] = job_of(number)
+            job = job_of(number)
+            known[number] = job and (*job, edit_of(number, job[0], edits) if job[1] == "edits" else "")
         if known[number]:
             key = (*known[number], number)
             jobs[key] = max(jobs.get(key, 0), used(number))
@@ -78,7 +116,7 @@ def look(top, jobs, known):
 def table(jobs):
     """The table, the dearest crate first, with a line of sums."""
     sums, dearest = {}, {}
-    for (crate, kind, _), seconds in jobs.items():
+    for (crate, kind, _, _), seconds in jobs.items():
         sums.setdefault(crate, dict.fromkeys(KINDS, 0.0))[kind] += seconds
         dearest[crate, kind] = max(dearest.get((crate, kind), 0.0), seconds)
     lines = ["| Crate | First check | Tests | Edits | Together | Dearest edit, in seconds |", "|---|---|---|---|---|---|"]
@@ -90,18 +128,24 @@ def table(jobs):
     return "\n".join(lines)
 
 
+def list_of_edits(jobs):
+    """A line for each try of an edit, with its seconds."""
+    tries = sorted(((seconds, crate, edit) for (crate, kind, edit, _), seconds in jobs.items() if kind == "edits"), reverse=True)
+    return "\n".join(f"{seconds:.0f} {crate} {edit}" for seconds, crate, edit in tries)
+
+
 def main():
     folder, words = (sys.argv[1:2] or ["."])[0], sys.argv[2:]
-    jobs, known = {}, {}
+    jobs, known, edits = {}, {}, edits_below(folder)
     signal.signal(signal.SIGTERM, signal.default_int_handler)
     with subprocess.Popen(["rt", "ci", *words], cwd=folder, stdin=subprocess.DEVNULL, stdout=sys.stderr) as run:
         try:
             while run.poll() is None:
-                look(run.pid, jobs, known)
+                look(run.pid, jobs, known, edits)
                 time.sleep(0.5)
         except KeyboardInterrupt:
             run.terminate()
-        print(table(jobs))
+        print(table(jobs), list_of_edits(jobs), sep="\n\n")
     return run.returncode
 
 
