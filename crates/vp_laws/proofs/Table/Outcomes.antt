@@ -1,7 +1,7 @@
 -- A step forces the outcome of a transaction only as that outcome comes, at a site that is in doubt about it; and a doubt ends only so.
-use Rattle.std.proofs.Common.{◌≡◌, ◌⊎◌, ◌∙◌, ap, sym, subst, ℕ, Bool, true, false, cond, List, [], ◌∷◌, ◌++◌, refl, arith, inl, inr, ⊎_elim}
+use Rattle.std.proofs.Common.{◌≡◌, ◌⊎◌, ◌∙◌, ap, sym, subst, ℕ, Bool, true, false, cond, List, [], ◌∷◌, ◌++◌, refl, inl, inr, ⊎_elim}
 use Rattle.std.specs.Prelude.{Option, Some, None, find, not}
-use Rattle.vp_model.specs.Types.{ViewId, TxnId, Stored, LogRecord, Input, Part, Live, Ending, Refreshing, Doubt}
+use Rattle.vp_model.specs.Types.{TxnId, Stored, LogRecord, Input, Part, Live, Ending, Refreshing, Doubt}
 use Rattle.vp_base.specs.declared.site.Ending.TheVariants.{Committed}
 use Rattle.vp_model.specs.Types.entry
 use Rattle.vp_model.specs.Types.input
@@ -14,7 +14,7 @@ use Rattle.vp_model.specs.Transactions.{last_changes, entry_of, writes_held, wri
 use Rattle.vp_model.specs.Refresh.{take_newer, newest, unlist, end_refresh, start_refresh}
 use Rattle.vp_model.specs.Views.{has_doubt, drop_view, start_inviting, hold}
 use Rattle.vp_model.specs.Calls.{start_txn, take_lock, read_at, write_at, prepare_parts}
-use Rattle.vp_model.specs.Messages.{with_part, accept, on_accept, on_stale, grant, end_here}
+use Rattle.vp_model.specs.Messages.{accept, on_accept, on_stale, grant, end_here}
 use Rattle.vp_model.specs.Step.{step, fix, mark_calls, ask_again, resend_one, inquire}
 use Rattle.vp_laws.proofs.Lists.Members.{Has, has_none, has_one, has_one_is, has_cases, has_cons, has_left, any_false, filter_keeps, find_has, find_true}
 use Rattle.vp_laws.proofs.Lists.Changes.{put_old}
@@ -22,6 +22,7 @@ use Rattle.vp_model.proofs.SameTxn.{same_txn-is, same_txn-turned}
 use Rattle.vp_laws.proofs.Moves.Frames.{Ends, close-ends, decided-ends, decide-cases, take-cases}
 use Rattle.vp_laws.proofs.Moves.Table.{Comes, next_view, lent_at, Back, Table}
 use Rattle.vp_laws.proofs.Moves.Rows.{step-keeps}
+use Rattle.vp_laws.proofs.Moves.Parts.{with_part_doubts}
 
 -- the outcome comes, and the site is in doubt about its transaction
 pub record OutcomeFor (x : SiteState) (given : Input) (txn : TxnId) (commit : Bool) : Type 0 where
@@ -59,9 +60,6 @@ no_such : (doubts : List Doubt) (txn named : TxnId) (d : Doubt) → named ≡ tx
 no_such doubts txn named d is e h = rw is (same_txn-turned d.txn txn (any_false (λ (d : Doubt). same_txn d.txn txn) doubts e d h))
 
 module _ (catalogue : Catalogue) (x : SiteState) (given : Input) where
-  with_part-doubts : (txn : TxnId) (view : ViewId) → (with_part txn view x.participant).doubts ≡ x.doubts
-  with_part-doubts txn view = grind arith
-
   one_more : (rs now : List LogRecord) (r : LogRecord) → is_outcome r ≡ false → now ≡ rs ++ r ∷ [] → OutcomesCome x given rs → OutcomesCome x given now
   one_more rs now r other is come txn commit h = ⊎_elim
       (λ old. come txn commit old)
@@ -156,8 +154,8 @@ module _ (catalogue : Catalogue) (x : SiteState) (given : Input) where
     start_refresh = λ view rec o e a q p. alike o _ refl refl p;
     end_refresh = λ rec r own o e a d v p. ends_refresh r own o p;
     keep_answer = λ from view rec stored r c e f g. none _ refl refl;
-    grant_read = λ from txn view number rec stored c e n v f. none _ refl (with_part-doubts txn view);
-    grant_write = λ from txn view number rec stored c e n v f. none _ refl (with_part-doubts txn view);
+    grant_read = λ from txn view number rec stored c e n v f. none _ refl (with_part_doubts x.participant txn view);
+    grant_write = λ from txn view number rec stored c e n v f. none _ refl (with_part_doubts x.participant txn view);
     vote_reading = λ from txn view number reads writes part c e n d f v a w. none _ refl refl;
     vote_writing = λ from txn view number reads writes part c e n d f v a w. record {
       come = one_more [] _ (entry.Yes part.txn part.view writes) refl refl (λ t b h. absurd (has_none _ h));
