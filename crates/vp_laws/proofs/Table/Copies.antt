@@ -23,7 +23,7 @@ use Rattle.vp_model.proofs.SameTxn.{same_txn-is}
 use Rattle.vp_laws.proofs.Lists.Changes.{put_has}
 use Rattle.vp_laws.proofs.Lists.Views.{is_view_is}
 use Rattle.vp_laws.proofs.Moves.Frames.{close-ends, close-commits, decided-ends, decided-commits, decide-cases}
-use Rattle.vp_laws.proofs.Moves.LocalViews.{Tidy}
+use Rattle.vp_laws.proofs.Moves.LocalViews.{Tidy, none_refreshed}
 use Rattle.vp_laws.proofs.Moves.Table.{Comes, Left, lent_at, Back, Table}
 use Rattle.vp_laws.proofs.Moves.Rows.{step-keeps}
 
@@ -101,9 +101,6 @@ module _ (catalogue : Catalogue) (x : SiteState) (given : Input) (tidy : Tidy x)
     copies = λ a h. rw cs (p.copies a (rw c at h));
     answers = λ q k h a. absurd (none q h);
   }
-
-  not_held : x.held ≡ None → (r : Refreshing) → Has x.refresh r → ⊥
-  not_held e r h = let q = listed r h in let z = q.1 in cc
 
   drops : (l : Lent) → P (put_back (begin_step x) l) → P (drop_view (put_back (begin_step x) l))
   unfolding drop_view
@@ -207,9 +204,9 @@ module _ (catalogue : Catalogue) (x : SiteState) (given : Input) (tidy : Tidy x)
     accept = λ from id o c e l p. fresh o _ refl (left_none o l) refl p;
     accepted = λ from id c. same (begin_step x) _ refl refl refl refl starts;
     seen = λ from id promise c. same (begin_step x) _ refl refl refl refl starts;
-    hold = λ from id members c e. fresh (begin_step x) _ refl (not_held (tidy.waiting id (is_view_is x.waiting id (both_true _ _ e).0)).1) refl starts;
+    hold = λ from id members c e. fresh (begin_step x) _ refl (none_refreshed x listed (tidy.waiting id (is_view_is x.waiting id (both_true _ _ e).0)).1) refl starts;
     heard = λ from view c e. same (begin_step x) _ refl refl refl refl starts;
-    fix = λ view c e. fresh (begin_step x) _ refl (not_held (tidy.inviting (view.id, view.members) e).1) refl starts;
+    fix = λ view c e. fresh (begin_step x) _ refl (none_refreshed x listed (tidy.inviting (view.id, view.members) e).1) refl starts;
     without_wait = λ id c i w. same (begin_step x) _ refl refl refl refl starts;
     probe = λ view c e. same (begin_step x) _ refl refl refl refl starts;
     answers_inviting = λ port c s p. same _ _ refl refl refl refl p;

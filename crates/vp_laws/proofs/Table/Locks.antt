@@ -28,7 +28,7 @@ use Rattle.vp_laws.proofs.Lists.Names.{Apart, named, apart_without, without_gone
 use Rattle.vp_laws.proofs.Lists.Changes.{without_first_has, put_has, put_new, put_old, mapped_has}
 use Rattle.vp_laws.proofs.Moves.Frames.{Ends, close-ends, decided-ends, decide-cases, take-cases}
 use Rattle.vp_laws.proofs.Lists.LockTables.{same_owner_is, HasLock, free_from_none, lock_kept, lock_taken, lock_stays}
-use Rattle.vp_laws.proofs.Moves.LocalViews.{Tidy}
+use Rattle.vp_laws.proofs.Moves.LocalViews.{Tidy, none_refreshed}
 use Rattle.vp_laws.proofs.Table.LocalLocks.{IsKnown, LowerDoubt, OwnLocks, LocksOk, takes, renews, shares_change, views_change, ends, ends_part, leaves, begins_refresh, ends_refresh}
 use Rattle.vp_laws.proofs.Moves.Table.{Comes, Left, Joined, next_name, next_view, lent_at, Handled, Reads, Writes, remaining, Locked, Completes, Back, Table}
 use Rattle.vp_laws.proofs.Moves.Rows.{step-keeps}
@@ -109,8 +109,8 @@ module _ (catalogue : Catalogue) (x : SiteState) (given : Input) (tidy : Tidy x)
   }
 
   -- nothing is under refresh while no view is held
-  not_held : x.held ≡ None → (now : Option View) → (r : Refreshing) → Has x.refresh r → x.held ≡ now
-  not_held e now r h = let q = ok.lower r h in absurd (let z = q.1 in cc)
+  none_under_refresh : x.held ≡ None → (now : Option View) → (r : Refreshing) → Has x.refresh r → x.held ≡ now
+  none_under_refresh e now r h = absurd (none_refreshed x (λ r h. let q = ok.lower r h in (q.0, q.1)) e r h)
 
   drops : (l : Lent) → l.live ≡ [] → P (put_back (begin_step x) l) → P (drop_view (put_back (begin_step x) l))
   unfolding drop_view
@@ -530,9 +530,9 @@ module _ (catalogue : Catalogue) (x : SiteState) (given : Input) (tidy : Tidy x)
     accept = λ from id o c e l p. accepts from id o e l p;
     accepted = λ from id c. viewed _ refl refl refl refl refl (λ r h. refl);
     seen = λ from id promise c. viewed _ refl refl refl refl refl (λ r h. refl);
-    hold = λ from id members c e. viewed _ refl refl refl refl refl (not_held (tidy.waiting id (is_view_is x.waiting id (both_true _ _ e).0)).1 _);
+    hold = λ from id members c e. viewed _ refl refl refl refl refl (none_under_refresh (tidy.waiting id (is_view_is x.waiting id (both_true _ _ e).0)).1 _);
     heard = λ from view c e. viewed _ refl refl refl refl refl (λ r h. refl);
-    fix = λ view c e. viewed _ refl refl refl refl refl (not_held (tidy.inviting (view.id, view.members) e).1 _);
+    fix = λ view c e. viewed _ refl refl refl refl refl (none_under_refresh (tidy.inviting (view.id, view.members) e).1 _);
     without_wait = λ id c i w. viewed _ refl refl refl refl refl (λ r h. refl);
     probe = λ view c e. viewed _ refl refl refl refl refl (λ r h. refl);
     answers_inviting = λ port c s p. same _ _ refl refl refl refl refl refl p;
