@@ -8,7 +8,8 @@ use Rattle.vp_model.specs.Types.entry
 use Rattle.vp_model.specs.Words.{has, keys, value_at, replace_at, for_each}
 use Rattle.vp_model.specs.Durable.{DurableState, doubt_of, with_writes, with_outcome, apply}
 
-replaced_keys : {V : Type 0} (n : ℕ) (v : V) (pairs : List (ℕ × V)) → keys (replace_at n v pairs) ≡ keys pairs
+-- a pair that is replaced keeps its number
+pub replaced_keys : {V : Type 0} (n : ℕ) (v : V) (pairs : List (ℕ × V)) → keys (replace_at n v pairs) ≡ keys pairs
 replaced_keys {V} n v [] = refl
 replaced_keys {V} n v (p ∷ pairs) = ap (λ (k : ℕ). k ∷ keys (replace_at n v pairs)) (go (p.0 == n) refl) ∙ ap (λ (ks : List ℕ). p.0 ∷ ks) (replaced_keys n v pairs)
   where
@@ -16,11 +17,11 @@ replaced_keys {V} n v (p ∷ pairs) = ap (λ (k : ℕ). k ∷ keys (replace_at n
     go true e = sym (eqb-true p.0 n e)
     go false e = refl
 
-written_keys : (date : ViewId) (writes : List (ℕ × List ℕ)) (copies : List (ℕ × Stored)) → keys (with_writes date writes copies) ≡ keys copies
+pub written_keys : (date : ViewId) (writes : List (ℕ × List ℕ)) (copies : List (ℕ × Stored)) → keys (with_writes date writes copies) ≡ keys copies
 written_keys date [] copies = refl
 written_keys date (w ∷ writes) copies = written_keys date writes (replace_at w.0 (record { value = w.1; date = date }) copies) ∙ replaced_keys w.0 (record { value = w.1; date = date }) copies
 
-outcome_keys : (doubt : Option Doubt) (commit : Bool) (copies : List (ℕ × Stored)) → keys (with_outcome doubt commit copies) ≡ keys copies
+pub outcome_keys : (doubt : Option Doubt) (commit : Bool) (copies : List (ℕ × Stored)) → keys (with_outcome doubt commit copies) ≡ keys copies
 outcome_keys (Some d) true copies = written_keys d.view d.writes copies
 outcome_keys (Some d) false copies = refl
 outcome_keys None commit copies = refl

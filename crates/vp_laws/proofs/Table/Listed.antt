@@ -21,8 +21,7 @@ use Rattle.vp_laws.proofs.Moves.Frames.{close-ends, decided-ends, decide-cases}
 use Rattle.vp_laws.proofs.Moves.LocalViews.{Tidy, none_refreshed}
 use Rattle.vp_laws.proofs.Moves.Table.{Left, Joined, lent_at, Back, Table}
 use Rattle.vp_laws.proofs.Moves.Rows.{step-keeps}
-use Rattle.vp_laws.proofs.Table.Locks.{written_keys}
-use Rattle.vp_laws.proofs.Lists.Pairs.{replaced_keys}
+use Rattle.vp_records.proofs.Held.{replaced_keys, written_keys}
 
 -- the record has a copy among these, and may be used
 abbrev pub IsListed : Catalogue → List ℕ → SiteState → ℕ → Type 0
