@@ -5,7 +5,7 @@ use Rattle.std.specs.Prelude.{Option, Some, None, filter, not, ◌==◌, nat_lt}
 use Rattle.std.proofs.lemmas.Bool.{eqb-true}
 use Rattle.std.proofs.lemmas.Bool.Decides.{nat_tests}
 use Rattle.vp_model.specs.Types.{Change, ViewId, TxnId, View, Commit, Op, Input, Stored, Live, Ending, Refreshing, Doubt}
-use Rattle.vp_model.specs.Types.entry
+use Rattle.vp_model.specs.Types.log_record
 use Rattle.vp_model.specs.Types.input
 use Rattle.vp_model.specs.Types.message
 use Rattle.vp_model.specs.Words.{same_txn, put_at, view_before, replace_at, value_at, has, keys, is_empty}
@@ -149,7 +149,7 @@ module _ (catalogue : Catalogue) (x : SiteState) (given : Input) (tidy : Tidy x)
   unfolding take_newer
   takes r own best o new p = go (view_before own.date best.date)
     where
-      go : (b : Bool) → P (cond b (force (entry.Copy r.rec best) (change_copies (replace_at r.rec best) o)) o)
+      go : (b : Bool) → P (cond b (force (log_record.Copy r.rec best) (change_copies (replace_at r.rec best) o)) o)
       go true = record {
         id = p.id;
         copies = λ a h. ⊎_elim (λ (is : a ≡ (r.rec, best)). rw is new) (λ old. p.copies a old) (replaced_from r.rec best o.site.copies a h);

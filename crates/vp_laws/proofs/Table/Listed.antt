@@ -2,7 +2,7 @@
 use Rattle.std.proofs.Common.{◌≡◌, ◌⊎◌, ◌∙◌, ap, sym, subst, ℕ, Bool, true, false, cond, List, [], map, refl, ⊎_elim}
 use Rattle.std.specs.Prelude.{Option, Some, None, filter, not, ◌==◌, nat_lt}
 use Rattle.vp_model.specs.Types.{TxnId, View, Input, Stored, Live, Ending, Refreshing, Doubt}
-use Rattle.vp_model.specs.Types.entry
+use Rattle.vp_model.specs.Types.log_record
 use Rattle.vp_model.specs.Words.{put_at, view_before, replace_at, keys}
 use Rattle.vp_model.specs.Catalogue.{Catalogue}
 use Rattle.vp_model.specs.Locks.{without_guard}
@@ -80,8 +80,8 @@ module _ (catalogue : Catalogue) (x : SiteState) (given : Input) (tidy : Tidy x)
   unfolding take_newer
   takes rec own best o p = go (view_before own.date best.date)
     where
-      go : (b : Bool) → P (cond b (force (entry.Copy rec best) (change_copies (replace_at rec best) o)) o)
-      go true = same o (force (entry.Copy rec best) (change_copies (replace_at rec best) o)) refl (replaced_keys rec best o.site.copies) refl p
+      go : (b : Bool) → P (cond b (force (log_record.Copy rec best) (change_copies (replace_at rec best) o)) o)
+      go true = same o (force (log_record.Copy rec best) (change_copies (replace_at rec best) o)) refl (replaced_keys rec best o.site.copies) refl p
       go false = p
 
   finishes : (r : Refreshing) (own : Stored) (o : Stepped) → P o → P (end_refresh catalogue r own o)

@@ -5,7 +5,7 @@ use Rattle.std.specs.Prelude.{Option, Some, None, is_some, nat_lt, ◌&&◌, ◌
 use Rattle.vp_model.specs.Types.{Change, ViewId, TxnId, View, Stored, Owner, Obstacle, Message, Sent, Input, Lock, Part, Refreshing, Pending, Live, Ending, Doubt, Decision}
 use Rattle.vp_base.specs.declared.site.Ending.TheVariants.{Committed}
 use Rattle.vp_model.specs.Types.owner
-use Rattle.vp_model.specs.Types.entry
+use Rattle.vp_model.specs.Types.log_record
 use Rattle.vp_model.specs.Types.message
 use Rattle.vp_model.specs.Types.obstacle
 use Rattle.vp_model.specs.Words.{has_txn, same_owner, owner_before, for_each, put_txn, is_empty, same_txn, txn_before, value_at, put_at, view_before, is_view, replace_at}
@@ -382,7 +382,7 @@ module _ (N : TxnId → Type 0) (A : ViewId → Type 0) where
         })
         (((names.parts part h).0, tt), tt) refl
 
-    votes_writing : (from : ℕ) (part : Part) (writes : List (ℕ × Change)) → Has x.parts part → Calls (send (message.Vote part.txn) from (force (entry.Yes part.txn part.view writes) (change_participant (with_new_doubt part writes) (begin_step x))))
+    votes_writing : (from : ℕ) (part : Part) (writes : List (ℕ × Change)) → Has x.parts part → Calls (send (message.Vote part.txn) from (force (log_record.Yes part.txn part.view writes) (change_participant (with_new_doubt part writes) (begin_step x))))
     votes_writing from part writes h =
         one _ x.id from (message.Vote part.txn)
         (record {
