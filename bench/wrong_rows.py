@@ -52,7 +52,7 @@ ROWS = [
     ("a decision is forgotten at the first acknowledgement", "Durable.antt",
      "record d { waiting = filter (λ q. not (q == site)) d.waiting }", "record d { waiting = [] }"),
     ("a vote is sent and not forced to the log", "Messages.antt",
-     "    |> force (entry.Yes part.txn part.view writes)\n", ""),
+     "    |> force (log_record.Yes part.txn part.view writes)\n", ""),
 ]
 IMPORTS = {"Catalogue.antt": ("Prelude.{ℕ, ◌*◌, Bool, nat_lt,", "Prelude.{ℕ, ◌*◌, Bool, not, nat_lt,")}
 

@@ -101,7 +101,7 @@ view_exact = exact_as view_to view_from (free_then (number_free false 8) u64_exa
 
 -- ---- transactions
 
-txn_spelled : (t : TxnId) → txn_bytes t ≡ t.site ∷ (number_bytes 4 t.life ++ number_bytes 4 t.seq)
+pub txn_spelled : (t : TxnId) → txn_bytes t ≡ t.site ∷ (number_bytes 4 t.life ++ number_bytes 4 t.seq)
 unfolding txn_bytes
 txn_spelled t = refl
 

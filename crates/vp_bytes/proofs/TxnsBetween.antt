@@ -1,15 +1,15 @@
 -- Transactions that lie between two others are read exactly.
-use Rattle.std.proofs.Common.{◌≡◌, ℕ, ◌^◌, ◌≤◌, ◌<◌, List, [], ◌∷◌, ◌++◌, refl, sym, subst, ◌∙◌, arith}
+use Rattle.std.proofs.Common.{ℕ, ◌^◌, ◌≤◌, ◌<◌, List, [], ◌∷◌, ◌++◌, refl, sym, subst, ◌∙◌, arith}
 use Rattle.std.proofs.lemmas.Bool.Decides.{nat_tests}
 use Rattle.vp_text.proofs.Exact.{Exact, Then, Made, made_exact, exact_as}
 use Rattle.vp_base.specs.Identifiers.{IsTxn}
 use Rattle.vp_base.specs.Reading.{txn_of}
 use Rattle.vp_base.specs.declared.ids.TxnId.{TxnId}
-use Rattle.vp_bytes.specs.Fields.{number_bytes, txn_bytes, IsTxnBytes}
+use Rattle.vp_bytes.specs.Fields.{number_bytes, IsTxnBytes}
 use Rattle.vp_bytes.specs.Reading.{within}
 use Rattle.vp_bytes.specs.Ranges.{IsNumberWithin, IsTxnRange, IsTxnBetween, IsTxnBetweenBytes, least_life, most_life, least_seq, most_seq, txn_between_at}
 use Rattle.vp_bytes.proofs.Free.{IsFree, IsByteOf, byte_free, free_as}
-use Rattle.vp_bytes.proofs.Identifiers.{within_exact, within_from, within_to, txn_free}
+use Rattle.vp_bytes.proofs.Identifiers.{within_exact, within_from, within_to, txn_spelled, txn_free}
 use Rattle.vp_bytes.proofs.NumbersWithin.{number_within_exact, number_within_free}
 use Rattle.vp_bytes.proofs.Runs.{then_where}
 
@@ -90,10 +90,6 @@ parts_exact low high w =
     then_where (within (least_life low site) (most_life high site)) (Seq low high site) (λ life t h. within_from (least_life low site) (most_life high site) life h.allowed.0 h.allowed.1) low (number_within_free 4 (least_life low site) (most_life high site) fits) (number_within_exact 4 (least_life low site) (most_life high site) (omega arith) lives fits) (λ life lived.
     let l = within_to (least_life low site) (most_life high site) life lived in
     made_exact (txn_of site life) (number_within_exact 4 (least_seq low site life) (most_seq high site life) (omega arith) (seqs_some low high site life w s.0 s.1 l.0 l.1) (seq_fits high site life w.high_is))))
-
-txn_spelled : (t : TxnId) → txn_bytes t ≡ t.site ∷ (number_bytes 4 t.life ++ number_bytes 4 t.seq)
-unfolding txn_bytes
-txn_spelled t = refl
 
 parts_to : (low high : TxnId) → IsTxnRange low high → (txn : TxnId) (t : List ℕ) → Parts low high txn t → IsTxnBetweenBytes low high txn t
 parts_to low high w txn t h =

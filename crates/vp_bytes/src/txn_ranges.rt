@@ -7,7 +7,7 @@ ghost use Rattle.vp_bytes.specs.Ranges.{ascending_txn_at, IsTxnBetween, IsTxnRan
 
 use crate::ranges::take_u32_within;
 use crate::reading::take_byte;
-use vp_base::{SiteId, TxnId};
+use vp_base::{LAST_SITE, SiteId, TxnId};
 use vp_text::{Cursor, Unexpected};
 
 /// Takes a transaction from `low` to `high`.
@@ -132,7 +132,7 @@ fn txn_below(behind: u64) -> TxnId
     let most = u64::from(u32::MAX);
     let lives = behind / most;
     TxnId {
-        site: SiteId::of(16 - (lives / most) as u8),
+        site: SiteId::of(LAST_SITE - (lives / most) as u8),
         life: (most - lives % most) as u32,
         seq: (most - behind % most) as u32,
     }

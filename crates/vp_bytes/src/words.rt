@@ -56,10 +56,7 @@ fn take_count(cursor: &mut Cursor, class: Class) -> Result<usize, Unexpected>
     ensures read { Reads (λ n. n) (λ e. e.left) result cursor.new (byte_at (within 1 (most class)) cursor.old) }
     ensures range { IfOk result (λ n. (1 ≤ n) × (n ≤ most class)) }
 {
-    let count = match class {
-        Class::Name => take_byte(cursor, 1, 16)?,
-        Class::Value => take_byte(cursor, 1, 64)?,
-    };
+    let count = take_byte(cursor, 1, class.most() as u8)?;
     Ok(usize::from(count))
 }
 

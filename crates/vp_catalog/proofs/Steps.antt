@@ -193,14 +193,11 @@ bad_here text rest c line left s on read =
       owed = λ none. no_lines s.lines s.front s.lines_are (ap (λ (c : Catalogue). length c.sites) s.state_is ∙ owed_is rest c on none);
     }
 
-pair_same : (a b c d : ℕ) → a ≡ b → c ≡ d → let p : ℕ × ℕ = (a, c) in let q : ℕ × ℕ = (b, d) in p ≡ q
-pair_same a b c d e f = rw (e, f) refl
-
 -- ---- what is answered
 
 pub answered_next : (text rest new : List ℕ) (c : Catalogue) (line : ℕ) (e : CatalogFault) → Stands text rest c line → is_owed rest c ≡ true → NextEntry c line rest new (Err e) → Answered text (Err e)
 answered_next text rest new c line (faults.BadLine l at) s on n =
-    subst (λ (p : ℕ × ℕ). IsBadEntry text p.0 p.1) (pair_same line l (length rest - n.1 + 1) at (sym n.0) (sym n.3)) (bad_here text rest c line n.1 s on n.2)
+    rw (n.0, n.3) (bad_here text rest c line n.1 s on n.2)
 answered_next text rest new c line (faults.Twice l) s on n = absurd n
 answered_next text rest new c line (faults.TooMany l limit) s on n = absurd n
 answered_next text rest new c line faults.NoMemory s on n = tt

@@ -1,7 +1,7 @@
 -- The batches that a schedule leaves in the log of each site.
 use Rattle.std.specs.Prelude.{ℕ, Bool, false, ◌==◌, if◌then◌else◌, List, [], ◌∷◌, ◌++◌, Option, Some, None, option_map}
 use Rattle.vp_model.specs.Types.{LogRecord, Event, Input, Shown}
-use Rattle.vp_model.specs.Types.entry
+use Rattle.vp_model.specs.Types.log_record
 use Rattle.vp_model.specs.Types.event
 use Rattle.vp_model.specs.Types.input
 use Rattle.vp_model.specs.Types.shown
@@ -44,7 +44,7 @@ is_restart_of id _ = false
 
 -- the start of a life is a batch, and no checkpoint follows it
 abbrev pub with_life : ℕ → List (List LogRecord) → List (List LogRecord)
-with_life life batches = batches ++ (entry.Start life ∷ []) ∷ []
+with_life life batches = batches ++ (log_record.Start life ∷ []) ∷ []
 
 abbrev pub with_start : Shown → List (List LogRecord) → List (List LogRecord)
 with_start (shown.Life life) batches = with_life life batches

@@ -5,7 +5,7 @@ use Rattle.hex.specs.Hex.{encode_lower}
 use Rattle.vp_model.specs.Types.{Event, LogRecord, Stored}
 use Rattle.vp_model.specs.Types.call
 use Rattle.vp_model.specs.Types.event
-use Rattle.vp_model.specs.Types.entry
+use Rattle.vp_model.specs.Types.log_record
 use Rattle.vp_model.specs.Catalogue.{Catalogue}
 use Rattle.vp_model.specs.Words.{opening}
 use Rattle.vp_model.specs.World.{Schedule}
@@ -20,7 +20,7 @@ abbrev pub half_text : List (List LogRecord) → List ℕ
 half_text batches = encode_lower (opened batches ++ 0 ∷ [])
 
 abbrev pub started : ℕ → List LogRecord
-started life = entry.Start life ∷ []
+started life = log_record.Start life ∷ []
 
 -- ---- restarts
 
@@ -36,7 +36,7 @@ abbrev pub idle : Schedule
 idle = over both (event.Tick 1 ∷ event.Crash 1 ∷ event.Tick 1 ∷ event.Crash 1 ∷ event.Crash 2 ∷ event.Restart 2 ∷ event.Restart 2 ∷ event.Tick 2 ∷ event.Restart 1 ∷ [])
 
 abbrev pub promised : ℕ → List LogRecord
-promised number = entry.Promise (record { number = number; site = 2 }) ∷ []
+promised number = log_record.Promise (record { number = number; site = 2 }) ∷ []
 
 -- ---- a transaction that two sites vote on
 
@@ -51,10 +51,10 @@ decision =
     ∷ [])
 
 abbrev pub left_at_one : List (List LogRecord)
-left_at_one = started 1 ∷ (entry.Commit (txn 1) opening ((0, codes "11") ∷ []) (2 ∷ []) ∷ []) ∷ (entry.Acked (txn 1) 2 ∷ []) ∷ []
+left_at_one = started 1 ∷ (log_record.Commit (txn 1) opening ((0, codes "11") ∷ []) (2 ∷ []) ∷ []) ∷ (log_record.Acked (txn 1) 2 ∷ []) ∷ []
 
 abbrev pub left_at_two : List (List LogRecord)
-left_at_two = started 1 ∷ (entry.Yes (txn 1) opening ((0, codes "11") ∷ []) ∷ []) ∷ (entry.Outcome (txn 1) true ∷ []) ∷ []
+left_at_two = started 1 ∷ (log_record.Yes (txn 1) opening ((0, codes "11") ∷ []) ∷ []) ∷ (log_record.Outcome (txn 1) true ∷ []) ∷ []
 
 -- ---- a checkpoint
 
@@ -88,4 +88,4 @@ abbrev pub saved_copies : List (ℕ × Stored)
 saved_copies = map (λ n. (n, record { value = long (last_lengths n); date = opening })) numbers
 
 abbrev pub saved : List (List LogRecord)
-saved = (entry.Checkpoint 1 2 (record { number = 1; site = 1 }) saved_copies [] [] ∷ []) ∷ []
+saved = (log_record.Checkpoint 1 2 (record { number = 1; site = 1 }) saved_copies [] [] ∷ []) ∷ []

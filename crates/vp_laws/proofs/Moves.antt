@@ -1,6 +1,7 @@
 -- The step table in small moves: what a property has to survive, and that each row is made of such moves. It uses Lists.
 pub mod Table
 pub mod LocalViews
+pub mod Parts
 pub mod Calls
 pub mod OnlyCoordinator
 pub mod Reasons

@@ -2,7 +2,7 @@
 use Rattle.std.specs.Prelude.{◌≡◌, ◌⊎◌, ℕ, Bool, true, false, Some, List}
 use Rattle.std.specs.List.{Contains}
 use Rattle.vp_model.specs.Types.{TxnId, ViewId, Commit, Input, Doubt, Stored, Refreshing}
-use Rattle.vp_model.specs.Types.entry
+use Rattle.vp_model.specs.Types.log_record
 use Rattle.vp_model.specs.Types.input
 use Rattle.vp_model.specs.Types.message
 use Rattle.vp_model.specs.Catalogue.{Catalogue}
@@ -19,7 +19,7 @@ MayCome w site given = Unit {0}
 
 -- the step forces this outcome of the transaction to the log
 abbrev pub Forces : Catalogue → SiteState → Input → TxnId → Bool → Type 0
-Forces catalogue x given txn commit = Contains (step catalogue x given).effects.records (entry.Outcome txn commit)
+Forces catalogue x given txn commit = Contains (step catalogue x given).effects.records (log_record.Outcome txn commit)
 
 -- the copy that a write of a transaction of the view makes
 abbrev pub dated_at : ViewId → ℕ × List ℕ → ℕ × Stored

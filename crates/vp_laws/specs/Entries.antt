@@ -1,19 +1,15 @@
 -- What the journal tells of transactions, and what the votes on a live one have left.
 use Rattle.std.specs.Prelude.{◌≡◌, ℕ, false, Some, true}
-use Rattle.std.specs.List.{Contains, AllPairs}
+use Rattle.std.specs.List.{Contains}
 use Rattle.vp_model.specs.Types.{TxnId, View, Commit, Live, Op, Doubt}
 use Rattle.vp_model.specs.Types.op
 use Rattle.vp_model.specs.Types.message
-use Rattle.vp_model.specs.Words.{same_txn, is_empty}
+use Rattle.vp_model.specs.Words.{is_empty}
 use Rattle.vp_model.specs.Catalogue.{Catalogue, accessible}
 use Rattle.vp_model.specs.Site.{SiteState}
 use Rattle.vp_model.specs.Transactions.{last_changes, entry_of, writes_held}
 use Rattle.vp_model.specs.World.{Place, WorldState, place_of, site_of}
 use Rattle.std.specs.Prelude.{Option, None, List, []}
-
--- no two entries are of one transaction
-abbrev pub IsOnce : List Commit → Type 0
-IsOnce journal = AllPairs (λ (a : Commit) (b : Commit). same_txn a.txn b.txn ≡ false) journal
 
 abbrev pub doubts_in : Option Place → List Doubt
 doubts_in None = []

@@ -4,7 +4,7 @@ use Rattle.std.specs.List.{list_any}
 use Rattle.vp_model.specs.Types.{TxnId, Call, Message, Obstacle, Pending, Live, Decision}
 use Rattle.vp_base.specs.declared.site.Ending.TheVariants.{LockHeld, ViewChanged}
 use Rattle.vp_model.specs.Types.call
-use Rattle.vp_model.specs.Types.entry
+use Rattle.vp_model.specs.Types.log_record
 use Rattle.vp_model.specs.Types.message
 use Rattle.vp_model.specs.Types.obstacle
 use Rattle.vp_model.specs.Words.{◌|>◌, for_some, same_txn, has, is_empty}
@@ -77,7 +77,7 @@ unfoldable pub on_ack : ℕ → TxnId → Lent → Lent
 on_ack from txn l =
     if waits_for txn from l.decisions
     then l
-    |> lent_force (entry.Acked txn from)
+    |> lent_force (log_record.Acked txn from)
     |> lent_coordinator (with_acknowledged txn from)
     else l
 

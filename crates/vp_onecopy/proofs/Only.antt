@@ -127,15 +127,12 @@ twice line = Err (faults.Twice line)
 counted : (n l m line other : ℕ) → line ≡ n + 1 + l → other ≡ n + 1 + m → l ≡ m → line ≡ other
 counted n l m line other e f same = omega (arith, e, f, same)
 
-bad_line_same : (l m i k : ℕ) → l ≡ m → i ≡ k → bad_line l i ≡ bad_line m k
-bad_line_same l m i k e f = rw (e, f) refl
-
 behind_same : (n : ℕ) (text : List ℕ) → length text < 2 ^ 63 → (r s : Result History HistoryFault) → Behind n text r → Behind n text s → r ≢ NoMemory → s ≢ NoMemory → r ≡ s
 behind_same n text small (Ok h) (Ok g) a b t u = ap answered (ok_ok text small h g a b)
 behind_same n text small (Ok h) (Err (faults.BadLine m k)) a b t u = absurd (ok_bad text small h b.0 k a b.2)
 behind_same n text small (Ok h) (Err (faults.Twice m)) a b t u = absurd (ok_twice text small h b.0 a b.2)
 behind_same n text small (Err (faults.BadLine l i)) (Ok g) a b t u = absurd (ok_bad text small g a.0 i b a.2)
-behind_same n text small (Err (faults.BadLine l i)) (Err (faults.BadLine m k)) a b t u = let same = bad_bad text small a.0 b.0 i k a.2 b.2 in bad_line_same l m i k (counted n a.0 b.0 l m a.1 b.1 same.0) same.1
+behind_same n text small (Err (faults.BadLine l i)) (Err (faults.BadLine m k)) a b t u = let same = bad_bad text small a.0 b.0 i k a.2 b.2 in rw (counted n a.0 b.0 l m a.1 b.1 same.0, same.1) refl
 behind_same n text small (Err (faults.BadLine l i)) (Err (faults.Twice m)) a b t u = absurd (bad_twice text small a.0 b.0 i a.2 b.2)
 behind_same n text small (Err (faults.Twice l)) (Ok g) a b t u = absurd (ok_twice text small g a.0 b a.2)
 behind_same n text small (Err (faults.Twice l)) (Err (faults.BadLine m k)) a b t u = absurd (bad_twice text small b.0 a.0 k b.2 a.2)
@@ -214,7 +211,7 @@ clean_where_missing n rest (Err faults.NoMemory) t m = absurd (t refl)
 missing_same : (n : ℕ) (rest : List ℕ) (r s : Result History HistoryFault) → IsMissing n rest r → IsMissing n rest s → r ≢ NoMemory → s ≢ NoMemory → r ≡ s
 missing_same n rest (Ok h) s a b t u = absurd a
 missing_same n rest (Err (faults.BadLine l i)) (Ok h) a b t u = absurd b
-missing_same n rest (Err (faults.BadLine l i)) (Err (faults.BadLine m k)) a b t u = bad_line_same l m i k (a.0 ∙ sym b.0) (a.1 ∙ sym b.1)
+missing_same n rest (Err (faults.BadLine l i)) (Err (faults.BadLine m k)) a b t u = rw (a.0 ∙ sym b.0, a.1 ∙ sym b.1) refl
 missing_same n rest (Err (faults.BadLine l i)) (Err (faults.Twice m)) a b t u = absurd b
 missing_same n rest (Err (faults.BadLine l i)) (Err faults.NoMemory) a b t u = absurd (u refl)
 missing_same n rest (Err (faults.Twice l)) s a b t u = absurd a

@@ -4,7 +4,7 @@ use Rattle.std.specs.Prelude.{codes, nat_lt, ◌==◌}
 use Rattle.std.specs.Fmt.{decimal}
 use Rattle.std.proofs.lemmas.Bool.{false≢true, and_parts, ltb-true}
 use Rattle.std.proofs.lemmas.List.{length-append, append-nil, nil_from_length}
-use Rattle.vp_text.specs.Documents.{reached, LinesText, IsBadLine, IsFaultyLine}
+use Rattle.vp_text.specs.Documents.{reached, LinesText, IsFaultyLine}
 use Rattle.vp_text.proofs.Lists.{Readable, SoFar, so_far_start, so_far_exact, so_far_shorter, so_far_more, so_far_bad, so_far_faulty}
 use Rattle.vp_base.specs.Words.{IsName}
 use Rattle.vp_base.specs.Identifiers.{IsView}
@@ -147,13 +147,10 @@ stands_long text rest new h line small s read some =
 
 -- ---- what the loop answers
 
-pair_same : (a b c d : ℕ) → a ≡ b → c ≡ d → let p : ℕ × ℕ = (a, c) in let q : ℕ × ℕ = (b, d) in p ≡ q
-pair_same a b c d e f = rw (e, f) refl
-
 pub answered_next : (text rest new : List ℕ) (h : History) (line : ℕ) (e : HistoryFault) → length text < 2 ^ 63 → Stands text rest h line → NextLine h line rest new (Err e) → Answered text (Err e)
 answered_next text rest new h line (faults.BadLine l at) small s n =
     let bad = (so_far_bad empty after Allowed Onward reads text rest h line n.1 (readable (length text) small) s n.2).1 in
-    inl (subst (λ (p : ℕ × ℕ). IsBadLine empty after Allowed Onward text p.0 p.1) (pair_same line l (length rest - n.1 + 1) at (sym n.0) (sym n.3)) bad)
+    inl (rw (n.0, n.3) bad)
 answered_next text rest new h line (faults.Twice l) small s n = absurd n
 answered_next text rest new h line faults.NoMemory small s n = tt
 
@@ -170,7 +167,7 @@ answered_end text rest new h k next line false (Ok g) small s read n off f =
     subst (λ (h : History). IsHistory h text) (sym n.0 ∙ sym f.0) (stands_done text rest new h line small s read_end f.1)
 answered_end text rest new h k next line false (Err (faults.BadLine l at)) small s read n off f =
     let read_end : reads h rest ≡ Ok (kind.End, new) = read ∙ ap (λ (x : Line). Ok (x, new)) n.1 in
-    inr (subst (λ (p : ℕ × ℕ). IsTooLong text p.0 p.1) (pair_same (line + 1) l 1 at (sym f.0) (sym f.1)) (stands_long text rest new h line small s read_end f.2))
+    inr (rw (f.0, f.1) (stands_long text rest new h line small s read_end f.2))
 answered_end text rest new h k next line false (Err (faults.Twice l)) small s read n off f = absurd f
 answered_end text rest new h k next line false (Err faults.NoMemory) small s read n off f = absurd f
 

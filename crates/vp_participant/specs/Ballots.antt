@@ -2,7 +2,7 @@
 use Rattle.std.specs.Prelude.{ℕ, not, if◌then◌else◌, List, Some, None}
 use Rattle.std.specs.Option.{option_map_or}
 use Rattle.vp_model.specs.Types.{TxnId, Lock, Part}
-use Rattle.vp_model.specs.Types.entry
+use Rattle.vp_model.specs.Types.log_record
 use Rattle.vp_model.specs.Words.{is_empty}
 use Rattle.vp_model.specs.Site.{ParticipantState}
 use Rattle.vp_model.specs.Views.{part_of, has_doubt}
@@ -17,7 +17,7 @@ first_ballot part reads writes locks p =
     then (voted.Silent, p)
     else (if is_empty writes
     then (voted.Yes None, with_vote part p)
-    else (voted.Yes (Some (entry.Yes part.txn part.view writes)), with_new_doubt part writes p))
+    else (voted.Yes (Some (log_record.Yes part.txn part.view writes)), with_new_doubt part writes p))
 
 -- a part that has voted votes yes again
 abbrev pub ballot_of : Part → List ℕ → List (ℕ × List ℕ) → List Lock → ParticipantState → Voted × ParticipantState

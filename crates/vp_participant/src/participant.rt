@@ -5,7 +5,7 @@ ghost use Rattle.std.specs.List.{list_all};
 ghost use Rattle.vp_base.specs.declared.entry.Owner.TheVariants as owner;
 ghost use Rattle.vp_locks.specs.Faults.{holder_in};
 ghost use Rattle.vp_model.specs.Words.{keys, has_txn};
-ghost use Rattle.vp_base.specs.declared.entry.LogRecord.TheVariants as entry;
+ghost use Rattle.vp_base.specs.declared.entry.LogRecord.TheVariants as log_record;
 ghost use Rattle.vp_model.specs.Locks.{conflict, holds, with_lock, without_owner};
 ghost use Rattle.vp_model.specs.Views.{without_parts, outlasts};
 ghost use Rattle.vp_model.specs.Messages.{with_part, has_all_locks, with_vote, with_new_doubt, with_ended};
@@ -173,7 +173,7 @@ impl Participant {
 
     /// The part is a part no more: its transaction is in doubt until its outcome comes.
     fn put_in_doubt(&mut self, part: &Part, writes: &Writes) -> Result<LogRecord, NoMemory>
-        ensures forced { IfOk result (λ forced. forced ≡ entry.Yes part.now.txn part.now.view writes.now) }
+        ensures forced { IfOk result (λ forced. forced ≡ log_record.Yes part.now.txn part.now.view writes.now) }
         ensures doubt { OnOk result (self.new ≡ with_new_doubt part.now writes.now self.old) }
     {
         drop_part(&mut self.parts, &part.txn);

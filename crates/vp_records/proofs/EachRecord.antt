@@ -4,7 +4,7 @@ use Rattle.vp_text.proofs.Exact.{Exact, Made, made_exact, one_value}
 use Rattle.vp_base.specs.Words.{IsValue}
 use Rattle.vp_base.specs.Identifiers.{IsView, IsTxn}
 use Rattle.vp_base.specs.declared.entry.LogRecord.{LogRecord}
-use Rattle.vp_base.specs.declared.entry.LogRecord.TheVariants as entry
+use Rattle.vp_base.specs.declared.entry.LogRecord.TheVariants as log_record
 use Rattle.vp_bytes.specs.Fields.{Spelled, number_bytes, view_bytes, txn_bytes, counted_bytes, writes_bytes, outcome_byte, IsRecord, IsSite, IsSites, IsWrites}
 use Rattle.vp_bytes.proofs.Free.{IsFree, made_free}
 use Rattle.vp_bytes.proofs.Pairs.{pair_bytes, PairAllowed, then_field, pair_free}
@@ -25,30 +25,30 @@ use Rattle.vp_records.specs.Reading.{fields_at}
 
 -- the fields of a record of this kind
 abbrev pub RecordOf : RecordKind → LogRecord → List ℕ → Type 0
-RecordOf kinds.Start = Made (Spelled (λ (life : ℕ). number_bytes 4 life) (λ (life : ℕ). life < 2 ^ 32)) (λ p. entry.Start p)
-RecordOf kinds.Promise = Made (Spelled view_bytes IsView) (λ p. entry.Promise p)
-RecordOf kinds.Yes = Made (Spelled (pair_bytes txn_bytes (pair_bytes view_bytes writes_bytes)) (PairAllowed IsTxn (PairAllowed IsView IsWrites))) (λ p. entry.Yes p.0 p.1.0 p.1.1)
-RecordOf kinds.Outcome = Made (Spelled (pair_bytes txn_bytes (λ (commit : Bool). outcome_byte commit ∷ [])) (PairAllowed IsTxn (λ (commit : Bool). Unit {0}))) (λ p. entry.Outcome p.0 p.1)
-RecordOf kinds.Commit = Made (Spelled (pair_bytes txn_bytes (pair_bytes view_bytes (pair_bytes writes_bytes counted_bytes))) (PairAllowed IsTxn (PairAllowed IsView (PairAllowed IsWrites (IsSites 0))))) (λ p. entry.Commit p.0 p.1.0 p.1.1.0 p.1.1.1)
-RecordOf kinds.Copy = Made (Spelled (pair_bytes (λ (rec : ℕ). rec ∷ []) (pair_bytes counted_bytes view_bytes)) (PairAllowed IsRecord (PairAllowed (λ (value : List ℕ). IsValue value value) IsView))) (λ p. entry.Copy p.0 (stored_of p.1.0 p.1.1))
-RecordOf kinds.Acked = Made (Spelled (pair_bytes txn_bytes (λ (site : ℕ). site ∷ [])) (PairAllowed IsTxn IsSite)) (λ p. entry.Acked p.0 p.1)
+RecordOf kinds.Start = Made (Spelled (λ (life : ℕ). number_bytes 4 life) (λ (life : ℕ). life < 2 ^ 32)) (λ p. log_record.Start p)
+RecordOf kinds.Promise = Made (Spelled view_bytes IsView) (λ p. log_record.Promise p)
+RecordOf kinds.Yes = Made (Spelled (pair_bytes txn_bytes (pair_bytes view_bytes writes_bytes)) (PairAllowed IsTxn (PairAllowed IsView IsWrites))) (λ p. log_record.Yes p.0 p.1.0 p.1.1)
+RecordOf kinds.Outcome = Made (Spelled (pair_bytes txn_bytes (λ (commit : Bool). outcome_byte commit ∷ [])) (PairAllowed IsTxn (λ (commit : Bool). Unit {0}))) (λ p. log_record.Outcome p.0 p.1)
+RecordOf kinds.Commit = Made (Spelled (pair_bytes txn_bytes (pair_bytes view_bytes (pair_bytes writes_bytes counted_bytes))) (PairAllowed IsTxn (PairAllowed IsView (PairAllowed IsWrites (IsSites 0))))) (λ p. log_record.Commit p.0 p.1.0 p.1.1.0 p.1.1.1)
+RecordOf kinds.Copy = Made (Spelled (pair_bytes (λ (rec : ℕ). rec ∷ []) (pair_bytes counted_bytes view_bytes)) (PairAllowed IsRecord (PairAllowed (λ (value : List ℕ). IsValue value value) IsView))) (λ p. log_record.Copy p.0 (stored_of p.1.0 p.1.1))
+RecordOf kinds.Acked = Made (Spelled (pair_bytes txn_bytes (λ (site : ℕ). site ∷ [])) (PairAllowed IsTxn IsSite)) (λ p. log_record.Acked p.0 p.1)
 RecordOf kinds.Checkpoint =
     Made (Spelled (pair_bytes (λ (generation : ℕ). number_bytes 8 generation) (pair_bytes (λ (life : ℕ). number_bytes 4 life) (pair_bytes view_bytes (pair_bytes copies_bytes (pair_bytes doubts_bytes decisions_bytes))))) (PairAllowed (λ (generation : ℕ). generation < 2 ^ 64) (PairAllowed (λ (life : ℕ). life < 2 ^ 32) (PairAllowed IsView (PairAllowed IsCopies (PairAllowed IsDoubts IsDecisions))))))
-    (λ p. entry.Checkpoint p.0 p.1.0 p.1.1.0 p.1.1.1.0 p.1.1.1.1.0 p.1.1.1.1.1)
+    (λ p. log_record.Checkpoint p.0 p.1.0 p.1.1.0 p.1.1.1.0 p.1.1.1.1.0 p.1.1.1.1.1)
 
 pub fields_exact : (kind : RecordKind) → Exact (RecordOf kind) (fields_at kind)
 unfolding fields_at
-fields_exact kinds.Start = made_exact (λ life. entry.Start life) number4_exact
-fields_exact kinds.Promise = made_exact (λ view. entry.Promise view) view_exact
-fields_exact kinds.Yes = then_field (λ txn p. entry.Yes txn p.0 p.1) txn_free txn_exact (λ txn. then_field (λ view p. entry.Yes txn view p) view_free view_exact (λ view. made_exact (λ writes. entry.Yes txn view writes) writes_exact))
-fields_exact kinds.Outcome = then_field (λ txn p. entry.Outcome txn p) txn_free txn_exact (λ txn. made_exact (λ commit. entry.Outcome txn commit) outcome_exact)
+fields_exact kinds.Start = made_exact (λ life. log_record.Start life) number4_exact
+fields_exact kinds.Promise = made_exact (λ view. log_record.Promise view) view_exact
+fields_exact kinds.Yes = then_field (λ txn p. log_record.Yes txn p.0 p.1) txn_free txn_exact (λ txn. then_field (λ view p. log_record.Yes txn view p) view_free view_exact (λ view. made_exact (λ writes. log_record.Yes txn view writes) writes_exact))
+fields_exact kinds.Outcome = then_field (λ txn p. log_record.Outcome txn p) txn_free txn_exact (λ txn. made_exact (λ commit. log_record.Outcome txn commit) outcome_exact)
 fields_exact kinds.Commit =
-    then_field (λ txn p. entry.Commit txn p.0 p.1.0 p.1.1) txn_free txn_exact (λ txn. then_field (λ view p. entry.Commit txn view p.0 p.1) view_free view_exact (λ view. then_field (λ writes p. entry.Commit txn view writes p) writes_free writes_exact (λ writes. made_exact (λ waiting. entry.Commit txn view writes waiting) (sites_exact 0 (omega arith)))))
-fields_exact kinds.Copy = then_field (λ rec p. entry.Copy rec (stored_of p.0 p.1)) rec_free rec_exact (λ rec. then_field (λ value p. entry.Copy rec (stored_of value p)) value_free value_exact (λ value. made_exact (λ date. entry.Copy rec (stored_of value date)) view_exact))
-fields_exact kinds.Acked = then_field (λ txn p. entry.Acked txn p) txn_free txn_exact (λ txn. made_exact (λ site. entry.Acked txn site) site_exact)
+    then_field (λ txn p. log_record.Commit txn p.0 p.1.0 p.1.1) txn_free txn_exact (λ txn. then_field (λ view p. log_record.Commit txn view p.0 p.1) view_free view_exact (λ view. then_field (λ writes p. log_record.Commit txn view writes p) writes_free writes_exact (λ writes. made_exact (λ waiting. log_record.Commit txn view writes waiting) (sites_exact 0 (omega arith)))))
+fields_exact kinds.Copy = then_field (λ rec p. log_record.Copy rec (stored_of p.0 p.1)) rec_free rec_exact (λ rec. then_field (λ value p. log_record.Copy rec (stored_of value p)) value_free value_exact (λ value. made_exact (λ date. log_record.Copy rec (stored_of value date)) view_exact))
+fields_exact kinds.Acked = then_field (λ txn p. log_record.Acked txn p) txn_free txn_exact (λ txn. made_exact (λ site. log_record.Acked txn site) site_exact)
 fields_exact kinds.Checkpoint =
-    then_field (λ generation p. entry.Checkpoint generation p.0 p.1.0 p.1.1.0 p.1.1.1.0 p.1.1.1.1) number8_free number8_exact (λ generation. then_field (λ life p. entry.Checkpoint generation life p.0 p.1.0 p.1.1.0 p.1.1.1) number4_free number4_exact (λ life. then_field (λ promise p. entry.Checkpoint generation life promise p.0 p.1.0 p.1.1) view_free view_exact (λ promise.
-    then_field (λ copies p. entry.Checkpoint generation life promise copies p.0 p.1) copies_free copies_exact (λ copies. then_field (λ doubts p. entry.Checkpoint generation life promise copies doubts p) doubts_free doubts_exact (λ doubts. made_exact (λ decisions. entry.Checkpoint generation life promise copies doubts decisions) decisions_exact)))))
+    then_field (λ generation p. log_record.Checkpoint generation p.0 p.1.0 p.1.1.0 p.1.1.1.0 p.1.1.1.1) number8_free number8_exact (λ generation. then_field (λ life p. log_record.Checkpoint generation life p.0 p.1.0 p.1.1.0 p.1.1.1) number4_free number4_exact (λ life. then_field (λ promise p. log_record.Checkpoint generation life promise p.0 p.1.0 p.1.1) view_free view_exact (λ promise.
+    then_field (λ copies p. log_record.Checkpoint generation life promise copies p.0 p.1) copies_free copies_exact (λ copies. then_field (λ doubts p. log_record.Checkpoint generation life promise copies doubts p) doubts_free doubts_exact (λ doubts. made_exact (λ decisions. log_record.Checkpoint generation life promise copies doubts decisions) decisions_exact)))))
 
 -- no fields go on to others
 pub fields_free : (kind : RecordKind) → IsFree (RecordOf kind)
@@ -79,32 +79,32 @@ fields_to kinds.Checkpoint r t h =
     subst (λ (r : LogRecord). IsRecordOf kinds.Checkpoint r t) (sym h.is) (refl, h.spelled.is, (a.0, a.1.0, a.1.1.0, a.1.1.1.0, a.1.1.1.1.0, a.1.1.1.1.1))
 
 abbrev pub form : LogRecord → RecordKind
-form (entry.Start life) = kinds.Start
-form (entry.Promise view) = kinds.Promise
-form (entry.Yes txn view writes) = kinds.Yes
-form (entry.Outcome txn commit) = kinds.Outcome
-form (entry.Commit txn view writes waiting) = kinds.Commit
-form (entry.Copy rec stored) = kinds.Copy
-form (entry.Acked txn site) = kinds.Acked
-form (entry.Checkpoint generation life promise copies doubts decisions) = kinds.Checkpoint
+form (log_record.Start life) = kinds.Start
+form (log_record.Promise view) = kinds.Promise
+form (log_record.Yes txn view writes) = kinds.Yes
+form (log_record.Outcome txn commit) = kinds.Outcome
+form (log_record.Commit txn view writes waiting) = kinds.Commit
+form (log_record.Copy rec stored) = kinds.Copy
+form (log_record.Acked txn site) = kinds.Acked
+form (log_record.Checkpoint generation life promise copies doubts decisions) = kinds.Checkpoint
 
 pub fields_from : (r : LogRecord) → IsLogRecord r → RecordOf (form r) r (record_fields r)
-fields_from (entry.Start life) a = record { from = life; spelled = record { is = refl; allowed = a }; is = refl }
-fields_from (entry.Promise view) a = record { from = view; spelled = record { is = refl; allowed = a }; is = refl }
-fields_from (entry.Yes txn view writes) a = record { from = (txn, (view, writes)); spelled = record { is = refl; allowed = (a.0, (a.1, a.2)) }; is = refl }
-fields_from (entry.Outcome txn commit) a = record { from = (txn, commit); spelled = record { is = refl; allowed = (a, tt) }; is = refl }
-fields_from (entry.Commit txn view writes waiting) a = record { from = (txn, (view, (writes, waiting))); spelled = record { is = refl; allowed = (a.0, (a.1, (a.2, a.3))) }; is = refl }
-fields_from (entry.Copy rec stored) a = record { from = (rec, (stored.value, stored.date)); spelled = record { is = refl; allowed = (a.0, (a.1, a.2)) }; is = refl }
-fields_from (entry.Acked txn site) a = record { from = (txn, site); spelled = record { is = refl; allowed = (a.0, a.1) }; is = refl }
-fields_from (entry.Checkpoint generation life promise copies doubts decisions) a =
+fields_from (log_record.Start life) a = record { from = life; spelled = record { is = refl; allowed = a }; is = refl }
+fields_from (log_record.Promise view) a = record { from = view; spelled = record { is = refl; allowed = a }; is = refl }
+fields_from (log_record.Yes txn view writes) a = record { from = (txn, (view, writes)); spelled = record { is = refl; allowed = (a.0, (a.1, a.2)) }; is = refl }
+fields_from (log_record.Outcome txn commit) a = record { from = (txn, commit); spelled = record { is = refl; allowed = (a, tt) }; is = refl }
+fields_from (log_record.Commit txn view writes waiting) a = record { from = (txn, (view, (writes, waiting))); spelled = record { is = refl; allowed = (a.0, (a.1, (a.2, a.3))) }; is = refl }
+fields_from (log_record.Copy rec stored) a = record { from = (rec, (stored.value, stored.date)); spelled = record { is = refl; allowed = (a.0, (a.1, a.2)) }; is = refl }
+fields_from (log_record.Acked txn site) a = record { from = (txn, site); spelled = record { is = refl; allowed = (a.0, a.1) }; is = refl }
+fields_from (log_record.Checkpoint generation life promise copies doubts decisions) a =
     record { from = (generation, (life, (promise, (copies, (doubts, decisions))))); spelled = record { is = refl; allowed = (a.0, (a.1, (a.2, (a.3, (a.4, a.5))))) }; is = refl }
 
 pub code_kept : (r : LogRecord) → IsLogRecord r → kind_code (form r) ≡ record_code r
-code_kept (entry.Start life) a = refl
-code_kept (entry.Promise view) a = refl
-code_kept (entry.Yes txn view writes) a = refl
-code_kept (entry.Outcome txn commit) a = refl
-code_kept (entry.Commit txn view writes waiting) a = refl
-code_kept (entry.Copy rec stored) a = refl
-code_kept (entry.Acked txn site) a = refl
-code_kept (entry.Checkpoint generation life promise copies doubts decisions) a = refl
+code_kept (log_record.Start life) a = refl
+code_kept (log_record.Promise view) a = refl
+code_kept (log_record.Yes txn view writes) a = refl
+code_kept (log_record.Outcome txn commit) a = refl
+code_kept (log_record.Commit txn view writes waiting) a = refl
+code_kept (log_record.Copy rec stored) a = refl
+code_kept (log_record.Acked txn site) a = refl
+code_kept (log_record.Checkpoint generation life promise copies doubts decisions) a = refl

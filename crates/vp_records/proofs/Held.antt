@@ -4,11 +4,12 @@ use Rattle.std.specs.Prelude.{◌==◌, option_copied, Result, Ok, Err, OnOk, On
 use Rattle.std.proofs.lemmas.Bool.{eqb-true}
 use Rattle.std.proofs.lemmas.Bool.Decides.{nat_tests}
 use Rattle.vp_model.specs.Types.{ViewId, Stored, LogRecord, Doubt}
-use Rattle.vp_model.specs.Types.entry
+use Rattle.vp_model.specs.Types.log_record
 use Rattle.vp_model.specs.Words.{has, keys, value_at, replace_at, for_each}
 use Rattle.vp_model.specs.Durable.{DurableState, doubt_of, with_writes, with_outcome, apply}
 
-replaced_keys : {V : Type 0} (n : ℕ) (v : V) (pairs : List (ℕ × V)) → keys (replace_at n v pairs) ≡ keys pairs
+-- a pair that is replaced keeps its number
+pub replaced_keys : {V : Type 0} (n : ℕ) (v : V) (pairs : List (ℕ × V)) → keys (replace_at n v pairs) ≡ keys pairs
 replaced_keys {V} n v [] = refl
 replaced_keys {V} n v (p ∷ pairs) = ap (λ (k : ℕ). k ∷ keys (replace_at n v pairs)) (go (p.0 == n) refl) ∙ ap (λ (ks : List ℕ). p.0 ∷ ks) (replaced_keys n v pairs)
   where
@@ -16,11 +17,11 @@ replaced_keys {V} n v (p ∷ pairs) = ap (λ (k : ℕ). k ∷ keys (replace_at n
     go true e = sym (eqb-true p.0 n e)
     go false e = refl
 
-written_keys : (date : ViewId) (writes : List (ℕ × List ℕ)) (copies : List (ℕ × Stored)) → keys (with_writes date writes copies) ≡ keys copies
+pub written_keys : (date : ViewId) (writes : List (ℕ × List ℕ)) (copies : List (ℕ × Stored)) → keys (with_writes date writes copies) ≡ keys copies
 written_keys date [] copies = refl
 written_keys date (w ∷ writes) copies = written_keys date writes (replace_at w.0 (record { value = w.1; date = date }) copies) ∙ replaced_keys w.0 (record { value = w.1; date = date }) copies
 
-outcome_keys : (doubt : Option Doubt) (commit : Bool) (copies : List (ℕ × Stored)) → keys (with_outcome doubt commit copies) ≡ keys copies
+pub outcome_keys : (doubt : Option Doubt) (commit : Bool) (copies : List (ℕ × Stored)) → keys (with_outcome doubt commit copies) ≡ keys copies
 outcome_keys (Some d) true copies = written_keys d.view d.writes copies
 outcome_keys (Some d) false copies = refl
 outcome_keys None commit copies = refl
@@ -31,14 +32,14 @@ restored_keys (c ∷ saved) copies = restored_keys saved (replace_at c.0 c.1 cop
 
 pub applied_keys : (e : LogRecord) (d : DurableState) → keys (apply e d).copies ≡ keys d.copies
 unfolding apply
-applied_keys (entry.Start life) d = refl
-applied_keys (entry.Promise view) d = refl
-applied_keys (entry.Yes txn view writes) d = refl
-applied_keys (entry.Outcome txn commit) d = outcome_keys (doubt_of txn d.doubts) commit d.copies
-applied_keys (entry.Commit txn view writes waiting) d = written_keys view writes d.copies
-applied_keys (entry.Copy rec stored) d = replaced_keys rec stored d.copies
-applied_keys (entry.Acked txn site) d = refl
-applied_keys (entry.Checkpoint generation life promise copies doubts decisions) d = restored_keys copies d.copies
+applied_keys (log_record.Start life) d = refl
+applied_keys (log_record.Promise view) d = refl
+applied_keys (log_record.Yes txn view writes) d = refl
+applied_keys (log_record.Outcome txn commit) d = outcome_keys (doubt_of txn d.doubts) commit d.copies
+applied_keys (log_record.Commit txn view writes waiting) d = written_keys view writes d.copies
+applied_keys (log_record.Copy rec stored) d = replaced_keys rec stored d.copies
+applied_keys (log_record.Acked txn site) d = refl
+applied_keys (log_record.Checkpoint generation life promise copies doubts decisions) d = restored_keys copies d.copies
 
 -- a call changes nothing, or leaves what has the same copies
 pub held_by : {T E : Type 0} (x d n : DurableState) (result : Result T E) → keys x.copies ≡ keys d.copies → OnOk result (n ≡ x) → OnErr result (n ≡ d) → keys n.copies ≡ keys d.copies

@@ -2,7 +2,7 @@
 use Rattle.std.specs.Prelude.{ℕ, zero, suc, List, [], ◌∷◌, length, Result, Ok, Err}
 use Rattle.vp_text.specs.Reading.{◌>>=◌}
 use Rattle.vp_base.specs.declared.entry.LogRecord.{LogRecord}
-use Rattle.vp_base.specs.declared.entry.LogRecord.TheVariants as entry
+use Rattle.vp_base.specs.declared.entry.LogRecord.TheVariants as log_record
 use Rattle.vp_bytes.specs.Reading.{byte_at, within, u32_at, u64_at, view_at, txn_at, value_at, writes_at, sites_at, outcome_at}
 use Rattle.vp_bytes.specs.Codes.{code_at}
 use Rattle.vp_bytes.specs.Copies.{stored_of, copies_at}
@@ -16,34 +16,34 @@ use Rattle.vp_records.specs.declared.kind.RecordKind.TheVariants as kinds
 unfoldable pub fields_at : RecordKind → List ℕ → Result (LogRecord × List ℕ) ℕ
 fields_at kinds.Start bytes = do
   life ← u32_at bytes
-  Ok (entry.Start life.0, life.1)
+  Ok (log_record.Start life.0, life.1)
 fields_at kinds.Promise bytes = do
   view ← view_at bytes
-  Ok (entry.Promise view.0, view.1)
+  Ok (log_record.Promise view.0, view.1)
 fields_at kinds.Yes bytes = do
   txn ← txn_at bytes
   view ← view_at txn.1
   writes ← writes_at view.1
-  Ok (entry.Yes txn.0 view.0 writes.0, writes.1)
+  Ok (log_record.Yes txn.0 view.0 writes.0, writes.1)
 fields_at kinds.Outcome bytes = do
   txn ← txn_at bytes
   commit ← outcome_at txn.1
-  Ok (entry.Outcome txn.0 commit.0, commit.1)
+  Ok (log_record.Outcome txn.0 commit.0, commit.1)
 fields_at kinds.Commit bytes = do
   txn ← txn_at bytes
   view ← view_at txn.1
   writes ← writes_at view.1
   waiting ← sites_at 0 writes.1
-  Ok (entry.Commit txn.0 view.0 writes.0 waiting.0, waiting.1)
+  Ok (log_record.Commit txn.0 view.0 writes.0 waiting.0, waiting.1)
 fields_at kinds.Copy bytes = do
   rec ← byte_at (within 0 255) bytes
   value ← value_at rec.1
   date ← view_at value.1
-  Ok (entry.Copy rec.0 (stored_of value.0 date.0), date.1)
+  Ok (log_record.Copy rec.0 (stored_of value.0 date.0), date.1)
 fields_at kinds.Acked bytes = do
   txn ← txn_at bytes
   site ← byte_at (within 1 16) txn.1
-  Ok (entry.Acked txn.0 site.0, site.1)
+  Ok (log_record.Acked txn.0 site.0, site.1)
 fields_at kinds.Checkpoint bytes = do
   generation ← u64_at bytes
   life ← u32_at generation.1
@@ -51,7 +51,7 @@ fields_at kinds.Checkpoint bytes = do
   copies ← copies_at promise.1
   doubts ← doubts_at copies.1
   decisions ← decisions_at doubts.1
-  Ok (entry.Checkpoint generation.0 life.0 promise.0 copies.0 doubts.0 decisions.0, decisions.1)
+  Ok (log_record.Checkpoint generation.0 life.0 promise.0 copies.0 doubts.0 decisions.0, decisions.1)
 
 -- a record: its code, and the fields of that kind
 unfoldable pub record_at : List ℕ → Result (LogRecord × List ℕ) ℕ

@@ -1,7 +1,7 @@
 //! The durable part, and what each kind of log record does to it.
 
 ghost use Rattle.std.specs.Prelude.{◌≡◌, OnOk, OnErr, IfOk, is_some, true, option_copied};
-ghost use Rattle.vp_base.specs.declared.entry.LogRecord.TheVariants as entry;
+ghost use Rattle.vp_base.specs.declared.entry.LogRecord.TheVariants as log_record;
 ghost use Rattle.vp_model.specs.Words.{has, keys, value_at, for_each, replace_at};
 ghost use Rattle.vp_model.specs.Durable.{empty_durable, apply, apply_all, doubt_of, with_outcome, put_doubt, with_writes, with_decision};
 ghost use Rattle.vp_records.specs.Applying.{AppliesSome};
@@ -146,7 +146,7 @@ impl Durable {
 
     /// The record that saves all of it.
     pub fn checkpoint(&self, generation: u64) -> Result<LogRecord, NoMemory>
-        ensures record { IfOk result (λ r. r ≡ entry.Checkpoint generation self.now.life self.now.promise self.now.copies self.now.doubts self.now.decisions) }
+        ensures record { IfOk result (λ r. r ≡ log_record.Checkpoint generation self.now.life self.now.promise self.now.copies self.now.doubts self.now.decisions) }
         ensures spelled { CanBeSaved self.now → IfOk result IsLogRecord }
     {
         let alloc = self.copies.allocator();
@@ -165,14 +165,14 @@ impl Durable {
 
     #[tactic(auto, unfolding(vp_model::specs::Durable::apply))]
     fn start(&mut self, life: u32)
-        ensures { self.new ≡ apply (entry.Start life) self.old }
+        ensures { self.new ≡ apply (log_record.Start life) self.old }
     {
         self.life = life;
     }
 
     #[tactic(auto, unfolding(vp_model::specs::Durable::apply))]
     fn promise_to(&mut self, view: ViewId)
-        ensures { self.new ≡ apply (entry.Promise view) self.old }
+        ensures { self.new ≡ apply (log_record.Promise view) self.old }
     {
         self.promise = view;
     }
@@ -180,7 +180,7 @@ impl Durable {
     /// The site voted yes.
     #[tactic(auto, unfolding(vp_model::specs::Durable::apply))]
     fn vote(&mut self, txn: &TxnId, view: &ViewId, writes: &Writes) -> Result<(), NoMemory>
-        ensures ok { OnOk result (self.new ≡ apply (entry.Yes txn.now view.now writes.now) self.old) }
+        ensures ok { OnOk result (self.new ≡ apply (log_record.Yes txn.now view.now writes.now) self.old) }
         ensures err { OnErr result (self.new ≡ self.old) }
     {
         self.doubts = with_doubt(&self.doubts, txn, view, writes)?;
@@ -200,7 +200,7 @@ impl Durable {
     /// The doubt ends: only a commit makes its writes copies.
     #[tactic(auto, unfolding(vp_model::specs::Durable::apply))]
     fn end_doubt(&mut self, txn: &TxnId, commit: bool) -> Result<(), NoMemory>
-        ensures ok { OnOk result (self.new ≡ apply (entry.Outcome txn.now commit) self.old) }
+        ensures ok { OnOk result (self.new ≡ apply (log_record.Outcome txn.now commit) self.old) }
         ensures err { OnErr result (self.new ≡ self.old) }
     {
         if commit {
@@ -219,7 +219,7 @@ impl Durable {
         writes: &Writes,
         waiting: &Sites,
     ) -> Result<(), NoMemory>
-        ensures ok { OnOk result (self.new ≡ apply (entry.Commit txn.now view.now writes.now waiting.now) self.old) }
+        ensures ok { OnOk result (self.new ≡ apply (log_record.Commit txn.now view.now writes.now waiting.now) self.old) }
         ensures err { OnErr result (self.new ≡ self.old) }
     {
         let copies = written(&self.copies, view, writes.as_slice())?;
@@ -230,7 +230,7 @@ impl Durable {
 
     #[tactic(auto, unfolding(vp_model::specs::Durable::apply))]
     fn set_copy(&mut self, rec: RecId, stored: &Stored) -> Result<(), NoMemory>
-        ensures ok { OnOk result (self.new ≡ apply (entry.Copy rec stored.now) self.old) }
+        ensures ok { OnOk result (self.new ≡ apply (log_record.Copy rec stored.now) self.old) }
         ensures err { OnErr result (self.new ≡ self.old) }
     {
         self.copies = replaced(&self.copies, rec, stored)?;
@@ -239,7 +239,7 @@ impl Durable {
 
     #[tactic(auto, unfolding(vp_model::specs::Durable::apply))]
     fn acknowledge(&mut self, txn: &TxnId, site: SiteId)
-        ensures { self.new ≡ apply (entry.Acked txn.now site) self.old }
+        ensures { self.new ≡ apply (log_record.Acked txn.now site) self.old }
     {
         acknowledge(&mut self.decisions, txn, site);
     }

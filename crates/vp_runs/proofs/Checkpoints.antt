@@ -7,8 +7,8 @@ use Rattle.vp_model.specs.Types.{LogRecord, Stored}
 use Rattle.vp_model.specs.Words.{for_each, has, keys, replace_at}
 use Rattle.vp_model.specs.Catalogue.{Catalogue, RecordEntry, copies_from, start_copies}
 use Rattle.vp_model.specs.Durable.{DurableState, empty_durable, apply, apply_all}
-use Rattle.vp_records.proofs.Held.{applied_keys}
-use Rattle.vp_stable.specs.Halves.{folded, due, saved, checkpointed, is_last, generation_of}
+use Rattle.vp_stable.specs.Halves.{due, saved, checkpointed, is_last, generation_of}
+use Rattle.vp_stable.proofs.Restored.{folded_keys}
 use Rattle.vp_runs.specs.Keeping.{durable_in, kept_with, saved_if_due}
 use Rattle.vp_runs.specs.Laws.{CheckpointsFold, StepsFold}
 use Rattle.vp_laws.proofs.Lists.Numbers.{eq_self}
@@ -40,15 +40,6 @@ copies_ascend place site (r ∷ records) = at (has (keys r.weights) site) refl (
     at : (here : Bool) → has (keys r.weights) site ≡ here → Ascends (keys (copies_from (place + 1) records site)) → Ascends (keys (copies_from place (r ∷ records) site))
     at true e rest = rw e (placed_above place (place + 1) site records (omega arith), rest)
     at false e rest = rw e rest
-
--- no record of the log changes which records have a copy
-all_keys : (records : List LogRecord) (d : DurableState) → keys (apply_all records d).copies ≡ keys d.copies
-all_keys [] d = refl
-all_keys (r ∷ records) d = all_keys records (apply r d) ∙ applied_keys r d
-
-folded_keys : (batches : List (List LogRecord)) (d : DurableState) → keys (folded batches d).copies ≡ keys d.copies
-folded_keys [] d = refl
-folded_keys (batch ∷ batches) d = folded_keys batches (apply_all batch d) ∙ all_keys batch d
 
 -- ---- setting all of them
 

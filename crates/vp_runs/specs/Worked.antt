@@ -3,7 +3,7 @@ use Rattle.std.specs.Prelude.{ℕ, List, [], ◌∷◌, codes}
 use Rattle.vp_model.specs.Types.{LogRecord, TxnId, Call, Answer}
 use Rattle.vp_model.specs.Types.answer
 use Rattle.vp_model.specs.Types.call
-use Rattle.vp_model.specs.Types.entry
+use Rattle.vp_model.specs.Types.log_record
 use Rattle.vp_model.specs.Types.message
 use Rattle.vp_model.specs.Catalogue.{Catalogue, RecordEntry}
 use Rattle.vp_model.specs.Words.{opening}
@@ -59,7 +59,7 @@ commit =
 
 -- the decision waits for the other site
 abbrev pub committed : List (List LogRecord)
-committed = (entry.Start 1 ∷ []) ∷ (entry.Commit (txn 1) opening ((0, codes "11") ∷ []) (2 ∷ []) ∷ []) ∷ []
+committed = (log_record.Start 1 ∷ []) ∷ (log_record.Commit (txn 1) opening ((0, codes "11") ∷ []) (2 ∷ []) ∷ []) ∷ []
 
 -- ---- an answer
 

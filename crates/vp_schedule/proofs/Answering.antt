@@ -2,7 +2,7 @@
 use Rattle.std.proofs.Common.{ltb, ◌≡◌, ℕ, ◌+◌, ◌-◌, ◌≤◌, List, ◌++◌, length, refl, sym, ap, subst, ◌∙◌, arith, Ok, Err, true, false, not, [], ◌∷◌}
 use Rattle.std.proofs.lemmas.Bool.{false≢true, ltb-false, or_parts, not-false, not-true}
 use Rattle.std.proofs.lemmas.List.{length-append, append-nil, nil_from_length}
-use Rattle.vp_text.specs.Documents.{IsBadLine, IsFaultyLine}
+use Rattle.vp_text.specs.Documents.{IsFaultyLine}
 use Rattle.vp_text.proofs.Lists.{so_far_more, so_far_bad, so_far_faulty, fault_no_line}
 use Rattle.vp_text.proofs.Determined.{Plain, plain, Divided, IsLast, last_same, whole_divided, ended_last}
 use Rattle.vp_model.specs.World.{Schedule}
@@ -56,13 +56,10 @@ no_schedule text rest d line left stands read owed s h =
 
 -- ---- the answers
 
-pair_same : (a b c d : ℕ) → a ≡ b → c ≡ d → let p : ℕ × ℕ = (a, c) in let q : ℕ × ℕ = (b, d) in p ≡ q
-pair_same a b c d e f = rw (e, f) refl
-
 pub answered_next : (text rest new : List ℕ) (d : Draft) (line : ℕ) (e : ScheduleFault) → Stands text rest d line → is_owed rest d ≡ true → NextLine d line rest new (Err e) → Answered text (Err e)
 answered_next text rest new d line (faults.BadLine l at) s owed n =
     let bad = (so_far_bad blank after LineText Onward line_at text rest d line n.1 (readable (length text)) s n.2).1 in (
-      subst (λ (p : ℕ × ℕ). IsBadLine blank after LineText Onward text p.0 p.1) (pair_same line l (length rest - n.1 + 1) at (sym n.0) (sym n.3)) bad,
+      rw (n.0, n.3) bad,
       no_schedule text rest d line n.1 s n.2 owed,
     )
 answered_next text rest new d line (faults.Twice l) s owed n = absurd n

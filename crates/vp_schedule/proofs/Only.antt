@@ -71,18 +71,6 @@ many_many text l m a b f g =
 abbrev NoMemory : Result Schedule ScheduleFault
 NoMemory = Err faults.NoMemory
 
-abbrev bad_line : ℕ → ℕ → Result Schedule ScheduleFault
-bad_line line at = Err (faults.BadLine line at)
-
-abbrev too_many : ℕ → ℕ → Result Schedule ScheduleFault
-too_many line limit = Err (faults.TooMany line limit)
-
-bad_line_same : (l m i k : ℕ) → l ≡ m → i ≡ k → bad_line l i ≡ bad_line m k
-bad_line_same l m i k e f = rw (e, f) refl
-
-too_many_same : (l m a b : ℕ) → l ≡ m → a ≡ b → too_many l a ≡ too_many m b
-too_many_same l m a b e f = rw (e, f) refl
-
 answers_same : (text : List ℕ) (r s : Result Schedule ScheduleFault) → Answered text r → Answered text s → r ≢ NoMemory → s ≢ NoMemory → s ≡ r
 answers_same text (Ok s) (Ok r) a b t u = ap (λ (x : Schedule). Ok x) (sym (ok_ok text s r a b))
 answers_same text (Ok s) (Err (faults.BadLine m k)) a b t u = absurd (b.1 s a)
@@ -91,7 +79,7 @@ answers_same text (Ok s) (Err (faults.TooMany m limit)) a b t u = absurd (ok_sto
 answers_same text (Err (faults.BadLine l i)) (Ok s) a b t u = absurd (a.1 s b)
 answers_same text (Err (faults.BadLine l i)) (Err (faults.BadLine m k)) a b t u =
     let same = bad_same blank after LineText Onward text (lines_plain text) m l k i b.0 a.0 in
-    bad_line_same m l k i same.0 same.1
+    rw (same.0, same.1) refl
 answers_same text (Err (faults.BadLine l i)) (Err (faults.Twice m)) a b t u = absurd (bad_not_faulty blank after LineText Onward Repeats repeats_stop text (lines_plain text) l m i a.0 b)
 answers_same text (Err (faults.BadLine l i)) (Err (faults.TooMany m limit)) a b t u = absurd (bad_not_faulty blank after LineText Onward (Exceeds limit) (exceeds_stop limit) text (lines_plain text) l m i a.0 b)
 answers_same text (Err (faults.Twice l)) (Ok s) a b t u = absurd (ok_stopped Repeats repeats_stop text s l b a)
@@ -103,7 +91,7 @@ answers_same text (Err (faults.TooMany l limit)) (Err (faults.BadLine m k)) a b 
 answers_same text (Err (faults.TooMany l limit)) (Err (faults.Twice m)) a b t u = absurd (twice_many text m l limit b a)
 answers_same text (Err (faults.TooMany l i)) (Err (faults.TooMany m k)) a b t u =
     let same = many_many text m l k i b a in
-    too_many_same m l k i same.0 same.1
+    rw (same.0, same.1) refl
 answers_same text (Err faults.NoMemory) s a b t u = absurd (t refl)
 answers_same text r (Err faults.NoMemory) a b t u = absurd (u refl)
 

@@ -8,7 +8,7 @@ mod Generations
 mod Measured
 mod Opened
 mod Recoveries
-mod Restored
+pub mod Restored
 mod Scanning
 mod Standings
 mod Tears

@@ -74,7 +74,7 @@ all_keys : (records : List LogRecord) (d : DurableState) → keys (apply_all rec
 all_keys [] d = refl
 all_keys (r ∷ records) d = all_keys records (apply r d) ∙ applied_keys r d
 
-folded_keys : (batches : List (List LogRecord)) (d : DurableState) → keys (folded batches d).copies ≡ keys d.copies
+pub folded_keys : (batches : List (List LogRecord)) (d : DurableState) → keys (folded batches d).copies ≡ keys d.copies
 folded_keys [] d = refl
 folded_keys (batch ∷ batches) d = folded_keys batches (apply_all batch d) ∙ all_keys batch d
 

@@ -1,7 +1,7 @@
 -- What the two halves of a log stand for: the batches of the current one.
 use Rattle.std.specs.Prelude.{◌≡◌, ◌⊎◌, ℕ, ◌+◌, ◌*◌, ◌-◌, ◌^◌, Bool, false, nat_lt, ◌==◌, ◌&&◌, if◌then◌else◌, List, [], ◌∷◌, ◌++◌, length, IfSome, Result, Ok, Err}
 use Rattle.vp_base.specs.declared.entry.LogRecord.{LogRecord}
-use Rattle.vp_base.specs.declared.entry.LogRecord.TheVariants as entry
+use Rattle.vp_base.specs.declared.entry.LogRecord.TheVariants as log_record
 use Rattle.vp_model.specs.Durable.{DurableState, empty_durable, apply_all}
 use Rattle.vp_model.specs.Types.{Stored}
 use Rattle.vp_model.specs.Words.{for_each}
@@ -14,7 +14,7 @@ use Rattle.vp_stable.specs.declared.fault.LogFault.TheVariants as faults
 
 -- the generation of the checkpoint with which a batch begins; 0 where it begins with none
 abbrev pub generation_in : List LogRecord → ℕ
-generation_in (entry.Checkpoint generation life promise copies doubts decisions ∷ records) = generation
+generation_in (log_record.Checkpoint generation life promise copies doubts decisions ∷ records) = generation
 generation_in _ = 0
 
 abbrev pub generation_of : List (List LogRecord) → ℕ
@@ -118,7 +118,7 @@ MayGainAt batch from old new = (batches : List (List LogRecord)) → StandsAt fr
 -- ---- checkpoints
 
 abbrev pub checkpoint_of : ℕ → DurableState → LogRecord
-checkpoint_of generation d = entry.Checkpoint generation d.life d.promise d.copies d.doubts d.decisions
+checkpoint_of generation d = log_record.Checkpoint generation d.life d.promise d.copies d.doubts d.decisions
 
 -- one batch of one checkpoint, of the generation behind that of these batches
 abbrev pub checkpointed : DurableState → List (List LogRecord) → List (List LogRecord)

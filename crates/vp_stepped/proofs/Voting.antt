@@ -3,7 +3,7 @@ use Rattle.std.proofs.Common.{◌≡◌, ℕ, Bool, true, false, List, [], ◌�
 use Rattle.std.specs.Prelude.{Option, Some, None, not, if◌then◌else◌}
 use Rattle.std.specs.Option.{option_map_or}
 use Rattle.vp_model.specs.Types.{ViewId, TxnId, Change, Part}
-use Rattle.vp_model.specs.Types.entry
+use Rattle.vp_model.specs.Types.log_record
 use Rattle.vp_model.specs.Types.message
 use Rattle.vp_model.specs.Words.{◌|>◌, for_some, is_view, same_txn, has_txn, is_empty}
 use Rattle.vp_model.specs.Site.{ParticipantState, Stepped, send, force, change_participant}
@@ -31,7 +31,7 @@ module _ (from : ℕ) (view : ViewId) (number : ℕ) (reads : List ℕ) (writes 
   unfolding first_vote first_ballot
   first_cast part = go (has_all_locks o.site.locks part.txn reads writes) (is_empty writes)
     where
-      go : (all none : Bool) → (if not all then o else (if none then o |> change_participant (with_vote part) |> send (message.Vote part.txn) from else o |> change_participant (with_new_doubt part writes) |> force (entry.Yes part.txn part.view writes) |> send (message.Vote part.txn) from)) ≡ cast part.txn from (if not all then (voted.Silent, o.site.participant) else (if none then (voted.Yes None, with_vote part o.site.participant) else (voted.Yes (Some (entry.Yes part.txn part.view writes)), with_new_doubt part writes o.site.participant))) o
+      go : (all none : Bool) → (if not all then o else (if none then o |> change_participant (with_vote part) |> send (message.Vote part.txn) from else o |> change_participant (with_new_doubt part writes) |> force (log_record.Yes part.txn part.view writes) |> send (message.Vote part.txn) from)) ≡ cast part.txn from (if not all then (voted.Silent, o.site.participant) else (if none then (voted.Yes None, with_vote part o.site.participant) else (voted.Yes (Some (log_record.Yes part.txn part.view writes)), with_new_doubt part writes o.site.participant))) o
       go false none = refl
       go true true = refl
       go true false = refl

@@ -2,7 +2,7 @@
 use Rattle.std.specs.Prelude.{ℕ, ◌+◌, ◌≡◌, Bool, true, false, not, ◌==◌, ◌&&◌, if◌then◌else◌, is_some, List, [], filter, Option, Some, None, option_map, Result, Ok, Err}
 use Rattle.std.specs.Option.{option_map_or}
 use Rattle.vp_model.specs.Types.{ViewId, View, Effects}
-use Rattle.vp_model.specs.Types.entry
+use Rattle.vp_model.specs.Types.log_record
 use Rattle.vp_model.specs.Types.message
 use Rattle.vp_model.specs.Words.{has, is_view, opening, put_number, view_before}
 use Rattle.vp_model.specs.Catalogue.{Catalogue, sites_of}
@@ -117,7 +117,7 @@ abbrev pub inviting_to : Catalogue → ViewId → Viewed → Viewed
 inviting_to catalogue id o =
     viewed
     (change (with_invitation id o.at.id) o.at)
-    (with_messages o.at.id (message.Invite id) (other_sites catalogue o.at.id) (with_entry (entry.Promise id) o.effects))
+    (with_messages o.at.id (message.Invite id) (other_sites catalogue o.at.id) (with_entry (log_record.Promise id) o.effects))
 
 -- an invitation is made, unless the numbers are spent
 abbrev pub Invites : Catalogue → Result ViewId InviteFault → Viewed → Viewed → Type 0
@@ -127,7 +127,7 @@ Invites catalogue (Err fault.NoMemory) old new = Unit {0}
 
 abbrev pub accepting : ℕ → ViewId → Viewed → Viewed
 accepting from id o =
-    viewed (change (with_wait id) o.at) (with_message o.at.id (message.Accept id) from (with_entry (entry.Promise id) o.effects))
+    viewed (change (with_wait id) o.at) (with_message o.at.id (message.Accept id) from (with_entry (log_record.Promise id) o.effects))
 
 -- an invitation that comes: one above the promise is accepted, a lower one is told the promise, and the one that is waited for is
 -- accepted again

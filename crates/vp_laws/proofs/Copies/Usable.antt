@@ -35,8 +35,8 @@ module _ (catalogue : Catalogue) (w : Scene) (shares : InvShares catalogue w) (i
   copy_kept = subst (λ (k : DurableState). value_at rec k.copies ≡ Some c) kept copy
 
   -- an entry of the held view that wrote it would be in doubt here
-  not_held : (f : Commit) → Has w.journal f → Wrote f rec → Precedes c.date f.view → f.view ≡ v.id → ⊥
-  not_held f h wrote above is =
+  none_in_held : (f : Commit) → Has w.journal f → Wrote f rec → Precedes c.date f.view → f.view ≡ v.id → ⊥
+  none_in_held f h wrote above is =
       let d = inv.above s rec c f v copy_kept h wrote above (agreed, sym is) member in
       unentered d.0 d.1 (doubt_on catalogue w shares f s rec d.0 h wrote holder d.1 d.2) f h (sym d.2)
 
@@ -47,7 +47,7 @@ module _ (catalogue : Catalogue) (w : Scene) (shares : InvShares catalogue w) (i
       apart e is = let z : same_view v.id v.id ≡ false = subst (λ (i : ViewId). same_view i v.id ≡ false) is e in not_same v.id z
 
       go : (b : Bool) → same_view f.view v.id ≡ b → ⊥
-      go true e = not_held f h wrote above (same_is f.view v.id e)
+      go true e = none_in_held f h wrote above (same_is f.view v.id e)
       go false e = inv.between s rec x v c f up held usable unlisted copy h wrote above (strictly f.view v.id below (apart e))
 
   at_date : value_after catalogue w.journal c.date rec ≡ Some c.value

@@ -1,10 +1,10 @@
 -- What is found in a list of pairs by its number, and the last writes of operations.
-use Rattle.std.proofs.Common.{◌≡◌, ◌⊎◌, ap, sym, subst, ℕ, Bool, true, false, cond, List, [], ◌∷◌, refl, inl, inr, ⊎_elim, ◌∙◌}
+use Rattle.std.proofs.Common.{◌≡◌, ◌⊎◌, ap, sym, subst, ℕ, Bool, true, false, cond, List, [], ◌∷◌, refl, inl, inr, ⊎_elim}
 use Rattle.std.specs.Prelude.{Some, fold, ◌==◌, nat_lt, find, option_map, None}
 use Rattle.vp_model.specs.Types.{Change, Op}
 use Rattle.std.proofs.lemmas.Bool.{eqb-true}
 use Rattle.vp_model.specs.Types.op
-use Rattle.vp_model.specs.Words.{keys, put_at, value_at, replace_at}
+use Rattle.vp_model.specs.Words.{keys, put_at, value_at}
 use Rattle.vp_model.specs.Transactions.{with_op, last_writes}
 use Rattle.vp_laws.proofs.Lists.Members.{map_has, Has, has_none, has_first, has_more, has_cons}
 use Rattle.vp_laws.proofs.Lists.Changes.{put_has, mapped_has}
@@ -66,15 +66,6 @@ not_copied {K} n (p ∷ pairs) e h = go (p.0 == n) refl e (λ q more. not_copied
     go : (b : Bool) → (p.0 == n) ≡ b → option_map (λ (p : ℕ × K). p.1) (cond b (Some p) (find (λ (p : ℕ × K). p.0 == n) pairs)) ≡ None → (value_at n pairs ≡ None → Has (keys pairs) n → ⊥) → ⊥
     go true t q rest = cc
     go false t q rest = ⊎_elim (λ (one : p.0 ≡ n). unequal p.0 n t one) (λ more. rest q more) (has_cons p.0 (keys pairs) n h)
-
--- an entry that is replaced keeps its number
-pub replaced_keys : {K : Type 0} (n : ℕ) (v : K) (pairs : List (ℕ × K)) → keys (replace_at n v pairs) ≡ keys pairs
-replaced_keys {K} n v [] = refl
-replaced_keys {K} n v (p ∷ pairs) = ap (λ (k : ℕ). k ∷ keys (replace_at n v pairs)) (go (p.0 == n) refl) ∙ ap (λ (ks : List ℕ). p.0 ∷ ks) (replaced_keys n v pairs)
-  where
-    go : (b : Bool) → (p.0 == n) ≡ b → (cond b (n, v) p).0 ≡ p.0
-    go true e = sym (eqb-true p.0 n e)
-    go false e = refl
 
 -- an operation does one thing to one record
 pub read_no_write : {C : Type 0} (operation : Op) (rec other : ℕ) (value v : List ℕ) → operation ≡ op.Read rec value → operation ≡ op.Write other v → C

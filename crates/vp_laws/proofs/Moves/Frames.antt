@@ -4,7 +4,7 @@ use Rattle.std.specs.Prelude.{Option, Some, None}
 use Rattle.vp_model.specs.Types.{TxnId, Effects, Pending, Live, Ending, Stored}
 use Rattle.vp_base.specs.declared.site.Ending.TheVariants.{Committed}
 use Rattle.vp_model.specs.Types.owner
-use Rattle.vp_model.specs.Types.entry
+use Rattle.vp_model.specs.Types.log_record
 use Rattle.vp_model.specs.Types.message
 use Rattle.vp_model.specs.Catalogue.{Catalogue}
 use Rattle.vp_model.specs.Words.{is_empty, view_before, replace_at}
@@ -86,6 +86,6 @@ close_all-beside id why [] l = record { copies = refl; seq = refl; decisions = r
 close_all-beside id why (t ∷ live) l = Beside-trans l _ _ (close-beside id t (why t) l) (close_all-beside id why live (close id t (why t) l))
 
 -- a copy is replaced where another one is newer, or stays
-pub take-cases : (P : Stepped → Type 0) (rec : ℕ) (own best : Stored) (o : Stepped) → P (force (entry.Copy rec best) (change_copies (replace_at rec best) o)) → P o → P (take_newer rec own best o)
+pub take-cases : (P : Stepped → Type 0) (rec : ℕ) (own best : Stored) (o : Stepped) → P (force (log_record.Copy rec best) (change_copies (replace_at rec best) o)) → P o → P (take_newer rec own best o)
 unfolding take_newer
 take-cases P rec own best o newer older = by_test P (view_before own.date best.date) _ _ (λ e. newer) (λ e. older)

@@ -2,7 +2,7 @@
 use Rattle.std.proofs.Common.{◌≡◌, ◌∙◌, sym, subst, ℕ, Bool, true, false, List, [], refl, arith}
 use Rattle.std.specs.Prelude.{Option, Some, None, map}
 use Rattle.vp_model.specs.Types.{Change, ViewId, View, TxnId, Stored, Owner, Commit, Reply, Call, Message, Input, Refreshing, Part, Decision, Doubt}
-use Rattle.vp_model.specs.Types.entry
+use Rattle.vp_model.specs.Types.log_record
 use Rattle.vp_model.specs.Types.obstacle
 use Rattle.vp_model.specs.Types.call
 use Rattle.vp_model.specs.Types.input
@@ -103,7 +103,7 @@ on_prepare-seen from txn view number reads writes o =
     let other_view : Unseen o (refuse_view txn number from o) = shut refl in
     let sends : (words : Message) → Unseen o (send words from o) = λ words. shut refl in
     let reading : (part : Part) → Unseen o (send (message.Vote part.txn) from (change_participant (with_vote part) o)) = λ part. shut refl in
-    let writing : (part : Part) → Unseen o (send (message.Vote part.txn) from (force (entry.Yes part.txn part.view writes) (change_participant (with_new_doubt part writes) o))) = λ part. shut refl in
+    let writing : (part : Part) → Unseen o (send (message.Vote part.txn) from (force (log_record.Yes part.txn part.view writes) (change_participant (with_new_doubt part writes) o))) = λ part. shut refl in
     grind (arith, self, other_view, sends, reading, writing)
 
 end_here-seen : (from : ℕ) (txn : TxnId) (commit : Bool) (doubt : Option Doubt) (o : Stepped) → Unseen o (end_here from txn commit doubt o)

@@ -1,7 +1,7 @@
 -- What a step keeps and tells of views, at its own site.
 use Rattle.std.proofs.Common.{◌≡◌, ◌⊎◌, ◌∙◌, ap, sym, ℕ, Bool, true, false, List, [], ◌∷◌, ◌++◌, ⊎_elim, append-nil}
 use Rattle.std.specs.Prelude.{Some, None}
-use Rattle.vp_model.specs.Types.{ViewId, View, Message, Sent, Input}
+use Rattle.vp_model.specs.Types.{ViewId, View, Message, Sent, Input, Refreshing}
 use Rattle.vp_model.specs.Types.message
 use Rattle.vp_model.specs.Site.{ViewState, SiteState, Stepped, letters}
 use Rattle.vp_laws.proofs.Lists.Members.{Has, has_none, has_cases, has_one_is, map_has}
@@ -14,6 +14,10 @@ pub record Tidy (x : SiteState) : Type 0 where
   pub held : (v : View) → x.held ≡ Some v → (v.id ≡ x.promise) × (x.waiting ≡ None) × (x.inviting ≡ None) × Has v.members x.id
   pub waiting : (i : ViewId) → x.waiting ≡ Some i → (i ≡ x.promise) × (x.held ≡ None) × (x.inviting ≡ None)
   pub inviting : (b : ViewId × List ℕ) → x.inviting ≡ Some b → (b.0 ≡ x.promise) × (x.held ≡ None) × (x.waiting ≡ None) × (b.0.site ≡ x.id) × Has b.1 x.id
+
+-- where a refresh stands in a held view alone, there is none while no view is held
+pub none_refreshed : (x : SiteState) → ((r : Refreshing) → Has x.refresh r → (v : View) × (x.held ≡ Some v)) → x.held ≡ None → (r : Refreshing) → Has x.refresh r → ⊥
+none_refreshed x held_then e r h = let q = held_then r h in let z = q.1 in cc
 
 abbrev pub ViewComes : Input → View → Type 0
 ViewComes given v = (p : ℕ) × Comes given p (message.ViewCommit v.id v.members)

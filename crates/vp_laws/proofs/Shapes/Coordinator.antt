@@ -14,7 +14,7 @@ use Rattle.vp_model.specs.Types.{TxnId, View, Op, Answer, Call, Input, Effects, 
 use Rattle.vp_base.specs.declared.site.Ending.TheVariants.{Committed}
 use Rattle.vp_model.specs.Types.answer
 use Rattle.vp_model.specs.Types.call
-use Rattle.vp_model.specs.Types.entry
+use Rattle.vp_model.specs.Types.log_record
 use Rattle.vp_model.specs.Types.input
 use Rattle.vp_model.specs.Types.message
 use Rattle.vp_model.specs.Types.obstacle
@@ -309,8 +309,8 @@ module _ (catalogue : Catalogue) (k : IsCatalogue catalogue) (x : SiteState) (sx
       let waiting = writing_parts catalogue t in
       let w = last_writes_are t.ops (λ w. has (holders catalogue w.0) x.id) i.ops_are i.ops_few in
       let up = ascending_filter 1 16 (λ q. not (is_empty (writes_held catalogue q (last_changes (entry_of t))))) t.parts i.parts_are.2 in
-      let a = now_gives _ (lent_at x) begins (gives_entry x.id _ begins.gives (entry.Commit t.txn t.view writes waiting) (i.txn_is, i.view_is, w, sites_of_ascending waiting up)) in
-      let b : K (record (lent_force (entry.Commit t.txn t.view writes waiting) (lent_at x)) { here = record x.here { copies = with_writes t.view writes x.here.copies } }) = with_copies catalogue x (put_back (begin_step x) (lent_force (entry.Commit t.txn t.view writes waiting) (lent_at x))) a (with_writes t.view writes) (writes_are catalogue x.id 0 t.view writes x.here.copies i.view_is w.1 sx.copies_are) in
+      let a = now_gives _ (lent_at x) begins (gives_entry x.id _ begins.gives (log_record.Commit t.txn t.view writes waiting) (i.txn_is, i.view_is, w, sites_of_ascending waiting up)) in
+      let b : K (record (lent_force (log_record.Commit t.txn t.view writes waiting) (lent_at x)) { here = record x.here { copies = with_writes t.view writes x.here.copies } }) = with_copies catalogue x (put_back (begin_step x) (lent_force (log_record.Commit t.txn t.view writes waiting) (lent_at x))) a (with_writes t.view writes) (writes_are catalogue x.id 0 t.view writes x.here.copies i.view_is w.1 sx.copies_are) in
       let s = sx.coordinator_is in
       now_coordinator (with_kept t.txn waiting) _ b (record { seq_fits = s.seq_fits; live_are = s.live_are; finished_are = s.finished_are; decisions_are = with_decisions t.txn waiting x.decisions i.txn_is up s.decisions_are })
 
@@ -344,11 +344,11 @@ module _ (catalogue : Catalogue) (k : IsCatalogue catalogue) (x : SiteState) (sx
   unfolding mark_calls
   marks l p = now_coordinator with_marks l p (marks_are l.coordinator p.site_is.coordinator_is)
 
-  pub acknowledges : (from : ℕ) (txn : TxnId) → Comes given from (message.Ack txn) → K (lent_coordinator (with_acknowledged txn from) (lent_force (entry.Acked txn from) (lent_at x)))
+  pub acknowledges : (from : ℕ) (txn : TxnId) → Comes given from (message.Ack txn) → K (lent_coordinator (with_acknowledged txn from) (lent_force (log_record.Acked txn from) (lent_at x)))
   acknowledges from txn c =
       let m = came_is given from (message.Ack txn) came c in
       let s = sx.coordinator_is in
-      let a = now_gives _ (lent_at x) begins (gives_entry x.id _ begins.gives (entry.Acked txn from) (m.1, m.0)) in
+      let a = now_gives _ (lent_at x) begins (gives_entry x.id _ begins.gives (log_record.Acked txn from) (m.1, m.0)) in
       now_coordinator (with_acknowledged txn from) _ a (record { seq_fits = s.seq_fits; live_are = s.live_are; finished_are = s.finished_are; decisions_are = fewer_decisions txn from x.decisions s.decisions_are })
 
   pub resends : (d : Decision) (o : Stepped) → Has o.site.decisions d → F o → F (put_back o (resend_one o.site.id d (lent o)))

@@ -9,7 +9,7 @@ use Rattle.vp_bytes.specs.Decisions.{IsDecision}
 use Rattle.vp_records.specs.Batches.{IsBatch}
 use Rattle.vp_records.specs.Records.{IsLogRecord}
 use Rattle.vp_model.specs.Types.{TxnId, Stored, LogRecord, Doubt}
-use Rattle.vp_model.specs.Types.entry
+use Rattle.vp_model.specs.Types.log_record
 use Rattle.vp_model.specs.Words.{for_each, replace_at}
 use Rattle.vp_model.specs.Catalogue.{Catalogue}
 use Rattle.vp_model.specs.Durable.{DurableState, apply, apply_all, doubt_of, with_outcome}
@@ -33,14 +33,14 @@ outcome_copies catalogue id txn false d h (Some doubt) e = h.copies_are
 
 applied : (catalogue : Catalogue) (id : ℕ) (r : LogRecord) (d : DurableState) → IsLogRecord r → IsDurable catalogue id d → IsDurable catalogue id (apply r d)
 unfolding apply
-applied catalogue id (entry.Start life) d i h = record { promise = h.promise; life = i; copies_are = h.copies_are; doubts_are = h.doubts_are; decisions_are = h.decisions_are }
-applied catalogue id (entry.Promise view) d i h = record { promise = i; life = h.life; copies_are = h.copies_are; doubts_are = h.doubts_are; decisions_are = h.decisions_are }
-applied catalogue id (entry.Yes txn view writes) d i h = record { promise = h.promise; life = h.life; copies_are = h.copies_are; doubts_are = put_doubts (record { txn = txn; view = view; writes = writes }) d.doubts i h.doubts_are; decisions_are = h.decisions_are }
-applied catalogue id (entry.Outcome txn commit) d i h = record { promise = h.promise; life = h.life; copies_are = outcome_copies catalogue id txn commit d h (doubt_of txn d.doubts) refl; doubts_are = fewer_doubts txn d.doubts h.doubts_are; decisions_are = h.decisions_are }
-applied catalogue id (entry.Commit txn view writes waiting) d i h = record { promise = h.promise; life = h.life; copies_are = writes_are catalogue id 0 view writes d.copies i.1 i.2.1 h.copies_are; doubts_are = h.doubts_are; decisions_are = with_decisions txn waiting d.decisions i.0 i.3.2 h.decisions_are }
-applied catalogue id (entry.Copy rec stored) d i h = record { promise = h.promise; life = h.life; copies_are = replace_is catalogue id rec stored d.copies (i.1, i.2) h.copies_are; doubts_are = h.doubts_are; decisions_are = h.decisions_are }
-applied catalogue id (entry.Acked txn site) d i h = record { promise = h.promise; life = h.life; copies_are = h.copies_are; doubts_are = h.doubts_are; decisions_are = fewer_decisions txn site d.decisions h.decisions_are }
-applied catalogue id (entry.Checkpoint generation life promise copies doubts decisions) d i h = record {
+applied catalogue id (log_record.Start life) d i h = record { promise = h.promise; life = i; copies_are = h.copies_are; doubts_are = h.doubts_are; decisions_are = h.decisions_are }
+applied catalogue id (log_record.Promise view) d i h = record { promise = i; life = h.life; copies_are = h.copies_are; doubts_are = h.doubts_are; decisions_are = h.decisions_are }
+applied catalogue id (log_record.Yes txn view writes) d i h = record { promise = h.promise; life = h.life; copies_are = h.copies_are; doubts_are = put_doubts (record { txn = txn; view = view; writes = writes }) d.doubts i h.doubts_are; decisions_are = h.decisions_are }
+applied catalogue id (log_record.Outcome txn commit) d i h = record { promise = h.promise; life = h.life; copies_are = outcome_copies catalogue id txn commit d h (doubt_of txn d.doubts) refl; doubts_are = fewer_doubts txn d.doubts h.doubts_are; decisions_are = h.decisions_are }
+applied catalogue id (log_record.Commit txn view writes waiting) d i h = record { promise = h.promise; life = h.life; copies_are = writes_are catalogue id 0 view writes d.copies i.1 i.2.1 h.copies_are; doubts_are = h.doubts_are; decisions_are = with_decisions txn waiting d.decisions i.0 i.3.2 h.decisions_are }
+applied catalogue id (log_record.Copy rec stored) d i h = record { promise = h.promise; life = h.life; copies_are = replace_is catalogue id rec stored d.copies (i.1, i.2) h.copies_are; doubts_are = h.doubts_are; decisions_are = h.decisions_are }
+applied catalogue id (log_record.Acked txn site) d i h = record { promise = h.promise; life = h.life; copies_are = h.copies_are; doubts_are = h.doubts_are; decisions_are = fewer_decisions txn site d.decisions h.decisions_are }
+applied catalogue id (log_record.Checkpoint generation life promise copies doubts decisions) d i h = record {
   promise = i.2;
   life = i.1;
   copies_are = copies_set catalogue id copies d.copies (recursion_from_All IsCopy copies i.3.1) h.copies_are;

@@ -21,7 +21,7 @@ use Rattle.vp_laws.proofs.Lists.Changes.{value_has}
 use Rattle.vp_laws.specs.Shapes.{IsStored, AreCopies, AreDoubts, AreViews, IsLock, IsPart, IsRefreshing, IsCoordinator, IsShaped, IsSent, IsReply, AreShaped}
 use Rattle.vp_laws.proofs.Lists.Items.{all_at, all_append, all_and_one, all_filter, all_put, all_map}
 use Rattle.vp_laws.proofs.Lists.Keeps.{by_test}
-use Rattle.vp_laws.proofs.Lists.Pairs.{replaced_keys}
+use Rattle.vp_records.proofs.Held.{replaced_keys}
 
 pub record Forms (catalogue : Catalogue) (x : SiteState) (o : Stepped) : Type 0 where
   pub site_is : IsShaped catalogue o.site

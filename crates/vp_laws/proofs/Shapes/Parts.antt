@@ -9,7 +9,7 @@ use Rattle.vp_base.specs.Calls.{IsNumbered}
 use Rattle.vp_wire.specs.Grammar.{IsMessage}
 use Rattle.vp_catalog.specs.Document.{IsCatalogue}
 use Rattle.vp_model.specs.Types.{Change, ViewId, TxnId, View, Stored, Message, Input, Part, Refreshing, Doubt, Sent}
-use Rattle.vp_model.specs.Types.entry
+use Rattle.vp_model.specs.Types.log_record
 use Rattle.vp_model.specs.Types.message
 use Rattle.vp_model.specs.Types.owner
 use Rattle.vp_model.specs.Words.{same_txn, txn_before, keys, value_at, replace_at, put}
@@ -58,7 +58,7 @@ module _ (catalogue : Catalogue) (k : IsCatalogue catalogue) (x : SiteState) (sx
   takes_newer : (rec : ℕ) (own best : Stored) (o : Stepped) → IsRecord rec → IsStored best → F o → F (take_newer rec own best o)
   takes_newer rec own best o r i p =
       let a = with_copies catalogue x o p (replace_at rec best) (replace_is catalogue o.site.id rec best o.site.here.copies i p.site_is.copies_are) in
-      take-cases F rec own best o (with_gives catalogue x _ a _ (gives_entry x.id _ a.gives (entry.Copy rec best) (r, i.0, i.1))) p
+      take-cases F rec own best o (with_gives catalogue x _ a _ (gives_entry x.id _ a.gives (log_record.Copy rec best) (r, i.0, i.1))) p
 
   pub ends_refresh : (rec : ℕ) (r : Refreshing) (own : Stored) (o : Stepped) → refreshing_of rec o.site.refresh ≡ Some r → value_at r.rec o.site.copies ≡ Some own → F o → F (end_refresh catalogue r own o)
   unfolding end_refresh unlist
@@ -141,12 +141,12 @@ module _ (catalogue : Catalogue) (k : IsCatalogue catalogue) (x : SiteState) (sx
       let a = with_participant catalogue x _ begins (with_vote part) (all_put IsPart (λ (a : Part) (b : Part). same_txn a.txn b.txn) (λ (a : Part) (b : Part). txn_before a.txn b.txn) (record part { voted = true }) x.parts i sx.parts_are) sx.doubts_are in
       answers_with (message.Vote part.txn) from _ a m.0 i.0
 
-  pub votes_writing : (from : ℕ) (txn : TxnId) (view : ViewId) (number : ℕ) (reads : List ℕ) (writes : List (ℕ × Change)) (part : Part) → Comes given from (message.Prepare txn view number reads writes) → part_of txn x.parts ≡ Some part → F (send (message.Vote part.txn) from (force (entry.Yes part.txn part.view writes) (change_participant (with_new_doubt part writes) (begin_step x))))
+  pub votes_writing : (from : ℕ) (txn : TxnId) (view : ViewId) (number : ℕ) (reads : List ℕ) (writes : List (ℕ × Change)) (part : Part) → Comes given from (message.Prepare txn view number reads writes) → part_of txn x.parts ≡ Some part → F (send (message.Vote part.txn) from (force (log_record.Yes part.txn part.view writes) (change_participant (with_new_doubt part writes) (begin_step x))))
   votes_writing from txn view number reads writes part c e =
       let m = came_is given from (message.Prepare txn view number reads writes) came c in
       let i = part_of_is txn part e in
       let a = with_participant catalogue x _ begins (with_new_doubt part writes) (all_filter IsPart _ x.parts sx.parts_are) (put_doubts (record { txn = part.txn; view = part.view; writes = writes }) x.doubts (i.0, i.1, m.1.2) sx.doubts_are) in
-      let b = with_gives catalogue x _ a _ (gives_entry x.id _ a.gives (entry.Yes part.txn part.view writes) (i.0, i.1, m.1.2)) in
+      let b = with_gives catalogue x _ a _ (gives_entry x.id _ a.gives (log_record.Yes part.txn part.view writes) (i.0, i.1, m.1.2)) in
       answers_with (message.Vote part.txn) from _ b m.0 i.0
 
   -- what a part's end leaves, whatever its doubt did
@@ -170,7 +170,7 @@ module _ (catalogue : Catalogue) (k : IsCatalogue catalogue) (x : SiteState) (sx
   ends_here from txn commit (Some d) e c =
       let m = came_is given from (message.Outcome txn commit) came c in
       let i = doubt_is txn x.doubts d sx.doubts_are e in
-      let a = with_gives catalogue x _ begins _ (gives_entry x.id _ begins.gives (entry.Outcome txn commit) m.1) in
+      let a = with_gives catalogue x _ begins _ (gives_entry x.id _ begins.gives (log_record.Outcome txn commit) m.1) in
       let b = with_copies catalogue x _ a (with_outcome (Some d) commit) (outcome_is commit d x.here.copies i sx.copies_are) in
       ended from txn commit (is_some x.held) _ m.0 m.1 b
 

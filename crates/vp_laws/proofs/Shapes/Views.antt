@@ -11,7 +11,7 @@ use Rattle.vp_catalog.specs.Document.{IsCatalogue}
 use Rattle.vp_model.specs.Types.{ViewId, View, Call, Message, Input}
 use Rattle.vp_model.specs.Types.answer
 use Rattle.vp_model.specs.Types.call
-use Rattle.vp_model.specs.Types.entry
+use Rattle.vp_model.specs.Types.log_record
 use Rattle.vp_model.specs.Types.input
 use Rattle.vp_model.specs.Types.message
 use Rattle.vp_model.specs.Words.{same_view, put_number}
@@ -75,7 +75,7 @@ module _ (catalogue : Catalogue) (k : IsCatalogue catalogue) (x : SiteState) (sx
       let i : IsView (next_view x) = next_is x id_is sx.views_are e in
       let own : IsSite o.site.id = listed_is catalogue k o.site.id p.site_is.listed in
       let a = with_views catalogue x o p (with_invitation (next_view x) o.site.id) (record { promise_is = i; seen_fits = v.seen_fits; held_is = v.held_is; waiting_is = v.waiting_is; inviting_is = (i, some_sites (o.site.id ∷ []) refl (own.0, own.1, tt)) }) in
-      let b = with_gives catalogue x _ a _ (gives_entry x.id _ a.gives (entry.Promise (next_view x)) i) in
+      let b = with_gives catalogue x _ a _ (gives_entry x.id _ a.gives (log_record.Promise (next_view x)) i) in
       sends_all (message.Invite (next_view x)) (other_sites catalogue o.site.id) _ b (other_sites_are catalogue k o.site.id) i
 
   pub accepts : (from : ℕ) (id : ViewId) (o : Stepped) → Comes given from (message.Invite id) → F o → F (accept from id o)
@@ -84,7 +84,7 @@ module _ (catalogue : Catalogue) (k : IsCatalogue catalogue) (x : SiteState) (sx
       let v = p.site_is.views_are in
       let m = came_is given from (message.Invite id) came c in
       let a = with_views catalogue x o p (with_wait id) (record { promise_is = m.1; seen_fits = v.seen_fits; held_is = v.held_is; waiting_is = m.1; inviting_is = v.inviting_is }) in
-      let b = with_gives catalogue x _ a _ (gives_entry x.id _ a.gives (entry.Promise id) m.1) in
+      let b = with_gives catalogue x _ a _ (gives_entry x.id _ a.gives (log_record.Promise id) m.1) in
       sends (message.Accept id) from _ b m.0 m.1
 
   accepted_is : (from : ℕ) (id : ViewId) (o : Option (ViewId × List ℕ)) → IsSite from → IfSome o IsInviting → IfSome (option_map (with_acceptance from id) o) IsInviting

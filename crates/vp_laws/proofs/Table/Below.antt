@@ -1,9 +1,9 @@
 -- Parts are of other sites' transactions and of the held view; doubts and the dates of copies are at most the promise.
-use Rattle.std.proofs.Common.{◌≡◌, ◌≢◌, ◌⊎◌, ◌∙◌, ap, sym, ℕ, Bool, true, false, cond, List, [], ◌∷◌, ◌++◌, map, refl, arith, inr, ⊎_elim, append-nil}
-use Rattle.std.specs.Prelude.{Option, Some, None, is_some, nat_lt, ◌||◌, ◌==◌, not, option_map, filter}
+use Rattle.std.proofs.Common.{◌≡◌, ◌≢◌, ◌∙◌, ap, sym, ℕ, Bool, true, false, cond, List, [], ◌∷◌, ◌++◌, map, refl, arith, ⊎_elim, append-nil}
+use Rattle.std.specs.Prelude.{Option, Some, None, is_some, nat_lt, ◌==◌, not, option_map, filter}
 use Rattle.vp_model.specs.Types.{Change, ViewId, TxnId, View, Stored, Message, Sent, Input, Part, Refreshing, Pending, Live, Ending, Doubt, Decision}
 use Rattle.vp_base.specs.declared.site.Ending.TheVariants.{Committed}
-use Rattle.vp_model.specs.Types.entry
+use Rattle.vp_model.specs.Types.log_record
 use Rattle.vp_model.specs.Types.message
 use Rattle.vp_model.specs.Words.{same_txn, txn_before, value_at, put_at, view_before, is_view, replace_at}
 use Rattle.vp_model.specs.Catalogue.{Catalogue}
@@ -11,9 +11,9 @@ use Rattle.vp_model.specs.Durable.{doubt_of, with_writes}
 use Rattle.vp_model.specs.Site.{Here, ViewState, ParticipantState, send, change_participant, change_refresh, SiteState, Lent, Stepped, begin_step, lent, put_back, letters, force}
 use Rattle.vp_model.specs.Transactions.{last_changes, entry_of, keep_writes, complete, writes_held}
 use Rattle.vp_model.specs.Refresh.{refreshing_of, newest, take_newer, unlist, end_refresh, start_refresh, other_holders}
-use Rattle.vp_model.specs.Views.{part_of, has_part, has_doubt, other_sites, drop_view, start_inviting, hold}
+use Rattle.vp_model.specs.Views.{other_sites, drop_view, start_inviting, hold}
 use Rattle.vp_model.specs.Calls.{start_txn, take_lock, read_at, write_at, prepare_parts, prepare_for}
-use Rattle.vp_model.specs.Messages.{put_part, with_accepted, with_seen, holds_view, accept, on_accept, on_stale, with_heard, with_part, with_vote, with_new_doubt, with_ended, with_answer, grant, end_here}
+use Rattle.vp_model.specs.Messages.{with_accepted, with_seen, holds_view, accept, on_accept, on_stale, with_heard, with_part, with_vote, with_new_doubt, with_ended, with_answer, grant, end_here}
 use Rattle.vp_model.specs.Step.{step, with_monitor, fix, without_wait, probe_all, mark_calls, resend_one}
 use Rattle.vp_laws.proofs.Lists.Members.{Has, has_none, has_one_is, has_cases, filter_has, find_has, map_has, both_true}
 use Rattle.vp_laws.proofs.Lists.Views.{AtMost, AtMost-same, AtMost-trans, AtMost-along, Precedes-at_most, from_before, is_view_is, same_is}
@@ -22,6 +22,7 @@ use Rattle.vp_laws.proofs.Moves.Frames.{Ends, close-ends, decided-ends, decide-c
 use Rattle.vp_laws.proofs.Moves.Table.{Comes, next_view, lent_at, Left, Asks, Handled, Back, SendsBack, Table, AsksAgain}
 use Rattle.vp_laws.proofs.Moves.Rows.{step-keeps}
 use Rattle.vp_laws.proofs.Moves.LocalViews.{letter, Tidy}
+use Rattle.vp_laws.proofs.Moves.Parts.{part_there, with_part_has, with_part_doubts}
 use Rattle.vp_laws.proofs.Table.Led.{Led}
 
 abbrev pub PartOk : SiteState → Part → Type 0
@@ -266,26 +267,13 @@ module _ (catalogue : Catalogue) (x : SiteState) (given : Input) (tidy : Tidy x)
     sent = λ m h. undated m.message (quiet m (rw ms at h));
   }
 
-  with_part-has : (txn : TxnId) (view : ViewId) (a : Part) → Has (with_part txn view x.participant).parts a → (a ≡ record { txn = txn; view = view; voted = false }) ⊎ Has x.parts a
-  with_part-has txn view a h = go (has_part txn x.parts || has_doubt txn x.doubts) h
-    where
-      go : (b : Bool) → Has (cond b x.participant (record x.participant { parts = put_part (record { txn = txn; view = view; voted = false }) x.participant.parts })).parts a → (a ≡ record { txn = txn; view = view; voted = false }) ⊎ Has x.parts a
-      go true q = inr q
-      go false q = put_has (λ (a : Part) (b : Part). same_txn a.txn b.txn) (λ (a : Part) (b : Part). txn_before a.txn b.txn) (record { txn = txn; view = view; voted = false }) x.parts a q
-
-  with_part-doubts : (txn : TxnId) (view : ViewId) → (with_part txn view x.participant).doubts ≡ x.doubts
-  with_part-doubts txn view = grind arith
-
   grants : (from : ℕ) (txn : TxnId) (view : ViewId) (number rec : ℕ) (exclusive : Bool) (words : Message) → Asks given from txn view number → holds_view x view ≡ true → is_undated words ≡ true → Lies x (grant txn view rec exclusive words from (begin_step x))
   unfolding grant
   grants from txn view number rec exclusive words asks e quiet =
       let q = held_is view e in
       others_now (with_part txn view x.participant) _ (letter x.id from words ∷ [])
-      (λ a h. ⊎_elim (λ (new : a ≡ record { txn = txn; view = view; voted = false }). rw new (q.0, q.1, q.2, others from txn view number asks)) (λ old. below.parts a old) (with_part-has txn view a h))
-      (λ d h. below.doubts d (rw with_part-doubts at h)) refl refl refl below.copies refl refl (letter_undated x.id from words quiet)
-
-  part_there : (txn : TxnId) (part : Part) → part_of txn x.parts ≡ Some part → Has x.parts part
-  part_there txn part e = find_has (λ (p : Part). same_txn p.txn txn) x.parts part e
+      (λ a h. ⊎_elim (λ (new : a ≡ record { txn = txn; view = view; voted = false }). rw new (q.0, q.1, q.2, others from txn view number asks)) (λ old. below.parts a old) (with_part_has x.participant txn view a h))
+      (λ d h. below.doubts d (rw (with_part_doubts x.participant txn view) at h)) refl refl refl below.copies refl refl (letter_undated x.id from words quiet)
 
   votes_reading : (from : ℕ) (part : Part) → Has x.parts part → Lies x (send (message.Vote part.txn) from (change_participant (with_vote part) (begin_step x)))
   votes_reading from part h =
@@ -294,7 +282,7 @@ module _ (catalogue : Catalogue) (x : SiteState) (given : Input) (tidy : Tidy x)
       (put_has (λ (a : Part) (b : Part). same_txn a.txn b.txn) (λ (a : Part) (b : Part). txn_before a.txn b.txn) (record part { voted = true }) x.parts a q))
       below.doubts refl refl refl below.copies refl refl (letter_undated x.id from (message.Vote part.txn) refl)
 
-  votes_writing : (from : ℕ) (part : Part) (writes : List (ℕ × Change)) → Has x.parts part → Lies x (send (message.Vote part.txn) from (force (entry.Yes part.txn part.view writes) (change_participant (with_new_doubt part writes) (begin_step x))))
+  votes_writing : (from : ℕ) (part : Part) (writes : List (ℕ × Change)) → Has x.parts part → Lies x (send (message.Vote part.txn) from (force (log_record.Yes part.txn part.view writes) (change_participant (with_new_doubt part writes) (begin_step x))))
   votes_writing from part writes h =
       let q = below.parts part h in
       let up : AtMost part.view x.promise = AtMost-same part.view x.promise (sym q.2 ∙ (tidy.held q.0 q.1).0) in
@@ -393,8 +381,8 @@ module _ (catalogue : Catalogue) (x : SiteState) (given : Input) (tidy : Tidy x)
     keep_answer = λ from view rec stored r c e f g. keeps_answer from rec view stored (dated from view rec stored c) e;
     grant_read = λ from txn view number rec stored c e n v f. grants from txn view number rec false (message.ReadAnswer txn number stored.value) (Asks.reads rec c) e refl;
     grant_write = λ from txn view number rec stored c e n v f. grants from txn view number rec true (message.WriteAnswer txn number) (Asks.writes rec c) e refl;
-    vote_reading = λ from txn view number reads writes part c e n d f v a w. votes_reading from part (part_there txn part f);
-    vote_writing = λ from txn view number reads writes part c e n d f v a w. votes_writing from part writes (part_there txn part f);
+    vote_reading = λ from txn view number reads writes part c e n d f v a w. votes_reading from part (part_there txn x.parts part f);
+    vote_writing = λ from txn view number reads writes part c e n d f v a w. votes_writing from part writes (part_there txn x.parts part f);
     end_here = λ from txn commit c. ends_here from txn commit (doubt_of txn x.doubts) refl;
     coordinator = record {
       begin = λ port view e g u. hushed (lent_at x) _ refl refl begins;

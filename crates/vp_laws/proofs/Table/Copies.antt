@@ -3,7 +3,7 @@ use Rattle.std.proofs.Common.{◌≡◌, ◌⊎◌, ◌∙◌, ap, sym, subst, �
 use Rattle.std.specs.Prelude.{Option, Some, None, filter, find, option_map, not, ◌==◌, nat_lt}
 use Rattle.std.proofs.lemmas.Bool.{eqb-true}
 use Rattle.vp_model.specs.Types.{Change, ViewId, TxnId, View, Commit, Input, Stored, Live, Ending, Refreshing, Doubt}
-use Rattle.vp_model.specs.Types.entry
+use Rattle.vp_model.specs.Types.log_record
 use Rattle.vp_model.specs.Types.input
 use Rattle.vp_model.specs.Types.message
 use Rattle.vp_model.specs.Words.{same_txn, put_at, view_before, replace_at, value_at, has}
@@ -23,7 +23,7 @@ use Rattle.vp_model.proofs.SameTxn.{same_txn-is}
 use Rattle.vp_laws.proofs.Lists.Changes.{put_has}
 use Rattle.vp_laws.proofs.Lists.Views.{is_view_is}
 use Rattle.vp_laws.proofs.Moves.Frames.{close-ends, close-commits, decided-ends, decided-commits, decide-cases}
-use Rattle.vp_laws.proofs.Moves.LocalViews.{Tidy}
+use Rattle.vp_laws.proofs.Moves.LocalViews.{Tidy, none_refreshed}
 use Rattle.vp_laws.proofs.Moves.Table.{Comes, Left, lent_at, Back, Table}
 use Rattle.vp_laws.proofs.Moves.Rows.{step-keeps}
 
@@ -102,9 +102,6 @@ module _ (catalogue : Catalogue) (x : SiteState) (given : Input) (tidy : Tidy x)
     answers = λ q k h a. absurd (none q h);
   }
 
-  not_held : x.held ≡ None → (r : Refreshing) → Has x.refresh r → ⊥
-  not_held e r h = let q = listed r h in let z = q.1 in cc
-
   drops : (l : Lent) → P (put_back (begin_step x) l) → P (drop_view (put_back (begin_step x) l))
   unfolding drop_view
   drops l p = fresh (put_back (begin_step x) l) (drop_view (put_back (begin_step x) l)) refl (λ r h. has_none r h) refl p
@@ -116,7 +113,7 @@ module _ (catalogue : Catalogue) (x : SiteState) (given : Input) (tidy : Tidy x)
   unfolding take_newer
   takes r own best o new p = go (view_before own.date best.date)
     where
-      go : (b : Bool) → P (cond b (force (entry.Copy r.rec best) (change_copies (replace_at r.rec best) o)) o)
+      go : (b : Bool) → P (cond b (force (log_record.Copy r.rec best) (change_copies (replace_at r.rec best) o)) o)
       go true = record {
         copies = λ a h. ⊎_elim (λ (is : a ≡ (r.rec, best)). rw is new) (λ old. p.copies a old) (replaced_from r.rec best o.site.copies a h);
         answers = p.answers;
@@ -207,9 +204,9 @@ module _ (catalogue : Catalogue) (x : SiteState) (given : Input) (tidy : Tidy x)
     accept = λ from id o c e l p. fresh o _ refl (left_none o l) refl p;
     accepted = λ from id c. same (begin_step x) _ refl refl refl refl starts;
     seen = λ from id promise c. same (begin_step x) _ refl refl refl refl starts;
-    hold = λ from id members c e. fresh (begin_step x) _ refl (not_held (tidy.waiting id (is_view_is x.waiting id (both_true _ _ e).0)).1) refl starts;
+    hold = λ from id members c e. fresh (begin_step x) _ refl (none_refreshed x listed (tidy.waiting id (is_view_is x.waiting id (both_true _ _ e).0)).1) refl starts;
     heard = λ from view c e. same (begin_step x) _ refl refl refl refl starts;
-    fix = λ view c e. fresh (begin_step x) _ refl (not_held (tidy.inviting (view.id, view.members) e).1) refl starts;
+    fix = λ view c e. fresh (begin_step x) _ refl (none_refreshed x listed (tidy.inviting (view.id, view.members) e).1) refl starts;
     without_wait = λ id c i w. same (begin_step x) _ refl refl refl refl starts;
     probe = λ view c e. same (begin_step x) _ refl refl refl refl starts;
     answers_inviting = λ port c s p. same _ _ refl refl refl refl p;

@@ -3,7 +3,7 @@ use Rattle.std.proofs.Common.{◌≡◌, ◌∙◌, ap, sym, subst, ℕ, Bool, t
 use Rattle.std.specs.Prelude.{Option, Some, None, not, ◌&&◌}
 use Rattle.std.specs.List.{Contains}
 use Rattle.vp_model.specs.Types.{TxnId, ViewId, View, Stored, LogRecord, Input, Refreshing, Doubt}
-use Rattle.vp_model.specs.Types.entry
+use Rattle.vp_model.specs.Types.log_record
 use Rattle.vp_model.specs.Types.input
 use Rattle.vp_model.specs.Types.message
 use Rattle.vp_model.specs.Words.{same_txn, value_at, is_empty, has}
@@ -45,23 +45,23 @@ module _ (catalogue : Catalogue) (l : LogRecord) where
   settles_all [] o h = h
   settles_all (rec ∷ recs) o h = settles_all recs (settle catalogue rec o) (settles rec o h)
 
-ended_forced : (x : SiteState) (from : ℕ) (txn : TxnId) (commit : Bool) (u : Doubt) → Has (end_here from txn commit (Some u) (begin_step x)).effects.records (entry.Outcome txn commit)
+ended_forced : (x : SiteState) (from : ℕ) (txn : TxnId) (commit : Bool) (u : Doubt) → Has (end_here from txn commit (Some u) (begin_step x)).effects.records (log_record.Outcome txn commit)
 unfolding end_here
 ended_forced x from txn true u = has_one _
 ended_forced x from txn false u = has_one _
 
 -- the outcome of a transaction that a site is in doubt about is forced as it comes
-outcome_forced : (catalogue : Catalogue) (x : SiteState) (from : ℕ) (txn : TxnId) (commit : Bool) (d : Doubt) → Has x.doubts d → d.txn ≡ txn → Has (step catalogue x (input.Message from (message.Outcome txn commit))).effects.records (entry.Outcome txn commit)
+outcome_forced : (catalogue : Catalogue) (x : SiteState) (from : ℕ) (txn : TxnId) (commit : Bool) (d : Doubt) → Has x.doubts d → d.txn ≡ txn → Has (step catalogue x (input.Message from (message.Outcome txn commit))).effects.records (log_record.Outcome txn commit)
 unfolding step on_input on_message on_outcome end_part
 outcome_forced catalogue x from txn commit d h named = go (doubt_of txn x.doubts) refl
   where
-    go : (doubt : Option Doubt) → doubt_of txn x.doubts ≡ doubt → Has (end_part catalogue from txn commit doubt (begin_step x)).effects.records (entry.Outcome txn commit)
+    go : (doubt : Option Doubt) → doubt_of txn x.doubts ≡ doubt → Has (end_part catalogue from txn commit doubt (begin_step x)).effects.records (log_record.Outcome txn commit)
     go None e = absurd (let z = find_none (λ (u : Doubt). same_txn u.txn txn) x.doubts e d h in let y : same_txn d.txn txn ≡ true = rw named (same_txn-self txn) in cc)
-    go (Some u) e = settles_all catalogue (entry.Outcome txn commit) (doubted_records (Some u)) _ (ended_forced x from txn commit u)
+    go (Some u) e = settles_all catalogue (log_record.Outcome txn commit) (doubted_records (Some u)) _ (ended_forced x from txn commit u)
 
 pub outcome_forces : (catalogue : Catalogue) (x : SiteState) (given : Input) (from : ℕ) (commit : Bool) (d : Doubt) → Comes given from (message.Outcome d.txn commit) → Has x.doubts d → Forces catalogue x given d.txn commit
 outcome_forces catalogue x given from commit d comes h =
-    contains _ _ (subst (λ (g : Input). Has (step catalogue x g).effects.records (entry.Outcome d.txn commit)) (sym comes) (outcome_forced catalogue x from d.txn commit d h refl))
+    contains _ _ (subst (λ (g : Input). Has (step catalogue x g).effects.records (log_record.Outcome d.txn commit)) (sym comes) (outcome_forced catalogue x from d.txn commit d h refl))
 
 pub copies_come : (catalogue : Catalogue) (x : SiteState) (given : Input) → Tidy x → ((r : Refreshing) → Has x.refresh r → (v : View) × (x.held ≡ Some v)) → (copy : ℕ × Stored) → Contains (step catalogue x given).site.copies copy → CopyComes catalogue x given copy
 copies_come catalogue x given tidy listed copy there = go ((copies-step catalogue x given tidy listed).copies copy (has_of _ copy there))

@@ -15,7 +15,7 @@ use Rattle.vp_model.specs.Transactions.{entry_of, with_finished, close, put_live
 use Rattle.vp_model.specs.Refresh.{members, newest, take_newer, unlist, end_refresh, start_refresh, other_holders}
 use Rattle.vp_model.specs.Views.{other_sites, drop_view, start_inviting, hold}
 use Rattle.vp_model.specs.Calls.{begun, with_begun, start_txn, take_lock, read_at, write_at, prepare_parts, prepare_for}
-use Rattle.vp_model.specs.Messages.{with_ended, with_part, accept, on_accept, on_stale, with_heard, grant, end_here}
+use Rattle.vp_model.specs.Messages.{with_ended, accept, on_accept, on_stale, with_heard, grant, end_here}
 use Rattle.vp_model.specs.Step.{step, with_monitor, fix, mark, probe_all, mark_calls, resend_one}
 use Rattle.vp_laws.proofs.Lists.Members.{Has, has_none, has_one_is, has_first, has_more, has_cases, has_from_test, filter_has, map_has, both_true}
 use Rattle.vp_laws.proofs.Lists.Views.{put_only, is_view_is}
@@ -24,6 +24,7 @@ use Rattle.vp_laws.proofs.Lists.Changes.{without_first_has, change_first_has}
 use Rattle.vp_laws.proofs.Moves.Table.{next_view, next_name, lent_at, Left, Handled, Back, SendsBack, Table, AsksAgain}
 use Rattle.vp_laws.proofs.Moves.Rows.{step-keeps}
 use Rattle.vp_laws.proofs.Moves.LocalViews.{letter, Tidy}
+use Rattle.vp_laws.proofs.Moves.Parts.{with_part_ended}
 use Rattle.vp_laws.proofs.Lists.Numbers.{differs}
 
 abbrev pub IsOf : SiteState → Live → Type 0
@@ -401,13 +402,10 @@ module _ (catalogue : Catalogue) (x : SiteState) (given : Input) (tidy : Tidy x)
       go true (Some d) = one _ x.id from (message.Ack txn) refl (record { id = refl; life = refl; seq = refl; live = refl; held = refl; ended = kept_ended; refresh = λ n q. q; monitor = λ n q. q }) refl refl
       go false (Some d) = silent (begin_step x) _ (record { id = refl; life = refl; seq = refl; live = refl; held = refl; ended = kept_ended; refresh = λ n q. q; monitor = λ n q. q }) refl refl begins
 
-  part_ended : (txn : TxnId) (view : ViewId) (p : ParticipantState) → (with_part txn view p).ended ≡ p.ended
-  part_ended txn view p = grind arith
-
   grants : (from : ℕ) (txn : TxnId) (view : ViewId) (rec : ℕ) (exclusive : Bool) (words : Message) → asks_none words ≡ true → Leads x (grant txn view rec exclusive words from (begin_step x))
   unfolding grant
   grants from txn view rec exclusive words quiet =
-      one _ x.id from words quiet (record { id = refl; life = refl; seq = refl; live = refl; held = refl; ended = λ n q. part_ended txn view x.participant ∙ q; refresh = λ n q. q; monitor = λ n q. q }) refl refl
+      one _ x.id from words quiet (record { id = refl; life = refl; seq = refl; live = refl; held = refl; ended = λ n q. with_part_ended x.participant txn view ∙ q; refresh = λ n q. q; monitor = λ n q. q }) refl refl
 
   resends : (d : Decision) (o : Stepped) → Leads x o → Leads x (put_back o (resend_one o.site.id d (lent o)))
   unfolding resend_one

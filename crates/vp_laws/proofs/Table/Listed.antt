@@ -2,7 +2,7 @@
 use Rattle.std.proofs.Common.{◌≡◌, ◌⊎◌, ◌∙◌, ap, sym, subst, ℕ, Bool, true, false, cond, List, [], map, refl, ⊎_elim}
 use Rattle.std.specs.Prelude.{Option, Some, None, filter, not, ◌==◌, nat_lt}
 use Rattle.vp_model.specs.Types.{TxnId, View, Input, Stored, Live, Ending, Refreshing, Doubt}
-use Rattle.vp_model.specs.Types.entry
+use Rattle.vp_model.specs.Types.log_record
 use Rattle.vp_model.specs.Words.{put_at, view_before, replace_at, keys}
 use Rattle.vp_model.specs.Catalogue.{Catalogue}
 use Rattle.vp_model.specs.Locks.{without_guard}
@@ -18,11 +18,10 @@ use Rattle.vp_laws.proofs.Lists.Members.{Has, has_none, map_has, filter_has, bot
 use Rattle.vp_laws.proofs.Lists.Changes.{put_has}
 use Rattle.vp_laws.proofs.Lists.Views.{is_view_is}
 use Rattle.vp_laws.proofs.Moves.Frames.{close-ends, decided-ends, decide-cases}
-use Rattle.vp_laws.proofs.Moves.LocalViews.{Tidy}
+use Rattle.vp_laws.proofs.Moves.LocalViews.{Tidy, none_refreshed}
 use Rattle.vp_laws.proofs.Moves.Table.{Left, Joined, lent_at, Back, Table}
 use Rattle.vp_laws.proofs.Moves.Rows.{step-keeps}
-use Rattle.vp_laws.proofs.Table.Locks.{written_keys}
-use Rattle.vp_laws.proofs.Lists.Pairs.{replaced_keys}
+use Rattle.vp_records.proofs.Held.{replaced_keys, written_keys}
 
 -- the record has a copy among these, and may be used
 abbrev pub IsListed : Catalogue → List ℕ → SiteState → ℕ → Type 0
@@ -70,9 +69,6 @@ module _ (catalogue : Catalogue) (x : SiteState) (given : Input) (tidy : Tidy x)
   fresh : (o e : Stepped) → keys e.site.copies ≡ keys o.site.copies → ((r : Refreshing) → Has e.site.refresh r → ⊥) → P o → P e
   fresh o e c none p = record { copied = c ∙ p.copied; listed = λ q h. absurd (none q h); since = λ q h. absurd (none q h) }
 
-  not_held : x.held ≡ None → (r : Refreshing) → Has x.refresh r → ⊥
-  not_held e r h = let q = held_then r h in let z = q.1 in cc
-
   drops : (l : Lent) → P (put_back (begin_step x) l) → P (drop_view (put_back (begin_step x) l))
   unfolding drop_view
   drops l p = fresh (put_back (begin_step x) l) (drop_view (put_back (begin_step x) l)) refl (λ r h. has_none r h) p
@@ -84,8 +80,8 @@ module _ (catalogue : Catalogue) (x : SiteState) (given : Input) (tidy : Tidy x)
   unfolding take_newer
   takes rec own best o p = go (view_before own.date best.date)
     where
-      go : (b : Bool) → P (cond b (force (entry.Copy rec best) (change_copies (replace_at rec best) o)) o)
-      go true = same o (force (entry.Copy rec best) (change_copies (replace_at rec best) o)) refl (replaced_keys rec best o.site.copies) refl p
+      go : (b : Bool) → P (cond b (force (log_record.Copy rec best) (change_copies (replace_at rec best) o)) o)
+      go true = same o (force (log_record.Copy rec best) (change_copies (replace_at rec best) o)) refl (replaced_keys rec best o.site.copies) refl p
       go false = p
 
   finishes : (r : Refreshing) (own : Stored) (o : Stepped) → P o → P (end_refresh catalogue r own o)
@@ -148,9 +144,9 @@ module _ (catalogue : Catalogue) (x : SiteState) (given : Input) (tidy : Tidy x)
     accept = λ from id o c e l p. fresh o _ refl (left_none o l) p;
     accepted = λ from id c. same (begin_step x) _ refl refl refl starts;
     seen = λ from id promise c. same (begin_step x) _ refl refl refl starts;
-    hold = λ from id members c e. fresh (begin_step x) _ refl (not_held (tidy.waiting id (is_view_is x.waiting id (both_true _ _ e).0)).1) starts;
+    hold = λ from id members c e. fresh (begin_step x) _ refl (none_refreshed x held_then (tidy.waiting id (is_view_is x.waiting id (both_true _ _ e).0)).1) starts;
     heard = λ from view c e. same (begin_step x) _ refl refl refl starts;
-    fix = λ view c e. fresh (begin_step x) _ refl (not_held (tidy.inviting (view.id, view.members) e).1) starts;
+    fix = λ view c e. fresh (begin_step x) _ refl (none_refreshed x held_then (tidy.inviting (view.id, view.members) e).1) starts;
     without_wait = λ id c i w. same (begin_step x) _ refl refl refl starts;
     probe = λ view c e. same (begin_step x) _ refl refl refl starts;
     answers_inviting = λ port c s p. same _ _ refl refl refl p;

@@ -9,9 +9,9 @@ use Rattle.vp_model.specs.Types.input
 use Rattle.vp_model.specs.Types.message
 use Rattle.vp_model.specs.Types.op
 use Rattle.vp_model.specs.Types.owner
-use Rattle.vp_model.specs.Words.{same_txn, same_owner, txn_before, put_at, put_number, for_each, change_first, without_first, put, view_before, replace_at, value_at, keys, has, opening}
+use Rattle.vp_model.specs.Words.{same_txn, same_owner, txn_before, put_at, put_number, for_each, change_first, without_first, put, view_before, value_at, keys, has, opening}
 use Rattle.vp_model.specs.Catalogue.{Catalogue}
-use Rattle.vp_model.specs.Durable.{doubt_of, without_doubt, with_writes, with_outcome}
+use Rattle.vp_model.specs.Durable.{doubt_of, without_doubt}
 use Rattle.vp_model.specs.Locks.{conflict, holds, with_lock, without_owner, without_guard}
 use Rattle.vp_model.specs.Site.{ViewState, ParticipantState, CoordinatorState, Here, SiteState, Lent, Stepped, begin_step, put_back}
 use Rattle.vp_model.specs.Transactions.{last_changes, entry_of, wait_for, last_writes, writes_held, keep_writes, complete}
@@ -21,6 +21,7 @@ use Rattle.vp_model.specs.Calls.{begun, start_txn, take_lock, read_at, write_at,
 use Rattle.vp_model.specs.Messages.{put_part, with_vote, with_new_doubt, with_answer, has_all_locks, accept, on_accept, on_stale, grant, end_here}
 use Rattle.vp_model.specs.Step.{fix, mark, marked_call, mark_calls, ask_again, resend_one, known, inquire, step}
 use Rattle.vp_laws.specs.Votes.{is_commit}
+use Rattle.vp_records.proofs.Held.{replaced_keys, written_keys, outcome_keys}
 use Rattle.vp_laws.proofs.Lists.Members.{Has, has_none, has_left, has_first, has_more, has_cons, has_cases, has_one_is, map_has, filter_keeps, find_true, any_true, any_false, both_true, either_true}
 use Rattle.vp_laws.proofs.Lists.Views.{Precedes, is_view_is}
 use Rattle.vp_model.proofs.SameTxn.{same_txn-is, same_txn-turned}
@@ -28,7 +29,7 @@ use Rattle.vp_laws.proofs.Lists.Names.{Apart, named, apart_without, without_gone
 use Rattle.vp_laws.proofs.Lists.Changes.{without_first_has, put_has, put_new, put_old, mapped_has}
 use Rattle.vp_laws.proofs.Moves.Frames.{Ends, close-ends, decided-ends, decide-cases, take-cases}
 use Rattle.vp_laws.proofs.Lists.LockTables.{same_owner_is, HasLock, free_from_none, lock_kept, lock_taken, lock_stays}
-use Rattle.vp_laws.proofs.Moves.LocalViews.{Tidy}
+use Rattle.vp_laws.proofs.Moves.LocalViews.{Tidy, none_refreshed}
 use Rattle.vp_laws.proofs.Table.LocalLocks.{IsKnown, LowerDoubt, OwnLocks, LocksOk, takes, renews, shares_change, views_change, ends, ends_part, leaves, begins_refresh, ends_refresh}
 use Rattle.vp_laws.proofs.Moves.Table.{Comes, Left, Joined, next_name, next_view, lent_at, Handled, Reads, Writes, remaining, Locked, Completes, Back, Table}
 use Rattle.vp_laws.proofs.Moves.Rows.{step-keeps}
@@ -39,7 +40,7 @@ use Rattle.vp_laws.proofs.Table.Shares.{OutcomeComes}
 use Rattle.vp_laws.proofs.Table.Leaves.{Uses, unused, uses_same, invites_only, accepts_only}
 use Rattle.vp_laws.proofs.Lists.Numbers.{one_above}
 use Rattle.vp_laws.proofs.Moves.Calls.{reads_same, writes_same, read_not_write}
-use Rattle.vp_laws.proofs.Lists.Pairs.{last_written, value_key, not_copied, replaced_keys}
+use Rattle.vp_laws.proofs.Lists.Pairs.{last_written, value_key, not_copied}
 
 -- why a transaction's lock is gone: its outcome came, the site has left its view, or it was of this site and is not live
 pub data Gone (x : SiteState) (given : Input) (o : Stepped) (txn : TxnId) : Type 0 where
@@ -57,15 +58,6 @@ pub record Guards (catalogue : Catalogue) (x : SiteState) (given : Input) (o : S
   pub copied : keys o.site.copies ≡ keys x.copies
   -- a lock of a transaction stays, or is gone for a reason
   pub stays : (rec : ℕ) (exclusive : Bool) (txn : TxnId) → HasLock rec exclusive (owner.Txn txn) x.locks → HasLock rec exclusive (owner.Txn txn) o.site.locks ⊎ Gone x given o txn
-
-pub written_keys : (date : ViewId) (writes : List (ℕ × Change)) (copies : List (ℕ × Stored)) → keys (with_writes date writes copies) ≡ keys copies
-written_keys date [] copies = refl
-written_keys date (w ∷ writes) copies = written_keys date writes (replace_at w.0 (record { value = w.1; date = date }) copies) ∙ replaced_keys w.0 (record { value = w.1; date = date }) copies
-
-outcome_keys : (doubt : Option Doubt) (commit : Bool) (copies : List (ℕ × Stored)) → keys (with_outcome doubt commit copies) ≡ keys copies
-outcome_keys (Some d) true copies = written_keys d.view d.writes copies
-outcome_keys (Some d) false copies = refl
-outcome_keys None commit copies = refl
 
 change_names : (t : Live) (live : List Live) (u : Live) → Has live u → (v : Live) × Has (change_first (named t.txn) (λ u. t) live) v × (v.txn ≡ u.txn)
 change_names t [] u h = absurd (has_none u h)
@@ -109,8 +101,8 @@ module _ (catalogue : Catalogue) (x : SiteState) (given : Input) (tidy : Tidy x)
   }
 
   -- nothing is under refresh while no view is held
-  not_held : x.held ≡ None → (now : Option View) → (r : Refreshing) → Has x.refresh r → x.held ≡ now
-  not_held e now r h = let q = ok.lower r h in absurd (let z = q.1 in cc)
+  none_under_refresh : x.held ≡ None → (now : Option View) → (r : Refreshing) → Has x.refresh r → x.held ≡ now
+  none_under_refresh e now r h = absurd (none_refreshed x (λ r h. let q = ok.lower r h in (q.0, q.1)) e r h)
 
   drops : (l : Lent) → l.live ≡ [] → P (put_back (begin_step x) l) → P (drop_view (put_back (begin_step x) l))
   unfolding drop_view
@@ -530,9 +522,9 @@ module _ (catalogue : Catalogue) (x : SiteState) (given : Input) (tidy : Tidy x)
     accept = λ from id o c e l p. accepts from id o e l p;
     accepted = λ from id c. viewed _ refl refl refl refl refl (λ r h. refl);
     seen = λ from id promise c. viewed _ refl refl refl refl refl (λ r h. refl);
-    hold = λ from id members c e. viewed _ refl refl refl refl refl (not_held (tidy.waiting id (is_view_is x.waiting id (both_true _ _ e).0)).1 _);
+    hold = λ from id members c e. viewed _ refl refl refl refl refl (none_under_refresh (tidy.waiting id (is_view_is x.waiting id (both_true _ _ e).0)).1 _);
     heard = λ from view c e. viewed _ refl refl refl refl refl (λ r h. refl);
-    fix = λ view c e. viewed _ refl refl refl refl refl (not_held (tidy.inviting (view.id, view.members) e).1 _);
+    fix = λ view c e. viewed _ refl refl refl refl refl (none_under_refresh (tidy.inviting (view.id, view.members) e).1 _);
     without_wait = λ id c i w. viewed _ refl refl refl refl refl (λ r h. refl);
     probe = λ view c e. viewed _ refl refl refl refl refl (λ r h. refl);
     answers_inviting = λ port c s p. same _ _ refl refl refl refl refl refl p;

@@ -1,24 +1,24 @@
 -- The names of transactions and views that stand in a site, and in what it sends: a step makes no other ones than it has or is given.
-use Rattle.std.proofs.Common.{◌≡◌, ◌⊎◌, ◌∙◌, ap, sym, subst, ℕ, Bool, true, false, cond, List, [], ◌∷◌, ◌++◌, map, refl, arith, inr, ⊎_elim, append-nil}
+use Rattle.std.proofs.Common.{◌≡◌, ◌∙◌, ap, sym, subst, ℕ, Bool, true, false, cond, List, [], ◌∷◌, ◌++◌, map, refl, arith, ⊎_elim, append-nil}
 use Rattle.std.specs.List.{AllByRecursion}
 use Rattle.std.specs.Prelude.{Option, Some, None, is_some, nat_lt, ◌&&◌, ◌||◌, ◌==◌, not, option_map, filter, fold}
 use Rattle.vp_model.specs.Types.{Change, ViewId, TxnId, View, Stored, Owner, Obstacle, Message, Sent, Input, Lock, Part, Refreshing, Pending, Live, Ending, Doubt, Decision}
 use Rattle.vp_base.specs.declared.site.Ending.TheVariants.{Committed}
 use Rattle.vp_model.specs.Types.owner
-use Rattle.vp_model.specs.Types.entry
+use Rattle.vp_model.specs.Types.log_record
 use Rattle.vp_model.specs.Types.message
 use Rattle.vp_model.specs.Types.obstacle
 use Rattle.vp_model.specs.Words.{has_txn, same_owner, owner_before, for_each, put_txn, is_empty, same_txn, txn_before, value_at, put_at, view_before, is_view, replace_at}
 use Rattle.vp_model.specs.Catalogue.{Catalogue}
 use Rattle.vp_model.specs.Durable.{doubt_of, put_decision, with_decision, acknowledged, with_writes}
 use Rattle.vp_model.specs.Locks.{raised, holds, with_lock, without_owner, lesser, least_owner, conflicting, conflict}
-use Rattle.vp_model.specs.Site.{Here, ViewState, CoordinatorState, ParticipantState, send, change_participant, change_refresh, SiteState, Lent, Stepped, begin_step, lent, put_back, letters, force}
+use Rattle.vp_model.specs.Site.{Here, ViewState, CoordinatorState, send, change_participant, change_refresh, SiteState, Lent, Stepped, begin_step, lent, put_back, letters, force}
 use Rattle.vp_model.specs.Transactions.{last_changes, entry_of, writing_parts, keep_writes, complete, writes_held}
 use Rattle.vp_model.specs.Refresh.{newer, refreshing_of, newest, take_newer, unlist, end_refresh, start_refresh, other_holders}
-use Rattle.vp_model.specs.Views.{outlasts, with_view, part_of, has_part, has_doubt, other_sites, drop_view, start_inviting, hold}
+use Rattle.vp_model.specs.Views.{outlasts, with_view, other_sites, drop_view, start_inviting, hold}
 use Rattle.vp_model.specs.Calls.{start_txn, take_lock, read_at, write_at, prepare_parts, prepare_for}
 use Rattle.vp_model.specs.Answers.{with_acknowledged}
-use Rattle.vp_model.specs.Messages.{put_part, with_accepted, with_seen, holds_view, accept, on_accept, on_stale, with_heard, with_part, with_vote, with_new_doubt, with_ended, with_answer, grant, end_here}
+use Rattle.vp_model.specs.Messages.{with_accepted, with_seen, holds_view, accept, on_accept, on_stale, with_heard, with_vote, with_new_doubt, with_ended, with_answer, grant, end_here}
 use Rattle.vp_model.specs.Step.{step, with_monitor, fix, without_wait, probe_all, mark_calls, resend_one, known}
 use Rattle.vp_laws.proofs.Lists.Members.{Has, has_first, has_more, has_none, has_one_is, has_cases, filter_has, find_has, map_has, both_true}
 use Rattle.vp_laws.proofs.Lists.Views.{is_view_is, same_is}
@@ -27,6 +27,7 @@ use Rattle.vp_laws.proofs.Moves.Frames.{Ends, close-ends, decided-ends, decide-c
 use Rattle.vp_laws.proofs.Moves.Table.{Comes, next_view, lent_at, Requests, Asks, Handled, Back, SendsBack, Table, AsksAgain}
 use Rattle.vp_laws.proofs.Moves.Rows.{step-keeps}
 use Rattle.vp_laws.proofs.Moves.LocalViews.{letter, Tidy}
+use Rattle.vp_laws.proofs.Moves.Parts.{part_there, with_part_has, with_part_doubts, with_part_ended}
 use Rattle.vp_laws.proofs.Table.Led.{Led}
 
 -- the names of transactions, and of views, that stand in a message
@@ -86,19 +87,6 @@ module _ (N : TxnId → Type 0) (A : ViewId → Type 0) where
 
   along : (l : Lock) (o : Owner) → l.owner ≡ o → OwnerNamed o → OwnerNamed l.owner
   along l o e h = subst OwnerNamed (sym e) h
-
-  pub with_part_has : (p : ParticipantState) (txn : TxnId) (view : ViewId) (a : Part) → Has (with_part txn view p).parts a → (a ≡ record { txn = txn; view = view; voted = false }) ⊎ Has p.parts a
-  with_part_has p txn view a h = go (has_part txn p.parts || has_doubt txn p.doubts) h
-    where
-      go : (b : Bool) → Has (cond b p (record p { parts = put_part (record { txn = txn; view = view; voted = false }) p.parts })).parts a → (a ≡ record { txn = txn; view = view; voted = false }) ⊎ Has p.parts a
-      go true q = inr q
-      go false q = put_has (λ (a : Part) (b : Part). same_txn a.txn b.txn) (λ (a : Part) (b : Part). txn_before a.txn b.txn) (record { txn = txn; view = view; voted = false }) p.parts a q
-
-  pub with_part_doubts : (p : ParticipantState) (txn : TxnId) (view : ViewId) → (with_part txn view p).doubts ≡ p.doubts
-  with_part_doubts p txn view = grind arith
-
-  pub with_part_ended : (p : ParticipantState) (txn : TxnId) (view : ViewId) → (with_part txn view p).ended ≡ p.ended
-  with_part_ended p txn view = grind arith
 
   pub lock_named : (rec : ℕ) (exclusive : Bool) (owner : Owner) (locks : List Lock) → OwnerNamed owner → ((l : Lock) → Has locks l → OwnerNamed l.owner) → (l : Lock) → Has (with_lock rec exclusive owner locks) l → OwnerNamed l.owner
   lock_named rec exclusive owner locks mine all l h = go (holds rec false owner locks) h
@@ -378,9 +366,6 @@ module _ (N : TxnId → Type 0) (A : ViewId → Type 0) where
         })
         named refl
 
-    part_there : (txn : TxnId) (part : Part) → part_of txn x.parts ≡ Some part → Has x.parts part
-    part_there txn part e = find_has (λ (p : Part). same_txn p.txn txn) x.parts part e
-
     votes_reading : (from : ℕ) (part : Part) → Has x.parts part → Calls (send (message.Vote part.txn) from (change_participant (with_vote part) (begin_step x)))
     votes_reading from part h =
         one _ x.id from (message.Vote part.txn)
@@ -397,7 +382,7 @@ module _ (N : TxnId → Type 0) (A : ViewId → Type 0) where
         })
         (((names.parts part h).0, tt), tt) refl
 
-    votes_writing : (from : ℕ) (part : Part) (writes : List (ℕ × Change)) → Has x.parts part → Calls (send (message.Vote part.txn) from (force (entry.Yes part.txn part.view writes) (change_participant (with_new_doubt part writes) (begin_step x))))
+    votes_writing : (from : ℕ) (part : Part) (writes : List (ℕ × Change)) → Has x.parts part → Calls (send (message.Vote part.txn) from (force (log_record.Yes part.txn part.view writes) (change_participant (with_new_doubt part writes) (begin_step x))))
     votes_writing from part writes h =
         one _ x.id from (message.Vote part.txn)
         (record {
@@ -496,7 +481,7 @@ module _ (N : TxnId → Type 0) (A : ViewId → Type 0) where
     back_named from _ (SendsBack.refuse_view txn view number a e) = other_named txn number x.held refl (asked_named from txn view number a).0
     back_named from _ (SendsBack.refuse_lock txn view number rec exclusive holder r e n c) = holder_named txn number holder (conflict_named rec exclusive txn x.locks holder names.locks c) (requested from txn view number rec exclusive r)
     back_named from _ (SendsBack.doubt_again txn view number reads writes c e n d) = ((arrived from (message.Prepare txn view number reads writes) c).0, tt)
-    back_named from _ (SendsBack.vote_again txn view number reads writes part c e n f v) = (((names.parts part (part_there txn part f)).0, tt), tt)
+    back_named from _ (SendsBack.vote_again txn view number reads writes part c e n f v) = (((names.parts part (part_there txn x.parts part f)).0, tt), tt)
     back_named from _ (SendsBack.answer_inquiry txn c s n) = arrived from (message.Inquire txn) c
 
     again_named : (o : Stepped) → Names o.site → (to : ℕ) (m : Message) → AsksAgain catalogue x given o to m → Named m
@@ -523,8 +508,8 @@ module _ (N : TxnId → Type 0) (A : ViewId → Type 0) where
       keep_answer = λ from view rec stored r c e f g. keeps_answer from rec stored (arrived from (message.RefreshAnswer view rec stored) c).1.1.0;
       grant_read = λ from txn view number rec stored c e n v f. let q = asked_named from txn view number (Asks.reads rec c) in grants from txn view rec false (message.ReadAnswer txn number stored.value) q ((q.0, tt), tt);
       grant_write = λ from txn view number rec stored c e n v f. let q = asked_named from txn view number (Asks.writes rec c) in grants from txn view rec true (message.WriteAnswer txn number) q ((q.0, tt), tt);
-      vote_reading = λ from txn view number reads writes part c e n d f v a w. votes_reading from part (part_there txn part f);
-      vote_writing = λ from txn view number reads writes part c e n d f v a w. votes_writing from part writes (part_there txn part f);
+      vote_reading = λ from txn view number reads writes part c e n d f v a w. votes_reading from part (part_there txn x.parts part f);
+      vote_writing = λ from txn view number reads writes part c e n d f v a w. votes_writing from part writes (part_there txn x.parts part f);
       end_here = λ from txn commit c. ends_here from txn commit (arrived from (message.Outcome txn commit) c).0.0;
       coordinator = record {
         begin = λ port view e g u. hushed (lent_at x) _ refl refl refl begins;

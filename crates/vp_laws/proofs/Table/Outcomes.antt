@@ -1,9 +1,9 @@
 -- A step forces the outcome of a transaction only as that outcome comes, at a site that is in doubt about it; and a doubt ends only so.
-use Rattle.std.proofs.Common.{◌≡◌, ◌⊎◌, ◌∙◌, ap, sym, subst, ℕ, Bool, true, false, cond, List, [], ◌∷◌, ◌++◌, refl, arith, inl, inr, ⊎_elim}
+use Rattle.std.proofs.Common.{◌≡◌, ◌⊎◌, ◌∙◌, ap, sym, subst, ℕ, Bool, true, false, cond, List, [], ◌∷◌, ◌++◌, refl, inl, inr, ⊎_elim}
 use Rattle.std.specs.Prelude.{Option, Some, None, find, not}
-use Rattle.vp_model.specs.Types.{ViewId, TxnId, Stored, LogRecord, Input, Part, Live, Ending, Refreshing, Doubt}
+use Rattle.vp_model.specs.Types.{TxnId, Stored, LogRecord, Input, Part, Live, Ending, Refreshing, Doubt}
 use Rattle.vp_base.specs.declared.site.Ending.TheVariants.{Committed}
-use Rattle.vp_model.specs.Types.entry
+use Rattle.vp_model.specs.Types.log_record
 use Rattle.vp_model.specs.Types.input
 use Rattle.vp_model.specs.Types.message
 use Rattle.vp_model.specs.Words.{same_txn, txn_before}
@@ -14,7 +14,7 @@ use Rattle.vp_model.specs.Transactions.{last_changes, entry_of, writes_held, wri
 use Rattle.vp_model.specs.Refresh.{take_newer, newest, unlist, end_refresh, start_refresh}
 use Rattle.vp_model.specs.Views.{has_doubt, drop_view, start_inviting, hold}
 use Rattle.vp_model.specs.Calls.{start_txn, take_lock, read_at, write_at, prepare_parts}
-use Rattle.vp_model.specs.Messages.{with_part, accept, on_accept, on_stale, grant, end_here}
+use Rattle.vp_model.specs.Messages.{accept, on_accept, on_stale, grant, end_here}
 use Rattle.vp_model.specs.Step.{step, fix, mark_calls, ask_again, resend_one, inquire}
 use Rattle.vp_laws.proofs.Lists.Members.{Has, has_none, has_one, has_one_is, has_cases, has_cons, has_left, any_false, filter_keeps, find_has, find_true}
 use Rattle.vp_laws.proofs.Lists.Changes.{put_old}
@@ -22,6 +22,7 @@ use Rattle.vp_model.proofs.SameTxn.{same_txn-is, same_txn-turned}
 use Rattle.vp_laws.proofs.Moves.Frames.{Ends, close-ends, decided-ends, decide-cases, take-cases}
 use Rattle.vp_laws.proofs.Moves.Table.{Comes, next_view, lent_at, Back, Table}
 use Rattle.vp_laws.proofs.Moves.Rows.{step-keeps}
+use Rattle.vp_laws.proofs.Moves.Parts.{with_part_doubts}
 
 -- the outcome comes, and the site is in doubt about its transaction
 pub record OutcomeFor (x : SiteState) (given : Input) (txn : TxnId) (commit : Bool) : Type 0 where
@@ -32,18 +33,18 @@ pub record OutcomeFor (x : SiteState) (given : Input) (txn : TxnId) (commit : Bo
   pub named : doubt.txn ≡ txn
 
 abbrev pub OutcomesCome : SiteState → Input → List LogRecord → Type 0
-OutcomesCome x given rs = (txn : TxnId) (commit : Bool) → Has rs (entry.Outcome txn commit) → OutcomeFor x given txn commit
+OutcomesCome x given rs = (txn : TxnId) (commit : Bool) → Has rs (log_record.Outcome txn commit) → OutcomeFor x given txn commit
 
 -- the step has forced an outcome of the transaction
 abbrev pub IsForced : Stepped → TxnId → Type 0
-IsForced o txn = (commit : Bool) × Has o.effects.records (entry.Outcome txn commit)
+IsForced o txn = (commit : Bool) × Has o.effects.records (log_record.Outcome txn commit)
 
 -- a doubt is still there, or ends by an outcome
 abbrev pub DoubtsStay : SiteState → Stepped → Type 0
 DoubtsStay x o = (d : Doubt) → Has x.doubts d → Has o.site.doubts d ⊎ IsForced o d.txn
 
 abbrev is_outcome : LogRecord → Bool
-is_outcome (entry.Outcome txn commit) = true
+is_outcome (log_record.Outcome txn commit) = true
 is_outcome r = false
 
 pub find_none : {A : Type 0} (test : A → Bool) (xs : List A) → find test xs ≡ None → (a : A) → Has xs a → test a ≡ false
@@ -59,14 +60,11 @@ no_such : (doubts : List Doubt) (txn named : TxnId) (d : Doubt) → named ≡ tx
 no_such doubts txn named d is e h = rw is (same_txn-turned d.txn txn (any_false (λ (d : Doubt). same_txn d.txn txn) doubts e d h))
 
 module _ (catalogue : Catalogue) (x : SiteState) (given : Input) where
-  with_part-doubts : (txn : TxnId) (view : ViewId) → (with_part txn view x.participant).doubts ≡ x.doubts
-  with_part-doubts txn view = grind arith
-
   one_more : (rs now : List LogRecord) (r : LogRecord) → is_outcome r ≡ false → now ≡ rs ++ r ∷ [] → OutcomesCome x given rs → OutcomesCome x given now
   one_more rs now r other is come txn commit h = ⊎_elim
       (λ old. come txn commit old)
-      (λ new. absurd (let z : is_outcome (entry.Outcome txn commit) ≡ false = subst (λ (r : LogRecord). is_outcome r ≡ false) (has_one_is r (entry.Outcome txn commit) new) other in cc))
-      (has_cases rs (r ∷ []) (entry.Outcome txn commit) (rw is at h))
+      (λ new. absurd (let z : is_outcome (log_record.Outcome txn commit) ≡ false = subst (λ (r : LogRecord). is_outcome r ≡ false) (has_one_is r (log_record.Outcome txn commit) new) other in cc))
+      (has_cases rs (r ∷ []) (log_record.Outcome txn commit) (rw is at h))
 
   record P (o : Stepped) : Type 0 where
     come : OutcomesCome x given o.effects.records
@@ -92,11 +90,11 @@ module _ (catalogue : Catalogue) (x : SiteState) (given : Input) where
 
   ends_refresh : (r : Refreshing) (own : Stored) (o : Stepped) → P o → P (end_refresh catalogue r own o)
   unfolding end_refresh unlist
-  ends_refresh r own o p = alike (take_newer r.rec own (newest own r.answers) o) _ refl refl (take-cases P r.rec own (newest own r.answers) o (more o _ (entry.Copy r.rec (newest own r.answers)) refl refl refl p) p)
+  ends_refresh r own o p = alike (take_newer r.rec own (newest own r.answers) o) _ refl refl (take-cases P r.rec own (newest own r.answers) o (more o _ (log_record.Copy r.rec (newest own r.answers)) refl refl refl p) p)
 
-  outcome : (from : ℕ) (txn : TxnId) (commit : Bool) (d : Doubt) → Comes given from (message.Outcome txn commit) → doubt_of txn x.doubts ≡ Some d → OutcomesCome x given (entry.Outcome txn commit ∷ [])
+  outcome : (from : ℕ) (txn : TxnId) (commit : Bool) (d : Doubt) → Comes given from (message.Outcome txn commit) → doubt_of txn x.doubts ≡ Some d → OutcomesCome x given (log_record.Outcome txn commit ∷ [])
   outcome from txn commit d c e t b h =
-      let is : entry.Outcome txn commit ≡ entry.Outcome t b = has_one_is (entry.Outcome txn commit) (entry.Outcome t b) h in
+      let is : log_record.Outcome txn commit ≡ log_record.Outcome t b = has_one_is (log_record.Outcome txn commit) (log_record.Outcome t b) h in
       let named : txn ≡ t = cc in
       let so : commit ≡ b = cc in
       record {
@@ -111,11 +109,11 @@ module _ (catalogue : Catalogue) (x : SiteState) (given : Input) where
   other_stays txn d h e = filter_keeps (λ (d : Doubt). not (same_txn d.txn txn)) x.doubts d h (ap not e)
 
   -- a doubt ends where it is this transaction's
-  ended : (txn : TxnId) (commit : Bool) (d u : Doubt) → Has x.doubts u → Has (without_doubt txn x.doubts) u ⊎ ((b : Bool) × Has (entry.Outcome txn commit ∷ []) (entry.Outcome u.txn b))
+  ended : (txn : TxnId) (commit : Bool) (d u : Doubt) → Has x.doubts u → Has (without_doubt txn x.doubts) u ⊎ ((b : Bool) × Has (log_record.Outcome txn commit ∷ []) (log_record.Outcome u.txn b))
   ended txn commit d u h = go (same_txn u.txn txn) refl
     where
-      go : (b : Bool) → same_txn u.txn txn ≡ b → Has (without_doubt txn x.doubts) u ⊎ ((b : Bool) × Has (entry.Outcome txn commit ∷ []) (entry.Outcome u.txn b))
-      go true e = inr (commit, subst (λ (n : TxnId). Has (entry.Outcome txn commit ∷ []) (entry.Outcome n commit)) (sym (same_txn-is u.txn txn e)) (has_one (entry.Outcome txn commit)))
+      go : (b : Bool) → same_txn u.txn txn ≡ b → Has (without_doubt txn x.doubts) u ⊎ ((b : Bool) × Has (log_record.Outcome txn commit ∷ []) (log_record.Outcome u.txn b))
+      go true e = inr (commit, subst (λ (n : TxnId). Has (log_record.Outcome txn commit ∷ []) (log_record.Outcome n commit)) (sym (same_txn-is u.txn txn e)) (has_one (log_record.Outcome txn commit)))
       go false e = inl (other_stays txn u h e)
 
   undoubted : (txn : TxnId) → doubt_of txn x.doubts ≡ None → (u : Doubt) → Has x.doubts u → Has (without_doubt txn x.doubts) u
@@ -133,7 +131,7 @@ module _ (catalogue : Catalogue) (x : SiteState) (given : Input) where
 
   keeps_writes : (t : Live) (l : Lent) → K l → K (keep_writes catalogue x.id t l)
   unfolding keep_writes
-  keeps_writes t l p = more (put_back (begin_step x) l) (put_back (begin_step x) (keep_writes catalogue x.id t l)) (entry.Commit t.txn t.view (writes_held catalogue x.id (last_changes (entry_of t))) (writing_parts catalogue t)) refl refl refl p
+  keeps_writes t l p = more (put_back (begin_step x) l) (put_back (begin_step x) (keep_writes catalogue x.id t l)) (log_record.Commit t.txn t.view (writes_held catalogue x.id (last_changes (entry_of t))) (writing_parts catalogue t)) refl refl refl p
 
   starts : P (begin_step x)
   starts = none (begin_step x) refl refl
@@ -144,8 +142,8 @@ module _ (catalogue : Catalogue) (x : SiteState) (given : Input) where
     sends_back = λ from m t. none _ refl refl;
     asks_again = λ o ms all p. alike o _ refl refl p;
     drop_view = λ l e z p. alike (put_back (begin_step x) l) _ refl refl p;
-    start_inviting = λ o s left p. more o _ (entry.Promise (next_view x)) refl refl refl p;
-    accept = λ from id o c e left p. more o _ (entry.Promise id) refl refl refl p;
+    start_inviting = λ o s left p. more o _ (log_record.Promise (next_view x)) refl refl refl p;
+    accept = λ from id o c e left p. more o _ (log_record.Promise id) refl refl refl p;
     accepted = λ from id c. none _ refl refl;
     seen = λ from id promise c. none _ refl refl;
     hold = λ from id members c e. none _ refl refl;
@@ -156,11 +154,11 @@ module _ (catalogue : Catalogue) (x : SiteState) (given : Input) where
     start_refresh = λ view rec o e a q p. alike o _ refl refl p;
     end_refresh = λ rec r own o e a d v p. ends_refresh r own o p;
     keep_answer = λ from view rec stored r c e f g. none _ refl refl;
-    grant_read = λ from txn view number rec stored c e n v f. none _ refl (with_part-doubts txn view);
-    grant_write = λ from txn view number rec stored c e n v f. none _ refl (with_part-doubts txn view);
+    grant_read = λ from txn view number rec stored c e n v f. none _ refl (with_part_doubts x.participant txn view);
+    grant_write = λ from txn view number rec stored c e n v f. none _ refl (with_part_doubts x.participant txn view);
     vote_reading = λ from txn view number reads writes part c e n d f v a w. none _ refl refl;
     vote_writing = λ from txn view number reads writes part c e n d f v a w. record {
-      come = one_more [] _ (entry.Yes part.txn part.view writes) refl refl (λ t b h. absurd (has_none _ h));
+      come = one_more [] _ (log_record.Yes part.txn part.view writes) refl refl (λ t b h. absurd (has_none _ h));
       stays = λ u h. inl (put_old (λ (a : Doubt) (b : Doubt). same_txn a.txn b.txn) (λ (a : Doubt) (b : Doubt). txn_before a.txn b.txn) (record { txn = part.txn; view = part.view; writes = writes }) x.doubts u h (no_such x.doubts txn part.txn u (same_txn-is part.txn txn (find_true (λ (p : Part). same_txn p.txn txn) x.parts part f)) d h));
     };
     end_here = λ from txn commit c. ends_here from txn commit (doubt_of txn x.doubts) c refl;
@@ -176,7 +174,7 @@ module _ (catalogue : Catalogue) (x : SiteState) (given : Input) where
       decide = λ t q d. decide-cases K catalogue x.id t (lent_at x) (λ e. ends t Committed true _ _ (decided-ends x.id t (lent_at x)) starts) (λ e. ends t Committed true _ _ (decided-ends x.id t _) (keeps_writes t (lent_at x) starts));
       close = λ t why l q a z y h. ends t why false l _ (close-ends x.id t why l) h;
       mark_calls = λ l c z h. alike (put_back (begin_step x) l) _ refl refl h;
-      acknowledge = λ from txn c w. more (begin_step x) _ (entry.Acked txn from) refl refl refl starts;
+      acknowledge = λ from txn c w. more (begin_step x) _ (log_record.Acked txn from) refl refl refl starts;
     };
     answers_inviting = λ port c s h. alike _ _ refl refl h;
     resend_one = λ d o c q h. alike o _ refl refl h;

@@ -4,7 +4,7 @@ use Rattle.std.specs.Prelude.{Option, Some, None}
 use Rattle.vp_model.specs.Types.{TxnId, Commit, Input, Stored, Effects, Op, Answer, Reply, Pending, Live, Ending, Refreshing, Doubt}
 use Rattle.vp_base.specs.declared.site.Ending.TheVariants.{Committed}
 use Rattle.vp_model.specs.Types.answer
-use Rattle.vp_model.specs.Types.entry
+use Rattle.vp_model.specs.Types.log_record
 use Rattle.vp_model.specs.Words.{without_first, view_before, replace_at}
 use Rattle.vp_model.specs.Catalogue.{Catalogue}
 use Rattle.vp_model.specs.Durable.{doubt_of}
@@ -173,7 +173,7 @@ module _ (catalogue : Catalogue) (x : SiteState) (given : Input) (led : Led x) (
   unfolding take_newer
   same_taken rec own best o = go (view_before own.date best.date)
     where
-      go : (b : Bool) → ((cond b (force (entry.Copy rec best) (change_copies (replace_at rec best) o)) o).site.coordinator ≡ o.site.coordinator) × ((cond b (force (entry.Copy rec best) (change_copies (replace_at rec best) o)) o).effects.commits ≡ o.effects.commits) × ((cond b (force (entry.Copy rec best) (change_copies (replace_at rec best) o)) o).effects.replies ≡ o.effects.replies)
+      go : (b : Bool) → ((cond b (force (log_record.Copy rec best) (change_copies (replace_at rec best) o)) o).site.coordinator ≡ o.site.coordinator) × ((cond b (force (log_record.Copy rec best) (change_copies (replace_at rec best) o)) o).effects.commits ≡ o.effects.commits) × ((cond b (force (log_record.Copy rec best) (change_copies (replace_at rec best) o)) o).effects.replies ≡ o.effects.replies)
       go true = (refl, refl, refl)
       go false = (refl, refl, refl)
 

@@ -1,6 +1,6 @@
 -- Where each part and each doubt of a step comes from, and what each answer to another site answers.
-use Rattle.std.proofs.Common.{◌≡◌, ◌≢◌, ◌⊎◌, ◌∙◌, ap, sym, subst, ℕ, Bool, true, false, cond, List, [], ◌∷◌, ◌++◌, refl, inl, inr, ⊎_elim, append-nil}
-use Rattle.std.specs.Prelude.{Option, Some, None, is_some, filter, not, ◌==◌, ◌||◌}
+use Rattle.std.proofs.Common.{◌≡◌, ◌≢◌, ◌⊎◌, ◌∙◌, ap, sym, subst, ℕ, Bool, true, false, List, [], ◌∷◌, ◌++◌, refl, inl, inr, ⊎_elim, append-nil}
+use Rattle.std.specs.Prelude.{Option, Some, None, is_some, filter, not, ◌==◌}
 use Rattle.vp_model.specs.Types.{Change, ViewId, TxnId, Message, Sent, Input, Stored, Part, Refreshing, Live, Doubt}
 use Rattle.vp_model.specs.Types.input
 use Rattle.vp_model.specs.Types.message
@@ -11,17 +11,18 @@ use Rattle.vp_model.specs.Locks.{conflict}
 use Rattle.vp_model.specs.Site.{ParticipantState, SiteState, Lent, Stepped, begin_step, lent, put_back, letters, send}
 use Rattle.vp_model.specs.Transactions.{keep_writes, complete}
 use Rattle.vp_model.specs.Refresh.{newest, take_newer, unlist, end_refresh, start_refresh, other_holders, is_doubtful}
-use Rattle.vp_model.specs.Views.{part_of, has_part, has_doubt, other_sites, drop_view, start_inviting, hold}
+use Rattle.vp_model.specs.Views.{part_of, has_doubt, other_sites, drop_view, start_inviting, hold}
 use Rattle.vp_model.specs.Calls.{start_txn, take_lock, read_at, write_at, prepare_parts, prepare_for}
-use Rattle.vp_model.specs.Messages.{holds_view, put_part, with_part, with_vote, with_new_doubt, with_ended, has_all_locks, accept, on_accept, on_stale, grant, end_here}
+use Rattle.vp_model.specs.Messages.{holds_view, with_part, with_vote, with_new_doubt, with_ended, has_all_locks, accept, on_accept, on_stale, grant, end_here}
 use Rattle.vp_model.specs.Step.{fix, mark_calls, ask_again, resend_one, step}
-use Rattle.vp_laws.proofs.Lists.Members.{Has, has_none, has_one_is, has_cases, map_has, filter_has, filter_keeps, find_has, find_true, any_true, any_false}
+use Rattle.vp_laws.proofs.Lists.Members.{Has, has_none, has_one_is, has_cases, map_has, filter_has, filter_keeps, find_true, any_true, any_false}
 use Rattle.vp_laws.proofs.Lists.Changes.{put_has, put_new, put_old}
 use Rattle.vp_model.proofs.SameTxn.{same_txn-is, same_txn-turned, same_txn-clash}
 use Rattle.vp_laws.proofs.Moves.Frames.{close-ends, decided-ends, decide-cases, take-cases}
 use Rattle.vp_laws.proofs.Moves.Table.{Comes, Closed, next_view, lent_at, Requests, Back, SendsBack, Table, AsksAgain}
 use Rattle.vp_laws.proofs.Moves.Rows.{step-keeps}
 use Rattle.vp_laws.proofs.Moves.LocalViews.{letter}
+use Rattle.vp_laws.proofs.Moves.Parts.{part_there, with_part_has, with_part_doubts}
 
 abbrev pub fresh_part : TxnId → ViewId → Part
 fresh_part txn view = record { txn = txn; view = view; voted = false }
@@ -145,33 +146,21 @@ module _ (catalogue : Catalogue) (x : SiteState) (given : Input) where
   unfolding end_refresh unlist
   ends_refresh r own o l = silent (take_newer r.rec own (newest own r.answers) o) _ refl refl refl (take-cases P r.rec own (newest own r.answers) o (silent o _ refl refl refl l) l)
 
-  part_there : (txn : TxnId) (part : Part) → part_of txn x.parts ≡ Some part → Has x.parts part
-  part_there txn part e = find_has (λ (p : Part). same_txn p.txn txn) x.parts part e
-
   part_same : (txn : TxnId) (part : Part) → part_of txn x.parts ≡ Some part → part.txn ≡ txn
   part_same txn part e = same_txn-is part.txn txn (find_true (λ (p : Part). same_txn p.txn txn) x.parts part e)
 
   -- a granted lock
   granted_parts : (from : ℕ) (txn : TxnId) (number rec : ℕ) (exclusive : Bool) (stored : Stored) (g : Granted x given from txn number rec exclusive stored) (a : Part) → Has (with_part txn g.view x.participant).parts a → PartNow x given a
-  granted_parts from txn number rec exclusive stored g a h = go (has_part txn x.parts || has_doubt txn x.doubts) h
-    where
-      go : (b : Bool) → Has (cond b x.participant (record x.participant { parts = put_part (fresh_part txn g.view) x.parts })).parts a → PartNow x given a
-      go true q = PartNow.still q
-      go false q = ⊎_elim (λ (new : a ≡ fresh_part txn g.view). PartNow.fresh from txn number rec exclusive stored g (sym new)) (λ old. PartNow.still old)
-          (put_has (λ (a : Part) (b : Part). same_txn a.txn b.txn) (λ (a : Part) (b : Part). txn_before a.txn b.txn) (fresh_part txn g.view) x.parts a q)
-
-  with_part-doubts : (txn : TxnId) (view : ViewId) → (with_part txn view x.participant).doubts ≡ x.doubts
-  with_part-doubts txn view = go (has_part txn x.parts || has_doubt txn x.doubts)
-    where
-      go : (b : Bool) → (cond b x.participant (record x.participant { parts = put_part (fresh_part txn view) x.parts })).doubts ≡ x.doubts
-      go true = refl
-      go false = refl
+  granted_parts from txn number rec exclusive stored g a h = ⊎_elim
+      (λ (new : a ≡ fresh_part txn g.view). PartNow.fresh from txn number rec exclusive stored g (sym new))
+      (λ old. PartNow.still old)
+      (with_part_has x.participant txn g.view a h)
 
   grants : (from : ℕ) (txn : TxnId) (number rec : ℕ) (exclusive : Bool) (stored : Stored) (g : Granted x given from txn number rec exclusive stored) (words : Message) → ReplyTo x given (with_part txn g.view x.participant) (letter x.id from words) → P (grant txn g.view rec exclusive words from (begin_step x))
   unfolding grant
   grants from txn number rec exclusive stored g words reply =
       replying _ (with_part txn g.view x.participant) from words refl refl refl (granted_parts from txn number rec exclusive stored g)
-      (λ d h. DoubtNow.still (rw with_part-doubts at h)) (λ d h. inl (rw with_part-doubts h)) reply
+      (λ d h. DoubtNow.still (rw (with_part_doubts x.participant txn g.view) at h)) (λ d h. inl (rw (with_part_doubts x.participant txn g.view) h)) reply
 
   no_such : (txn : TxnId) (d : Doubt) (writes : List (ℕ × Change)) (view : ViewId) → has_doubt txn x.doubts ≡ false → Has x.doubts d → same_txn txn d.txn ≡ false
   no_such txn d writes view e h = let n = any_false (λ (d : Doubt). same_txn d.txn txn) x.doubts e d h in same_txn-turned d.txn txn n
@@ -199,7 +188,7 @@ module _ (catalogue : Catalogue) (x : SiteState) (given : Input) where
   prepared_by : (from : ℕ) (txn : TxnId) (view : ViewId) (number : ℕ) (reads : List ℕ) (writes : List (ℕ × Change)) (part : Part) → Comes given from (message.Prepare txn view number reads writes) → holds_view x view ≡ true → has_txn x.ended txn ≡ false → has_doubt txn x.doubts ≡ false → part_of txn x.parts ≡ Some part → part.voted ≡ false → has_all_locks x.locks part.txn reads writes ≡ true → Prepared x given from part reads writes
   prepared_by from txn view number reads writes part c e n d f v a =
       let same = part_same txn part f in
-      record { view = view; number = number; comes = rw same c; held = e; going = rw same n; certain = rw same d; part_here = part_there txn part f; unvoted = v; locks = a }
+      record { view = view; number = number; comes = rw same c; held = e; going = rw same n; certain = rw same d; part_here = part_there txn x.parts part f; unvoted = v; locks = a }
 
   doubts_again : (from : ℕ) (txn : TxnId) (view : ViewId) (number : ℕ) (reads : List ℕ) (writes : List (ℕ × Change)) → Comes given from (message.Prepare txn view number reads writes) → holds_view x view ≡ true → has_txn x.ended txn ≡ false → has_doubt txn x.doubts ≡ true → (o : Stepped) → o.site.id ≡ x.id → o.site.participant ≡ x.participant → o.effects.messages ≡ letter x.id from (message.Vote txn) ∷ [] → P o
   doubts_again from txn view number reads writes c e n d o i same ms =
@@ -279,7 +268,7 @@ module _ (catalogue : Catalogue) (x : SiteState) (given : Input) where
   sent_back from _ (SendsBack.doubt_again txn view number reads writes c e n d) = doubts_again from txn view number reads writes c e n d _ refl refl refl
   sent_back from _ (SendsBack.vote_again txn view number reads writes part c e n f v) =
       replying _ x.participant from (message.Vote part.txn) refl refl refl (λ a h. PartNow.still h) (λ d h. DoubtNow.still h) (λ d h. inl h)
-      (ReplyTo.vote_again part (answered_by from txn part.txn view number reads writes c e n (part_same txn part f)) (part_there txn part f) (part_there txn part f) v refl)
+      (ReplyTo.vote_again part (answered_by from txn part.txn view number reads writes c e n (part_same txn part f)) (part_there txn x.parts part f) (part_there txn x.parts part f) v refl)
   sent_back from m t = one _ from m refl refl refl refl
 
   again_asks : (o : Stepped) (to : ℕ) (m : Message) → AsksAgain catalogue x given o to m → is_reply m ≡ false

@@ -4,7 +4,7 @@ use Rattle.std.specs.Prelude.{Option, Some, None, filter, find, option_map, not,
 use Rattle.std.proofs.lemmas.Bool.{eqb-true}
 use Rattle.std.proofs.lemmas.Bool.Decides.{nat_tests}
 use Rattle.vp_model.specs.Types.{TxnId, View, Input, Stored, Refreshing, Doubt}
-use Rattle.vp_model.specs.Types.entry
+use Rattle.vp_model.specs.Types.log_record
 use Rattle.vp_model.specs.Types.input
 use Rattle.vp_model.specs.Types.message
 use Rattle.vp_model.specs.Words.{put, put_at, view_before, replace_at, value_at, is_empty, is_view, has}
@@ -78,7 +78,7 @@ pub took : (rec : ℕ) (own best : Stored) (o : Stepped) → value_at rec o.site
 unfolding take_newer
 took rec own best o v = go (view_before own.date best.date) refl
   where
-    go : (b : Bool) → view_before own.date best.date ≡ b → Took rec best o (cond b (force (entry.Copy rec best) (change_copies (replace_at rec best) o)) o)
+    go : (b : Bool) → view_before own.date best.date ≡ b → Took rec best o (cond b (force (log_record.Copy rec best) (change_copies (replace_at rec best) o)) o)
     go true e = record {
       id = refl;
       held = refl;

@@ -10,7 +10,8 @@ use Rattle.vp_model.specs.Catalogue.{accessible}
 use Rattle.vp_model.specs.Types.message
 use Rattle.vp_model.specs.Words.{same_txn}
 use Rattle.vp_model.specs.World.{Place, Schedule, run_of, journal_of, place_of}
-use Rattle.vp_laws.specs.Entries.{IsOnce, doubts_in, VotesLeaveDoubts, record_in, EntriesAreAccessible}
+use Rattle.vp_model.specs.Headline.{IsOnce}
+use Rattle.vp_laws.specs.Entries.{doubts_in, VotesLeaveDoubts, record_in, EntriesAreAccessible}
 use Rattle.vp_laws.proofs.Lists.Members.{has_of, contains, all_of}
 use Rattle.vp_laws.proofs.Worlds.Scenes.{kept_in}
 use Rattle.vp_laws.proofs.Invariant.Ops.{op_used, record_of}

@@ -1,18 +1,18 @@
-use Rattle.vp_model.specs.Types.entry
+use Rattle.vp_model.specs.Types.log_record
 use Rattle.vp_records.proofs.Held.{held_by, applied_keys, restored_keys}
 use Rattle.vp_records.proofs.durable.Durable.apply.Goals as goal
 
 pub returns-in-Outcome-clause-held : goal.returns-in-Outcome-clause-held
 returns-in-Outcome-clause-held c =
-    held_by _ _ _ c.end_doubt.result (applied_keys (entry.Outcome c.in-Outcome.txn c.in-Outcome.commit) c.args.self.now) c.end_doubt.ensures.ok c.end_doubt.ensures.err
+    held_by _ _ _ c.end_doubt.result (applied_keys (log_record.Outcome c.in-Outcome.txn c.in-Outcome.commit) c.args.self.now) c.end_doubt.ensures.ok c.end_doubt.ensures.err
 
 pub returns-in-Commit-clause-held : goal.returns-in-Commit-clause-held
 returns-in-Commit-clause-held c =
-    held_by _ _ _ c.commit.result (applied_keys (entry.Commit c.in-Commit.txn c.in-Commit.view c.in-Commit.writes c.in-Commit.waiting) c.args.self.now) c.commit.ensures.ok c.commit.ensures.err
+    held_by _ _ _ c.commit.result (applied_keys (log_record.Commit c.in-Commit.txn c.in-Commit.view c.in-Commit.writes c.in-Commit.waiting) c.args.self.now) c.commit.ensures.ok c.commit.ensures.err
 
 pub returns-in-Copy-clause-held : goal.returns-in-Copy-clause-held
 returns-in-Copy-clause-held c =
-    held_by _ _ _ c.set_copy.result (applied_keys (entry.Copy c.in-Copy.rec c.in-Copy.stored) c.args.self.now) c.set_copy.ensures.ok c.set_copy.ensures.err
+    held_by _ _ _ c.set_copy.result (applied_keys (log_record.Copy c.in-Copy.rec c.in-Copy.stored) c.args.self.now) c.set_copy.ensures.ok c.set_copy.ensures.err
 
 pub returns-in-Checkpoint-clause-held : goal.returns-in-Checkpoint-clause-held
 returns-in-Checkpoint-clause-held c =
