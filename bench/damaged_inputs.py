@@ -8,6 +8,8 @@ PROGRAM is the built vpdb. There are COUNT inputs, 1,000 if nothing is said, for
 lines are changed, moved, cut, put in and taken out, and numbers are as large as they may be, or larger. A run has to end with a status that
 `docs/FORMATS.md` has for such an input, and to print last what stands there beside it; a fault has to be at a line and a byte that the
 input has, or right behind them.
+
+Each 1,000 inputs it prints the first seed that is still to come and the ends so far, so that a run that is ended has told what it did.
 """
 import collections
 import multiprocessing
@@ -104,17 +106,24 @@ def tried(seed):
     return ends, None
 
 
-ROUND = 50
+def told(ends):
+    """The ends by command and status."""
+    by_command = {command: {status: count for (word, status), count in sorted(ends.items()) if word == command} for command in ENDS}
+    return "; ".join(f"{command} {sum(of.values())}, by status {of}" for command, of in by_command.items())
+
+
+ROUND, TOLD = 50, 1000
 PROGRAM, SEED, COUNT, _ = arguments(1000)
 
 if __name__ == "__main__":
     ends = collections.Counter()
+    seeds = range(SEED, SEED + -(-COUNT // ROUND))
     with multiprocessing.Pool(int(os.environ.get("JOBS", os.cpu_count()))) as pool:
-        for found, fault in pool.imap_unordered(tried, range(SEED, SEED + -(-COUNT // ROUND))):
+        for seed, (found, fault) in zip(seeds, pool.imap(tried, seeds)):
             if fault:
                 print("another end than it may have:", *fault)
                 sys.exit(1)
             ends += found
-    for command in ENDS:
-        of = {status: count for (word, status), count in sorted(ends.items()) if word == command}
-        print(f"{command}: {sum(of.values())} inputs; by status: {of}")
+            if (seed + 1 - SEED) * ROUND % TOLD == 0:
+                print(f"up to seed {seed + 1}: {told(ends)}", flush=True)
+    print(f"from seed {SEED}, each with an end that it may have: {told(ends)}")
