@@ -13,6 +13,8 @@ of_files asked attached faults = record {
   moment = 0;
   left_since = λ _ _ _. Unit {0};
   faults = faults;
+  synced = λ _. None;
+  until_stop = None;
 }
 
 pub IsDisk-of_files : (asked : Option (List ℕ)) (attached : Bool) (faults : ℕ) → IsDisk (of_files asked attached faults)

@@ -1,19 +1,19 @@
 -- What a stop makes of a host.
-use Rattle.std.proofs.Common.{◌≡◌, ◌≢◌, ◌∙◌, inl, inr, ap, sym, subst, ℕ, ◌+◌, ◌⊎◌, Bool, true, false, List, ◌∷◌, [], ◌++◌, length, refl, arith}
-use Rattle.std.specs.Prelude.{Option, Some, None, IfSome, IfNone, not, ◌==◌, option_map}
+use Rattle.std.proofs.Common.{◌≡◌, ◌≢◌, ◌∙◌, ap, sym, subst, ℕ, Bool, true, false, List, ◌∷◌, [], length, refl, arith}
+use Rattle.std.specs.Prelude.{Option, Some, None, IfSome, IfNone, ◌==◌, option_map}
 use Rattle.std.proofs.lemmas.Bool.Decides.{nat_tests}
-use Rattle.std.proofs.lemmas.List.{length-append}
 use Rattle.vp_model.specs.Types.{LogRecord}
 use Rattle.vp_model.specs.Catalogue.{Catalogue}
 use Rattle.vp_model.specs.Site.{SiteState}
 use Rattle.vp_outside.specs.declared.changes.Change.{Change}
 use Rattle.vp_outside.specs.declared.datagram.Datagram.{Datagram}
-use Rattle.vp_stable.specs.Halves.{StandsAt, HaveBatches, MayGainAt}
+use Rattle.vp_stable.specs.Halves.{StandsAt, HaveBatches}
+use Rattle.vp_stable.specs.Stops.{GainsWhere, with_batch}
 use Rattle.vp_runs.specs.declared.arrival.Arrival.{Arrival}
 use Rattle.vp_runs.specs.Arrivals.{arrival}
 use Rattle.vp_runs.specs.Turns.{turn_on}
 use Rattle.vp_node.specs.Nodes.{NodeValue}
-use Rattle.vp_cluster.specs.Hosts.{HostValue, IsHost, IsAt, Stops, Counts, with_batch, log_on, log_in, turn_at}
+use Rattle.vp_cluster.specs.Hosts.{HostValue, IsHost, IsAt, Stops, log_on, log_in, turn_at}
 use Rattle.vp_cluster.proofs.Hosting.{host_with, parts_rest, parts_node}
 
 -- whether a batch is one without records
@@ -65,33 +65,16 @@ module _ (catalogue : Catalogue) (d : Datagram) (parts host : HostValue) (same :
     stands : (batches : List (List LogRecord)) (site : SiteState) → IsAt batches (Some site) parts → StandsAt node.at batches (log_in parts)
     stands batches site h = subst (λ (n : Option NodeValue). IfSome n (λ node. StandsAt node.at batches (log_in parts))) up h.stands
 
-    -- which asks for this batch: the log is left with it or without, as the counts of what is recovered tell
-    module _ (left behind now : List Change) (before after : ℕ) (may : MayGainAt batch node.at (log_on parts.disk) (log_on left)) (old : Counts before (log_on parts.disk) (log_on now)) (new : Counts after (log_on left) (log_on behind)) where
-      told_by : (batches : List (List LogRecord)) → HaveBatches batches (log_on parts.disk) → HaveBatches batches (log_on left) ⊎ HaveBatches (batches ++ batch ∷ []) (log_on left)
-          → HaveBatches (with_batch (not (after == before)) batch batches) (log_on behind)
-      told_by batches had (inl has) =
-          let first = (old batches had).0 in
-          let second = new batches has in
-          let none : not (after == before) ≡ false = (let z = second.0 ∙ sym first in grind (arith, nat_tests, z)) in
-          subst (λ k. HaveBatches (with_batch k batch batches) (log_on behind)) (sym none) second.1
-      told_by batches had (inr has) =
-          let first = (old batches had).0 in
-          let second = new (batches ++ batch ∷ []) has in
-          let more : after ≡ before + 1 = second.0 ∙ length-append batches (batch ∷ []) ∙ ap (λ n. n + 1) (sym first) in
-          let some : not (after == before) ≡ true = grind (arith, nat_tests, more) in
-          subst (λ k. HaveBatches (with_batch k batch batches) (log_on behind)) (sym some) second.1
-
-      pub stops_within : batch ≢ [] → (kept : Bool) → kept ≡ not (after == before) → After behind (Some kept)
-      stops_within some kept kept_is = stays_so behind (Some kept) (λ batches site h. (
-        tt,
-        (
-          (λ none. some (sym ((its batches site h).1) ∙ none)),
-          record {
-            has =
-                subst (λ b. HaveBatches (with_batch kept b batches) (log_on behind)) (sym ((its batches site h).1))
-                (subst (λ k. HaveBatches (with_batch k batch batches) (log_on behind)) (sym kept_is) (told_by batches h.has (may batches (stands batches site h))));
-            site_is = refl;
-            stands = tt;
-          },
-        ),
-      ))
+    -- which asks for this batch: the log is left with it or without
+    pub stops_within : (left : List Change) (kept : Bool) → batch ≢ [] → GainsWhere batch node.at kept (log_on parts.disk) (log_on left) → After left (Some kept)
+    stops_within left kept some gains = stays_so left (Some kept) (λ batches site h. (
+      tt,
+      (
+        (λ none. some (sym ((its batches site h).1) ∙ none)),
+        record {
+          has = subst (λ b. HaveBatches (with_batch kept b batches) (log_on left)) (sym ((its batches site h).1)) (gains batches (stands batches site h));
+          site_is = refl;
+          stands = tt;
+        },
+      ),
+    ))

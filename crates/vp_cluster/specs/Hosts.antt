@@ -1,5 +1,5 @@
 -- A host: a node in memory, with the disk that keeps its log.
-use Rattle.std.specs.Prelude.{◌≡◌, ◌≢◌, ℕ, ◌-◌, ◌^◌, Bool, true, if◌then◌else◌, List, [], ◌∷◌, ◌++◌, length, Option, Some, None, IfSome, IfNone, option_map}
+use Rattle.std.specs.Prelude.{◌≡◌, ◌≢◌, ℕ, ◌-◌, ◌^◌, Bool, true, List, [], Option, Some, None, IfSome, IfNone, option_map}
 use Rattle.vp_model.specs.Types.{LogRecord}
 use Rattle.vp_model.specs.Words.{value_at}
 use Rattle.vp_model.specs.Catalogue.{Catalogue}
@@ -9,6 +9,7 @@ use Rattle.vp_outside.specs.Changes.{asked_of, changes_of, content_of, state_aft
 use Rattle.vp_outside.specs.declared.changes.Change.{Change}
 use Rattle.vp_outside.specs.declared.datagram.Datagram.{Datagram}
 use Rattle.vp_stable.specs.Halves.{StandsAt, HaveBatches}
+use Rattle.vp_stable.specs.Stops.{with_batch}
 use Rattle.vp_runs.specs.Arrivals.{arrival}
 use Rattle.vp_runs.specs.Keeping.{durable_in}
 use Rattle.vp_runs.specs.Runs.{NodeState, start_node, after_turn}
@@ -74,14 +75,6 @@ pub record Takes (catalogue : Catalogue) (d : Datagram) (old new : HostValue) (g
   pub up : (batches : List (List LogRecord)) (site : SiteState) → IsAt batches (Some site) old
       → IsAt (after_turn (node_at site batches) (turn_at catalogue site d)).batches (Some (turn_at catalogue site d).site) new × (given ≡ (turn_at catalogue site d).datagrams)
   pub down : (batches : List (List LogRecord)) → IsAt batches None old → IsAt batches None new × (given ≡ [])
-
--- these batches, with another one behind them or without
-abbrev pub with_batch : Bool → List LogRecord → List (List LogRecord) → List (List LogRecord)
-with_batch kept batch batches = if kept then batches ++ batch ∷ [] else batches
-
--- So many batches are recovered of a log, and it has them still.
-abbrev pub Counts : ℕ → Halves → Halves → Type 0
-Counts count old new = (batches : List (List LogRecord)) → HaveBatches batches old → (count ≡ length batches) × HaveBatches batches new
 
 -- A datagram comes to it, and its site stops within the append of the turn's batch: it is down then, and the log has the batch or not, as is
 -- answered. Nothing is answered where it was down, or the turn has no batch.

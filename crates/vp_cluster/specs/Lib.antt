@@ -3,3 +3,4 @@ pub mod Letters
 pub mod Nodes
 pub mod Ran
 pub mod Clusters
+pub mod Stops

@@ -1,13 +1,14 @@
 //! A host: a node in memory, with the disk that keeps its log.
 
-ghost use Rattle.std.specs.Prelude.{◌≡◌, OnErr, OnOk, IfOk, Some};
+ghost use Rattle.std.specs.Prelude.{◌≡◌, OnErr, OnOk, IfOk, IfSome, Some};
 ghost use Rattle.vp_cluster.specs.Hosts.{IsHost, Begins, Takes, Crashes, Restarts, Stops, log_in, site_log, address_of};
 ghost use Rattle.vp_cluster.specs.Letters.{as_received};
+ghost use Rattle.vp_cluster.specs.Stops.{is_kept};
 ghost use Rattle.vp_model.specs.Words.{value_at};
 ghost use Rattle.vp_outside.specs.Disk.{half_of};
 
 use crate::letter::Letter;
-use crate::stopping::{Stop, append_stopped, count_batches};
+use crate::stopping::{Stop, append_stopped};
 use std::alloc::Global;
 use std::marker::Model;
 use vp_base::{NoMemory, Seq, SiteId, Word};
@@ -128,6 +129,7 @@ impl Host {
     ) -> Result<Option<bool>, NoMemory>
         requires host { IsHost catalog.now self.old }
         ensures stops { IfOk result (Stops catalog.now (as_received letter.now) self.old self.new) }
+        ensures kept { IfOk result (λ kept. IfSome kept (λ k. k ≡ is_kept stop.now)) }
         ensures host { IsHost catalog.now self.new }
         ensures place { address_of self.new ≡ address_of self.old }
     {
@@ -141,11 +143,9 @@ impl Host {
         if batch.as_slice().is_empty() {
             return Ok(None);
         }
-        let mut left = append_stopped(alloc, log, &batch, &self.disk, stop)?;
-        let before = count_batches(alloc, &mut self.disk)?;
-        let after = count_batches(alloc, &mut left)?;
+        let left = append_stopped(alloc, log, &batch, &self.disk, stop)?;
         self.disk = left;
-        Ok(Some(after != before))
+        Ok(Some(stop.keeps_batch()))
     }
 
     /// The site starts from its log, where it is down and a life is left. Without memory it stays down.

@@ -4,6 +4,7 @@ ghost use Rattle.std.specs.Prelude.{◌≡◌, ◌==◌, ◌<◌, OnOk, IfOk, If
 ghost use Rattle.std.specs.List.{position};
 ghost use Rattle.vp_cluster.specs.Hosts.{Takes, Crashes, Restarts, Stops, site_log};
 ghost use Rattle.vp_cluster.specs.Letters.{as_received};
+ghost use Rattle.vp_cluster.specs.Stops.{is_kept};
 ghost use Rattle.vp_cluster.specs.Nodes.{AreBegun, AreHosts, ChangesAt, ChangesOf};
 
 use crate::host::{Host, SiteLog};
@@ -68,6 +69,7 @@ pub fn stop_at(
 ) -> Result<Option<bool>, NoMemory>
     requires { AreHosts catalog.now hosts.old }
     ensures stops { IfOk result (λ kept. ChangesAt letter.now.to (λ host after. Stops catalog.now (as_received letter.now) host after kept) hosts.old hosts.new) }
+    ensures kept { IfOk result (λ kept. IfSome kept (λ k. k ≡ is_kept stop.now)) }
     ensures hosts { AreHosts catalog.now hosts.new }
 {
     match index_of(hosts, letter.to) {

@@ -1,10 +1,11 @@
 //! The nodes of all sites in one process. They follow the lines of a run, and what they do of each goes from node to node in datagrams.
 
-ghost use Rattle.std.specs.Prelude.{◌≡◌, OnOk, IfOk, Some, None, length, map, option_copied};
+ghost use Rattle.std.specs.Prelude.{◌≡◌, OnOk, IfOk, IfSome, Some, None, length, map, option_copied};
 ghost use Rattle.vp_laws.specs.ShapeLaws.{IsEvent};
 ghost use Rattle.vp_cluster.specs.Hosts.{Crashes, Restarts, site_log};
 ghost use Rattle.vp_cluster.specs.Letters.{letter_of, in_order};
 ghost use Rattle.vp_cluster.specs.Nodes.{Begin, ChangesOf, Comes, Does, Follows, StopsWith};
+ghost use Rattle.vp_cluster.specs.Stops.{is_kept};
 ghost use Rattle.vp_cluster.specs.declared.letter.Letter.{Letter};
 
 use crate::host::{Host, Logs};
@@ -110,7 +111,10 @@ impl Nodes {
 
     /// The letter comes, and its site stops within the append that this asks for.
     fn stop_by(&mut self, letter: &Letter, stop: &Stop) -> Result<Option<bool>, NoMemory>
-        ensures { IfOk result (λ kept. StopsWith letter.now kept self.old self.new) }
+        ensures stops { IfOk result (λ kept. StopsWith letter.now kept self.old self.new) }
+        ensures kept { IfOk result (λ kept. IfSome kept (λ k. k ≡ is_kept stop.now)) }
+        ensures letters { self.new.letters ≡ self.old.letters }
+        ensures same { self.new.catalogue ≡ self.old.catalogue }
     {
         stop_at(&mut self.hosts, &self.catalog, letter, stop)
     }
@@ -118,7 +122,11 @@ impl Nodes {
     /// A step of a site, which stops within the append of its batch. Answers whether the batch is in the log; none where there is none.
     pub fn stop(&mut self, event: &Event, stop: &Stop) -> Result<Option<bool>, NoMemory>
         requires { IsEvent event.now }
-        ensures { IfOk result (λ kept. (letter : Letter) → letter_of self.old.catalogue self.old.letters event.now ≡ Some letter → StopsWith letter kept self.old self.new) }
+        ensures stops { IfOk result (λ kept. (letter : Letter) → letter_of self.old.catalogue self.old.letters event.now ≡ Some letter → StopsWith letter kept self.old self.new) }
+        ensures nothing { letter_of self.old.catalogue self.old.letters event.now ≡ None → IfOk result (λ kept. (kept ≡ None) × (self.new ≡ self.old)) }
+        ensures kept { IfOk result (λ kept. IfSome kept (λ k. k ≡ is_kept stop.now)) }
+        ensures letters { self.new.letters ≡ self.old.letters }
+        ensures same { self.new.catalogue ≡ self.old.catalogue }
     {
         match self.letter(event)? {
             None => Ok(None),

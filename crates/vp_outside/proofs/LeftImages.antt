@@ -2,9 +2,9 @@
 use Rattle.std.proofs.Common.{◌≡◌, ◌∙◌, inl, ⊎_elim, ℕ, List, [], ◌∷◌, Bool, true, false, refl, sym, ap, subst, Option}
 use Rattle.std.specs.Prelude.{length}
 use Rattle.vp_outside.specs.Disk.{Torn, MaybeCut, Only}
-use Rattle.vp_outside.specs.Changes.{asked_of, is_same_log, changes_of, content_of, MayLeave, state_after}
+use Rattle.vp_outside.specs.Changes.{asked_of, is_same_log, changes_of, content_of, synced_of, MayLeave, state_before}
 use Rattle.vp_outside.specs.DiskLaws.{MayLeave-content}
-use Rattle.vp_outside.specs.Images.{synced_of, image_of, OnlyLays, LeavesImages, IsLeftByCrash}
+use Rattle.vp_outside.specs.Images.{image_of, OnlyLays, LeavesImages, IsLeftByCrash}
 use Rattle.vp_outside.specs.declared.changes.Change.{Change}
 use Rattle.vp_outside.specs.declared.changes.Change.TheVariants.{Attached, Wrote, Cut, Synced, Laid}
 use Rattle.vp_outside.proofs.LogRecords.{by_log, changes_of-same, changes_of-not_same, same_or_other, InHalf-refl}
@@ -45,9 +45,9 @@ lays_of log (Synced ∷ earlier) lays = absurd lays
 lays_of log (Laid first second ∷ earlier) lays = let rest = lays_of log earlier lays in by_log log (Laid first second) earlier OnlyLays (λ _. rest) rest
 
 -- what a stop leaves is what a crash may leave, and then nothing else is
-pub is_left : (late : Bool) (old new : List Change) (attached attached' : Bool) (faults faults' : ℕ) → LeavesImages late old new
-    → IsLeftByCrash (state_after old attached faults) (state_after new attached' faults')
-is_left late old new attached attached' faults faults' leaves = record {
+pub is_left : (late : Bool) (old new : List Change) (stop stop' : Option ℕ) (attached attached' : Bool) (faults faults' : ℕ) → LeavesImages late old new
+    → IsLeftByCrash (state_before stop old attached faults) (state_before stop' new attached' faults')
+is_left late old new stop stop' attached attached' faults faults' leaves = record {
   possible = λ log content told. let same : content_of (changes_of log new) ≡ content = cc in
       subst (MayLeave (changes_of log old)) (sym (leaves.images log) ∙ same) (MayLeave-image late (changes_of log old));
   certain = λ log content told image left. let same : content_of (changes_of log new) ≡ content = cc in

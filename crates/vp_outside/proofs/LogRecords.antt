@@ -3,8 +3,8 @@ use Rattle.std.proofs.Common.{◌≡◌, ◌∙◌, ◌⊎◌, inl, inr, ⊎_eli
 use Rattle.std.proofs.lemmas.Slice.Eq.{bytes_eq-Decides}
 use Rattle.std.specs.Prelude.{Ok}
 use Rattle.vp_outside.specs.Disk.{Halves, InHalf, Untouched, Elapses}
-use Rattle.vp_outside.specs.DiskCalls.{Syncs}
-use Rattle.vp_outside.specs.Changes.{asked_of, is_same_log, changes_of, content_of, MayLeave, state_after}
+use Rattle.vp_outside.specs.DiskCalls.{OneNearer, Syncs}
+use Rattle.vp_outside.specs.Changes.{asked_of, is_same_log, changes_of, content_of, synced_of, MayLeave, state_before}
 use Rattle.vp_outside.specs.declared.changes.Change.{Change}
 use Rattle.vp_outside.specs.declared.changes.Change.TheVariants.{Synced}
 use Rattle.vp_outside.specs.DiskLaws.{MayLeave-content}
@@ -53,42 +53,50 @@ InHalf-refl (suc n) step log h = (h log.1, refl)
 
 -- ---- moments
 
-pub Elapses-next : (log : Option (List ℕ)) (change : Change) (earlier : List Change) (attached attached' : Bool) (faults faults' : ℕ)
-    → Elapses log (state_after earlier attached faults) (state_after (change ∷ earlier) attached' faults') (MayLeave (changes_of log (change ∷ earlier)))
-Elapses-next log change earlier attached attached' faults faults' = record {
+pub Elapses-next : (log : Option (List ℕ)) (change : Change) (earlier : List Change) (stop stop' : Option ℕ) (attached attached' : Bool) (faults faults' : ℕ)
+    → Elapses log (state_before stop earlier attached faults) (state_before stop' (change ∷ earlier) attached' faults') (MayLeave (changes_of log (change ∷ earlier)))
+Elapses-next log change earlier stop stop' attached attached' faults faults' = record {
   later = omega arith;
   nothing_else = λ since image le left. ⊎_elim (λ now. inr now.1) (λ past. inl past) left;
   keeps = λ since image le left. inr left;
 }
 
-pub Elapses-still : (log : Option (List ℕ)) (changes : List Change) (attached attached' : Bool) (faults faults' : ℕ)
-    → Elapses log (state_after changes attached faults) (state_after changes attached' faults') (MayLeave (changes_of log changes))
-Elapses-still log changes attached attached' faults faults' = record { later = omega arith; nothing_else = λ since image le left. inl left; keeps = λ since image le left. left }
+pub Elapses-still : (log : Option (List ℕ)) (changes : List Change) (stop stop' : Option ℕ) (attached attached' : Bool) (faults faults' : ℕ)
+    → Elapses log (state_before stop changes attached faults) (state_before stop' changes attached' faults') (MayLeave (changes_of log changes))
+Elapses-still log changes stop stop' attached attached' faults faults' = record { later = omega arith; nothing_else = λ since image le left. inl left; keeps = λ since image le left. left }
 
 -- a sync leaves no image that there wasn't before
-synced_alike : (log : Option (List ℕ)) (earlier : List Change) (attached attached' : Bool) (faults faults' : ℕ)
-    → Untouched log (state_after earlier attached faults) (state_after (Synced ∷ earlier) attached' faults')
-synced_alike log earlier attached attached' faults faults' = record {
+synced_alike : (log : Option (List ℕ)) (earlier : List Change) (stop stop' : Option ℕ) (attached attached' : Bool) (faults faults' : ℕ)
+    → Untouched log (state_before stop earlier attached faults) (state_before stop' (Synced ∷ earlier) attached' faults')
+synced_alike log earlier stop stop' attached attached' faults faults' = record {
   same = ap (λ content. Some content) (by_log log Synced earlier (λ changes. content_of changes ≡ content_of (changes_of log earlier)) (λ _. refl) refl);
   no_other = by_log log Synced earlier (λ changes. (image : Halves) → MayLeave changes image → MayLeave (changes_of log earlier) image)
       (λ _ image (is : image ≡ content_of (changes_of log earlier)). subst (MayLeave (changes_of log earlier)) (sym is) (MayLeave-content (changes_of log earlier)))
       (λ image left. left);
 }
 
+-- the attached log is as it was when that is recorded
+synced_now : (earlier : List Change) → synced_of (changes_of (asked_of earlier) (Synced ∷ earlier)) ≡ content_of (changes_of (asked_of earlier) earlier)
+synced_now earlier = ap synced_of (changes_of-same (asked_of earlier) Synced earlier refl)
+
 -- a sync that is done and recorded
-pub Syncs-recorded : (earlier later : List Change) (attached : Bool) (faults faults' : ℕ) → later ≡ Synced ∷ earlier → faults' ≡ faults
-    → Syncs {T = Unit {0}} (state_after earlier attached faults) (state_after later attached faults') (Ok tt)
-Syncs-recorded earlier later attached faults faults' is same =
+pub Syncs-recorded : (earlier later : List Change) (stop stop' : Option ℕ) (attached : Bool) (faults faults' : ℕ) → later ≡ Synced ∷ earlier → faults' ≡ faults → OneNearer stop stop'
+    → Syncs {T = Unit {0}} (state_before stop earlier attached faults) (state_before stop' later attached faults') (Ok tt)
+Syncs-recorded earlier later stop stop' attached faults faults' is same nearer =
     let asked = asked_of earlier in
     record {
       durable = λ _ image left. subst (λ (changes : List Change). MayLeave changes image) (ap (changes_of asked) is ∙ changes_of-same asked Synced earlier refl) left;
+      synced = ap (λ (now : List Change). Some (synced_of (changes_of asked now))) is ∙ ap (λ content. Some content) (synced_now earlier);
+      not_synced = tt;
+      stop = record { done = nearer; not_done = tt; at_stop = λ is_err. absurd cc };
       leaves = record {
         stays = record { same_name = ap asked_of is; same_attached = refl };
-        untouched = λ log. subst (λ (now : List Change). Untouched log (state_after earlier attached faults) (state_after now attached faults')) (sym is) (synced_alike log earlier attached attached faults faults');
+        untouched = λ log. subst (λ (now : List Change). Untouched log (state_before stop earlier attached faults) (state_before stop' now attached faults')) (sym is)
+            (synced_alike log earlier stop stop' attached attached faults faults');
         goes_on = record {
           honest = (λ h. h, λ h. h);
-          time = λ log. subst (λ (now : List Change). Elapses log (state_after earlier attached faults) (state_after now attached faults') (MayLeave (changes_of log now))) (sym is)
-              (Elapses-next log Synced earlier attached attached faults faults');
+          time = λ log. subst (λ (now : List Change). Elapses log (state_before stop earlier attached faults) (state_before stop' now attached faults') (MayLeave (changes_of log now))) (sym is)
+              (Elapses-next log Synced earlier stop stop' attached attached faults faults');
         };
       };
       cause = record { later = omega (arith, same); failed = λ is_err. absurd cc; ok = same; no_memory = λ is_err. absurd cc };

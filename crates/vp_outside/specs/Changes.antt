@@ -33,6 +33,15 @@ content_of (Cut half n ∷ earlier) = in_half half (take n) (content_of earlier)
 content_of (Synced ∷ earlier) = content_of earlier
 content_of (Laid first second ∷ earlier) = (first, second)
 
+-- what a read gave of a log as it was last synced or laid
+abbrev pub synced_of : List Change → Halves
+synced_of [] = ([], [])
+synced_of (Attached name ∷ earlier) = synced_of earlier
+synced_of (Wrote half at piece ∷ earlier) = synced_of earlier
+synced_of (Cut half n ∷ earlier) = synced_of earlier
+synced_of (Synced ∷ earlier) = content_of earlier
+synced_of (Laid first second ∷ earlier) = (first, second)
+
 -- what a crash may leave after these changes of a log
 abbrev pub MayLeave : List Change → Halves → Type 0
 MayLeave [] image = image ≡ ([], [])
@@ -51,9 +60,9 @@ MightHaveLeft log since (change ∷ earlier) image = ((since ≤ length (change 
 
 -- ---- the disk
 
--- what a disk in memory tells after these changes
-abbrev pub state_after : List Change → Bool → ℕ → DiskState
-state_after changes attached faults = record {
+-- what a disk in memory tells after these changes, where so many are left before a stop
+abbrev pub state_before : Option ℕ → List Change → Bool → ℕ → DiskState
+state_before until_stop changes attached faults = record {
   logs = λ log. Some (content_of (changes_of log changes));
   asked = asked_of changes;
   attached = attached;
@@ -62,4 +71,10 @@ state_after changes attached faults = record {
   moment = length changes;
   left_since = λ log since. MightHaveLeft log since changes;
   faults = faults;
+  synced = λ log. Some (synced_of (changes_of log changes));
+  until_stop = until_stop;
 }
+
+-- where it isn't to stop
+abbrev pub state_after : List Change → Bool → ℕ → DiskState
+state_after = state_before None

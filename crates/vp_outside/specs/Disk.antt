@@ -76,6 +76,10 @@ pub record DiskState : Type 1 where
   pub left_since : Option (List ℕ) → ℕ → Halves → Type 0
   -- how often it failed; the count stands still at 2^64 - 1
   pub faults : ℕ
+  -- what a read gave of a log as it was last synced, where the disk tells it
+  pub synced : Option (List ℕ) → Option Halves
+  -- how many changes and syncs more it does before it stops, where it is to stop
+  pub until_stop : Option ℕ
 
 -- the log that the calls speak of
 abbrev pub log_of : DiskState → Option Halves

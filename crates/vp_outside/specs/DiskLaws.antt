@@ -1,8 +1,8 @@
 -- A disk in memory is a disk: what a read gives is one of the images, and its moments are the lengths of its record.
-use Rattle.std.proofs.Common.{◌≡◌, ◌∙◌, inl, inr, Bool, ℕ, zero, suc, ◌+◌, ◌-◌, ◌≤◌, min, max, List, [], ◌∷◌, ◌++◌, length, take, drop, replicate, refl, subst, ap, arith, Option, Some, length-append, append_assoc}
+use Rattle.std.proofs.Common.{◌≡◌, ◌∙◌, inl, inr, Bool, ℕ, None, zero, suc, ◌+◌, ◌-◌, ◌≤◌, min, max, List, [], ◌∷◌, ◌++◌, length, take, drop, replicate, refl, subst, ap, arith, Option, Some, length-append, append_assoc}
 use Rattle.std.proofs.lemmas.List.{drop_at, take-append-le, length-take-le, length-drop, length-replicate, take-take, take_min}
 use Rattle.vp_outside.specs.Disk.{Halves, InHalf, in_half, written, Torn, MaybeCut, IsDisk}
-use Rattle.vp_outside.specs.Changes.{changes_of, content_of, MayLeave, MightHaveLeft, state_after}
+use Rattle.vp_outside.specs.Changes.{changes_of, content_of, MayLeave, MightHaveLeft, state_before, state_after}
 use Rattle.vp_outside.specs.declared.changes.Change.{Change}
 use Rattle.vp_outside.specs.declared.changes.Change.TheVariants.{Attached, Wrote, Cut, Synced, Laid}
 
@@ -65,9 +65,12 @@ MightHaveLeft-only_now log [] image left = left.1
 MightHaveLeft-only_now log (change ∷ earlier) image (inl now) = now.1
 MightHaveLeft-only_now log (change ∷ earlier) image (inr past) = absurd (let le = MightHaveLeft-since log (length (change ∷ earlier)) earlier image past in omega arith)
 
-pub IsDisk-after : (changes : List Change) (attached : Bool) (faults : ℕ) → IsDisk (state_after changes attached faults)
-IsDisk-after changes attached faults = record {
+pub IsDisk-before : (until_stop : Option ℕ) (changes : List Change) (attached : Bool) (faults : ℕ) → IsDisk (state_before until_stop changes attached faults)
+IsDisk-before until_stop changes attached faults = record {
   as_read = λ log content told. MayLeave-told (changes_of log changes) content told;
   counts_now = λ log since image. MightHaveLeft-now log since changes image;
   only_now = λ log image. MightHaveLeft-only_now log changes image;
 }
+
+pub IsDisk-after : (changes : List Change) (attached : Bool) (faults : ℕ) → IsDisk (state_after changes attached faults)
+IsDisk-after = IsDisk-before None

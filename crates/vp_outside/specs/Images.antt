@@ -1,18 +1,9 @@
 -- What a stop may leave of a disk in memory: all that was done, or of each log what it was at its last sync.
 use Rattle.std.specs.Prelude.{◌≡◌, ℕ, Bool, if◌then◌else◌, List, [], ◌∷◌, Option, Some}
 use Rattle.vp_outside.specs.Disk.{Halves, DiskState, Only}
-use Rattle.vp_outside.specs.Changes.{asked_of, changes_of, content_of}
+use Rattle.vp_outside.specs.Changes.{asked_of, changes_of, content_of, synced_of}
 use Rattle.vp_outside.specs.declared.changes.Change.{Change}
 use Rattle.vp_outside.specs.declared.changes.Change.TheVariants.{Attached, Wrote, Cut, Synced, Laid}
-
--- what a read gave of a log as it was last synced or laid
-abbrev pub synced_of : List Change → Halves
-synced_of [] = ([], [])
-synced_of (Attached name ∷ earlier) = synced_of earlier
-synced_of (Wrote half at piece ∷ earlier) = synced_of earlier
-synced_of (Cut half n ∷ earlier) = synced_of earlier
-synced_of (Synced ∷ earlier) = content_of earlier
-synced_of (Laid first second ∷ earlier) = (first, second)
 
 -- the image of a log with all that was done since then, or with none of it
 abbrev pub image_of : Bool → List Change → Halves

@@ -1,5 +1,5 @@
 -- What a plan of failing calls does at a call.
-use Rattle.std.specs.Prelude.{◌≡◌, ◌↔◌, ◌⊎◌, ℕ, ◌-◌, Contains, Option, Some, None, option_map, Result, OnOk, IsErrOf}
+use Rattle.std.specs.Prelude.{◌≡◌, ◌==◌, ◌↔◌, ◌⊎◌, ℕ, ◌-◌, length, if◌then◌else◌, Contains, Option, Some, None, option_map, Result, OnOk, IsErrOf}
 use Rattle.std.specs.Global.{Vec}
 use Rattle.vp_outside.specs.Causes.{count_after}
 use Rattle.vp_outside.specs.declared.fault_plan.FaultPlan.{FaultPlan}
@@ -13,6 +13,10 @@ unstarted failing = record { failing = failing; calls = 0; faults = 0; until_sto
 -- how many calls are left before the stop, behind one of them
 abbrev pub one_nearer : Option ℕ → Option ℕ
 one_nearer until_stop = option_map (λ calls. calls - 1) until_stop
+
+-- how many calls are left before the stop, where no other call is to fail
+abbrev pub stop_of : FaultPlan → Option ℕ
+stop_of plan = if length plan.failing.items == 0 then plan.until_stop else None
 
 -- the next call is to fail: its number is in the plan, or the plan has stopped
 abbrev pub FailsNext : FaultPlan → Type 0

@@ -5,8 +5,8 @@ ghost use Rattle.vp_outside.specs.Causes.{HasCause};
 ghost use Rattle.vp_outside.specs.Disk.{Gives, Torn, Written, half_of};
 ghost use Rattle.vp_outside.specs.DiskCalls.{Changes, Syncs};
 ghost use Rattle.std.specs.declared.option.Option.{Option};
-ghost use Rattle.vp_outside.specs.Changes.{state_after};
-ghost use Rattle.vp_outside.specs.DiskLaws.{IsDisk-after};
+ghost use Rattle.vp_outside.specs.Changes.{state_before};
+ghost use Rattle.vp_outside.specs.DiskLaws.{IsDisk-before};
 ghost use Rattle.vp_outside.specs.Images.{IsLeftByCrash, LeavesImages};
 
 use crate::disk::Disk;
@@ -98,12 +98,12 @@ impl MemDisk {
 
 impl Disk for MemDisk {
     ghost use Rattle.vp_outside.specs.MemDisks.{attached_of, is_attached, record_of};
-    ghost use Rattle.vp_outside.specs.Plans.{CountsCall, FailsNext, GoesByPlan};
+    ghost use Rattle.vp_outside.specs.Plans.{CountsCall, FailsNext, GoesByPlan, stop_of};
     ghost use Rattle.vp_outside.specs.declared.changes.Change.TheVariants.{Attached, Wrote, Cut, Synced};
 
-    ghost state = { λ d. state_after d.disk d.attached d.plan.faults };
+    ghost state = { λ d. state_before (stop_of d.plan) d.disk d.attached d.plan.faults };
 
-    ghost is_disk = { λ d. IsDisk-after d.disk d.attached d.plan.faults };
+    ghost is_disk = { λ d. IsDisk-before (stop_of d.plan) d.disk d.attached d.plan.faults };
 
     fn faults(&self) -> u64 {
         self.plan.faults
@@ -159,11 +159,14 @@ impl Disk for MemDisk {
         ensures not_done { OnErr result (record_of self.new ≡ record_of self.old) }
         ensures attached { is_attached self.new ≡ is_attached self.old }
         ensures plan { GoesByPlan self.old.plan self.new.plan result }
-        ensures planned { IsErrOf result OutFault.Failed → FailsNext self.old.plan ⊎ (2 ^ 62 < at + length piece.now) }
+        ensures planned { IsErrOf result OutFault.Failed → FailsNext self.old.plan }
     {
-        if self.plan.fails_next() || !fits(at, piece) {
+        if self.plan.fails_next() {
             self.plan.fail();
             return Err(OutFault::Failed);
+        }
+        if !fits(at, piece) {
+            return Err(OutFault::NoMemory);
         }
         self.disk.write_piece(half, at, piece)?;
         self.plan.pass();

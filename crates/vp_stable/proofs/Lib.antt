@@ -12,5 +12,6 @@ pub mod Restored
 mod Scanning
 mod Standings
 mod Tears
+pub mod Stops
 pub mod Times
 pub mod Writes

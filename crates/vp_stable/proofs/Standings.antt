@@ -1,9 +1,10 @@
 -- Where a log stands after a batch is put behind its gate.
-use Rattle.std.proofs.Common.{◌≡◌, inl, inr, ⊎_elim, ℕ, ◌+◌, ◌≤◌, List, [], ◌∷◌, ◌++◌, length, refl, sym, ap, subst, arith, length-append}
+use Rattle.std.proofs.Common.{◌≡◌, inl, inr, ⊎_elim, ℕ, Bool, true, false, ◌+◌, ◌≤◌, List, [], ◌∷◌, ◌++◌, length, refl, sym, ap, subst, arith, length-append}
 use Rattle.vp_base.specs.declared.entry.LogRecord.{LogRecord}
 use Rattle.vp_outside.specs.Disk.{Halves, half_of, InHalf}
 use Rattle.vp_stable.specs.Log.{measured, opened, IsLog}
 use Rattle.vp_stable.specs.Halves.{generation_in, generation_of, HasGeneration, IsCurrent, Standing, StandsAt, GainsAt, MayGainAt}
+use Rattle.vp_stable.specs.Stops.{StaysPut, PutsWhere, GainsWhere}
 use Rattle.vp_stable.specs.Writing.{IsPiece, Puts, MayPut}
 use Rattle.vp_stable.proofs.Generations.{log_generation, in_half_step}
 use Rattle.vp_stable.proofs.Currents.{other_half, other_stays, below_current, current_above}
@@ -51,6 +52,16 @@ module _ (batch : List LogRecord) (piece : List ℕ) (is : IsPiece batch piece) 
       (λ log. inl (from.half, current_still batches old new stands from.gate batches log (omega arith) changed.1, inr (from.gate, log)))
       (λ log. inr (from.half, current_still batches old new stands (from.gate + length piece) (batches ++ batch ∷ []) log (gains_generation batches batch) changed.1, inr (from.gate + length piece, log)))
       (changed.0 batch batches is stands.is_log)
+
+  pub gains_where : (kept : Bool) (old new : Halves) → InHalf from.half (PutsWhere piece from.gate kept) old new → GainsWhere batch from kept old new
+  gains_where true old new step batches stands =
+      let log = in_half_step from.half (Puts piece from.gate) old new step batch batches is stands.is_log in
+      let same = other_stays from.half (Puts piece from.gate) old new step in
+      (from.half, current_still batches old new stands (from.gate + length piece) (batches ++ batch ∷ []) log (gains_generation batches batch) same, inr (from.gate + length piece, log))
+  gains_where false old new step batches stands =
+      let log = in_half_step from.half (StaysPut piece from.gate) old new step batch batches is stands.is_log in
+      let same = other_stays from.half (StaysPut piece from.gate) old new step in
+      (from.half, current_still batches old new stands from.gate batches log (omega arith) same, inr (from.gate, log))
 
   -- where a log stands that has batches
   pub gains_more : (to : Standing) → to ≡ record from { gate = from.gate + length piece } → (from.second ≡ 0 → ⊥) → (old new : Halves) → InHalf from.half (Puts piece from.gate) old new → GainsAt batch from to old new

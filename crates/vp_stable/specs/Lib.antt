@@ -4,4 +4,5 @@ pub mod Laws
 pub mod Log
 pub mod Moments
 pub mod Scans
+pub mod Stops
 pub mod Writing

@@ -7,6 +7,7 @@ ghost use Rattle.vp_outside.specs.Disk.{half_of, InHalf, Written, Torn, log_of, 
 ghost use Rattle.vp_stable.specs.Halves.{HasGeneration};
 ghost use Rattle.vp_stable.specs.Scans.{IsRead};
 ghost use Rattle.vp_stable.specs.Moments.{Quiet, TornFrom, LeavesOthers};
+ghost use Rattle.vp_stable.specs.Stops.{WritesToStop};
 
 use crate::batches::generation;
 use std::alloc::Global;
@@ -90,6 +91,7 @@ pub fn write_synced<D: Disk>(disk: &mut D, half: u8, at: u64, piece: &[u8]) -> R
     ensures torn { OnErr result (Steps (InHalf half (Torn at (length piece.now))) (D.state disk.old) (D.state disk.new)) }
     ensures durable { (D.state disk.old).honest → OnOk result (IfSome ((D.state disk.new).logs (D.state disk.old).asked) (λ log. Only log ((D.state disk.new).may_leave (D.state disk.old).asked))) }
     ensures fits { OnOk result (at + length piece.now ≤ 2 ^ 62) }
+    ensures stop { IfSome (D.state disk.old).until_stop (λ calls. WritesToStop (InHalf half (Written at piece.now)) calls (D.state disk.old) (D.state disk.new) result) }
     ensures time { Elapses (D.state disk.old).asked (D.state disk.old) (D.state disk.new) (TornFrom half at (length piece.now) ((D.state disk.old).may_leave (D.state disk.old).asked)) }
     ensures others { LeavesOthers (D.state disk.old) (D.state disk.new) }
     ensures cause { HasOutCause (D.state disk.old).faults (D.state disk.new).faults result }

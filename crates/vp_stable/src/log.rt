@@ -1,12 +1,13 @@
 //! The log, to which batches are appended, and which a checkpoint makes short again.
 
-ghost use Rattle.std.specs.Prelude.{◌≡◌, ◌⊎◌, IfOk, IfSome, IsTrue, OnOk, OnErr};
+ghost use Rattle.std.specs.Prelude.{◌≡◌, ◌⊎◌, IfOk, IfSome, IsErrOf, IsTrue, OnOk, OnErr};
 ghost use Rattle.std.specs.List.{AllByRecursion};
 ghost use Rattle.vp_records.specs.Batches.{IsBatch};
 ghost use Rattle.vp_records.specs.Records.{CanBeSaved};
 ghost use Rattle.vp_outside.specs.Disk.{log_of, Steps};
 ghost use Rattle.vp_stable.specs.Halves.{Recovers, StandsAt, AreKept, ReadAlike, GainsAt, MayGainAt, SavesAt, MaySaveAt, FoldsAlike, is_due};
 ghost use Rattle.vp_stable.specs.Moments.{LeavesOnly, LeavesOthers};
+ghost use Rattle.vp_stable.specs.Stops.{AppendsToStop, GainsWhere};
 ghost use Rattle.vp_stable.specs.Faults.{HasLogCause, HasAppendCause};
 
 use crate::batches::{behind_gate, checkpoint_batch, generation_in, read_batches};
@@ -94,6 +95,9 @@ impl Log {
         ensures appended { OnOk result (Steps (GainsAt batch.now self.old self.new) (D.state disk.old) (D.state disk.new)) }
         ensures kept { OnOk result (AreKept self.new (D.state disk.new)) }
         ensures fault { OnErr result (Steps (MayGainAt batch.now self.old) (D.state disk.old) (D.state disk.new)) }
+        // Which of the two a stop leaves goes by the calls that were done.
+        ensures stop { ¬ IsErrOf result AppendFault.NoMemory → IfSome (D.state disk.old).until_stop (λ calls.
+            AppendsToStop (GainsWhere batch.now self.old) calls (D.state disk.old) (D.state disk.new)) }
 
         // A crash at any moment of the call leaves the batches that were there, with this one or without.
         ensures any_moment { (D.state disk.old).honest → IfSome (log_of (D.state disk.old)) (λ log.

@@ -1,9 +1,10 @@
 //! Writing the halves: what is written is synced before anything is written that stands on it.
 
-ghost use Rattle.std.specs.Prelude.{◌≡◌, ◌+◌, ◌<◌, ◌≤◌, ◌^◌, length, IsTrue, OnOk, OnErr};
+ghost use Rattle.std.specs.Prelude.{◌≡◌, ◌+◌, ◌<◌, ◌≤◌, ◌^◌, length, IfSome, IsErrOf, IsTrue, OnOk, OnErr};
 ghost use Rattle.vp_outside.specs.Output.{HasOutCause};
 ghost use Rattle.vp_outside.specs.Disk.{InHalf, CutTo, MaybeCut, Steps, Elapses};
 ghost use Rattle.vp_stable.specs.Moments.{After, LeavesOthers};
+ghost use Rattle.vp_stable.specs.Stops.{AppendsToStop, PutsWhere};
 ghost use Rattle.vp_stable.specs.Writing.{MayClear, Clears, Puts, MayPut, IsSynced, Tears};
 
 use crate::batches::OPEN;
@@ -48,6 +49,8 @@ pub fn put<D: Disk>(disk: &mut D, half: u8, gate: u64, piece: &[u8]) -> Result<(
     ensures put { OnOk result (Steps (InHalf half (Puts piece.now gate)) (D.state disk.old) (D.state disk.new)) }
     ensures fault { OnErr result (Steps (InHalf half (MayPut piece.now gate)) (D.state disk.old) (D.state disk.new)) }
     ensures fits { OnOk result (gate + length piece.now < 2 ^ 62) }
+    ensures stop { ¬ IsErrOf result OutFault.NoMemory → IfSome (D.state disk.old).until_stop (λ calls.
+        AppendsToStop (λ kept. InHalf half (PutsWhere piece.now gate kept)) calls (D.state disk.old) (D.state disk.new)) }
     ensures durable { (D.state disk.old).honest → OnOk result (IsSynced (D.state disk.old).asked (D.state disk.new)) }
     ensures any_moment { Tears (InHalf half (MayPut piece.now gate)) (D.state disk.old).asked (D.state disk.old) (D.state disk.new) }
     ensures others { LeavesOthers (D.state disk.old) (D.state disk.new) }

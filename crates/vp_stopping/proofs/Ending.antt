@@ -1,5 +1,5 @@
 -- What the run of a schedule comes to that is stopped within a step.
-use Rattle.std.proofs.Common.{◌≡◌, ◌∙◌, ap, sym, subst, ℕ, zero, suc, ◌-◌, true, List, [], ◌∷◌, take, drop, refl}
+use Rattle.std.proofs.Common.{◌≡◌, ◌∙◌, ap, sym, subst, ℕ, zero, suc, ◌-◌, Bool, List, [], ◌∷◌, take, drop, refl}
 use Rattle.std.specs.Prelude.{Option, Some, None, Result, Ok, Err, slice_get}
 use Rattle.std.specs.Option.{option_map_or}
 use Rattle.std.specs.List.{AllByRecursion}
@@ -34,19 +34,19 @@ use Rattle.vp_stopping.proofs.Rejoined.{stopped_none, stopped_nobody, none_stopp
 
 -- ---- there is nothing to stop in
 
-pub no_step : (s : Schedule) → RunsStopped s 0 (Ok None)
-no_step s kept = (stopped_none s 0 kept refl, none_stopped s 0 kept (stopped_none s 0 kept refl))
+pub no_step : (s : Schedule) (kept : Bool) → RunsStopped s 0 kept (Ok None)
+no_step s kept any = (stopped_none s 0 any refl, none_stopped s 0 any (stopped_none s 0 any refl))
 
-pub nothing_there : (s : Schedule) (step : ℕ) → (moment_of step (moments_of s) ≡ None) × (limit_in world_limits (moments_of s) ≡ None) → RunsStopped s step (Ok None)
-nothing_there s step h kept = let none = stopped_none s step kept h.0 in (none, none_stopped s step kept none ∙ none_up_to step (moments_of s) h.1)
+pub nothing_there : (s : Schedule) (step : ℕ) (kept : Bool) → (moment_of step (moments_of s) ≡ None) × (limit_in world_limits (moments_of s) ≡ None) → RunsStopped s step kept (Ok None)
+nothing_there s step kept h any = let none = stopped_none s step any h.0 in (none, none_stopped s step any none ∙ none_up_to step (moments_of s) h.1)
 
 -- a limit ends the steps before
-ended_first : (s : Schedule) (step : ℕ) (what : Counted) (limit : ℕ) → (limit ≡ limit_of what) × (limit_in world_limits (take (step - 1) (moments_of s)) ≡ Some what) → RunsStopped s step (Err (end.Limit what limit))
-ended_first s step what limit h = (h.0, (true, ended_before s step true what h.1))
+ended_first : (s : Schedule) (step : ℕ) (kept : Bool) (what : Counted) (limit : ℕ) → (limit ≡ limit_of what) × (limit_in world_limits (take (step - 1) (moments_of s)) ≡ Some what) → RunsStopped s step kept (Err (end.Limit what limit))
+ended_first s step kept what limit h = (h.0, ended_before s step kept what h.1)
 
-pub came_ends : (s : Schedule) (step : ℕ) (why : WorldEnd) (r : Result (Option Stopped) WorldEnd) → ComesTo s step (Err why) → r ≡ Err why → RunsStopped s step r
-came_ends s step (end.Limit what much) r ended is = rw is (ended_first s step what much ended)
-came_ends s step end.NoMemory r ended is = rw is tt
+pub came_ends : (s : Schedule) (step : ℕ) (kept : Bool) (why : WorldEnd) (r : Result (Option Stopped) WorldEnd) → ComesTo s step (Err why) → r ≡ Err why → RunsStopped s step kept r
+came_ends s step kept (end.Limit what much) r ended is = rw is (ended_first s step kept what much ended)
+came_ends s step kept end.NoMemory r ended is = rw is tt
 
 -- ---- at the step
 
@@ -83,13 +83,13 @@ module _ (s : Schedule) (is : IsSchedule s) (step : ℕ) (front : Front) (e : Ev
         nothing_appended s.catalogue is.catalogue_is m (take (step - 1) (moments_of s)) front.nodes after.nodes its_facts h.tied (moment_is s step m h.before.is)
         (λ site takes. subst (λ e. StopsFor e front.nodes after.nodes None) (sym h.before.event_is) (stops site (taker_is site takes)))
 
-    nothing_to_stop : StopsIn e front after None → exceeded world_limits (next front.steps.world.catalogue e front.steps.world.world).world ≡ None → RunsStopped s step (Ok None)
-    nothing_to_stop stops none kept =
-        let nothing = stopped_nobody s step kept m h.before.is (nobody stops) in
-        (nothing, none_stopped s step kept nothing ∙ sym limit_here ∙ none)
+    nothing_to_stop : StopsIn e front after None → exceeded world_limits (next front.steps.world.catalogue e front.steps.world.world).world ≡ None → (kept : Bool) → RunsStopped s step kept (Ok None)
+    nothing_to_stop stops none kept any =
+        let nothing = stopped_nobody s step any m h.before.is (nobody stops) in
+        (nothing, none_stopped s step any nothing ∙ sym limit_here ∙ none)
 
-    nothing_ended : StopsIn e front after None → (what : Counted) (limit : ℕ) → (exceeded world_limits (next front.steps.world.catalogue e front.steps.world.world).world ≡ Some what) × (limit ≡ limit_of what) → RunsStopped s step (Err (end.Limit what limit))
-    nothing_ended stops what limit some = (some.1, (true, none_stopped s step true (stopped_nobody s step true m h.before.is (nobody stops)) ∙ sym limit_here ∙ some.0))
+    nothing_ended : StopsIn e front after None → (kept : Bool) (what : Counted) (limit : ℕ) → (exceeded world_limits (next front.steps.world.catalogue e front.steps.world.world).world ≡ Some what) × (limit ≡ limit_of what) → RunsStopped s step kept (Err (end.Limit what limit))
+    nothing_ended stops kept what limit some = (some.1, none_stopped s step kept (stopped_nobody s step kept m h.before.is (nobody stops)) ∙ sym limit_here ∙ some.0)
 
     module _ (at : StoppedSite) (stops : StopsIn e front after (Some at)) where
       pub appender_is : appender s.catalogue m ≡ Some at.site
@@ -97,11 +97,11 @@ module _ (s : Schedule) (is : IsSchedule s) (step : ℕ) (front : Front) (e : Ev
           (batch_appended s.catalogue is.catalogue_is m (take (step - 1) (moments_of s)) front.nodes after.nodes its_facts h.tied (moment_is s step m h.before.is) at.site at.kept (taker_there at.site stops.0)
           (subst (λ e. StopsFor e front.nodes after.nodes (Some at.kept)) (sym h.before.event_is) stops.1)).0
 
-      pub all_done : (it : Stopped) → GoesOn s step at.kept (Ok it) → RunsStopped s step (Ok (Some it))
-      all_done it goes = (at.kept, goes.0, ap (λ o. option_map_or (limit_reached world_limits) o (limit_in world_limits (take step (moments_of s)))) goes.0 ∙ goes.1, goes.2)
+      pub all_done : (it : Stopped) → GoesOn s step at.kept (Ok it) → RunsStopped s step at.kept (Ok (Some it))
+      all_done it goes = (goes.0, ap (λ o. option_map_or (limit_reached world_limits) o (limit_in world_limits (take step (moments_of s)))) goes.0 ∙ goes.1, goes.2)
 
-      all_ended : (what : Counted) (limit : ℕ) → GoesOn s step at.kept (Err (end.Limit what limit)) → RunsStopped s step (Err (end.Limit what limit))
-      all_ended what limit goes = (goes.0, (at.kept, ap (λ o. option_map_or (limit_reached world_limits) o (limit_in world_limits (take step (moments_of s)))) goes.1.1 ∙ goes.1.2))
+      all_ended : (what : Counted) (limit : ℕ) → GoesOn s step at.kept (Err (end.Limit what limit)) → RunsStopped s step at.kept (Err (end.Limit what limit))
+      all_ended what limit goes = (goes.0, ap (λ o. option_map_or (limit_reached world_limits) o (limit_in world_limits (take step (moments_of s)))) goes.1.1 ∙ goes.1.2)
 
   -- ---- the front behind the stop is where it was
 
@@ -122,14 +122,14 @@ module _ (s : Schedule) (is : IsSchedule s) (step : ℕ) (front : Front) (e : Ev
     refused_after : refused world_limits after.steps.world.catalogue e after.steps.world.world ≡ refused world_limits front.steps.world.catalogue e front.steps.world.world
     refused_after = ap (λ (steps : Steps). refused world_limits steps.world.catalogue e steps.world.world) same_steps
 
-    pub nothing_done : StopsIn e front after None → refused world_limits after.steps.world.catalogue e after.steps.world.world ≡ None → RunsStopped s step (Ok None)
+    pub nothing_done : StopsIn e front after None → refused world_limits after.steps.world.catalogue e after.steps.world.world ≡ None → (kept : Bool) → RunsStopped s step kept (Ok None)
     nothing_done stops none = nothing_to_stop after stops (sym refused_after ∙ none)
 
-    pub nothing_ends : StopsIn e front after None → (why : WorldEnd) (r : Result (Option Stopped) WorldEnd) → Ends {A = Front} (refused world_limits after.steps.world.catalogue e after.steps.world.world) (Err why) → r ≡ Err why → RunsStopped s step r
-    nothing_ends stops (end.Limit what much) r ended is = rw is (nothing_ended after stops what much (sym refused_after ∙ ended.0, ended.1))
-    nothing_ends stops end.NoMemory r ended is = rw is tt
+    pub nothing_ends : StopsIn e front after None → (kept : Bool) (why : WorldEnd) (r : Result (Option Stopped) WorldEnd) → Ends {A = Front} (refused world_limits after.steps.world.catalogue e after.steps.world.world) (Err why) → r ≡ Err why → RunsStopped s step kept r
+    nothing_ends stops kept (end.Limit what much) r ended is = rw is (nothing_ended after stops kept what much (sym refused_after ∙ ended.0, ended.1))
+    nothing_ends stops kept end.NoMemory r ended is = rw is tt
 
-    pub rest_ends : (at : StoppedSite) → StopsIn e front after (Some at) → (why : WorldEnd) (r : Result (Option Stopped) WorldEnd) → GoesOn s step at.kept (Err why) → r ≡ Err why → RunsStopped s step r
+    pub rest_ends : (at : StoppedSite) → StopsIn e front after (Some at) → (why : WorldEnd) (r : Result (Option Stopped) WorldEnd) → GoesOn s step at.kept (Err why) → r ≡ Err why → RunsStopped s step at.kept r
     rest_ends at stops (end.Limit what much) r ended is = rw is (all_ended after at stops what much ended)
     rest_ends at stops end.NoMemory r ended is = rw is tt
 

@@ -14,13 +14,10 @@ use Rattle.vp_stopping.specs.declared.stopped.Stopped.{Stopped}
 abbrev pub limit_stopped : ℕ → Bool → Schedule → Option Counted
 limit_stopped step kept s = option_map_or (limit_reached world_limits) (stopped step kept s) (limit_in world_limits (take step (moments_of s)))
 
--- The run comes to a schedule, whose journal is answered. Or there is no step to stop in. Or a limit of the world ends it. Or there is no memory.
-abbrev pub RunsStopped : Schedule → ℕ → Result (Option Stopped) WorldEnd → Type 0
-RunsStopped s step (Ok (Some it)) =
-    (kept : Bool)
-    × (stopped step kept s ≡ Some it.schedule)
-    × (limit_stopped step kept s ≡ None)
-    × (it.commits ≡ journal_of it.schedule)
-RunsStopped s step (Ok None) = (kept : Bool) → (stopped step kept s ≡ None) × (limit_stopped step kept s ≡ None)
-RunsStopped s step (Err (end.Limit what limit)) = (limit ≡ limit_of what) × ((kept : Bool) × (limit_stopped step kept s ≡ Some what))
-RunsStopped s step (Err end.NoMemory) = Unit {0}
+-- The run comes to a schedule, whose journal is answered: the batch of that step is kept or not. Or there is no step to stop in, whatever would
+-- be kept. Or a limit of the world ends it. Or there is no memory.
+abbrev pub RunsStopped : Schedule → ℕ → Bool → Result (Option Stopped) WorldEnd → Type 0
+RunsStopped s step kept (Ok (Some it)) = (stopped step kept s ≡ Some it.schedule) × (limit_stopped step kept s ≡ None) × (it.commits ≡ journal_of it.schedule)
+RunsStopped s step kept (Ok None) = (any : Bool) → (stopped step any s ≡ None) × (limit_stopped step any s ≡ None)
+RunsStopped s step kept (Err (end.Limit what limit)) = (limit ≡ limit_of what) × (limit_stopped step kept s ≡ Some what)
+RunsStopped s step kept (Err end.NoMemory) = Unit {0}

@@ -11,6 +11,7 @@ ghost use Rattle.vp_world.specs.Limits.{Ends};
 ghost use Rattle.vp_world.specs.Steps.{taker};
 ghost use Rattle.vp_stopping.specs.Left.{CanRise, left_then, next_single};
 ghost use Rattle.vp_cluster.specs.Nodes.{Follows};
+ghost use Rattle.vp_cluster.specs.Stops.{is_kept};
 ghost use Rattle.vp_stopping.specs.RanStopped.{RunsStopped};
 ghost use Rattle.vp_stopping.specs.Singles.{AreBefore, ComesTo, GoesOn, HaveDone, IsBegun, StopsIn, moment_in, run_in_place};
 
@@ -181,6 +182,7 @@ impl Front {
     fn stop(&mut self, event: &Event, stop: &Stop) -> Result<Option<StoppedSite>, NoMemory>
         requires { IsEvent event.now }
         ensures stops { IfOk result (StopsIn event.now self.old self.new) }
+        ensures kept { IfOk result (λ at. IfSome at (λ it. it.kept ≡ is_kept stop.now)) }
         ensures steps { OnOk result (self.new.steps ≡ self.old.steps) }
         ensures left { OnOk result (self.new.left ≡ self.old.left) }
     {
@@ -247,7 +249,7 @@ fn go_on(
 pub fn run_stopped(schedule: &Schedule, stop: &Stop) -> Result<Option<Stopped>, WorldEnd>
     requires schedule { IsSchedule schedule.now }
     requires calls { stop.now.calls ≤ 4 }
-    ensures { RunsStopped schedule.now stop.now.step result }
+    ensures { RunsStopped schedule.now stop.now.step (is_kept stop.now) result }
 {
     if stop.step == 0 {
         return Ok(None);

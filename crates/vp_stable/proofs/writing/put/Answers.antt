@@ -1,7 +1,10 @@
-use Rattle.std.proofs.Common.{◌+◌, length}
+use Rattle.std.proofs.Common.{◌+◌, length, rules}
+use Rattle.std.specs.Prelude.{IsErrOf}
 use Rattle.vp_outside.specs.Disk.{InHalf, Written, Torn}
+use Rattle.vp_outside.specs.declared.sink.OutFault.TheVariants.{Failed}
 use Rattle.vp_stable.specs.Writing.{MayPut}
 use Rattle.vp_stable.proofs.Writes.{on_err, on_err_as, on_ok_as, in_half_as, in_half_then, becomes-as, becomes-then, tears_one, tears_then, first_torn, second_torn, both_written}
+use Rattle.vp_stable.proofs.Stops.{some_as, out_failed, first_stops, put_stops}
 use Rattle.vp_stable.proofs.Times.{others_join}
 use Rattle.vp_stable.proofs.writing.put.Goals as goal
 
@@ -13,6 +16,11 @@ returns-in_err-write_synced-clause-fault g c =
 pub returns-in_err-write_synced-clause-any_moment : goal.returns-in_err-write_synced-clause-any_moment
 returns-in_err-write_synced-clause-any_moment g c =
     tears_one _ _ _ _ _ (in_half_as c.args.half (first_torn c.args.piece.now c.args.gate (length c.args.piece.now))) c.write_synced.ensures.time
+
+pub returns-in_err-write_synced-clause-stop : goal.returns-in_err-write_synced-clause-stop
+returns-in_err-write_synced-clause-stop g c enough =
+    let failed : IsErrOf c.write_synced.result Failed = out_failed c.write_synced.result (λ memory. enough (search rules)) (search rules) in
+    some_as _ (λ calls h. first_stops c.args.half c.args.piece.now c.args.gate calls (g.D.Disk.state c.args.disk.now) (g.D.Disk.state c.write_synced.new.disk) c.write_synced.result h failed) c.write_synced.ensures.stop
 
 -- the second write
 pub returns-clause-put : goal.returns-clause-put
@@ -41,3 +49,8 @@ returns-clause-any_moment g c =
 
 pub returns-clause-others : goal.returns-clause-others
 returns-clause-others g c = others_join c.write_synced.ensures.others c.write_synced-2.ensures.others
+
+pub returns-clause-stop : goal.returns-clause-stop
+returns-clause-stop g c enough =
+    some_as _ (λ calls h. put_stops c.args.half c.args.piece.now c.args.gate calls (g.D.Disk.state c.args.disk.now) (g.D.Disk.state c.write_synced.new.disk) (g.D.Disk.state c.write_synced-2.new.disk)
+    c.write_synced.ensures.others.stays.same_name c.in_ok-write_synced.ensures.written c.write_synced-2.result enough c.write_synced-2.ensures.written c.write_synced-2.ensures.stop c.in_ok-write_synced.field-0 h) c.in_ok-write_synced.ensures.stop

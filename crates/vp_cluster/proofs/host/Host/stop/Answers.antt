@@ -1,14 +1,16 @@
-use Rattle.std.proofs.Common.{◌≡◌, ◌∙◌, List, ℕ, Some, None, ap, sym, subst, refl}
-use Rattle.std.specs.Prelude.{Option, not, ◌==◌}
+use Rattle.std.proofs.Common.{◌≡◌, ◌∙◌, List, ℕ, Some, None, ap, sym, subst}
+use Rattle.std.specs.Prelude.{Option, Bool}
 use Rattle.vp_model.specs.Site.{SiteState}
 use Rattle.vp_records.specs.Batches.{IsBatch}
-use Rattle.vp_stable.specs.Halves.{MayGainAt, Standing, StandsAt}
+use Rattle.vp_stable.specs.Halves.{Standing, StandsAt}
+use Rattle.vp_stable.specs.Stops.{GainsWhere}
 use Rattle.vp_runs.specs.Arrivals.{arrival}
 use Rattle.vp_runs.specs.Turns.{turn_on}
 use Rattle.vp_runs.proofs.Shaped.{turn_shaped}
 use Rattle.vp_node.specs.Nodes.{NodeValue}
 use Rattle.vp_cluster.specs.Hosts.{Stops, log_on}
 use Rattle.vp_cluster.specs.Letters.{as_received}
+use Rattle.vp_cluster.specs.Stops.{is_kept}
 use Rattle.vp_cluster.proofs.Hosting.{host_with, parts_node, parts_stand}
 use Rattle.vp_cluster.proofs.HostStops.{shown_none, shown_some, stops_none, stops_within}
 use Rattle.vp_cluster.proofs.host.Host.stop.Goals as goal
@@ -45,9 +47,9 @@ returns-clause-stops c =
     let up : c.self.inside.node ≡ Some c.in-Some.node = cc in
     let what_is : c.in_ok-what.what ≡ arrival cat c.self.inside.id (as_received letter) = c.in_ok-what.ensures.what ∙ ap (λ (bytes : List ℕ). arrival cat c.self.inside.id (record { port = letter.from; bytes = bytes })) c.deref.ensures in
     let batch_is : c.in_ok-batch.batch ≡ (turn_on cat c.in-Some.node.site c.in_ok-what.what).batch = c.in_ok-batch.ensures.records_are ∙ ap (λ (r : SiteState × Standing). (turn_on cat r.0 c.in_ok-what.what).batch) c.into_parts-site.ensures in
-    let may = subst (λ (at : Standing). MayGainAt c.in_ok-batch.batch at (log_on c.self.inside.disk) (log_on c.in_ok-left.left)) (ap (λ (r : SiteState × Standing). r.1) c.into_parts-site.ensures) c.in_ok-left.ensures in
-    let kept = not (c.in_ok-after.after == c.in_ok-before.before) in
-    subst (λ (n : Option NodeValue). Stops cat (as_received letter) c.args.self.now (host_with c.self.inside.id c.self.inside.port c.count_batches-2.new.disk n) (Some kept)) (sym c.take.ensures.after)
+    let gains = subst (λ (at : Standing). GainsWhere c.in_ok-batch.batch at (is_kept c.args.stop.now) (log_on c.self.inside.disk) (log_on c.in_ok-left.left)) (ap (λ (r : SiteState × Standing). r.1) c.into_parts-site.ensures) c.in_ok-left.ensures in
+    subst (λ (n : Option NodeValue). Stops cat (as_received letter) c.args.self.now (host_with c.self.inside.id c.self.inside.port c.in_ok-left.left n) (Some c.keeps_batch.result)) (sym c.take.ensures.after)
+    (subst (λ (kept : Bool). Stops cat (as_received letter) c.args.self.now (host_with c.self.inside.id c.self.inside.port c.in_ok-left.left None) (Some kept)) (sym c.keeps_batch.ensures)
     (stops_within cat (as_received letter) _ c.args.self.now c.self.view_is c.requires.host c.in-Some.node up c.in_ok-what.what what_is c.in_ok-batch.batch batch_is
-    c.in_ok-left.left c.count_batches-2.new.disk c.count_batches.new.disk c.in_ok-before.before c.in_ok-after.after may c.in_ok-before.ensures c.in_ok-after.ensures
-    (shown_some c.in_ok-batch.batch c.as_slice.result.now c.is_empty.result c.as_slice.ensures c.is_empty.ensures c.if-is_empty.false) kept refl)
+    c.in_ok-left.left (is_kept c.args.stop.now)
+    (shown_some c.in_ok-batch.batch c.as_slice.result.now c.is_empty.result c.as_slice.ensures c.is_empty.ensures c.if-is_empty.false) gains))

@@ -7,8 +7,8 @@ use Rattle.vp_cluster.specs.Nodes.{ChangesAt}
 use Rattle.vp_cluster.proofs.Changing.{answered_so, letter_stops}
 use Rattle.vp_cluster.proofs.nodes.Nodes.stop_by.Goals as goal
 
-pub returns : goal.returns
-returns c =
+pub returns-clause-stops : goal.returns-clause-stops
+returns-clause-stops c =
     let long : c.self.inside.hosts.len ≡ length c.stop_at.new.hosts = omega (arith, c.stop_at.auto.hosts, c.deref_mut.ensures.len) in
     let items : (with_items c.self.inside.hosts c.stop_at.new.hosts).items ≡ c.stop_at.new.hosts = ap (λ n. take n (c.stop_at.new.hosts ++ drop (length c.stop_at.new.hosts) c.self.inside.hosts.items)) long ∙ take-append_seam c.stop_at.new.hosts (drop (length c.stop_at.new.hosts) c.self.inside.hosts.items) in
     answered_so c.stop_at.result _ _

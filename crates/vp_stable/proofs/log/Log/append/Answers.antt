@@ -1,9 +1,10 @@
-use Rattle.std.proofs.Common.{◌≡◌, ℕ, ◌∙◌, ◌+◌, [], ◌∷◌, ◌++◌, sym, refl, length, ap}
+use Rattle.std.proofs.Common.{◌≡◌, ℕ, rules, ◌∙◌, ◌+◌, [], ◌∷◌, ◌++◌, sym, refl, length, ap}
 use Rattle.vp_outside.specs.Disk.{InHalf}
 use Rattle.vp_stable.specs.Halves.{Standing, generation_in, MayGainAt}
 use Rattle.vp_stable.specs.Writing.{IsPiece, MayPut}
 use Rattle.vp_stable.proofs.Writes.{on_err, becomes-as, becomes-same, tears_as}
-use Rattle.vp_stable.proofs.Standings.{standing_same, may_stay, may_gain, gains_more, gains_first}
+use Rattle.vp_stable.proofs.Standings.{standing_same, may_stay, may_gain, gains_where, gains_more, gains_first}
+use Rattle.vp_stable.proofs.Stops.{some_as, appends_as}
 use Rattle.vp_stable.proofs.Appends.{leaves_torn, tears_none, kept_at}
 use Rattle.vp_stable.proofs.log.Log.append.Goals as goal
 use Rattle.vp_stable.proofs.log.Log.append.Goals.{then-self-eq0, else-self-eq0}
@@ -35,6 +36,12 @@ returns-in_err-put-clause-any_moment g c honest =
     let kept = rw (← c.self.view_is) at c.requires.kept in
     rw (← c.self.view_is) (leaves_torn from old new (g.met.D.Disk.is_disk c.args.disk.now) may (may_stay c.args.batch.now from) honest kept
     (tears_as old.asked old new (InHalf from.half (MayPut c.deref.result.now from.gate)) may (may_gain c.args.batch.now c.deref.result.now is from) c.put.ensures.any_moment))
+
+pub returns-in_err-put-clause-stop : goal.returns-in_err-put-clause-stop
+returns-in_err-put-clause-stop g c enough =
+    let from : Standing = record { half = c.self.inside.half; generation = c.self.inside.generation; gate = c.self.inside.gate; second = c.self.inside.second } in
+    let is : IsPiece c.args.batch.now c.deref.result.now = record { is = c.deref.ensures.value ∙ c.in_ok-piece.ensures.bytes; can = c.in_ok-piece.ensures.can } in
+    rw (← c.self.view_is) (some_as _ (λ calls h. appends_as _ _ calls _ _ (gains_where c.args.batch.now c.deref.result.now is from) h) (c.put.ensures.stop (λ memory. enough (search rules))))
 
 -- one that is
 pub returns-clause-appended : goal.returns-clause-appended
@@ -74,3 +81,9 @@ returns-clause-any_moment g c honest =
     let kept = rw (← c.self.view_is) at c.requires.kept in
     rw (← c.self.view_is) (leaves_torn from old new (g.met.D.Disk.is_disk c.args.disk.now) may (may_stay c.args.batch.now from) honest kept
     (tears_as old.asked old new (InHalf from.half (MayPut c.deref.result.now from.gate)) may (may_gain c.args.batch.now c.deref.result.now is from) c.put.ensures.any_moment))
+
+pub returns-clause-stop : goal.returns-clause-stop
+returns-clause-stop g c enough =
+    let from : Standing = record { half = c.self.inside.half; generation = c.self.inside.generation; gate = c.self.inside.gate; second = c.self.inside.second } in
+    let is : IsPiece c.args.batch.now c.deref.result.now = record { is = c.deref.ensures.value ∙ c.in_ok-piece.ensures.bytes; can = c.in_ok-piece.ensures.can } in
+    rw (← c.self.view_is) (some_as _ (λ calls h. appends_as _ _ calls _ _ (gains_where c.args.batch.now c.deref.result.now is from) h) (c.put.ensures.stop (search rules)))
