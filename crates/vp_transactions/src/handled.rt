@@ -1,7 +1,7 @@
 //! A live transaction in the hands of a row.
 
 ghost use Rattle.std.specs.Prelude.{◌≡◌};
-ghost use Rattle.vp_model.specs.Calls.{handling};
+ghost use Rattle.vp_model.specs.Calls.{begun, handling};
 
 use crate::live::new_live;
 use std::mem;
@@ -31,6 +31,7 @@ impl Handled {
     pub fn take_live(&mut self) -> Live
         ensures taken { result ≡ self.old.live }
         ensures pending { self.new.pending ≡ self.old.pending }
+        ensures emptied { self.new.live ≡ begun self.old.live.txn self.old.live.view }
     {
         let alloc = self.live.ops.allocator();
         let empty = new_live(alloc, &self.live.txn, self.live.view);

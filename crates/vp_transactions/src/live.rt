@@ -3,7 +3,7 @@
 ghost use Rattle.std.specs.Prelude.{◌≡◌, ◌++◌, ◌∷◌, [], true, OnOk, OnErr, IfOk, IfSome, if◌then◌else◌, filter, map, drop, length, slice_get, slice_index_or};
 ghost use Rattle.std.specs.List.{position};
 ghost use Rattle.std.specs.Option.{option_map_or};
-ghost use Rattle.vp_model.specs.Words.{same_txn, change_first, without_first};
+ghost use Rattle.vp_model.specs.Words.{opening, same_txn, change_first, without_first};
 ghost use Rattle.vp_model.specs.Transactions.{live_of};
 ghost use Rattle.vp_model.specs.Calls.{begun};
 ghost use Rattle.vp_model.specs.Answers.{is_live};
@@ -83,6 +83,7 @@ impl LiveTxns {
         ensures lifted { result ≡ live_of txn.now self.old }
         ensures back { option_map_or (λ t. change_first (λ u. same_txn u.txn t.txn) (λ u. t) self.new) result self.new ≡ self.old }
         ensures waiting { IfSome result (λ t. waits t ≡ true) }
+        ensures emptied { self.new ≡ change_first (λ u. same_txn u.txn txn.now) (λ u. begun txn.now opening) self.old }
     {
         lift(&mut self.items, txn)
     }
@@ -213,6 +214,7 @@ fn lift(live: &mut Slots<Live>, txn: &TxnId) -> Option<Live>
     ensures back { option_map_or (λ t. change_first (λ u. same_txn u.txn t.txn) (λ u. t) live.new) result live.new ≡ live.old }
     ensures waiting { IfSome result (λ t. waits t ≡ true) }
     ensures rest { AreLive live.new }
+    ensures emptied { live.new ≡ change_first (λ u. same_txn u.txn txn.now) (λ u. begun txn.now opening) live.old }
 {
     let empty = new_live(live.allocator(), txn, ViewId { number: 0, site: 0 });
     replace(live, txn, empty)

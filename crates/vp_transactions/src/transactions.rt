@@ -3,7 +3,7 @@
 ghost use Rattle.std.specs.Prelude.{◌≡◌, ◌&&◌, ◌<◌, ◌-◌, ◌^◌, ◌++◌, ◌∷◌, ◌+◌, [], OnOk, OnErr, IfOk, IfSome, true, filter, Some, None, nat_le, if◌then◌else◌, length, option_copied};
 ghost use Rattle.std.specs.Option.{option_map_or};
 ghost use Rattle.vp_base.specs.declared.answer.Answer.TheVariants as answer;
-ghost use Rattle.vp_model.specs.Words.{same_txn, has, at_most};
+ghost use Rattle.vp_model.specs.Words.{opening, same_txn, has, at_most};
 ghost use Rattle.vp_base.specs.declared.message.Message.TheVariants as message;
 ghost use Rattle.vp_model.specs.Site.{with_reply, with_messages};
 ghost use Rattle.vp_model.specs.Transactions.{live_of, finished_of, put_live, answer_of, answers_after, with_pending_reply, with_end, with_finished, with_kept};
@@ -143,6 +143,7 @@ impl Transactions {
         ensures lifted { result ≡ live_of txn.now self.old.live }
         ensures back { option_map_or (λ t. put_live t self.new) result self.new ≡ self.old }
         ensures waiting { IfSome result (λ t. waits t ≡ true) }
+        ensures emptied { self.new ≡ put_live (begun txn.now opening) self.old }
     {
         self.live.take_up(txn)
     }
@@ -152,6 +153,7 @@ impl Transactions {
         ensures taken { IfOk result (λ taken. taken ≡ waiting_call txn.now from self.old.live) }
         ensures back { IfOk result (λ taken. option_map_or (λ h. put_live h.live self.new) taken self.new ≡ self.old) }
         ensures waiting { IfOk result (λ taken. IfSome taken (λ h. waits h.live ≡ true)) }
+        ensures emptied { IfOk result (λ taken. IfSome taken (λ h. self.new ≡ put_live (begun txn.now opening) self.old)) }
     {
         match self.take_up(txn) {
             None => Ok(None),
@@ -242,6 +244,7 @@ impl Transactions {
     ) -> Result<(), NoMemory>
         ensures kept { OnOk result (self.new ≡ with_finished t.old why self.old) }
         ensures effects { OnOk result (effects.new ≡ with_pending_reply t.old.txn why t.old.pending effects.old) }
+        ensures left { OnOk result (t.new ≡ record t.old { answers = [] }) }
     {
         answer_pending(t, &why, effects)?;
         self.live.remove(&t.txn);
