@@ -2,15 +2,15 @@
 
 ghost use Rattle.std.specs.Prelude.{◌≤◌};
 
-use std::alloc::{AllocError, Global};
+use std::alloc::Global;
 use std::fs;
-use std::test::Fail;
+use std::process::Abort;
 use vp_adapters::LogFiles;
 use vp_base::Word;
 use vp_outside::{Disk, OutFault};
 
-fn word(alloc: Global, text: &[u8]) -> Result<Word, AllocError> {
-    Ok(Word::from_vec(text.to_vec(alloc)?))
+fn word(rt: &impl Abort, alloc: Global, text: &[u8]) -> Word {
+    Word::from_vec(text.to_vec(alloc).expect(rt, "memory"))
 }
 
 /// Writes, cuts and syncs the log of that name, whose halves are empty before.
@@ -38,28 +38,27 @@ fn content<D: Disk>(disk: &mut D, name: &Word, half: u8) -> Result<(u64, usize, 
 }
 
 #[test]
-fn files_are_written_and_cut_and_synced_and_read(rt: HostRuntime) -> Result<(), Fail> {
-    let name = word(rt.alloc(), b"written")?;
-    change(&mut LogFiles::new(&rt), &name)?;
+fn files_are_written_and_cut_and_synced_and_read(rt: HostRuntime) {
+    let name = word(&rt, rt.alloc(), b"written");
+    change(&mut LogFiles::new(&rt), &name).expect(&rt, "no fault");
     let mut again = LogFiles::new(&rt);
     assert!(rt; content(&mut again, &name, 0) == Ok((6, 5, *b"bXYef---")));
     assert!(rt; content(&mut again, &name, 1) == Ok((3, 2, *b"\0z------")));
     assert!(rt; again.faults() == 0);
-    fs::remove_file(&rt, "written.0")?;
-    fs::remove_file(&rt, "written.1")?;
-    Ok(())
+    for path in ["written.0", "written.1"] {
+        fs::remove_file(&rt, path).expect(&rt, "a file");
+    }
 }
 
 #[test]
-fn a_log_that_can_not_be_opened_is_counted(rt: HostRuntime) -> Result<(), Fail> {
+fn a_log_that_can_not_be_opened_is_counted(rt: HostRuntime) {
     let mut disk = LogFiles::new(&rt);
     for (count, name) in [b"no_folder/log".as_slice(), b"\xFF", b"a\0b"]
         .iter()
         .enumerate()
     {
-        let name = word(rt.alloc(), name)?;
+        let name = word(&rt, rt.alloc(), name);
         assert!(rt; disk.attach(&name) == Err(OutFault::Failed));
         assert!(rt; disk.faults() == count as u64 + 1);
     }
-    Ok(())
 }

@@ -4,7 +4,6 @@ ghost use Rattle.std.specs.Prelude.{◌≡◌, None};
 
 use std::io;
 use std::net::{Ipv4Addr, UdpSocket};
-use std::test::Fail;
 use vp_adapters::Socket;
 use vp_outside::{Failed, Link, MOST_GIVEN, OutFault};
 
@@ -26,30 +25,28 @@ fn echoed<L: Link>(link: &mut L, port: u16, piece: &[u8]) -> Result<(u16, usize,
 }
 
 #[test]
-fn a_socket_gets_what_it_hands_to_its_own_port(rt: HostRuntime) -> Result<(), Fail> {
-    let port = free_port(&rt)?;
+fn a_socket_gets_what_it_hands_to_its_own_port(rt: HostRuntime) {
+    let port = free_port(&rt).expect(&rt, "a port");
+    let piece = vec![in rt.alloc(); b'x'; MOST_GIVEN + 1].expect(&rt, "memory");
     let short = echoed(&mut Socket::new(&rt), port, b"ab");
     assert!(rt; short == Ok((port, 2, b'a', b'-')));
     let empty = echoed(&mut Socket::new(&rt), port, b"");
     assert!(rt; empty == Ok((port, 0, b'-', b'-')));
-    let piece = vec![in rt.alloc(); b'x'; MOST_GIVEN + 1]?;
     let mut link = Socket::new(&rt);
     let long = echoed(&mut link, port, &piece);
     assert!(rt; long == Ok((port, MOST_GIVEN, b'x', b'x')));
     assert!(rt; link.faults() == 0 && link.losses() == 0);
-    Ok(())
 }
 
 #[test]
-fn what_a_socket_can_not_do_is_counted(rt: HostRuntime) -> Result<(), Fail> {
-    let port = free_port(&rt)?;
-    let longest = vec![in rt.alloc(); b'x'; 70_000]?;
+fn what_a_socket_can_not_do_is_counted(rt: HostRuntime) {
+    let port = free_port(&rt).expect(&rt, "a port");
+    let longest = vec![in rt.alloc(); b'x'; 70_000].expect(&rt, "memory");
     let mut link = Socket::new(&rt);
-    link.bind(port)?;
+    link.bind(port).expect(&rt, "the port is free");
     let mut other = Socket::new(&rt);
     assert!(rt; other.bind(port) == Err(Failed), "the port is taken");
     assert!(rt; other.faults() == 1 && other.losses() == 0);
     assert!(rt; link.send(port, &longest) == Err(OutFault::Failed));
     assert!(rt; link.faults() == 0 && link.losses() == 1);
-    Ok(())
 }

@@ -2,7 +2,7 @@
 
 use bytes::{BufMut, BytesMut};
 use std::alloc::Global;
-use vp_base::{CallNo, LineFault, Name, NoMemory, Owner, RecId, SiteId, TxnId, Value, ViewId};
+use vp_base::{CallNo, Name, NoMemory, Owner, RecId, SiteId, TxnId, Value, ViewId};
 use vp_bytes::{
     put_byte, put_counted, put_maybe_view, put_name, put_numbered, put_owner, put_recs,
     put_request, put_sites, put_txn, put_u32, put_u64, put_value, put_view, put_writes, take_name,
@@ -106,66 +106,59 @@ const SINGLES: &[u8] =
 const LISTS: &[u8] = b"\x02ab\x03a_1\x0211\0\x02\x01\x10\x02\0\xff\x01\x05\x0211";
 
 #[test]
-fn fields_have_their_bytes_in_each_buffer(rt: HostRuntime) -> Result<(), NoMemory> {
+fn fields_have_their_bytes_in_each_buffer(rt: HostRuntime) {
     let mut bytes = BytesMut::new(rt.alloc());
-    put_singles(&mut bytes)?;
+    put_singles(&mut bytes).expect(&rt, "memory");
     assert_eq!(rt; bytes.as_slice(), SINGLES);
     let mut list = Vec::new(rt.alloc());
-    put_singles(&mut list)?;
+    put_singles(&mut list).expect(&rt, "memory");
     assert_eq!(rt; list.as_slice(), SINGLES);
-    Ok(())
 }
 
 #[test]
-fn lists_have_their_bytes_in_each_buffer(rt: HostRuntime) -> Result<(), NoMemory> {
+fn lists_have_their_bytes_in_each_buffer(rt: HostRuntime) {
     let mut bytes = BytesMut::new(rt.alloc());
-    put_lists(&mut bytes, rt.alloc())?;
+    put_lists(&mut bytes, rt.alloc()).expect(&rt, "memory");
     assert_eq!(rt; bytes.as_slice(), LISTS);
     let mut list = Vec::new(rt.alloc());
-    put_lists(&mut list, rt.alloc())?;
+    put_lists(&mut list, rt.alloc()).expect(&rt, "memory");
     assert_eq!(rt; list.as_slice(), LISTS);
-    Ok(())
 }
 
 #[test]
-fn names_and_values_are_read(rt: HostRuntime) -> Result<(), LineFault> {
+fn names_and_values_are_read(rt: HostRuntime) {
     let mut cursor = Cursor::new(b"\x03a_1\x0211");
-    let name = take_name(rt.alloc(), &mut cursor)?;
-    let value = take_value(rt.alloc(), &mut cursor)?;
-    assert_eq!(rt; name.as_bytes(), b"a_1".as_slice());
-    assert_eq!(rt; value.as_bytes(), b"11".as_slice());
+    let name = take_name(rt.alloc(), &mut cursor).expect(&rt, "a name");
+    let value = take_value(rt.alloc(), &mut cursor).expect(&rt, "a value");
+    assert!(rt; name.is(b"a_1") && value.is(b"11"));
     assert!(rt; cursor.rest().is_empty());
-    Ok(())
 }
 
 #[test]
-fn sites_are_read(rt: HostRuntime) -> Result<(), LineFault> {
+fn sites_are_read(rt: HostRuntime) {
     let mut cursor = Cursor::new(b"\0\x02\x01\x10");
-    let none = take_sites(rt.alloc(), &mut cursor, 0)?;
-    let sites = take_sites(rt.alloc(), &mut cursor, 1)?;
+    let none = take_sites(rt.alloc(), &mut cursor, 0).expect(&rt, "no sites");
+    let sites = take_sites(rt.alloc(), &mut cursor, 1).expect(&rt, "sites");
     assert!(rt; none.as_slice().is_empty());
     assert!(rt; sites.as_slice() == [SiteId::of(1), SiteId::of(16)].as_slice());
     assert!(rt; cursor.rest().is_empty());
-    Ok(())
 }
 
 #[test]
-fn records_are_read(rt: HostRuntime) -> Result<(), LineFault> {
+fn records_are_read(rt: HostRuntime) {
     let mut cursor = Cursor::new(b"\x02\0\xff");
-    let recs = take_recs(rt.alloc(), &mut cursor)?;
+    let recs = take_recs(rt.alloc(), &mut cursor).expect(&rt, "records");
     assert!(rt; recs.as_slice() == [RecId::new(0), RecId::new(255)].as_slice());
     assert!(rt; cursor.rest().is_empty());
-    Ok(())
 }
 
 #[test]
-fn writes_are_read(rt: HostRuntime) -> Result<(), LineFault> {
+fn writes_are_read(rt: HostRuntime) {
     let mut cursor = Cursor::new(b"\x01\x05\x0211");
-    let writes = take_writes(rt.alloc(), &mut cursor)?;
-    assert_eq!(rt; writes.as_slice().len(), 1);
+    let writes = take_writes(rt.alloc(), &mut cursor).expect(&rt, "writes");
+    assert!(rt; writes.as_slice().len() == 1);
     for (rec, value) in writes.as_slice() {
         assert!(rt; rec.get() == 5 && value.is(b"11"));
     }
     assert!(rt; cursor.rest().is_empty());
-    Ok(())
 }

@@ -4,7 +4,7 @@ ghost use Rattle.std.specs.Prelude.{◌≡◌, None};
 
 use bytes::Bytes;
 use std::alloc::{AllocError, Global};
-use std::test::Fail;
+use std::process::Abort;
 use vp_base::{Answer, Call, SiteId};
 use vp_client::{AskFault, ask};
 use vp_outside::{Datagram, Link, MemLink, SureLink};
@@ -48,54 +48,60 @@ fn is_begin(handed: &[Datagram]) -> bool {
 }
 
 #[test]
-fn the_call_is_sent_and_as_many_datagrams_are_taken_as_are_asked_for(
-    rt: HostRuntime,
-) -> Result<(), Fail> {
+fn the_call_is_sent_and_as_many_datagrams_are_taken_as_are_asked_for(rt: HostRuntime) {
     let alloc = rt.alloc();
     let mut link = SureLink::new(alloc, Vec::new(alloc));
     let answer = begin(alloc, &mut link, 2);
     assert!(rt; matches!(answer, Err(AskFault::NoAnswer { turns: 2 })));
     assert!(rt; is_begin(link.handed()));
-    Ok(())
 }
 
-/// What a begin is answered where these come one after the other: a reply from another port, bytes that are no frame, an answer to
-/// another call, a frame with a byte behind it, and the answer.
-fn among_others(rt: &HostRuntime, turns: u64) -> Result<Result<Answer, AskFault>, Fail> {
-    let alloc = rt.alloc();
-    let datagrams = vec![in alloc;
-        datagram(alloc, 7002, BEGUN)?,
-        datagram(alloc, PORT, b"\x56")?,
-        datagram(alloc, PORT, INVITING)?,
-        datagram(alloc, PORT, LONGER)?,
-        datagram(alloc, PORT, BEGUN)?,
-    ]?;
+/// These come one after the other: a reply from another port, bytes that are no frame, an answer to another call, a frame with a byte
+/// behind it, and the answer.
+fn among_others(alloc: Global) -> Result<Vec<Datagram>, AllocError> {
+    let mut datagrams = Vec::new(alloc);
+    for (port, bytes) in [
+        (7002, BEGUN),
+        (PORT, b"\x56".as_slice()),
+        (PORT, INVITING),
+        (PORT, LONGER),
+        (PORT, BEGUN),
+    ] {
+        datagrams.push(datagram(alloc, port, bytes)?)?;
+    }
+    Ok(datagrams)
+}
+
+/// What a begin is answered where they come.
+fn answered(rt: &impl Abort, alloc: Global, turns: u64) -> Result<Answer, AskFault> {
+    let datagrams = among_others(alloc).expect(rt, "memory");
     let mut link = SureLink::new(alloc, datagrams);
-    Ok(begin(alloc, &mut link, turns))
+    begin(alloc, &mut link, turns)
 }
 
 #[test]
-fn the_first_answer_from_the_port_of_the_site_is_taken(rt: HostRuntime) -> Result<(), Fail> {
-    let answer = among_others(&rt, 5)?;
+fn the_first_answer_from_the_port_of_the_site_is_taken(rt: HostRuntime) {
+    let answer = answered(&rt, rt.alloc(), 5);
     assert!(rt; matches!(answer, Ok(Answer::Begun { .. })));
-    let answer = among_others(&rt, 4)?;
+    let answer = answered(&rt, rt.alloc(), 4);
     assert!(rt; matches!(answer, Err(AskFault::NoAnswer { turns: 4 })));
-    Ok(())
 }
 
 /// Whether the link's fault is told where its call with this number fails, with the call handed over.
-fn tells_fault(rt: &HostRuntime, call: u64) -> Result<bool, Fail> {
-    let alloc = rt.alloc();
-    let mut link = MemLink::new(alloc, Vec::new(alloc), vec![in alloc; call]?);
+fn tells_fault(rt: &impl Abort, alloc: Global, call: u64) -> bool {
+    let calls = vec![in alloc; call].expect(rt, "memory");
+    let mut link = MemLink::new(alloc, Vec::new(alloc), calls);
     let answer = begin(alloc, &mut link, 1);
-    Ok(matches!(answer, Err(AskFault::LinkFault)) && is_begin(link.handed()))
+    matches!(answer, Err(AskFault::LinkFault)) && is_begin(link.handed())
 }
 
 // Call 1 binds, call 2 sends, call 3 receives.
 #[test]
-fn a_call_of_the_link_that_fails_is_told(rt: HostRuntime) -> Result<(), Fail> {
-    assert!(rt; tells_fault(&rt, 2)?);
-    assert!(rt; tells_fault(&rt, 3)?);
-    assert!(rt; !tells_fault(&rt, 1)?, "no frame was handed over");
-    Ok(())
+fn a_call_of_the_link_that_fails_is_told(rt: HostRuntime) {
+    assert!(rt; tells_fault(&rt, rt.alloc(), 2));
+    assert!(rt; tells_fault(&rt, rt.alloc(), 3));
+    assert!(rt;
+        !tells_fault(&rt, rt.alloc(), 1),
+        "no frame was handed over"
+    );
 }

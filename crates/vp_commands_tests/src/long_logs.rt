@@ -1,8 +1,8 @@
 //! A node whose log becomes long.
 
-use crate::{STOP, Setup, said};
+use crate::{Ended, STOP, Setup, said};
 use std::alloc::{AllocError, Global};
-use std::test::Fail;
+use std::process::Abort;
 use vp_status::Status;
 
 /// The call to regroup, to site 1.
@@ -23,23 +23,32 @@ fn long_half(alloc: Global) -> Result<Vec<u8>, AllocError> {
     Ok(half)
 }
 
-// The start of the life makes it 65,523 bytes long, and the promise 65,542.
-#[test]
-fn a_log_that_becomes_long_leaves_a_checkpoint(rt: HostRuntime) -> Result<(), Fail> {
-    let alloc = rt.alloc();
-    let half = long_half(alloc)?;
-    let ended = Setup::alone(&half).run(alloc, said(alloc, &[REGROUP, STOP])?)?;
-    let text =
-        b"start 16843010\nin 560120000102\nout 560121010006000000000000000101\nin 5601240001\nend\n";
-    assert!(rt; ended.is(Status::Done, text));
-    assert_eq!(rt; ended.disk.half(0).len(), 65_542);
-    assert_eq!(rt; ended.disk.half(1), CHECKPOINT);
+/// What is printed where the node regroups.
+const REGROUPED: &[u8] =
+    b"start 16843010\nin 560120000102\nout 560121010006000000000000000101\nin 5601240001\nend\n";
+
+/// Whether the node of the next life starts on this log, and leaves the halves as long as they are.
+fn goes_on(rt: &impl Abort, alloc: Global, ended: &Ended) -> bool {
     let next = Setup {
         halves: [ended.disk.half(0), ended.disk.half(1)],
         ..Setup::alone(b"")
     };
-    let ended = next.run(alloc, Vec::new(alloc))?;
-    assert!(rt; ended.is(Status::LinkFault, b"start 16843011\nlink fault\n"));
-    assert!(rt; ended.disk.half(0).len() == 65_542 && ended.disk.half(1).len() == 77);
-    Ok(())
+    let ended = next.run(alloc, Vec::new(alloc)).expect(rt, "a run");
+    ended.is(Status::LinkFault, b"start 16843011\nlink fault\n")
+        && ended.disk.half(0).len() == 65_542
+        && ended.disk.half(1).len() == 77
+}
+
+// The start of the life makes it 65,523 bytes long, and the promise 65,542.
+#[test]
+fn a_log_that_becomes_long_leaves_a_checkpoint(rt: HostRuntime) {
+    let alloc = rt.alloc();
+    let half = long_half(alloc).expect(&rt, "memory");
+    let datagrams = said(alloc, &[REGROUP, STOP]).expect(&rt, "memory");
+    let ended = Setup::alone(&half)
+        .run(alloc, datagrams)
+        .expect(&rt, "a run");
+    assert!(rt; ended.is(Status::Done, REGROUPED));
+    assert!(rt; ended.disk.half(0).len() == 65_542 && ended.disk.half(1) == CHECKPOINT);
+    assert!(rt; goes_on(&rt, alloc, &ended));
 }

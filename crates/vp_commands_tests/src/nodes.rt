@@ -1,7 +1,9 @@
 //! A node's command: the logs on which it doesn't start, and the datagrams that are no inputs.
 
 use crate::{BEGIN, BEGUN, PORT, Setup, datagram, said};
-use std::test::Fail;
+use std::alloc::{AllocError, Global};
+use std::process::Abort;
+use vp_outside::Datagram;
 use vp_status::Status;
 
 /// The log's first half with Start of the last life.
@@ -10,22 +12,23 @@ const LAST_LIFE: &[u8] = b"\x01\0\0\0\0\0\0\0\x05\x01\xff\xff\xff\xff\0";
 /// The log's first half after Start of life 1.
 const STARTED: &[u8] = b"\x01\0\0\0\0\0\0\0\x05\x01\0\0\0\x01\0";
 
-#[test]
-fn a_log_that_cannot_be_started_on_is_told(rt: HostRuntime) -> Result<(), Fail> {
-    let alloc = rt.alloc();
-    let ended = Setup::alone(b"\x01\0").run(alloc, Vec::new(alloc))?;
-    assert!(rt; ended.is(Status::BadLog, b"bad log 0 at 0\n"));
-    assert!(rt; ended.disk.half(0) == b"\x01\0".as_slice());
-    let ended = Setup::alone(LAST_LIFE).run(alloc, Vec::new(alloc))?;
-    assert!(rt; ended.is(Status::LivesSpent, b"lives spent\n"));
-    assert!(rt; ended.disk.half(0) == LAST_LIFE);
-    Ok(())
+/// Whether the node doesn't start on a log with these bytes, which it leaves, but ends with this status and prints this text.
+fn is_refused(rt: &impl Abort, alloc: Global, half: &[u8], status: Status, text: &[u8]) -> bool {
+    let ended = Setup::alone(half)
+        .run(alloc, Vec::new(alloc))
+        .expect(rt, "a run");
+    ended.is(status, text) && ended.disk.half(0) == half
 }
 
-// The last is the call to begin from the port of the site itself.
 #[test]
-fn what_is_no_input_is_recorded_and_changes_nothing(rt: HostRuntime) -> Result<(), Fail> {
+fn a_log_that_cannot_be_started_on_is_told(rt: HostRuntime) {
     let alloc = rt.alloc();
+    assert!(rt; is_refused(&rt, alloc, b"\x01\0", Status::BadLog, b"bad log 0 at 0\n"));
+    assert!(rt; is_refused(&rt, alloc, LAST_LIFE, Status::LivesSpent, b"lives spent\n"));
+}
+
+/// Bytes that are no inputs, and the call to begin from the port of the site itself.
+fn no_inputs(alloc: Global) -> Result<Vec<Datagram>, AllocError> {
     let mut datagrams = said(
         alloc,
         &[
@@ -38,10 +41,19 @@ fn what_is_no_input_is_recorded_and_changes_nothing(rt: HostRuntime) -> Result<(
         ],
     )?;
     datagrams.push(datagram(alloc, PORT, BEGIN)?)?;
-    let ended = Setup::alone(b"").run(alloc, datagrams)?;
-    let text = "start 1\nbad 0\nbad 1\nbad 6\nbad 3\nstray 560120000201\n\
-        stray 560121010001010000000100000001000000000000000000\nstray 560120000101\nlink fault\n";
-    assert!(rt; ended.is(Status::LinkFault, text.as_bytes()));
+    Ok(datagrams)
+}
+
+/// What is printed of them.
+const RECORDED: &str = "start 1\nbad 0\nbad 1\nbad 6\nbad 3\nstray 560120000201\n\
+    stray 560121010001010000000100000001000000000000000000\nstray 560120000101\nlink fault\n";
+
+#[test]
+fn what_is_no_input_is_recorded_and_changes_nothing(rt: HostRuntime) {
+    let datagrams = no_inputs(rt.alloc()).expect(&rt, "memory");
+    let ended = Setup::alone(b"")
+        .run(rt.alloc(), datagrams)
+        .expect(&rt, "a run");
+    assert!(rt; ended.is(Status::LinkFault, RECORDED.as_bytes()));
     assert!(rt; ended.link.handed().is_empty() && ended.disk.half(0) == STARTED);
-    Ok(())
 }

@@ -2,11 +2,10 @@
 
 use crate::datagram;
 use std::alloc::{AllocError, Global};
-use std::test::Fail;
 use vp_base::{SiteId, Word};
 use vp_catalog::{Catalog, has_site};
 use vp_commands::serve_log;
-use vp_outside::{Datagram, MemDisk, MemLink, TextSink};
+use vp_outside::{Datagram, MemDisk, MemLink, OutFault, TextSink};
 use vp_status::Status;
 
 /// Site 1 alone.
@@ -60,30 +59,43 @@ impl Setup<'_> {
         }
     }
 
-    /// Runs the node, to which these datagrams come and then none.
-    pub fn run(&self, alloc: Global, datagrams: Vec<Datagram>) -> Result<Ended, Fail> {
-        let Ok(catalog) = Catalog::read(alloc, self.catalogue) else {
-            return Err(Fail::from("no catalogue"));
-        };
-        if !has_site(catalog.sites().as_slice(), self.site) {
-            return Err(Fail::from("no such site"));
-        }
+    /// Its log on a disk.
+    fn disk(&self, alloc: Global, name: &Word) -> Result<MemDisk, OutFault> {
         let [first, second] = self.halves;
-        let name = Word::from_vec(b"log".to_vec(alloc)?);
-        let mut disk = MemDisk::new(alloc, vec![in alloc; self.failing.disk]?);
-        disk.lay(&name, first.to_vec(alloc)?, second.to_vec(alloc)?)?;
-        let mut link = MemLink::new(alloc, datagrams, vec![in alloc; self.failing.link]?);
-        let mut sink = TextSink::new(alloc, vec![in alloc; self.failing.sink]?);
+        let first = first.to_vec(alloc)?;
+        let second = second.to_vec(alloc)?;
+        let mut disk = MemDisk::new(alloc, planned(alloc, self.failing.disk)?);
+        disk.lay(name, first, second)?;
+        Ok(disk)
+    }
+
+    /// Runs the node, to which these datagrams come and then none. There is no run where the catalogue is none or has no such site.
+    pub fn run(&self, alloc: Global, datagrams: Vec<Datagram>) -> Option<Ended> {
+        let catalog = Catalog::read(alloc, self.catalogue).ok()?;
+        if !has_site(catalog.sites().as_slice(), self.site) {
+            return None;
+        }
+        let name = Word::from_vec(b"log".to_vec(alloc).ok()?);
+        let mut disk = self.disk(alloc, &name).ok()?;
+        let mut link = MemLink::new(alloc, datagrams, planned(alloc, self.failing.link).ok()?);
+        let mut sink = TextSink::new(alloc, planned(alloc, self.failing.sink).ok()?);
         let status = serve_log(
             &catalog, self.site, &name, &mut link, &mut disk, &mut sink, TURNS,
         );
-        Ok(Ended {
+        Some(Ended {
             status,
             link,
             disk,
             sink,
         })
     }
+}
+
+/// The plan that the call with this number fails.
+fn planned(alloc: Global, call: u64) -> Result<Vec<u64>, AllocError> {
+    let mut calls = Vec::new(alloc);
+    calls.push(call)?;
+    Ok(calls)
 }
 
 impl Ended {

@@ -1,14 +1,14 @@
 ghost use Rattle.std.specs.Prelude.{◌≤◌, IsTrue};
 
-use std::alloc::{AllocError, Global};
-use std::test::Fail;
+use std::alloc::Global;
+use std::process::Abort;
 use vp_base::Word;
 use vp_outside::{Disk, Failed, MemDisk, OutFault, SureDisk};
 
 const TEXT: &[u8] = b"abcdefgh";
 
-fn word(alloc: Global, text: &[u8]) -> Result<Word, AllocError> {
-    Ok(Word::from_vec(text.to_vec(alloc)?))
+fn word(rt: &impl Abort, alloc: Global, text: &[u8]) -> Word {
+    Word::from_vec(text.to_vec(alloc).expect(rt, "memory"))
 }
 
 /// The length of half 0 and how many of its bytes were read, through the trait.
@@ -77,10 +77,9 @@ fn changes_done(disk: &mut SureDisk, rows: &[u8]) -> Result<usize, OutFault> {
 }
 
 #[test]
-fn a_disk_reads_what_was_written_and_not_cut(rt: HostRuntime) -> Result<(), Fail> {
+fn a_disk_reads_what_was_written_and_not_cut(rt: HostRuntime) {
     let mut disk = SureDisk::new(rt.alloc());
-    assert_eq!(rt; changes_done(&mut disk, CHANGES)?, 10);
-    Ok(())
+    assert!(rt; changes_done(&mut disk, CHANGES) == Ok(10));
 }
 
 /// Whether a read into five bytes answers this count and leaves these there.
@@ -91,25 +90,28 @@ fn reads(disk: &mut SureDisk, half: u8, at: u64, count: usize, bytes: &[u8]) -> 
     disk.read(half, at, &mut buf) == Ok(count) && buf.as_slice() == bytes
 }
 
+/// A disk with the text in half 0, and this in half 1.
+fn sure(rt: &impl Abort, alloc: Global, second: &[u8]) -> SureDisk {
+    let first = TEXT.to_vec(alloc).expect(rt, "memory");
+    let second = second.to_vec(alloc).expect(rt, "memory");
+    SureDisk::holding(alloc, first, second).expect(rt, "memory")
+}
+
 #[test]
-fn a_disk_is_read_in_pieces(rt: HostRuntime) -> Result<(), Fail> {
-    let alloc = rt.alloc();
-    let mut disk = SureDisk::holding(alloc, TEXT.to_vec(alloc)?, b"xyz".to_vec(alloc)?)?;
+fn a_disk_is_read_in_pieces(rt: HostRuntime) {
+    let mut disk = sure(&rt, rt.alloc(), b"xyz");
     assert!(rt; reads(&mut disk, 0, 0, 5, b"abcde"));
     assert!(rt; reads(&mut disk, 0, 5, 3, b"fgh--"));
     assert!(rt; reads(&mut disk, 0, 8, 0, b"-----"), "the end");
     assert!(rt; reads(&mut disk, 1, 2, 1, b"z----"));
     assert!(rt; reads(&mut disk, 1, u64::MAX, 0, b"-----"));
-    Ok(())
 }
 
 #[test]
-fn a_disk_is_measured(rt: HostRuntime) -> Result<(), Fail> {
-    let alloc = rt.alloc();
-    let mut disk = SureDisk::holding(alloc, TEXT.to_vec(alloc)?, Vec::new(alloc))?;
-    assert_eq!(rt; measure(&mut disk, &mut [0; 5]), Ok((8, 5)));
+fn a_disk_is_measured(rt: HostRuntime) {
+    let mut disk = sure(&rt, rt.alloc(), b"");
+    assert!(rt; measure(&mut disk, &mut [0; 5]) == Ok((8, 5)));
     assert_eq!(rt; disk.faults(), 0);
-    Ok(())
 }
 
 /// Writes a piece at the front of a half of the log of that name.
@@ -139,33 +141,40 @@ fn measured(disk: &mut MemDisk, name: &Word) -> Result<(u64, usize), OutFault> {
     Ok(measure(disk, &mut [0; 8])?)
 }
 
-#[test]
-fn each_log_keeps_its_bytes_while_another_is_attached(rt: HostRuntime) -> Result<(), Fail> {
-    let alloc = rt.alloc();
-    let one = word(alloc, b"one")?;
-    let two = word(alloc, b"two")?;
-    let mut disk = MemDisk::new(alloc, Vec::new(alloc));
-    write_to(&mut disk, &one, 0, b"first")?;
-    assert!(rt; keeps(&mut disk, &two, b"", b"")?);
-    write_to(&mut disk, &two, 0, b"other")?;
-    write_to(&mut disk, &two, 1, b"half")?;
-    assert!(rt; keeps(&mut disk, &one, b"first", b"")?);
-    cut_short(&mut disk, &one)?;
-    assert!(rt; keeps(&mut disk, &two, b"other", b"half")?);
-    assert!(rt; keeps(&mut disk, &one, b"f", b"")?);
-    assert_eq!(rt; disk.plan.calls, 13);
-    Ok(())
+/// Whether the first log keeps what was written to it while the second is written to.
+fn each_keeps(disk: &mut MemDisk, one: &Word, two: &Word) -> Result<bool, OutFault> {
+    write_to(disk, one, 0, b"first")?;
+    let is_empty = keeps(disk, two, b"", b"")?;
+    write_to(disk, two, 0, b"other")?;
+    write_to(disk, two, 1, b"half")?;
+    Ok(is_empty && keeps(disk, one, b"first", b"")?)
+}
+
+/// Whether the first log is cut, and the second keeps its bytes.
+fn is_cut_alone(disk: &mut MemDisk, one: &Word, two: &Word) -> Result<bool, OutFault> {
+    cut_short(disk, one)?;
+    let is_kept = keeps(disk, two, b"other", b"half")?;
+    Ok(is_kept && keeps(disk, one, b"f", b"")?)
 }
 
 #[test]
-fn a_log_of_a_name_is_measured(rt: HostRuntime) -> Result<(), Fail> {
-    let name = word(rt.alloc(), b"two")?;
+fn each_log_keeps_its_bytes_while_another_is_attached(rt: HostRuntime) {
+    let alloc = rt.alloc();
+    let one = word(&rt, alloc, b"one");
+    let two = word(&rt, alloc, b"two");
+    let mut disk = MemDisk::new(alloc, Vec::new(alloc));
+    assert!(rt; each_keeps(&mut disk, &one, &two) == Ok(true));
+    assert!(rt; is_cut_alone(&mut disk, &one, &two) == Ok(true));
+    assert_eq!(rt; disk.plan.calls, 13);
+}
+
+#[test]
+fn a_log_of_a_name_is_measured(rt: HostRuntime) {
+    let name = word(&rt, rt.alloc(), b"two");
     let mut disk = MemDisk::new(rt.alloc(), Vec::new(rt.alloc()));
-    write_to(&mut disk, &name, 0, b"other")?;
-    assert!(rt; measured(&mut disk, &name)? == (5, 5));
-    assert_eq!(rt; disk.plan.calls, 5);
-    assert_eq!(rt; disk.faults(), 0);
-    Ok(())
+    assert!(rt; write_to(&mut disk, &name, 0, b"other").is_ok());
+    assert!(rt; measured(&mut disk, &name) == Ok((5, 5)));
+    assert!(rt; disk.plan.calls == 5 && disk.faults() == 0);
 }
 
 /// Whether each call that reads the log of that name fails, and leaves the buffer as it was.
@@ -187,18 +196,24 @@ fn fails_to_change(disk: &mut MemDisk, name: &Word) -> Result<bool, OutFault> {
     Ok(written == failed && cut == failed && synced == failed)
 }
 
+/// A disk with a log of that name, which has the text in half 0, and these of whose calls fail.
+fn laid(rt: &impl Abort, alloc: Global, name: &Word, failing: Vec<u64>) -> MemDisk {
+    let half = TEXT.to_vec(alloc).expect(rt, "memory");
+    let mut disk = MemDisk::new(alloc, failing);
+    disk.lay(name, half, Vec::new(alloc)).expect(rt, "memory");
+    disk
+}
+
 #[test]
-fn a_planned_call_of_a_disk_fails_and_changes_nothing(rt: HostRuntime) -> Result<(), Fail> {
-    let alloc = rt.alloc();
-    let name = word(alloc, b"one")?;
-    let mut disk = MemDisk::new(alloc, vec![in alloc; 1, 3, 4, 6, 7, 8]?);
-    disk.lay(&name, TEXT.to_vec(alloc)?, Vec::new(alloc))?;
-    assert_eq!(rt; disk.attach(&name), Err(OutFault::Failed));
-    assert!(rt; fails_to_read(&mut disk, &name)?);
-    assert!(rt; fails_to_change(&mut disk, &name)?);
+fn a_planned_call_of_a_disk_fails_and_changes_nothing(rt: HostRuntime) {
+    let name = word(&rt, rt.alloc(), b"one");
+    let calls = Vec::from_slice(rt.alloc(), &[1, 3, 4, 6, 7, 8]).expect(&rt, "memory");
+    let mut disk = laid(&rt, rt.alloc(), &name, calls);
+    assert!(rt; disk.attach(&name) == Err(OutFault::Failed));
+    assert!(rt; fails_to_read(&mut disk, &name) == Ok(true));
+    assert!(rt; fails_to_change(&mut disk, &name) == Ok(true));
     assert!(rt; disk.faults() == 6 && disk.plan.calls == 8);
-    assert!(rt; keeps(&mut disk, &name, TEXT, b"")?);
-    Ok(())
+    assert!(rt; keeps(&mut disk, &name, TEXT, b"") == Ok(true));
 }
 
 /// What a read of half 0 of the log of that name leaves in three bytes.
@@ -210,20 +225,17 @@ fn three(disk: &mut MemDisk, name: &Word, at: u64) -> Result<([u8; 3], usize), O
 }
 
 #[test]
-fn a_log_that_is_laid_is_read(rt: HostRuntime) -> Result<(), Fail> {
-    let alloc = rt.alloc();
-    let name = word(alloc, b"one")?;
-    let mut disk = MemDisk::new(alloc, Vec::new(alloc));
-    disk.lay(&name, TEXT.to_vec(alloc)?, Vec::new(alloc))?;
-    assert!(rt; three(&mut disk, &name, 6)? == (*b"gh-", 2));
-    Ok(())
+fn a_log_that_is_laid_is_read(rt: HostRuntime) {
+    let name = word(&rt, rt.alloc(), b"one");
+    let mut disk = laid(&rt, rt.alloc(), &name, Vec::new(rt.alloc()));
+    assert!(rt; three(&mut disk, &name, 6) == Ok((*b"gh-", 2)));
 }
 
 #[test]
 fn a_sure_disk_has_no_memory_for_what_ends_behind_the_longest_half(rt: HostRuntime) {
     let mut disk = SureDisk::new(rt.alloc());
     for at in [1 << 62, u64::MAX] {
-        assert_eq!(rt; disk.write_at(0, at, b"x"), Err(OutFault::NoMemory));
+        assert!(rt; disk.write_at(0, at, b"x") == Err(OutFault::NoMemory));
     }
 }
 
@@ -234,13 +246,12 @@ fn written(disk: &mut MemDisk, name: &Word, at: u64) -> Result<(), OutFault> {
 }
 
 #[test]
-fn a_piece_that_ends_behind_the_longest_half_is_refused(rt: HostRuntime) -> Result<(), Fail> {
-    let name = word(rt.alloc(), b"one")?;
+fn a_disk_has_no_memory_for_what_ends_behind_the_longest_half(rt: HostRuntime) {
+    let name = word(&rt, rt.alloc(), b"one");
     let mut disk = MemDisk::new(rt.alloc(), Vec::new(rt.alloc()));
     for at in [1 << 62, u64::MAX] {
-        assert_eq!(rt; written(&mut disk, &name, at), Err(OutFault::Failed));
+        assert!(rt; written(&mut disk, &name, at) == Err(OutFault::NoMemory));
     }
-    assert_eq!(rt; disk.faults(), 2);
-    assert!(rt; keeps(&mut disk, &name, b"", b"")?);
-    Ok(())
+    assert!(rt; disk.faults() == 0);
+    assert!(rt; keeps(&mut disk, &name, b"", b"") == Ok(true));
 }

@@ -7,29 +7,27 @@ use vp_decoding::{WireFault, decode};
 use vp_wire::{Body, Frame, encode};
 
 #[test]
-fn a_tick_has_its_bytes(rt: HostRuntime) -> Result<(), NoMemory> {
+fn a_tick_has_its_bytes(rt: HostRuntime) {
     let mut out = BytesMut::new(rt.alloc());
     let tick = Frame {
         from: 0,
         to: 1,
         body: Body::Tick,
     };
-    encode(&tick, &mut out)?;
+    encode(&tick, &mut out).expect(&rt, "memory");
     assert_eq!(rt; out.as_slice(), b"\x56\x01\x22\x00\x01".as_slice());
-    Ok(())
 }
 
 #[test]
-fn a_begin_has_its_bytes(rt: HostRuntime) -> Result<(), NoMemory> {
+fn a_begin_has_its_bytes(rt: HostRuntime) {
     let mut out = BytesMut::new(rt.alloc());
     let begin = Frame {
         from: 0,
         to: 1,
         body: Body::Call(Call::Begin),
     };
-    encode(&begin, &mut out)?;
+    encode(&begin, &mut out).expect(&rt, "memory");
     assert_eq!(rt; out.as_slice(), b"\x56\x01\x20\x00\x01\x01".as_slice());
-    Ok(())
 }
 
 /// The bytes of the answer that this number is spent.
@@ -45,19 +43,16 @@ fn encoded(alloc: Global, number: u64) -> Result<BytesMut, NoMemory> {
 }
 
 #[test]
-fn numbers_stand_with_their_highest_byte_first(rt: HostRuntime) -> Result<(), NoMemory> {
+fn numbers_stand_with_their_highest_byte_first(rt: HostRuntime) {
     assert_eq!(rt;
-        encoded(rt.alloc(), 258)?.as_slice(),
+        encoded(rt.alloc(), 258).expect(&rt, "memory").as_slice(),
         b"\x56\x01\x21\x10\x00\x11\x00\x00\x00\x00\x00\x00\x01\x02".as_slice()
     );
-    Ok(())
 }
 
 #[test]
-fn a_copy_has_its_bytes(rt: HostRuntime) -> Result<(), NoMemory> {
-    let Ok(value) = Value::read(rt.alloc(), b"11") else {
-        return Err(NoMemory);
-    };
+fn a_copy_has_its_bytes(rt: HostRuntime) {
+    let value = Value::read(rt.alloc(), b"11").expect(&rt, "a value");
     let mut out = BytesMut::new(rt.alloc());
     let copy = Frame {
         from: 3,
@@ -71,12 +66,11 @@ fn a_copy_has_its_bytes(rt: HostRuntime) -> Result<(), NoMemory> {
             },
         }),
     };
-    encode(&copy, &mut out)?;
+    encode(&copy, &mut out).expect(&rt, "memory");
     assert_eq!(rt;
         out.as_slice(),
         b"\x56\x01\x10\x03\x02\x00\x00\x00\x00\x00\x00\x00\x01\x02\x00\x0211\x00\x00\x00\x00\x00\x00\x00\x00\x00".as_slice()
     );
-    Ok(())
 }
 
 /// How many bytes begin a frame, where they are none.
@@ -150,35 +144,33 @@ fn rows_answered(alloc: Global, rows: &[u8]) -> Result<usize, NoMemory> {
 }
 
 #[test]
-fn frames_are_refused_at_their_places_in_the_head(rt: HostRuntime) -> Result<(), NoMemory> {
-    assert_eq!(rt; rows_answered(rt.alloc(), HEADS)?, 19);
-    Ok(())
+fn frames_are_refused_at_their_places_in_the_head(rt: HostRuntime) {
+    assert!(rt; rows_answered(rt.alloc(), HEADS) == Ok(19));
 }
 
 #[test]
-fn a_vote_is_fourteen_bytes(rt: HostRuntime) -> Result<(), NoMemory> {
-    let whole = place(rt.alloc(), b"\x56\x01\x0b\x02\x01\x01\0\0\0\x01\0\0\0\x01")?;
-    assert_eq!(rt; whole, None);
-    let more = place(
-        rt.alloc(),
-        b"\x56\x01\x0b\x02\x01\x01\0\0\0\x01\0\0\0\x01\xff",
-    )?;
-    assert_eq!(rt; more, Some(14));
-    let less = place(rt.alloc(), b"\x56\x01\x0b\x02\x01\x01\0\0\0\x01\0\0\0")?;
-    assert_eq!(rt; less, Some(13));
-    Ok(())
+fn a_vote_is_fourteen_bytes(rt: HostRuntime) {
+    let cases: [(&[u8], Option<usize>); 3] = [
+        (b"\x56\x01\x0b\x02\x01\x01\0\0\0\x01\0\0\0\x01", None),
+        (
+            b"\x56\x01\x0b\x02\x01\x01\0\0\0\x01\0\0\0\x01\xff",
+            Some(14),
+        ),
+        (b"\x56\x01\x0b\x02\x01\x01\0\0\0\x01\0\0\0", Some(13)),
+    ];
+    for (bytes, at) in cases {
+        assert!(rt; place(rt.alloc(), bytes) == Ok(at), "{bytes:?}");
+    }
 }
 
 #[test]
-fn copies_are_refused_at_their_places(rt: HostRuntime) -> Result<(), NoMemory> {
-    assert_eq!(rt; rows_answered(rt.alloc(), COPIES)?, 8);
-    Ok(())
+fn copies_are_refused_at_their_places(rt: HostRuntime) {
+    assert!(rt; rows_answered(rt.alloc(), COPIES) == Ok(8));
 }
 
 #[test]
-fn lists_are_refused_where_none_ascends_any_more(rt: HostRuntime) -> Result<(), NoMemory> {
-    assert_eq!(rt; rows_answered(rt.alloc(), LISTS)?, 9);
-    Ok(())
+fn lists_are_refused_where_none_ascends_any_more(rt: HostRuntime) {
+    assert!(rt; rows_answered(rt.alloc(), LISTS) == Ok(9));
 }
 
 /// From where the frame tells whom that which number is spent.
@@ -196,20 +188,18 @@ fn spent_again(alloc: Global, bytes: &[u8]) -> Option<(u8, u8, u64)> {
 }
 
 #[test]
-fn what_was_encoded_is_decoded(rt: HostRuntime) -> Result<(), NoMemory> {
-    let bytes = encoded(rt.alloc(), 258)?;
+fn what_was_encoded_is_decoded(rt: HostRuntime) {
+    let bytes = encoded(rt.alloc(), 258).expect(&rt, "memory");
     assert!(rt; spent_again(rt.alloc(), bytes.as_slice()) == Some((16, 0, 258)));
-    Ok(())
 }
 
 #[test]
-fn a_copy_is_the_same_frame(rt: HostRuntime) -> Result<(), NoMemory> {
+fn a_copy_is_the_same_frame(rt: HostRuntime) {
     let tick = Frame {
         from: 0,
         to: 1,
         body: Body::Tick,
     };
-    let copy = tick.copy_of()?;
+    let copy = tick.copy_of().expect(&rt, "memory");
     assert!(rt; copy.from == 0 && copy.to == 1 && matches!(copy.body, Body::Tick));
-    Ok(())
 }

@@ -1,8 +1,10 @@
 //! What each kind of log record does, over a site with copies of the records 0 and 2.
 
+use std::alloc::Global;
+use std::process::Abort;
 use vp_base::{
-    Copies, CopyOf, Decisions, InDoubt, LogRecord, NameFault, NoMemory, RecId, SiteId, Sites,
-    Stored, TxnId, Value, ViewId, Writes,
+    Copies, CopyOf, Decisions, InDoubt, LogRecord, RecId, SiteId, Sites, Stored, TxnId, Value,
+    ViewId, Writes,
 };
 use vp_records::Durable;
 
@@ -18,32 +20,39 @@ fn view(number: u64) -> ViewId {
     ViewId { number, site: 2 }
 }
 
-fn stored(rt: &HostRuntime, text: &[u8], number: u64) -> Result<Stored, NameFault> {
-    Ok(Stored {
-        value: Value::read(rt.alloc(), text)?,
+fn value(rt: &impl Abort, alloc: Global, text: &[u8]) -> Value {
+    Value::read(alloc, text).expect(rt, "a value")
+}
+
+fn stored(rt: &impl Abort, alloc: Global, text: &[u8], number: u64) -> Stored {
+    Stored {
+        value: value(rt, alloc, text),
         date: view(number),
-    })
+    }
 }
 
-fn durable(rt: &HostRuntime) -> Result<Durable, NameFault> {
-    let mut copies = Copies::new(rt.alloc());
-    copies.push((RecId::new(0), stored(rt, b"10", 0)?))?;
-    copies.push((RecId::new(2), stored(rt, b"30", 0)?))?;
-    Ok(Durable::empty(copies))
+fn durable(rt: &impl Abort, alloc: Global) -> Durable {
+    let first = stored(rt, alloc, b"10", 0);
+    let third = stored(rt, alloc, b"30", 0);
+    let mut copies = Copies::new(alloc);
+    copies.push((RecId::new(0), first)).expect(rt, "memory");
+    copies.push((RecId::new(2), third)).expect(rt, "memory");
+    Durable::empty(copies)
 }
 
-fn write(rt: &HostRuntime, rec: u8, text: &[u8]) -> Result<Writes, NameFault> {
-    let mut writes = Writes::new(rt.alloc());
-    writes.push((RecId::new(rec), Value::read(rt.alloc(), text)?))?;
-    Ok(writes)
+fn write(rt: &impl Abort, alloc: Global, rec: u8, text: &[u8]) -> Writes {
+    let value = value(rt, alloc, text);
+    let mut writes = Writes::new(alloc);
+    writes.push((RecId::new(rec), value)).expect(rt, "memory");
+    writes
 }
 
-fn yes(rt: &HostRuntime, seq: u32, number: u64, text: &[u8]) -> Result<LogRecord, NameFault> {
-    Ok(LogRecord::Yes {
+fn yes(rt: &impl Abort, alloc: Global, seq: u32, number: u64, text: &[u8]) -> LogRecord {
+    LogRecord::Yes {
         txn: txn(seq),
         view: view(number),
-        writes: write(rt, 0, text)?,
-    })
+        writes: write(rt, alloc, 0, text),
+    }
 }
 
 fn outcome(seq: u32, commit: bool) -> LogRecord {
@@ -81,150 +90,144 @@ fn counts(durable: &Durable) -> (usize, usize) {
 }
 
 /// The durable part after one more record. Each test calls it instead of `apply`, since a short function is proved faster.
-fn after(before: Durable, entry: LogRecord) -> Result<Durable, NameFault> {
+fn after(rt: &impl Abort, before: Durable, entry: LogRecord) -> Durable {
     let mut durable = before;
-    durable.apply(&entry)?;
-    Ok(durable)
+    durable.apply(&entry).expect(rt, "memory");
+    durable
 }
 
 #[test]
-fn lives_are_set(rt: HostRuntime) -> Result<(), NameFault> {
-    let durable = after(durable(&rt)?, LogRecord::Start { life: 3 })?;
+fn lives_are_set(rt: HostRuntime) {
+    let durable = after(&rt, durable(&rt, rt.alloc()), LogRecord::Start { life: 3 });
     assert_eq!(rt; durable.life(), 3);
-    Ok(())
 }
 
 #[test]
-fn promises_are_set(rt: HostRuntime) -> Result<(), NameFault> {
-    let durable = after(durable(&rt)?, LogRecord::Promise { view: view(4) })?;
+fn promises_are_set(rt: HostRuntime) {
+    let promised = LogRecord::Promise { view: view(4) };
+    let durable = after(&rt, durable(&rt, rt.alloc()), promised);
     assert!(rt; durable.promise() == view(4));
-    Ok(())
 }
 
 /// With this copy of the record, where it has one.
-fn with_copy(rt: &HostRuntime, durable: Durable, rec: u8) -> Result<Durable, NameFault> {
+fn with_copy(rt: &impl Abort, alloc: Global, rec: u8) -> Durable {
     let entry = LogRecord::Copy {
         rec: RecId::new(rec),
-        stored: stored(rt, b"11", 3)?,
+        stored: stored(rt, alloc, b"11", 3),
     };
-    after(durable, entry)
+    after(rt, durable(rt, alloc), entry)
 }
 
 #[test]
-fn a_copy_is_set_where_one_was(rt: HostRuntime) -> Result<(), NameFault> {
-    let durable = with_copy(&rt, durable(&rt)?, 0)?;
+fn a_copy_is_set_where_one_was(rt: HostRuntime) {
+    let durable = with_copy(&rt, rt.alloc(), 0);
     assert!(rt; has(&durable, 0, b"11", 3) && has(&durable, 2, b"30", 0));
-    Ok(())
 }
 
 #[test]
-fn no_copy_is_set_where_none_was(rt: HostRuntime) -> Result<(), NameFault> {
-    let durable = with_copy(&rt, durable(&rt)?, 1)?;
+fn no_copy_is_set_where_none_was(rt: HostRuntime) {
+    let durable = with_copy(&rt, rt.alloc(), 1);
     assert!(rt; durable.stored(RecId::new(1)).is_none());
-    Ok(())
 }
 
 /// Transaction 5 is in doubt, by two votes of which the second stands.
-fn in_doubt(rt: &HostRuntime) -> Result<Durable, NameFault> {
-    let voted = after(durable(rt)?, yes(rt, 5, 1, b"11")?)?;
-    after(voted, yes(rt, 5, 2, b"12")?)
+fn in_doubt(rt: &impl Abort, alloc: Global) -> Durable {
+    let voted = after(rt, durable(rt, alloc), yes(rt, alloc, 5, 1, b"11"));
+    after(rt, voted, yes(rt, alloc, 5, 2, b"12"))
 }
 
-fn after_outcome(rt: &HostRuntime, seq: u32, commit: bool) -> Result<Durable, NameFault> {
-    after(in_doubt(rt)?, outcome(seq, commit))
+fn after_outcome(rt: &impl Abort, alloc: Global, seq: u32, commit: bool) -> Durable {
+    after(rt, in_doubt(rt, alloc), outcome(seq, commit))
 }
 
 #[test]
-fn an_outcome_of_another_leaves_the_doubt(rt: HostRuntime) -> Result<(), NameFault> {
-    let durable = after_outcome(&rt, 4, true)?;
+fn an_outcome_of_another_leaves_the_doubt(rt: HostRuntime) {
+    let durable = after_outcome(&rt, rt.alloc(), 4, true);
     assert!(rt; counts(&durable) == (1, 0) && has(&durable, 0, b"10", 0));
-    Ok(())
 }
 
 #[test]
-fn an_abort_ends_the_doubt(rt: HostRuntime) -> Result<(), NameFault> {
-    let durable = after_outcome(&rt, 5, false)?;
+fn an_abort_ends_the_doubt(rt: HostRuntime) {
+    let durable = after_outcome(&rt, rt.alloc(), 5, false);
     assert!(rt; counts(&durable) == (0, 0) && has(&durable, 0, b"10", 0));
-    Ok(())
 }
 
 #[test]
-fn a_commit_ends_the_doubt_by_its_writes(rt: HostRuntime) -> Result<(), NameFault> {
-    let durable = after_outcome(&rt, 5, true)?;
+fn a_commit_ends_the_doubt_by_its_writes(rt: HostRuntime) {
+    let durable = after_outcome(&rt, rt.alloc(), 5, true);
     assert!(rt; counts(&durable) == (0, 0) && has(&durable, 0, b"12", 2));
-    Ok(())
 }
 
-fn committed(rt: &HostRuntime, seq: u32, waiting: Sites) -> Result<LogRecord, NameFault> {
-    Ok(LogRecord::Commit {
+fn committed(rt: &impl Abort, alloc: Global, seq: u32, waiting: Sites) -> LogRecord {
+    LogRecord::Commit {
         txn: txn(seq),
         view: view(1),
-        writes: write(rt, 2, b"31")?,
+        writes: write(rt, alloc, 2, b"31"),
         waiting,
-    })
+    }
 }
 
-fn two_sites(rt: &HostRuntime) -> Result<Sites, NameFault> {
-    let mut sites = Sites::new(rt.alloc());
-    sites.push(SiteId::of(2))?;
-    sites.push(SiteId::of(3))?;
-    Ok(sites)
+fn two_sites(rt: &impl Abort, alloc: Global) -> Sites {
+    let mut sites = Sites::new(alloc);
+    sites.push(SiteId::of(2)).expect(rt, "memory");
+    sites.push(SiteId::of(3)).expect(rt, "memory");
+    sites
 }
 
 /// Transaction 1 waits for two sites, and transaction 2 for none.
-fn decided(rt: &HostRuntime) -> Result<Durable, NameFault> {
-    let first = after(durable(rt)?, committed(rt, 1, two_sites(rt)?)?)?;
-    after(first, committed(rt, 2, Sites::new(rt.alloc()))?)
+fn decided(rt: &impl Abort, alloc: Global) -> Durable {
+    let waiting = committed(rt, alloc, 1, two_sites(rt, alloc));
+    let first = after(rt, durable(rt, alloc), waiting);
+    after(rt, first, committed(rt, alloc, 2, Sites::new(alloc)))
 }
 
 /// How many decisions wait after these sites have acknowledged transaction 1.
-fn left_after(rt: &HostRuntime, sites: &[u8]) -> Result<usize, NameFault> {
-    let mut durable = decided(rt)?;
+fn left_after(rt: &impl Abort, alloc: Global, sites: &[u8]) -> usize {
+    let mut durable = decided(rt, alloc);
     for site in sites {
-        durable = after(durable, acked(1, *site))?;
+        durable = after(rt, durable, acked(1, *site));
     }
-    Ok(durable.decisions().as_slice().len())
+    durable.decisions().as_slice().len()
 }
 
 #[test]
-fn a_commit_writes_and_waits_for_sites(rt: HostRuntime) -> Result<(), NameFault> {
-    let durable = decided(&rt)?;
+fn a_commit_writes_and_waits_for_sites(rt: HostRuntime) {
+    let durable = decided(&rt, rt.alloc());
     assert!(rt; counts(&durable) == (0, 1) && has(&durable, 2, b"31", 1));
-    Ok(())
 }
 
 #[test]
-fn a_decision_goes_with_its_last_site(rt: HostRuntime) -> Result<(), NameFault> {
-    assert_eq!(rt; left_after(&rt, &[2, 2])?, 1);
-    assert_eq!(rt; left_after(&rt, &[2, 2, 3])?, 0);
-    Ok(())
+fn a_decision_goes_with_its_last_site(rt: HostRuntime) {
+    assert!(rt; left_after(&rt, rt.alloc(), &[2, 2]) == 1);
+    assert!(rt; left_after(&rt, rt.alloc(), &[2, 2, 3]) == 0);
 }
 
 /// A checkpoint with a copy of record 2 alone.
-fn checkpoint(rt: &HostRuntime) -> Result<LogRecord, NameFault> {
-    let mut copies = Copies::new(rt.alloc());
-    copies.push((RecId::new(2), stored(rt, b"31", 1)?))?;
-    Ok(LogRecord::Checkpoint {
+fn checkpoint(rt: &impl Abort, alloc: Global) -> LogRecord {
+    let third = stored(rt, alloc, b"31", 1);
+    let mut copies = Copies::new(alloc);
+    copies.push((RecId::new(2), third)).expect(rt, "memory");
+    LogRecord::Checkpoint {
         generation: 1,
         life: 2,
         promise: view(2),
         copies,
-        doubts: InDoubt::new(rt.alloc()),
-        decisions: Decisions::new(rt.alloc()),
-    })
+        doubts: InDoubt::new(alloc),
+        decisions: Decisions::new(alloc),
+    }
 }
 
 #[test]
-fn a_checkpoint_sets_all_but_the_other_copies(rt: HostRuntime) -> Result<(), NameFault> {
-    let durable = after(in_doubt(&rt)?, checkpoint(&rt)?)?;
+fn a_checkpoint_sets_all_but_the_other_copies(rt: HostRuntime) {
+    let before = in_doubt(&rt, rt.alloc());
+    let durable = after(&rt, before, checkpoint(&rt, rt.alloc()));
     assert!(rt; durable.life() == 2 && counts(&durable) == (0, 0));
     assert!(rt; has(&durable, 0, b"10", 0) && has(&durable, 2, b"31", 1));
-    Ok(())
 }
 
 #[test]
-fn a_copy_has_the_doubts_too(rt: HostRuntime) -> Result<(), NameFault> {
-    let copy = in_doubt(&rt)?.copy_of()?;
+fn a_copy_has_the_doubts_too(rt: HostRuntime) {
+    let durable = in_doubt(&rt, rt.alloc());
+    let copy = durable.copy_of().expect(&rt, "memory");
     assert!(rt; counts(&copy) == (1, 0));
-    Ok(())
 }

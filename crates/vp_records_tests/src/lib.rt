@@ -1,5 +1,7 @@
-//! The tests of the durable part, outside the crate that has it: a crate with tests is proved twice.
+//! The tests of the durable part and of the bytes of batches, outside the crate that has them: a crate with tests is proved twice.
 #![tactic(auto)]
 
+#[cfg(test)]
+mod batches;
 #[cfg(test)]
 mod durable;

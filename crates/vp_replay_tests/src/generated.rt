@@ -1,7 +1,6 @@
 //! Schedules of the generator, and soaks: each takes nothing of the source.
 
 use std::alloc::{AllocError, Global};
-use std::test::Fail;
 use vp_base::Word;
 use vp_outside::{SureSink, SureSource};
 use vp_replay::generate;
@@ -23,8 +22,8 @@ fn printed(alloc: Global, command: &str, seed: &str, count: &str) -> Result<Sure
 }
 
 #[test]
-fn a_schedule_is_its_catalogue_and_its_events(rt: HostRuntime) -> Result<(), Fail> {
-    let sink = printed(rt.alloc(), "generate", "1", "2")?;
+fn a_schedule_is_its_catalogue_and_its_events(rt: HostRuntime) {
+    let sink = printed(rt.alloc(), "generate", "1", "2").expect(&rt, "memory");
     let text = sink.bytes();
     assert!(rt;
         text.starts_with(
@@ -34,32 +33,35 @@ fn a_schedule_is_its_catalogue_and_its_events(rt: HostRuntime) -> Result<(), Fai
     assert!(rt;
         text.ends_with(b"record r39 100 1:1 2:1 5:1\nevents\ncall 4 begin\ncall 1 begin\n")
     );
-    Ok(())
 }
 
 #[test]
-fn soaks_are_counted(rt: HostRuntime) -> Result<(), Fail> {
-    let none = printed(rt.alloc(), "soak", "1", "0")?;
-    assert!(rt;
-        none.bytes()
-            == b"events 0\nmessages 0\nbegun 0\ncommitted 0\nrefused 0\nserial 0\n".as_slice()
-    );
-    let short = printed(rt.alloc(), "soak", "1", "2")?;
-    assert!(rt;
-        short.bytes()
-            == b"events 2\nmessages 0\nbegun 2\ncommitted 0\nrefused 0\nserial 0\n".as_slice()
-    );
-    let long = printed(rt.alloc(), "soak", "7", "300")?;
-    assert!(rt;
-        long.bytes()
-            == b"events 300\nmessages 58\nbegun 6\ncommitted 0\nrefused 33\nserial 0\n".as_slice()
-    );
-    Ok(())
+fn soaks_are_counted(rt: HostRuntime) {
+    for (seed, count, text) in [
+        (
+            "1",
+            "0",
+            "events 0\nmessages 0\nbegun 0\ncommitted 0\nrefused 0\nserial 0\n",
+        ),
+        (
+            "1",
+            "2",
+            "events 2\nmessages 0\nbegun 2\ncommitted 0\nrefused 0\nserial 0\n",
+        ),
+        (
+            "7",
+            "300",
+            "events 300\nmessages 58\nbegun 6\ncommitted 0\nrefused 33\nserial 0\n",
+        ),
+    ] {
+        let sink = printed(rt.alloc(), "soak", seed, count).expect(&rt, "memory");
+        assert!(rt; sink.bytes() == text.as_bytes(), "{seed} {count}");
+    }
 }
 
 #[test]
-fn a_schedule_is_appended(rt: HostRuntime) -> Result<(), Fail> {
-    let mut text = Vec::from_slice(rt.alloc(), b"before\n")?;
+fn a_schedule_is_appended(rt: HostRuntime) {
+    let mut text = Vec::from_slice(rt.alloc(), b"before\n").expect(&rt, "memory");
     let end = match generate(1, 1, &mut text) {
         Ok(end) => end.is_none(),
         Err(_) => false,
@@ -67,5 +69,4 @@ fn a_schedule_is_appended(rt: HostRuntime) -> Result<(), Fail> {
     assert!(rt; end);
     assert!(rt; text.starts_with(b"before\nsite 1 7001\n"));
     assert!(rt; text.ends_with(b"events\ncall 4 begin\n"));
-    Ok(())
 }

@@ -1,6 +1,5 @@
 //! What schedules leave in the logs of their sites.
 
-use std::test::Fail;
 use vp_outside::{SureSink, SureSource};
 use vp_status::Status;
 use vp_top_tests::{answers, run_alone, words};
@@ -26,7 +25,7 @@ deliver 1
 ";
 
 #[test]
-fn logs_are_told(rt: HostRuntime) -> Result<(), Fail> {
+fn logs_are_told(rt: HostRuntime) {
     let alloc = rt.alloc();
     for (input, lines) in [
         (HEAD, "log 1 010000000000000005010000000100 -\n"),
@@ -45,47 +44,41 @@ fn logs_are_told(rt: HostRuntime) -> Result<(), Fail> {
         ),
     ] {
         assert!(rt;
-            answers(alloc, "logs", input, Status::Done, lines)?,
+            answers(alloc, "logs", input, Status::Done, lines).expect(&rt, "memory"),
             "{input}"
         );
     }
-    Ok(())
 }
 
 #[test]
-fn other_texts_leave_no_logs(rt: HostRuntime) -> Result<(), Fail> {
+fn other_texts_leave_no_logs(rt: HostRuntime) {
     let alloc = rt.alloc();
-    assert!(rt; answers(alloc, "logs", "", Status::BadLine, "bad line 1 at 1\n")?);
-    assert!(rt;
-        answers(
-            alloc,
-            "logs",
-            "site 1 7001\n",
-            Status::BadLine,
-            "bad line 2 at 1\n"
-        )?
-    );
-    assert!(rt;
-        answers(
-            alloc,
-            "logs",
+    for (input, text) in [
+        ("", "bad line 1 at 1\n"),
+        ("site 1 7001\n", "bad line 2 at 1\n"),
+        (
             "site 1 7001\nrecord x 10 1:1\nrecord x 1 1:1\nevents\n",
-            Status::BadLine,
-            "twice line 3\n"
-        )?
-    );
-    Ok(())
+            "twice line 3\n",
+        ),
+    ] {
+        assert!(rt;
+            answers(alloc, "logs", input, Status::BadLine, text).expect(&rt, "memory"),
+            "{input}"
+        );
+    }
 }
 
 #[test]
-fn a_long_log_gets_a_checkpoint(rt: HostRuntime) -> Result<(), Fail> {
+fn a_long_log_gets_a_checkpoint(rt: HostRuntime) {
     let alloc = rt.alloc();
-    let mut text = Vec::from_slice(alloc, HEAD.as_bytes())?;
+    let mut text = Vec::from_slice(alloc, HEAD.as_bytes()).expect(&rt, "memory");
     for _ in 0..5000 {
-        text.extend_from_slice(b"crash 1\nrestart 1\n")?;
+        text.extend_from_slice(b"crash 1\nrestart 1\n")
+            .expect(&rt, "memory");
     }
-    text.extend_from_slice(b"call 1 regroup\n")?;
-    let words = words(alloc, &["logs"])?;
+    text.extend_from_slice(b"call 1 regroup\n")
+        .expect(&rt, "memory");
+    let words = words(alloc, &["logs"]).expect(&rt, "memory");
     let mut source = SureSource::new(text);
     let mut sink = SureSink::new(alloc);
     assert!(rt; run_alone(alloc, &words, &mut source, &mut sink) == Status::Done);
@@ -94,5 +87,4 @@ fn a_long_log_gets_a_checkpoint(rt: HostRuntime) -> Result<(), Fail> {
             b" 010000000000000035080000000000000001000013890000000000000001010001000231300000000000000000000000000000000000000000000000000000\n"
         )
     );
-    Ok(())
 }

@@ -1,7 +1,8 @@
 //! Calls and schedules that are read, printed and refused.
 
 use std::alloc::Global;
-use vp_base::{Call, NameFault, NoMemory};
+use std::process::Abort;
+use vp_base::{Call, NameFault};
 use vp_schedule::{ScheduleFault, print, read, read_call};
 use vp_trace::print_call;
 
@@ -14,16 +15,15 @@ fn place_of(read: Result<Call, NameFault>) -> Option<usize> {
     }
 }
 
-fn printed(alloc: Global, text: &[u8]) -> Result<Vec<u8>, NoMemory> {
+fn printed(rt: &impl Abort, alloc: Global, text: &[u8]) -> Vec<u8> {
+    let call = read_call(alloc, text).expect(rt, "a call");
     let mut out = Vec::new(alloc);
-    if let Ok(call) = read_call(alloc, text) {
-        print_call(&call, &mut out)?;
-    }
-    Ok(out)
+    print_call(&call, &mut out).expect(rt, "memory");
+    out
 }
 
 #[test]
-fn calls_are_printed_as_they_were_read(rt: HostRuntime) -> Result<(), NoMemory> {
+fn calls_are_printed_as_they_were_read(rt: HostRuntime) {
     let cases: [&[u8]; 6] = [
         b"begin",
         b"regroup",
@@ -33,9 +33,8 @@ fn calls_are_printed_as_they_were_read(rt: HostRuntime) -> Result<(), NoMemory> 
         b"2.1.3 7 abort",
     ];
     for text in cases {
-        assert_eq!(rt; printed(rt.alloc(), text)?.as_slice(), text);
+        assert_eq!(rt; printed(&rt, rt.alloc(), text).as_slice(), text);
     }
-    Ok(())
 }
 
 #[test]
@@ -85,25 +84,23 @@ fn schedules_are_read_to_the_end(rt: HostRuntime) {
     }
 }
 
-fn again(alloc: Global, text: &[u8]) -> Result<Vec<u8>, NoMemory> {
+fn again(rt: &impl Abort, alloc: Global, text: &[u8]) -> Vec<u8> {
+    let schedule = read(alloc, text).expect(rt, "a schedule");
     let mut out = Vec::new(alloc);
-    if let Ok(schedule) = read(alloc, text) {
-        print(&schedule, &mut out)?;
-    }
-    Ok(out)
+    print(&schedule, &mut out).expect(rt, "memory");
+    out
 }
 
 #[test]
-fn schedules_are_printed_as_they_were_read(rt: HostRuntime) -> Result<(), NoMemory> {
+fn schedules_are_printed_as_they_were_read(rt: HostRuntime) {
     let cases: [&[u8]; 3] = [
         b"site 1 7001\nevents\n",
         b"site 1 7001\nsite 16 7016\nrecord x 10 1:1 16:65535\nrecord y ~ 16:2\nevents\ncall 16 regroup\n",
         b"site 1 1\nsite 2 2\nevents\ncall 1 1.1.1 1 write x ~A!\ndeliver 7\nflow 9\ntick 1\nprobe 2\ncut 1 2\nheal 2 1\ncrash 1\nrestart 1\n",
     ];
     for text in cases {
-        assert_eq!(rt; again(rt.alloc(), text)?.as_slice(), text);
+        assert_eq!(rt; again(&rt, rt.alloc(), text).as_slice(), text);
     }
-    Ok(())
 }
 
 #[test]
@@ -131,8 +128,14 @@ fn bad_lines_are_refused_at_their_places(rt: HostRuntime) {
     }
 }
 
+fn joined(rt: &impl Abort, alloc: Global, head: &[u8], line: &[u8]) -> Vec<u8> {
+    let mut text = Vec::from_slice(alloc, head).expect(rt, "memory");
+    text.extend_from_slice(line).expect(rt, "memory");
+    text
+}
+
 #[test]
-fn worked_lines_behind_three_sites_are_refused(rt: HostRuntime) -> Result<(), NoMemory> {
+fn worked_lines_behind_three_sites_are_refused(rt: HostRuntime) {
     let head = b"site 1 7001\nsite 2 7002\nsite 3 7003\nrecord x 10 1:1 2:1 3:1\nevents\n";
     let cases: [(&[u8], usize); 6] = [
         (b"call 9 begin\n", 6),
@@ -143,14 +146,12 @@ fn worked_lines_behind_three_sites_are_refused(rt: HostRuntime) -> Result<(), No
         (b"heal 4 1\n", 6),
     ];
     for (line, at) in cases {
-        let mut text = Vec::from_slice(rt.alloc(), head)?;
-        text.extend_from_slice(line)?;
+        let text = joined(&rt, rt.alloc(), head, line);
         assert_eq!(rt;
-            count(rt.alloc(), text.as_slice()),
+            count(rt.alloc(), &text),
             Err(ScheduleFault::BadLine { line: 6, at })
         );
     }
-    Ok(())
 }
 
 #[test]
@@ -183,37 +184,39 @@ fn a_port_and_a_name_stand_once(rt: HostRuntime) {
     }
 }
 
-#[test]
-fn a_record_line_too_many_is_named_before_its_name(rt: HostRuntime) -> Result<(), NoMemory> {
-    let mut text = Vec::from_slice(rt.alloc(), b"site 1 7001\n")?;
+/// A site, and as many records as there may be.
+fn many_records(rt: &impl Abort, alloc: Global) -> Vec<u8> {
+    let mut text = Vec::from_slice(alloc, b"site 1 7001\n").expect(rt, "memory");
     for k in 0..256 {
-        text.extend_from_slice(format!(in rt.alloc(); "record r{k} 0 1:1\n")?.as_bytes())?;
+        let line = format!(in alloc; "record r{k} 0 1:1\n").expect(rt, "memory");
+        text.extend_from_slice(line.as_bytes()).expect(rt, "memory");
     }
-    text.extend_from_slice(b"record r7 0 1:1\nevents\n")?;
-    assert_eq!(rt;
-        count(rt.alloc(), text.as_slice()),
-        Err(ScheduleFault::TooMany {
-            line: 258,
-            limit: 256
-        })
-    );
-    Ok(())
+    text
 }
 
 #[test]
-fn a_hundred_thousand_events_are_read_and_no_more(rt: HostRuntime) -> Result<(), NoMemory> {
-    let mut text = Vec::from_slice(rt.alloc(), b"site 1 7001\nevents\n")?;
+fn a_record_line_too_many_is_named_before_its_name(rt: HostRuntime) {
+    let mut text = many_records(&rt, rt.alloc());
+    text.extend_from_slice(b"record r7 0 1:1\nevents\n")
+        .expect(&rt, "memory");
+    let wanted = ScheduleFault::TooMany {
+        line: 258,
+        limit: 256,
+    };
+    assert!(rt; count(rt.alloc(), &text) == Err(wanted));
+}
+
+#[test]
+fn a_hundred_thousand_events_are_read_and_no_more(rt: HostRuntime) {
+    let mut text = Vec::from_slice(rt.alloc(), b"site 1 7001\nevents\n").expect(&rt, "memory");
     for _ in 0..100_000 {
-        text.extend_from_slice(b"tick 1\n")?;
+        text.extend_from_slice(b"tick 1\n").expect(&rt, "memory");
     }
-    assert_eq!(rt; count(rt.alloc(), text.as_slice()), Ok(100_000));
-    text.extend_from_slice(b"tick 1\n")?;
-    assert_eq!(rt;
-        count(rt.alloc(), text.as_slice()),
-        Err(ScheduleFault::TooMany {
-            line: 100_003,
-            limit: 100_000
-        })
-    );
-    Ok(())
+    assert!(rt; count(rt.alloc(), &text) == Ok(100_000));
+    text.extend_from_slice(b"tick 1\n").expect(&rt, "memory");
+    let wanted = ScheduleFault::TooMany {
+        line: 100_003,
+        limit: 100_000,
+    };
+    assert!(rt; count(rt.alloc(), &text) == Err(wanted));
 }

@@ -1,5 +1,9 @@
-//! The tests of a site, outside the crate that has it: a crate with tests is proved twice.
+//! The tests of the coordinator, of a site and of the world of sites, outside the crates that have them: a crate with tests is proved twice.
 #![tactic(auto)]
 
 #[cfg(test)]
+mod coordinators;
+#[cfg(test)]
 mod sites;
+#[cfg(test)]
+mod worlds;

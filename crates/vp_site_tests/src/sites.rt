@@ -1,34 +1,34 @@
 //! A site that starts, and starts again.
 
 use std::alloc::Global;
-use std::test::Fail;
+use std::process::Abort;
 use vp_base::{Answer, Call, Effects, Input, SiteId};
 use vp_catalog::Catalog;
 use vp_records::Durable;
 use vp_site::Site;
 
 /// A catalogue of two sites.
-fn catalog(alloc: Global) -> Result<Catalog, Fail> {
+fn catalog(rt: &impl Abort, alloc: Global) -> Catalog {
     let text = b"site 1 7001\nsite 2 7002\nrecord x 10 1:1 2:1\n";
-    Catalog::read(alloc, text).map_err(|_| Fail::from("no catalogue"))
+    Catalog::read(alloc, text).expect(rt, "a catalogue")
 }
 
 /// What the site has before its first life.
-fn before_lives(catalog: &Catalog) -> Result<Durable, Fail> {
-    Ok(Durable::empty(catalog.copies(SiteId::of(1))?))
+fn before_lives(rt: &impl Abort, catalog: &Catalog) -> Durable {
+    let copies = catalog.copies(SiteId::of(1)).expect(rt, "memory");
+    Durable::empty(copies)
 }
 
-fn started(catalog: &Catalog, durable: Durable) -> Result<Site, Fail> {
-    match Site::start(catalog, SiteId::of(1), durable) {
-        Ok((site, _)) => Ok(site),
-        Err(_) => Err(Fail::from("no life")),
-    }
+fn started(rt: &impl Abort, catalog: &Catalog, durable: Durable) -> Site {
+    let start = Site::start(catalog, SiteId::of(1), durable);
+    let (site, _) = start.ok().expect(rt, "a life");
+    site
 }
 
 /// What the site has after the start of its first life, where it is not told anything.
-fn first_life(catalog: &Catalog) -> Result<Durable, Fail> {
-    let site = started(catalog, before_lives(catalog)?)?;
-    Ok(site.durable()?)
+fn first_life(rt: &impl Abort, catalog: &Catalog) -> Durable {
+    let site = started(rt, catalog, before_lives(rt, catalog));
+    site.durable().expect(rt, "memory")
 }
 
 fn is_begun(effects: &Effects) -> bool {
@@ -39,28 +39,27 @@ fn is_begun(effects: &Effects) -> bool {
 }
 
 /// Whether a client begins a transaction at a site that starts with the durable part.
-fn begins(catalog: &Catalog, durable: Durable) -> Result<bool, Fail> {
+fn begins(rt: &impl Abort, catalog: &Catalog, durable: Durable) -> bool {
     let begin = Input::Call {
         from: 9,
         call: Call::Begin,
     };
-    let (_, effects) = started(catalog, durable)?.step(catalog, &begin)?;
-    Ok(is_begun(&effects))
+    let site = started(rt, catalog, durable);
+    let (_, effects) = site.step(catalog, &begin).expect(rt, "memory");
+    is_begun(&effects)
 }
 
 #[test]
-fn a_site_is_in_the_opening_view_in_its_first_life(rt: HostRuntime) -> Result<(), Fail> {
-    let catalog = catalog(rt.alloc())?;
-    let durable = before_lives(&catalog)?;
-    assert!(rt; begins(&catalog, durable)?);
-    Ok(())
+fn a_site_is_in_the_opening_view_in_its_first_life(rt: HostRuntime) {
+    let catalog = catalog(&rt, rt.alloc());
+    let durable = before_lives(&rt, &catalog);
+    assert!(rt; begins(&rt, &catalog, durable));
 }
 
 #[test]
-fn a_site_is_not_in_the_opening_view_in_its_second_life(rt: HostRuntime) -> Result<(), Fail> {
-    let catalog = catalog(rt.alloc())?;
-    let durable = first_life(&catalog)?;
+fn a_site_is_not_in_the_opening_view_in_its_second_life(rt: HostRuntime) {
+    let catalog = catalog(&rt, rt.alloc());
+    let durable = first_life(&rt, &catalog);
     assert_eq!(rt; durable.life(), 1);
-    assert!(rt; !begins(&catalog, durable)?);
-    Ok(())
+    assert!(rt; !begins(&rt, &catalog, durable));
 }

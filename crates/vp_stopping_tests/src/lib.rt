@@ -5,6 +5,5 @@
 mod decision;
 #[cfg(test)]
 mod serial;
+#[cfg(test)]
 mod texts;
-
-pub use texts::{DECISION, HELD_LOCK, LATE_COMMIT, history_text, schedule_text};

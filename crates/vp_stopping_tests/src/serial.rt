@@ -5,8 +5,7 @@ ghost use Rattle.vp_schedule.specs.Document.{IsSchedule};
 
 use crate::texts::{DECISION, HELD_LOCK, LATE_COMMIT, history_text, schedule_text};
 use std::alloc::Global;
-use std::test::Fail;
-use vp_base::NoMemory;
+use std::process::Abort;
 use vp_cluster::Stop;
 use vp_replay::{checked, replayed};
 use vp_schedule::{Schedule, read};
@@ -21,38 +20,30 @@ struct Tally {
 }
 
 /// Whether the schedule has this journal, and the check finds it serial.
-fn is_serial(alloc: Global, stopped: &Stopped) -> Result<bool, NoMemory> {
-    let history = history_text(alloc, &stopped.schedule.catalog, &stopped.commits)?;
-    let trace = replayed(alloc, &schedule_text(alloc, &stopped.schedule)?)?;
-    let verdict = checked(alloc, &history)?;
-    Ok(trace.text.ends_with(&history) && verdict.status == Status::Done)
+fn is_serial(rt: &impl Abort, alloc: Global, stopped: &Stopped) -> bool {
+    let schedule = schedule_text(alloc, &stopped.schedule).expect(rt, "memory");
+    let history = history_text(alloc, &stopped.schedule.catalog, &stopped.commits).expect(
+        rt, "memory",
+    );
+    let trace = replayed(alloc, &schedule).expect(rt, "memory");
+    let verdict = checked(alloc, &history).expect(rt, "memory");
+    trace.text.ends_with(&history) && verdict.status == Status::Done
 }
 
-fn try_stop(
-    alloc: Global,
-    schedule: &Schedule,
-    stop: &Stop,
-    tally: &mut Tally,
-) -> Result<(), NoMemory>
+fn try_stop(rt: &impl Abort, alloc: Global, schedule: &Schedule, stop: &Stop, tally: &mut Tally)
     requires schedule { IsSchedule schedule.now }
     requires calls { stop.now.calls ≤ 4 }
 {
-    match run_stopped(schedule, stop) {
-        Ok(Some(stopped)) => {
-            tally.stopped = tally.stopped.saturating_add(1);
-            tally.serial = tally.serial && is_serial(alloc, &stopped)?;
-        }
-        Ok(None) => {}
-        Err(_) => return Err(NoMemory),
+    let stopped = run_stopped(schedule, stop).ok();
+    if let Some(stopped) = stopped.expect(rt, "a run") {
+        tally.stopped = tally.stopped.saturating_add(1);
+        tally.serial = tally.serial && is_serial(rt, alloc, &stopped);
     }
-    Ok(())
 }
 
 /// Stops in each of so many steps.
-fn try_steps(alloc: Global, text: &str, steps: u32) -> Result<Tally, NoMemory> {
-    let Ok(schedule) = read(alloc, text.as_bytes()) else {
-        return Err(NoMemory);
-    };
+fn try_steps(rt: &impl Abort, alloc: Global, text: &str, steps: u32) -> Tally {
+    let schedule = read(alloc, text.as_bytes()).expect(rt, "a schedule");
     let mut tally = Tally {
         stopped: 0,
         serial: true,
@@ -60,33 +51,31 @@ fn try_steps(alloc: Global, text: &str, steps: u32) -> Result<Tally, NoMemory> {
     for step in 0..steps {
         for calls in 0..5 {
             for late in [false, true] {
-                try_stop(alloc, &schedule, &Stop { step, calls, late }, &mut tally)?;
+                let stop = Stop { step, calls, late };
+                try_stop(rt, alloc, &schedule, &stop, &mut tally);
             }
         }
     }
-    Ok(tally)
+    tally
 }
 
 #[test]
-fn a_held_lock_is_serial(rt: HostRuntime) -> Result<(), Fail> {
-    let tally = try_steps(rt.alloc(), HELD_LOCK, 24)?;
+fn a_held_lock_is_serial(rt: HostRuntime) {
+    let tally = try_steps(&rt, rt.alloc(), HELD_LOCK, 24);
     assert!(rt; tally.serial);
     assert_eq!(rt; tally.stopped, 70);
-    Ok(())
 }
 
 #[test]
-fn a_late_commit_is_serial(rt: HostRuntime) -> Result<(), Fail> {
-    let tally = try_steps(rt.alloc(), LATE_COMMIT, 40)?;
+fn a_late_commit_is_serial(rt: HostRuntime) {
+    let tally = try_steps(&rt, rt.alloc(), LATE_COMMIT, 40);
     assert!(rt; tally.serial);
     assert_eq!(rt; tally.stopped, 70);
-    Ok(())
 }
 
 #[test]
-fn a_decision_is_serial(rt: HostRuntime) -> Result<(), Fail> {
-    let tally = try_steps(rt.alloc(), DECISION, 20)?;
+fn a_decision_is_serial(rt: HostRuntime) {
+    let tally = try_steps(&rt, rt.alloc(), DECISION, 20);
     assert!(rt; tally.serial);
     assert_eq!(rt; tally.stopped, 50);
-    Ok(())
 }

@@ -23,12 +23,11 @@ fn gives_text<S: Source>(alloc: Global, source: &mut S, limit: usize) -> Result<
 }
 
 #[test]
-fn a_text_is_read_in_pieces(rt: HostRuntime) -> Result<(), Fail> {
-    let mut source = text_source(rt.alloc(), Vec::new(rt.alloc()))?;
+fn a_text_is_read_in_pieces(rt: HostRuntime) {
+    let mut source = text_source(rt.alloc(), Vec::new(rt.alloc())).expect(&rt, "no fault");
     assert_eq!(rt; gives_text(rt.alloc(), &mut source, 100), Ok(true));
     assert_eq!(rt; source.faults(), 0);
     assert_eq!(rt; source.plan.calls, 4, "three pieces and the end");
-    Ok(())
 }
 
 /// What a call of the source answers, and what it leaves in five bytes.
@@ -39,9 +38,11 @@ fn taken(source: &mut TextSource) -> (Result<usize, Failed>, [u8; 5]) {
 }
 
 #[test]
-fn a_planned_call_of_a_source_fails_and_is_counted(rt: HostRuntime) -> Result<(), Fail> {
+fn a_planned_call_of_a_source_fails_and_is_counted(rt: HostRuntime) {
     let alloc = rt.alloc();
-    let mut source = text_source(alloc, vec![in alloc; 2, 4]?)?;
+    let mut source = text_source(alloc, vec![in alloc; 2, 4].expect(&rt, "no fault")).expect(
+        &rt, "no fault",
+    );
     assert_eq!(rt;
         gives_text(alloc, &mut source, 100),
         Err(InputFault::Failed)
@@ -50,18 +51,16 @@ fn a_planned_call_of_a_source_fails_and_is_counted(rt: HostRuntime) -> Result<()
     assert!(rt; taken(&mut source) == (Ok(3), *b"def\0\0"));
     assert!(rt; taken(&mut source) == (Err(Failed), [0; 5]));
     assert_eq!(rt; source.faults(), 2);
-    Ok(())
 }
 
 #[test]
-fn a_text_that_is_longer_than_the_limit_is_refused(rt: HostRuntime) -> Result<(), Fail> {
+fn a_text_that_is_longer_than_the_limit_is_refused(rt: HostRuntime) {
     let alloc = rt.alloc();
-    let mut longer = SureSource::new(TEXT.to_vec(alloc)?);
+    let mut longer = SureSource::new(TEXT.to_vec(alloc).expect(&rt, "no fault"));
     assert_eq!(rt; gives_text(alloc, &mut longer, 7), Err(InputFault::TooLong));
-    let mut fits = SureSource::new(TEXT.to_vec(alloc)?);
+    let mut fits = SureSource::new(TEXT.to_vec(alloc).expect(&rt, "no fault"));
     assert_eq!(rt; gives_text(alloc, &mut fits, 8), Ok(true));
     assert_eq!(rt; fits.faults(), 0);
-    Ok(())
 }
 
 /// A sink that takes three bytes a call.
@@ -77,45 +76,41 @@ fn write_text<K: Sink>(sink: &mut K) -> Result<(), OutFault> {
 }
 
 #[test]
-fn a_sink_gets_all_the_bytes(rt: HostRuntime) -> Result<(), Fail> {
+fn a_sink_gets_all_the_bytes(rt: HostRuntime) {
     let mut sink = text_sink(rt.alloc(), Vec::new(rt.alloc()));
-    write_text(&mut sink)?;
-    write_all(&mut sink, b"")?;
+    write_text(&mut sink).expect(&rt, "no fault");
+    write_all(&mut sink, b"").expect(&rt, "no fault");
     assert_eq!(rt; sink.bytes(), TEXT);
     assert_eq!(rt; sink.plan.calls, 3);
-    Ok(())
 }
 
 #[test]
-fn a_sink_that_is_sure_gets_all_the_bytes(rt: HostRuntime) -> Result<(), Fail> {
+fn a_sink_that_is_sure_gets_all_the_bytes(rt: HostRuntime) {
     let mut sink = SureSink::new(rt.alloc());
-    write_text(&mut sink)?;
+    write_text(&mut sink).expect(&rt, "no fault");
     assert_eq!(rt; sink.bytes(), TEXT);
     assert_eq!(rt; sink.faults(), 0);
-    Ok(())
 }
 
 #[test]
-fn a_planned_call_of_a_sink_fails_and_is_counted(rt: HostRuntime) -> Result<(), Fail> {
+fn a_planned_call_of_a_sink_fails_and_is_counted(rt: HostRuntime) {
     let alloc = rt.alloc();
-    let mut sink = text_sink(alloc, vec![in alloc; 3]?);
+    let mut sink = text_sink(alloc, vec![in alloc; 3].expect(&rt, "no fault"));
     assert_eq!(rt; write_text(&mut sink), Err(OutFault::Failed));
     assert_eq!(rt; sink.bytes(), b"abcdef".as_slice());
     assert_eq!(rt; sink.faults(), 1);
     assert_eq!(rt; sink.put(b"wxyz"), Ok(3));
     assert_eq!(rt; sink.bytes(), b"abcdefwxy".as_slice());
-    Ok(())
 }
 
 #[test]
-fn readers_and_writers_are_sources_and_sinks(rt: HostRuntime) -> Result<(), Fail> {
+fn readers_and_writers_are_sources_and_sinks(rt: HostRuntime) {
     let mut source = Reading::new(TEXT);
     assert_eq!(rt; gives_text(rt.alloc(), &mut source, 8), Ok(true));
     assert_eq!(rt; source.faults(), 0);
     let mut sink = Writing::new(Vec::<u8>::new(rt.alloc()));
-    write_text(&mut sink)?;
+    write_text(&mut sink).expect(&rt, "no fault");
     assert_eq!(rt; sink.faults(), 0);
-    Ok(())
 }
 
 /// A device whose second call and each one after it fails.

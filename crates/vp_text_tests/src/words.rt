@@ -1,5 +1,7 @@
 //! Names, values, views and transactions that are read, printed and refused.
 
+use std::alloc::Global;
+use std::process::Abort;
 use vp_base::{Name, NameFault, NoMemory, SiteId, TxnId, Value, ViewId, place, take_place};
 use vp_text::Cursor;
 
@@ -45,8 +47,22 @@ fn values_are_refused_at_their_places(rt: HostRuntime) {
     }
 }
 
+fn printed_view(alloc: Global, view: ViewId) -> Result<Vec<u8>, NoMemory> {
+    let mut out = Vec::new(alloc);
+    view.print(&mut out)?;
+    Ok(out)
+}
+
+/// Whether the text is a view that is printed as it was read, or is refused at the place.
+fn is_view(alloc: Global, text: &[u8], at: Option<usize>) -> Result<bool, NoMemory> {
+    match ViewId::read(text) {
+        Ok(view) => Ok(at.is_none() && printed_view(alloc, view)?.as_slice() == text),
+        Err(e) => Ok(Some(e.at) == at),
+    }
+}
+
 #[test]
-fn views_are_printed_or_refused_at_their_places(rt: HostRuntime) -> Result<(), NoMemory> {
+fn views_are_printed_or_refused_at_their_places(rt: HostRuntime) {
     let cases: [(&[u8], Option<usize>); 10] = [
         (b"0@0", None),
         (b"12@16", None),
@@ -60,21 +76,29 @@ fn views_are_printed_or_refused_at_their_places(rt: HostRuntime) -> Result<(), N
         (b"", Some(0)),
     ];
     for (text, at) in cases {
-        match ViewId::read(text) {
-            Ok(view) => {
-                let mut out = Vec::new(rt.alloc());
-                view.print(&mut out)?;
-                assert_eq!(rt; at, None);
-                assert_eq!(rt; out.as_slice(), text);
-            }
-            Err(e) => assert_eq!(rt; Some(e.at), at),
-        }
+        assert!(rt;
+            is_view(rt.alloc(), text, at).expect(&rt, "memory"),
+            "{text:?}"
+        );
     }
-    Ok(())
+}
+
+fn printed_txn(alloc: Global, txn: TxnId) -> Result<Vec<u8>, NoMemory> {
+    let mut out = Vec::new(alloc);
+    txn.print(&mut out)?;
+    Ok(out)
+}
+
+/// Whether the text is a transaction that is printed as it was read, or is refused at the place.
+fn is_txn(alloc: Global, text: &[u8], at: Option<usize>) -> Result<bool, NoMemory> {
+    match TxnId::read(text) {
+        Ok(txn) => Ok(at.is_none() && printed_txn(alloc, txn)?.as_slice() == text),
+        Err(e) => Ok(Some(e.at) == at),
+    }
 }
 
 #[test]
-fn transactions_are_printed_or_refused_at_their_places(rt: HostRuntime) -> Result<(), NoMemory> {
+fn transactions_are_printed_or_refused_at_their_places(rt: HostRuntime) {
     let cases: [(&[u8], Option<usize>); 8] = [
         (b"3.1.12", None),
         (b"16.4294967295.4294967295", None),
@@ -86,17 +110,11 @@ fn transactions_are_printed_or_refused_at_their_places(rt: HostRuntime) -> Resul
         (b"1.1", Some(3)),
     ];
     for (text, at) in cases {
-        match TxnId::read(text) {
-            Ok(txn) => {
-                let mut out = Vec::new(rt.alloc());
-                txn.print(&mut out)?;
-                assert_eq!(rt; at, None);
-                assert_eq!(rt; out.as_slice(), text);
-            }
-            Err(e) => assert_eq!(rt; Some(e.at), at),
-        }
+        assert!(rt;
+            is_txn(rt.alloc(), text, at).expect(&rt, "memory"),
+            "{text:?}"
+        );
     }
-    Ok(())
 }
 
 #[test]
@@ -116,32 +134,70 @@ fn later_views_are_taken(rt: HostRuntime) {
     }
 }
 
-#[test]
-fn words_are_taken_and_printed(rt: HostRuntime) -> Result<(), NameFault> {
-    let mut cursor = Cursor::new(b"ab=x~ 3");
-    let mut out = Vec::new(rt.alloc());
-    if let Ok(name) = Name::take(rt.alloc(), &mut cursor) {
-        assert!(rt; name.is(b"ab"));
-        name.print(&mut out)?;
+/// Prints the name `ab` that is taken; false where it is none.
+fn takes_name(alloc: Global, cursor: &mut Cursor, out: &mut Vec<u8>) -> Result<bool, NoMemory> {
+    let Ok(name) = Name::take(alloc, cursor) else {
+        return Ok(false);
+    };
+    name.print(out)?;
+    Ok(name.is(b"ab"))
+}
+
+/// Prints the value `=x~` that is taken; false where it is none.
+fn takes_value(alloc: Global, cursor: &mut Cursor, out: &mut Vec<u8>) -> Result<bool, NoMemory> {
+    let Ok(value) = Value::take(alloc, cursor) else {
+        return Ok(false);
+    };
+    value.print(out)?;
+    Ok(value.is(b"=x~"))
+}
+
+/// What is printed of a name and a value behind it; nothing where they are others.
+fn taken(alloc: Global, cursor: &mut Cursor) -> Result<Vec<u8>, NoMemory> {
+    let mut out = Vec::new(alloc);
+    if takes_name(alloc, cursor, &mut out)? && takes_value(alloc, cursor, &mut out)? {
+        return Ok(out);
     }
-    if let Ok(value) = Value::take(rt.alloc(), &mut cursor) {
-        assert!(rt; value.is(b"=x~"));
-        value.print(&mut out)?;
-    }
-    assert!(rt; cursor.literal(b" ").is_ok());
-    assert!(rt; SiteId::take(&mut cursor).is_ok());
-    assert_eq!(rt; cursor.left(), 0);
-    assert_eq!(rt; out.as_slice(), b"ab=x~".as_slice());
-    Ok(())
+    Ok(Vec::new(alloc))
 }
 
 #[test]
-fn names_are_found_by_their_places(rt: HostRuntime) -> Result<(), NameFault> {
-    let mut names = Vec::new(rt.alloc());
-    names.push(Name::read(rt.alloc(), b"ab")?)?;
-    names.push(Name::read(rt.alloc(), b"abcd")?)?;
-    assert_eq!(rt; place(&names, b"abcd"), Some(1));
-    assert_eq!(rt; place(&names, b"abc"), None);
+fn words_are_taken_and_printed(rt: HostRuntime) {
+    let mut cursor = Cursor::new(b"ab=x~ 3");
+    assert_eq!(rt;
+        taken(rt.alloc(), &mut cursor)
+            .expect(&rt, "memory")
+            .as_slice(),
+        b"ab=x~".as_slice()
+    );
+    assert!(rt; cursor.literal(b" ").is_ok());
+    assert!(rt; SiteId::take(&mut cursor).is_ok());
+    assert_eq!(rt; cursor.left(), 0);
+}
+
+/// The names `ab` and `abcd`.
+fn two_names(rt: &impl Abort, alloc: Global) -> Vec<Name> {
+    let mut names = Vec::new(alloc);
+    for text in [b"ab".as_slice(), b"abcd"] {
+        let name = Name::read(alloc, text).expect(rt, "a name");
+        names.push(name).expect(rt, "memory");
+    }
+    names
+}
+
+/// The place of the name that is taken of these, and how many bytes are left.
+fn taken_place(names: &[Name], text: &[u8]) -> (Option<usize>, usize) {
+    let mut cursor = Cursor::new(text);
+    match take_place(&mut cursor, names) {
+        Ok(found) => (Some(found), cursor.left()),
+        Err(e) => (None, e.left),
+    }
+}
+
+#[test]
+fn names_are_found_by_their_places(rt: HostRuntime) {
+    let names = two_names(&rt, rt.alloc());
+    assert!(rt; place(&names, b"abcd") == Some(1) && place(&names, b"abc").is_none());
     let cases: [(&[u8], Option<usize>, usize); 4] = [
         (b"ab x", Some(0), 2),
         (b"abcde", Some(1), 1),
@@ -149,11 +205,6 @@ fn names_are_found_by_their_places(rt: HostRuntime) -> Result<(), NameFault> {
         (b"b", None, 1),
     ];
     for (text, place, left) in cases {
-        let mut cursor = Cursor::new(text);
-        match take_place(&mut cursor, &names) {
-            Ok(found) => assert_eq!(rt; (Some(found), cursor.left()), (place, left)),
-            Err(e) => assert_eq!(rt; (None, e.left), (place, left)),
-        }
+        assert_eq!(rt; taken_place(&names, text), (place, left));
     }
-    Ok(())
 }

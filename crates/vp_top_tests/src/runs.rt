@@ -2,7 +2,6 @@
 
 use crate::{answers, is_printed, run_alone, words};
 use std::alloc::{AllocError, Global};
-use std::test::Fail;
 use vp_outside::{Sink, SureSink, SureSource, TextSink, TextSource};
 use vp_status::Status;
 use vp_text::print_number;
@@ -88,52 +87,34 @@ fn is_bad(alloc: Global, input: &str, text: &str) -> Result<bool, AllocError> {
 }
 
 #[test]
-fn schedules_of_one_site_are_replayed(rt: HostRuntime) -> Result<(), Fail> {
-    assert!(rt; is_printed(rt.alloc(), HEAD, "history\nstart x 10\nend 0\n")?);
-    assert!(rt; is_printed(rt.alloc(), TWO_TRANSACTIONS, TWO_TRANSACTIONS_PRINTED)?);
-    assert!(rt; is_printed(rt.alloc(), NO_SUCH_CALL, NO_SUCH_CALL_PRINTED)?);
-    Ok(())
+fn schedules_of_one_site_are_replayed(rt: HostRuntime) {
+    for (input, text) in [
+        (HEAD, "history\nstart x 10\nend 0\n"),
+        (TWO_TRANSACTIONS, TWO_TRANSACTIONS_PRINTED),
+        (NO_SUCH_CALL, NO_SUCH_CALL_PRINTED),
+    ] {
+        assert!(rt;
+            is_printed(rt.alloc(), input, text).expect(&rt, "memory"),
+            "{input}"
+        );
+    }
 }
 
 #[test]
-fn other_texts_are_no_schedules(rt: HostRuntime) -> Result<(), Fail> {
-    assert!(rt; is_bad(rt.alloc(), "", "bad line 1 at 1\n")?);
-    assert!(rt;
-        is_bad(
-            rt.alloc(),
-            "site 1 7001\nrecord x 10 1:1\n",
-            "bad line 3 at 1\n"
-        )?
-    );
-    assert!(rt;
-        is_bad(
-            rt.alloc(),
-            "site 1 7001\nsite 2 7001\nevents\n",
-            "twice line 2\n"
-        )?
-    );
-    assert!(rt;
-        is_bad(
-            rt.alloc(),
-            "site 1 7001\nevents\ncall 9 begin\n",
-            "bad line 3 at 6\n"
-        )?
-    );
-    assert!(rt;
-        is_bad(
-            rt.alloc(),
-            "site 1 7001\nevents\ncall 1 beg",
-            "bad line 3 at 11\n"
-        )?
-    );
-    assert!(rt;
-        is_bad(
-            rt.alloc(),
-            "site 1 7001\nevents\nflew 1\n",
-            "bad line 3 at 3\n"
-        )?
-    );
-    Ok(())
+fn other_texts_are_no_schedules(rt: HostRuntime) {
+    for (input, text) in [
+        ("", "bad line 1 at 1\n"),
+        ("site 1 7001\nrecord x 10 1:1\n", "bad line 3 at 1\n"),
+        ("site 1 7001\nsite 2 7001\nevents\n", "twice line 2\n"),
+        ("site 1 7001\nevents\ncall 9 begin\n", "bad line 3 at 6\n"),
+        ("site 1 7001\nevents\ncall 1 beg", "bad line 3 at 11\n"),
+        ("site 1 7001\nevents\nflew 1\n", "bad line 3 at 3\n"),
+    ] {
+        assert!(rt;
+            is_bad(rt.alloc(), input, text).expect(&rt, "memory"),
+            "{input}"
+        );
+    }
 }
 
 fn replay(text: Vec<u8>, sink: &mut SureSink) -> Result<Status, AllocError> {
@@ -152,100 +133,90 @@ fn repeat(text: &mut Vec<u8>, line: &[u8], count: usize) -> Result<(), AllocErro
 }
 
 #[test]
-fn a_transaction_has_64_operations(rt: HostRuntime) -> Result<(), Fail> {
-    let mut text = Vec::from_slice(rt.alloc(), HEAD.as_bytes())?;
-    text.extend_from_slice(b"call 1 begin\n")?;
+fn a_transaction_has_64_operations(rt: HostRuntime) {
+    let mut text = Vec::from_slice(rt.alloc(), HEAD.as_bytes()).expect(&rt, "memory");
+    text.extend_from_slice(b"call 1 begin\n")
+        .expect(&rt, "memory");
     for number in 1..66 {
-        text.extend_from_slice(b"call 1 1.1.1 ")?;
-        print_number(&mut text, number)?;
-        text.extend_from_slice(b" read x\n")?;
+        text.extend_from_slice(b"call 1 1.1.1 ")
+            .expect(&rt, "memory");
+        print_number(&mut text, number).expect(&rt, "memory");
+        text.extend_from_slice(b" read x\n").expect(&rt, "memory");
     }
-    text.extend_from_slice(b"call 1 1.1.1 65 commit\n")?;
+    text.extend_from_slice(b"call 1 1.1.1 65 commit\n")
+        .expect(&rt, "memory");
     let mut sink = SureSink::new(rt.alloc());
-    assert!(rt; replay(text, &mut sink)? == Status::Done);
+    assert!(rt; replay(text, &mut sink).expect(&rt, "memory") == Status::Done);
     let mut end = Vec::from_slice(
         rt.alloc(),
         b"\n66 call 1 1.1.1 65 read x\n reply toomanyops 1.1.1 65\n67 call 1 1.1.1 65 commit\n commit 1.1.1 0@0\n reply committed 1.1.1 65\nhistory\nstart x 10\ncommit 1.1.1 0@0",
-    )?;
-    repeat(&mut end, b" r x 10", 64)?;
-    end.extend_from_slice(b"\nend 1\n")?;
+    )
+    .expect(&rt, "memory");
+    repeat(&mut end, b" r x 10", 64).expect(&rt, "memory");
+    end.extend_from_slice(b"\nend 1\n").expect(&rt, "memory");
     assert!(rt; sink.bytes().ends_with(&end));
-    Ok(())
 }
 
 #[test]
-fn a_site_has_1024_live_transactions(rt: HostRuntime) -> Result<(), Fail> {
-    let mut text = Vec::from_slice(rt.alloc(), HEAD.as_bytes())?;
-    repeat(&mut text, b"call 1 begin\n", 1025)?;
+fn a_site_has_1024_live_transactions(rt: HostRuntime) {
+    let mut text = Vec::from_slice(rt.alloc(), HEAD.as_bytes()).expect(&rt, "memory");
+    repeat(&mut text, b"call 1 begin\n", 1025).expect(&rt, "memory");
     let mut sink = SureSink::new(rt.alloc());
-    assert!(rt; replay(text, &mut sink)? == Status::Done);
+    assert!(rt; replay(text, &mut sink).expect(&rt, "memory") == Status::Done);
     assert!(rt;
         sink.bytes().ends_with(
             b" reply begun 1.1.1024 0@0\n1025 call 1 begin\n reply toomanylive 1024\nhistory\nstart x 10\nend 0\n"
         )
     );
-    Ok(())
 }
 
 #[test]
-fn too_many_records_are_refused(rt: HostRuntime) -> Result<(), Fail> {
-    let mut text = Vec::from_slice(rt.alloc(), b"site 1 7001\n")?;
+fn too_many_records_are_refused(rt: HostRuntime) {
+    let mut text = Vec::from_slice(rt.alloc(), b"site 1 7001\n").expect(&rt, "memory");
     for number in 0..257 {
-        text.extend_from_slice(b"record r")?;
-        print_number(&mut text, number)?;
-        text.extend_from_slice(b" 10 1:1\n")?;
+        text.extend_from_slice(b"record r").expect(&rt, "memory");
+        print_number(&mut text, number).expect(&rt, "memory");
+        text.extend_from_slice(b" 10 1:1\n").expect(&rt, "memory");
     }
-    text.extend_from_slice(b"events\n")?;
+    text.extend_from_slice(b"events\n").expect(&rt, "memory");
     let mut sink = SureSink::new(rt.alloc());
-    assert!(rt; replay(text, &mut sink)? == Status::Limit);
+    assert!(rt; replay(text, &mut sink).expect(&rt, "memory") == Status::Limit);
     assert!(rt; sink.bytes() == b"limit records 256\n".as_slice());
-    Ok(())
 }
 
 #[test]
-fn too_many_events_are_refused(rt: HostRuntime) -> Result<(), Fail> {
-    let mut text = Vec::from_slice(rt.alloc(), HEAD.as_bytes())?;
-    repeat(&mut text, b"tick 1\n", 100_001)?;
+fn too_many_events_are_refused(rt: HostRuntime) {
+    let mut text = Vec::from_slice(rt.alloc(), HEAD.as_bytes()).expect(&rt, "memory");
+    repeat(&mut text, b"tick 1\n", 100_001).expect(&rt, "memory");
     let mut sink = SureSink::new(rt.alloc());
-    assert!(rt; replay(text, &mut sink)? == Status::Limit);
+    assert!(rt; replay(text, &mut sink).expect(&rt, "memory") == Status::Limit);
     assert!(rt; sink.bytes() == b"limit events 100000\n".as_slice());
-    Ok(())
 }
 
 #[test]
-fn histories_give_their_verdict(rt: HostRuntime) -> Result<(), Fail> {
-    let serial =
-        "history\nstart x 10\ncommit 1.1.1 0@0 r x 10 w x 11\ncommit 1.1.2 0@0 r x 11\nend 2\n";
-    assert!(rt;
-        answers(
-            rt.alloc(),
-            "check",
-            serial,
+fn histories_give_their_verdict(rt: HostRuntime) {
+    for (history, status, text) in [
+        (
+            "history\nstart x 10\ncommit 1.1.1 0@0 r x 10 w x 11\ncommit 1.1.2 0@0 r x 11\nend 2\n",
             Status::Done,
-            "serial 2\nx 11\n"
-        )?
-    );
-    let differs = "history\nstart x 10\ncommit 1.1.1 0@0 w x 11\ncommit 1.1.2 0@0 r x 10\nend 2\n";
-    assert!(rt;
-        answers(
-            rt.alloc(),
-            "check",
-            differs,
+            "serial 2\nx 11\n",
+        ),
+        (
+            "history\nstart x 10\ncommit 1.1.1 0@0 w x 11\ncommit 1.1.2 0@0 r x 10\nend 2\n",
             Status::Differs,
-            "differs 1.1.2 1 x kept 11 read 10\n"
-        )?
-    );
-    let falls = "history\nstart x 10\ncommit 1.1.1 1@2\ncommit 2.1.1 0@0\n";
-    assert!(rt;
-        answers(
-            rt.alloc(),
-            "check",
-            falls,
+            "differs 1.1.2 1 x kept 11 read 10\n",
+        ),
+        (
+            "history\nstart x 10\ncommit 1.1.1 1@2\ncommit 2.1.1 0@0\n",
             Status::BadLine,
-            "bad line 4 at 14\n"
-        )?
-    );
-    Ok(())
+            "bad line 4 at 14\n",
+        ),
+    ] {
+        assert!(rt;
+            answers(rt.alloc(), "check", history, status, text).expect(&rt, "memory"),
+            "{history}"
+        );
+    }
 }
 
 fn is_refused(alloc: Global, texts: &[&str]) -> Result<bool, AllocError> {
@@ -257,41 +228,38 @@ fn is_refused(alloc: Global, texts: &[&str]) -> Result<bool, AllocError> {
 }
 
 #[test]
-fn other_words_are_no_command(rt: HostRuntime) -> Result<(), Fail> {
-    assert!(rt; is_refused(rt.alloc(), &[])?);
-    assert!(rt; is_refused(rt.alloc(), &["replay", "-", "--"])?);
-    assert!(rt; is_refused(rt.alloc(), &["replay", "--help"])?);
-    assert!(rt; is_refused(rt.alloc(), &["Replay"])?);
-    Ok(())
+fn other_words_are_no_command(rt: HostRuntime) {
+    assert!(rt; is_refused(rt.alloc(), &[]).expect(&rt, "memory"));
+    assert!(rt; is_refused(rt.alloc(), &["replay", "-", "--"]).expect(&rt, "memory"));
+    assert!(rt; is_refused(rt.alloc(), &["replay", "--help"]).expect(&rt, "memory"));
+    assert!(rt; is_refused(rt.alloc(), &["Replay"]).expect(&rt, "memory"));
 }
 
 #[test]
-fn failures_are_told(rt: HostRuntime) -> Result<(), Fail> {
+fn failures_are_told(rt: HostRuntime) {
     let alloc = rt.alloc();
-    let words = words(alloc, &["replay", "--"])?;
-    let text = Vec::from_slice(alloc, HEAD.as_bytes())?;
-    let mut source = TextSource::new(text, Vec::from_slice(alloc, &[2])?);
+    let words = words(alloc, &["replay", "--"]).expect(&rt, "memory");
+    let text = Vec::from_slice(alloc, HEAD.as_bytes()).expect(&rt, "memory");
+    let mut source = TextSource::new(text, Vec::from_slice(alloc, &[2]).expect(&rt, "memory"));
     let mut sink = TextSink::new(alloc, Vec::new(alloc));
     assert!(rt; run_alone(alloc, &words, &mut source, &mut sink) == Status::SourceFault);
     assert!(rt; sink.bytes().is_empty());
-    let text = Vec::from_slice(alloc, HEAD.as_bytes())?;
+    let text = Vec::from_slice(alloc, HEAD.as_bytes()).expect(&rt, "memory");
     let mut source = TextSource::new(text, Vec::new(alloc));
-    let mut sink = TextSink::new(alloc, Vec::from_slice(alloc, &[2])?);
+    let mut sink = TextSink::new(alloc, Vec::from_slice(alloc, &[2]).expect(&rt, "memory"));
     sink.most = 5;
     assert!(rt; run_alone(alloc, &words, &mut source, &mut sink) == Status::SinkFault);
     assert!(rt; sink.bytes() == b"histo".as_slice());
-    Ok(())
 }
 
 #[test]
-fn too_many_bytes_are_refused(rt: HostRuntime) -> Result<(), Fail> {
+fn too_many_bytes_are_refused(rt: HostRuntime) {
     let alloc = rt.alloc();
-    let words = words(alloc, &["replay"])?;
+    let words = words(alloc, &["replay"]).expect(&rt, "memory");
     let mut bytes = Vec::new(alloc);
-    bytes.resize(MOST_BYTES + 1, b'a')?;
+    bytes.resize(MOST_BYTES + 1, b'a').expect(&rt, "memory");
     let mut source = SureSource::new(bytes);
     let mut sink = SureSink::new(alloc);
     assert!(rt; run_alone(alloc, &words, &mut source, &mut sink) == Status::Limit);
     assert!(rt; sink.bytes() == b"limit bytes 16777216\n".as_slice());
-    Ok(())
 }

@@ -1,7 +1,6 @@
 //! The words of the commands that use a network.
 
 use crate::words::told_in;
-use vp_base::NoMemory;
 
 /// Lines of words, parted by `|`, and the command that they are.
 const COMMANDS: &str = "\
@@ -47,16 +46,15 @@ stop|3|--=stop 3
 ";
 
 #[test]
-fn network_commands_are_read(rt: HostRuntime) -> Result<(), NoMemory> {
+fn network_commands_are_read(rt: HostRuntime) {
     for row in COMMANDS.lines() {
         let (line, command) = row.split_once('=').unwrap_or((row, ""));
         assert_eq!(rt;
-            told_in(rt.alloc(), line, '|')?.as_slice(),
+            told_in(&rt, rt.alloc(), line, '|').as_slice(),
             command.as_bytes(),
             "{line}"
         );
     }
-    Ok(())
 }
 
 /// Lines of words that are no command, parted by `|`.
@@ -189,9 +187,8 @@ signal|1
 ";
 
 #[test]
-fn other_words_use_no_network(rt: HostRuntime) -> Result<(), NoMemory> {
+fn other_words_use_no_network(rt: HostRuntime) {
     for line in NO_COMMANDS.lines() {
-        assert!(rt; told_in(rt.alloc(), line, '|')?.is_empty(), "{line}");
+        assert!(rt; told_in(&rt, rt.alloc(), line, '|').is_empty(), "{line}");
     }
-    Ok(())
 }

@@ -1,69 +1,71 @@
 //! Words of command lines, and the command that each list of them is.
 
-use std::alloc::Global;
-use vp_base::{NoMemory, Word};
+use std::alloc::{AllocError, Global};
+use std::process::Abort;
+use vp_base::Word;
 use vp_trace::print_call;
 use vp_words::{Command, Signal};
 
 /// The text of the command of the words, which is empty where they are none.
-pub(crate) fn told(alloc: Global, texts: &[&[u8]]) -> Result<Vec<u8>, NoMemory> {
+pub(crate) fn told(rt: &impl Abort, alloc: Global, texts: &[&[u8]]) -> Vec<u8> {
     let mut words = Vec::new(alloc);
     for text in texts {
-        words.push(Word::from_vec(Vec::from_slice(alloc, text)?))?;
+        let bytes = Vec::from_slice(alloc, text).expect(rt, "memory");
+        words.push(Word::from_vec(bytes)).expect(rt, "memory");
     }
-    let mut out = Vec::new(alloc);
-    if let Some(command) = Command::of(alloc, &words)? {
-        tell(alloc, &command, &mut out)?;
+    match Command::of(alloc, &words).expect(rt, "memory") {
+        Some(command) => text_of(rt, alloc, &command),
+        None => Vec::new(alloc),
     }
-    Ok(out)
 }
 
-fn tell(alloc: Global, command: &Command, out: &mut Vec<u8>) -> Result<(), NoMemory> {
+fn name_of(signal: Signal) -> &'static str {
+    match signal {
+        Signal::Tick => "tick",
+        Signal::Probe => "probe",
+        Signal::Stop => "stop",
+    }
+}
+
+/// What the command's text begins with: all of it but a log and a call.
+fn front(alloc: Global, command: &Command) -> Result<String, AllocError> {
     match command {
-        Command::Replay => out.extend_from_slice(b"replay")?,
-        Command::Check => out.extend_from_slice(b"check")?,
-        Command::Node { site, log, turns } => {
-            out.extend_from_slice(format!(in alloc; "node {} {turns} ", site.get())?.as_bytes())?;
-            out.extend_from_slice(log.as_slice())?;
-        }
+        Command::Replay => format!(in alloc; "replay"),
+        Command::Check => format!(in alloc; "check"),
+        Command::Node { site, turns, .. } => format!(in alloc; "node {} {turns} ", site.get()),
         Command::Client {
             port,
             turns,
             site,
-            call,
-        } => {
-            out.extend_from_slice(format!(in alloc;
-                "client {port} {turns} {} ",
-                site.get()
-            )?.as_bytes())?;
-            print_call(call, out)?;
-        }
+            ..
+        } => format!(in alloc; "client {port} {turns} {} ", site.get()),
         Command::Signal { site, signal } => {
-            let name = match signal {
-                Signal::Tick => "tick",
-                Signal::Probe => "probe",
-                Signal::Stop => "stop",
-            };
-            out.extend_from_slice(format!(in alloc; "{name} {}", site.get())?.as_bytes())?;
+            format!(in alloc; "{} {}", name_of(*signal), site.get())
         }
-        Command::Generate { seed, count } => {
-            out.extend_from_slice(format!(in alloc; "generate {seed} {count}")?.as_bytes())?;
-        }
-        Command::Soak { seed, count } => {
-            out.extend_from_slice(format!(in alloc; "soak {seed} {count}")?.as_bytes())?;
-        }
-        Command::Logs => out.extend_from_slice(b"logs")?,
+        Command::Generate { seed, count } => format!(in alloc; "generate {seed} {count}"),
+        Command::Soak { seed, count } => format!(in alloc; "soak {seed} {count}"),
+        Command::Logs => format!(in alloc; "logs"),
     }
-    Ok(())
+}
+
+fn text_of(rt: &impl Abort, alloc: Global, command: &Command) -> Vec<u8> {
+    let front = front(alloc, command).expect(rt, "memory");
+    let mut out = Vec::from_slice(alloc, front.as_bytes()).expect(rt, "memory");
+    match command {
+        Command::Node { log, .. } => out.extend_from_slice(log.as_slice()).expect(rt, "memory"),
+        Command::Client { call, .. } => print_call(call, &mut out).expect(rt, "memory"),
+        _ => {}
+    }
+    out
 }
 
 /// The text of the command of the words that the separator parts.
-pub(crate) fn told_in(alloc: Global, line: &str, separator: char) -> Result<Vec<u8>, NoMemory> {
+pub(crate) fn told_in(rt: &impl Abort, alloc: Global, line: &str, separator: char) -> Vec<u8> {
     let mut texts = Vec::new(alloc);
     for text in line.split(separator) {
-        texts.push(text.as_bytes())?;
+        texts.push(text.as_bytes()).expect(rt, "memory");
     }
-    told(alloc, &texts)
+    told(rt, alloc, &texts)
 }
 
 /// Lines of words, and the command that they are.
@@ -87,16 +89,15 @@ logs --=logs
 ";
 
 #[test]
-fn commands_are_read(rt: HostRuntime) -> Result<(), NoMemory> {
+fn commands_are_read(rt: HostRuntime) {
     for row in COMMANDS.lines() {
         let (line, command) = row.split_once('=').unwrap_or((row, ""));
         assert_eq!(rt;
-            told_in(rt.alloc(), line, ' ')?.as_slice(),
+            told_in(&rt, rt.alloc(), line, ' ').as_slice(),
             command.as_bytes(),
             "{line}"
         );
     }
-    Ok(())
 }
 
 /// Lines of words that are no command.
@@ -176,25 +177,27 @@ replay logs
 ";
 
 #[test]
-fn other_words_are_no_command(rt: HostRuntime) -> Result<(), NoMemory> {
-    assert!(rt; told(rt.alloc(), &[])?.is_empty());
-    assert!(rt; told(rt.alloc(), &[b""])?.is_empty());
-    assert!(rt; told(rt.alloc(), &[b"", b""])?.is_empty());
+fn other_words_are_no_command(rt: HostRuntime) {
+    assert!(rt; told(&rt, rt.alloc(), &[]).is_empty());
+    assert!(rt; told(&rt, rt.alloc(), &[b""]).is_empty());
+    assert!(rt; told(&rt, rt.alloc(), &[b"", b""]).is_empty());
     for line in NO_COMMANDS.lines() {
-        assert!(rt; told_in(rt.alloc(), line, ' ')?.is_empty(), "{line}");
+        assert!(rt; told_in(&rt, rt.alloc(), line, ' ').is_empty(), "{line}");
     }
-    Ok(())
 }
 
 #[test]
-fn words_are_text(rt: HostRuntime) -> Result<(), NoMemory> {
-    let alloc = rt.alloc();
-    assert!(rt; told(alloc, &[b"\xff"])?.is_empty());
-    assert!(rt; told(alloc, &[b"replay", b"\xc3"])?.is_empty());
-    assert!(rt; told(alloc, &[b"check", b"--", b"\xff"])?.is_empty());
-    assert!(rt; told(alloc, &[b"generate", b"1", b"2\x80"])?.is_empty());
-    assert!(rt; told(alloc, &[b"soak", b"1", b"-\xc3"])?.is_empty());
-    assert!(rt; told(alloc, &[b"node", b"1", b"log\xff", b"5"])?.is_empty());
-    assert!(rt; told(alloc, &[b"logs", b"--", b"\xc3"])?.is_empty());
-    Ok(())
+fn words_are_text(rt: HostRuntime) {
+    let cases: [&[&[u8]]; 7] = [
+        &[b"\xff"],
+        &[b"replay", b"\xc3"],
+        &[b"check", b"--", b"\xff"],
+        &[b"generate", b"1", b"2\x80"],
+        &[b"soak", b"1", b"-\xc3"],
+        &[b"node", b"1", b"log\xff", b"5"],
+        &[b"logs", b"--", b"\xc3"],
+    ];
+    for texts in cases {
+        assert!(rt; told(&rt, rt.alloc(), texts).is_empty(), "{texts:?}");
+    }
 }

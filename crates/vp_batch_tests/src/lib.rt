@@ -1,5 +1,0 @@
-//! The tests of the bytes of batches, outside the crate that has them: a crate with tests is proved twice.
-#![tactic(auto)]
-
-#[cfg(test)]
-mod batches;

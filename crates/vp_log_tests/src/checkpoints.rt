@@ -1,0 +1,231 @@
+//! Logs over both halves, and what checkpoints make of them.
+
+ghost use Rattle.std.specs.Prelude.{IfSome, IsTrue};
+ghost use Rattle.vp_records.specs.Records.{CanBeSaved};
+
+use std::alloc::Global;
+use std::process::Abort;
+use vp_base::{Batches, Copies, Decisions, InDoubt, LogRecord, ViewId, Word};
+use vp_outside::{Disk, MemDisk, SureDisk};
+use vp_records::Durable;
+use vp_stable::{AppendFault, Log, LogFault};
+
+/// One batch, Start of life 1, behind an open gate, and a closed gate.
+const START: &[u8] = b"\x01\0\0\0\0\0\0\0\x05\x01\0\0\0\x01\0";
+
+/// One batch, a Checkpoint of generation 1 and life 1 without copies, and a closed gate.
+const CHECKPOINT: &[u8] = b"\x01\0\0\0\0\0\0\0\x28\x08\0\0\0\0\0\0\0\x01\0\0\0\x01\
+    \0\0\0\0\0\0\0\0\0\0\0\0\0\0\0\0\0\0\0\0\0\0\0\0\0\0\0\0";
+
+/// Where its generation, its life and the gate behind it stand.
+const GENERATION: usize = 17;
+
+const LIFE: usize = 21;
+
+const GATE: usize = 49;
+
+/// A checkpoint of this generation and life.
+fn checkpoint(rt: &impl Abort, alloc: Global, generation: u8, life: u8) -> Vec<u8> {
+    let other = changed_to(rt, alloc, GENERATION, generation);
+    changed(rt, alloc, &other, LIFE, life)
+}
+
+/// The checkpoint with another byte at this place.
+fn changed_to(rt: &impl Abort, alloc: Global, at: usize, byte: u8) -> Vec<u8> {
+    changed(rt, alloc, CHECKPOINT, at, byte)
+}
+
+/// The bytes with another one at this place.
+fn changed(rt: &impl Abort, alloc: Global, bytes: &[u8], at: usize, byte: u8) -> Vec<u8> {
+    let mut half = bytes.to_vec(alloc).expect(rt, "memory");
+    if let Some(old) = half.get_mut(at) {
+        *old = byte;
+    }
+    half
+}
+
+fn holding(rt: &impl Abort, alloc: Global, first: &[u8], second: &[u8]) -> SureDisk {
+    let first = first.to_vec(alloc).expect(rt, "memory");
+    let second = second.to_vec(alloc).expect(rt, "memory");
+    SureDisk::holding(alloc, first, second).expect(rt, "memory")
+}
+
+/// The generation and the life of the only record; none where there are more or it has none.
+fn only_record(batches: &Batches) -> Option<(u64, u32)> {
+    let [batch] = batches.as_slice() else {
+        return None;
+    };
+    match batch.as_slice() {
+        [LogRecord::Start { life }] => Some((0, *life)),
+        [
+            LogRecord::Checkpoint {
+                generation,
+                life,
+                ..
+            },
+        ] => Some((*generation, *life)),
+        _ => None,
+    }
+}
+
+/// What recovery gives of these halves: the generation and the life of the only record. It leaves the halves as they are.
+fn recovered(rt: &impl Abort, alloc: Global, first: &[u8], second: &[u8]) -> Option<(u64, u32)> {
+    let mut disk = holding(rt, alloc, first, second);
+    let (_, batches) = Log::recover(alloc, &mut disk).expect(rt, "a log");
+    if disk.half(0) == first && disk.half(1) == second {
+        only_record(&batches)
+    } else {
+        None
+    }
+}
+
+#[test]
+fn the_half_of_the_higher_generation_is_current(rt: HostRuntime) {
+    let one = checkpoint(&rt, rt.alloc(), 1, 1);
+    let two = checkpoint(&rt, rt.alloc(), 2, 7);
+    for (first, second, current) in [
+        (START, one.as_slice(), (1, 1)),
+        (&two, &one, (2, 7)),
+        (&one, &two, (2, 7)),
+        (&two, START, (2, 7)),
+    ] {
+        assert_eq!(rt; recovered(&rt, rt.alloc(), first, second), Some(current));
+    }
+}
+
+#[test]
+fn half_0_is_current_where_both_have_one_generation(rt: HostRuntime) {
+    let eight = checkpoint(&rt, rt.alloc(), 3, 8);
+    let nine = checkpoint(&rt, rt.alloc(), 3, 9);
+    assert!(rt; recovered(&rt, rt.alloc(), &eight, &nine) == Some((3, 8)));
+    assert!(rt; recovered(&rt, rt.alloc(), START, START) == Some((0, 1)));
+}
+
+/// Whether this half 1 does not count beside the log in half 0.
+fn is_passed_over(rt: &impl Abort, alloc: Global, second: &[u8]) -> bool {
+    recovered(rt, alloc, START, second) == Some((0, 1))
+}
+
+// A stop leaves half 1 without bytes, with a closed gate, or with a batch behind it; or its batch is cut short or no list of records.
+#[test]
+fn a_checkpoint_that_is_not_whole_does_not_count(rt: HostRuntime) {
+    let alloc = rt.alloc();
+    assert!(rt; is_passed_over(&rt, alloc, b""));
+    assert!(rt; is_passed_over(&rt, alloc, b"\0"));
+    assert!(rt; is_passed_over(&rt, alloc, &changed_to(&rt, alloc, 0, 0)));
+    assert!(rt; is_passed_over(&rt, alloc, &CHECKPOINT[..GATE]));
+    assert!(rt; is_passed_over(&rt, alloc, &changed_to(&rt, alloc, 9, 0x63)));
+}
+
+/// The place at which recovery refuses half 1.
+fn refused(rt: &impl Abort, alloc: Global, first: &[u8], second: &[u8]) -> Option<u64> {
+    let mut disk = holding(rt, alloc, first, second);
+    match Log::recover(alloc, &mut disk) {
+        Err(LogFault::BadLog { half: 1, at }) => Some(at),
+        _ => None,
+    }
+}
+
+#[test]
+fn the_current_half_alone_is_refused(rt: HostRuntime) {
+    let open = changed_to(&rt, rt.alloc(), GATE, 1);
+    let two = checkpoint(&rt, rt.alloc(), 2, 7);
+    assert!(rt; refused(&rt, rt.alloc(), START, &open) == Some(49));
+    assert!(rt; recovered(&rt, rt.alloc(), &open, &two) == Some((2, 7)));
+}
+
+/// The durable part that these batches make, which are one Start.
+fn folded(alloc: Global, batches: &Batches) -> Option<Durable>
+    ensures { IfSome result CanBeSaved }
+{
+    let [batch] = batches.as_slice() else {
+        return None;
+    };
+    let [LogRecord::Start { life }] = batch.as_slice() else {
+        return None;
+    };
+    let promise = ViewId { number: 0, site: 0 };
+    Some(Durable::new(
+        promise,
+        *life,
+        Copies::new(alloc),
+        InDoubt::new(alloc),
+        Decisions::new(alloc),
+    ))
+}
+
+/// Recovers a log whose batches are one Start, and answers what a checkpoint of it does.
+fn checkpointed<D: Disk>(rt: &impl Abort, alloc: Global, disk: &mut D) -> Result<(), AppendFault>
+    requires attached { IsTrue (D.state disk.old).attached }
+    ensures attached { IsTrue (D.state disk.new).attached }
+{
+    let (mut log, batches) = Log::recover(alloc, disk).expect(rt, "a log");
+    let durable = folded(alloc, &batches).expect(rt, "one Start");
+    log.checkpoint(disk, &durable)
+}
+
+#[test]
+fn a_checkpoint_starts_the_other_half(rt: HostRuntime) {
+    let mut disk = holding(&rt, rt.alloc(), START, b"what was there");
+    assert!(rt; checkpointed(&rt, rt.alloc(), &mut disk).is_ok());
+    assert!(rt; disk.half(0) == START && disk.half(1) == CHECKPOINT);
+    let (_, batches) = Log::recover(rt.alloc(), &mut disk).expect(&rt, "a log");
+    assert!(rt; only_record(&batches) == Some((1, 1)));
+}
+
+/// The generation that is left after a checkpoint on a disk whose call with this number fails; none where the answer is no fault of the
+/// disk.
+fn left_after(rt: &impl Abort, alloc: Global, call: u64) -> Option<u64> {
+    let calls = vec![in alloc; call].expect(rt, "memory");
+    let half = START.to_vec(alloc).expect(rt, "memory");
+    let name = Word::new(alloc);
+    let mut disk = MemDisk::new(alloc, calls);
+    disk.lay(&name, half, Vec::new(alloc)).expect(rt, "memory");
+    disk.attach(&name).expect(rt, "no fault");
+    let answer = checkpointed(rt, alloc, &mut disk);
+    let (_, batches) = Log::recover(alloc, &mut disk).expect(rt, "a log");
+    match (answer, only_record(&batches)) {
+        (Err(AppendFault::DiskFault), Some((generation, 1))) => Some(generation),
+        _ => None,
+    }
+}
+
+// Call 1 attaches; recovery syncs, asks for a length, reads and asks for the other; the checkpoint cuts, syncs, writes and syncs, and
+// its append writes, syncs, writes and syncs.
+#[test]
+fn a_checkpoint_that_fails_leaves_the_log_or_is_there(rt: HostRuntime) {
+    for call in 6..=11 {
+        assert!(rt; left_after(&rt, rt.alloc(), call) == Some(0), "{call}");
+    }
+    for call in 12..=13 {
+        assert!(rt; left_after(&rt, rt.alloc(), call).is_some(), "{call}");
+    }
+    assert!(rt; left_after(&rt, rt.alloc(), 100).is_none());
+}
+
+/// Whether a checkpoint is due of a log whose batches are so many records of 5 bytes.
+fn is_due(rt: &impl Abort, alloc: Global, counts: &[u16]) -> bool {
+    let mut half = Vec::new(alloc);
+    for count in counts {
+        let length = usize::from(*count) * 5;
+        let batch = vec![in alloc; 1; length].expect(rt, "memory");
+        half.push(1).expect(rt, "memory");
+        half.extend_from_slice(&(length as u64).to_be_bytes())
+            .expect(rt, "memory");
+        half.extend_from_slice(&batch).expect(rt, "memory");
+    }
+    half.push(0).expect(rt, "memory");
+    let mut disk = holding(rt, alloc, &half, b"");
+    let (log, _) = Log::recover(alloc, &mut disk).expect(rt, "a log");
+    log.due()
+}
+
+// Half 0 has 65,536 bytes, 65,537, twice the 65,509 of its first batch, and one more.
+#[test]
+fn a_checkpoint_is_due_of_a_long_half(rt: HostRuntime) {
+    assert!(rt; !is_due(&rt, rt.alloc(), &[]));
+    assert!(rt; !is_due(&rt, rt.alloc(), &[0, 0, 0, 0, 13_098]));
+    assert!(rt; is_due(&rt, rt.alloc(), &[0, 0, 0, 13_100]));
+    assert!(rt; !is_due(&rt, rt.alloc(), &[13_100, 0, 13_098]));
+    assert!(rt; is_due(&rt, rt.alloc(), &[13_100, 13_100]));
+}
