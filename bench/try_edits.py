@@ -1,0 +1,108 @@
+#!/usr/bin/env python3
+"""Tries the wrong bodies of the folder edits/, which the gate leaves out: the proofs of their crates have to refuse each.
+
+usage: try_edits.py [--apply] [FOLDER] [CRATE ..]
+
+First it looks whether each edit of each CRATE can be applied, those of the crate's must-fail/ too, and prints each that can't; if no CRATE
+is named, those of all. With --apply this is all, and nothing is proved. Else it copies the repository FOLDER (the one of this script, if
+none is named) as it stands, with what isn't committed, into a new folder, which is removed in the end. There it puts the edits of
+bench/edits/CRATE beside those of the CRATE's must-fail/, and runs `rt must-fail CRATE ..`, whose output is passed on. What the crates
+stand on is built first, where no checkout on the machine has it.
+
+The status is the run's: 1 where an edit isn't refused, or can't be applied.
+"""
+import pathlib
+import shutil
+import signal
+import subprocess
+import sys
+import tempfile
+
+TOP = pathlib.Path(__file__).resolve().parent.parent
+
+
+def edits_of(top, crate):
+    """The edits of a crate that stand outside the gate."""
+    return sorted((top / "bench/edits" / crate).glob("*.edit"))
+
+
+def why_not(edit, crate):
+    """Why an edit can't be applied to the files of its crate, or nothing where it can. It is read as `rt must-fail` reads it."""
+    texts, file, old, pairs = {}, "", "", 0
+    for line in edit.read_text(encoding="utf-8").split("\n"):
+        if line.startswith("file: "):
+            file = line[len("file: ") :].strip()
+            if not file.startswith(("src/", "specs/", "proofs/")) or not (crate / file).is_file():
+                return f"there is no file {file}"
+        elif line.startswith("old: "):
+            old = line[len("old: ") :]
+        elif line.startswith("new:"):
+            if not file or not old:
+                return "a 'new:' line stands before any 'file:' or 'old:' line"
+            text = texts.setdefault(file, (crate / file).read_text(encoding="utf-8"))
+            if text.count(old) != 1:
+                return f"an 'old:' text is in {file} {text.count(old)} times, and not once"
+            new = line[len("new:") :]
+            texts[file] = text.replace(old, new[1:] if new.startswith(" ") else new)
+            old, pairs = "", pairs + 1
+    if not pairs:
+        return "it has no 'old:' and 'new:' pair"
+    return "it changes nothing" if all((crate / it).read_text(encoding="utf-8") == text for it, text in texts.items()) else ""
+
+
+def look(top, crates):
+    """Prints which edits of the crates can't be applied, and returns whether there are any."""
+    seen, faults = 0, 0
+    for name in crates:
+        crate, outside = top / "crates" / name, edits_of(top, name)
+        inside = sorted(crate.glob("must-fail/*.edit"))
+        for edit in inside + outside:
+            why = why_not(edit, crate)
+            if not why and edit in outside and edit.name in [it.name for it in inside]:
+                why = "one of its name stands in must-fail/ too"
+            if why:
+                print(f"{edit.relative_to(top)}: {why}")
+            seen, faults = seen + 1, faults + bool(why)
+    print(f"{seen} edits, {faults} that can't be applied", flush=True)
+    return faults > 0
+
+
+def try_them(top, crates):
+    """Runs `rt must-fail` over the crates in a copy with all their edits, and returns its status."""
+    signal.signal(signal.SIGTERM, signal.default_int_handler)
+    with tempfile.TemporaryDirectory() as folder:
+        copy = pathlib.Path(folder, "copy")
+        shutil.copytree(top, copy, ignore=shutil.ignore_patterns(".git", "out"))
+        for name in crates:
+            place = copy / "crates" / name / "must-fail"
+            place.mkdir(parents=True, exist_ok=True)
+            for edit in edits_of(top, name):
+                shutil.copy(edit, place)
+        with subprocess.Popen(["rt", "must-fail", *crates], cwd=copy, stdin=subprocess.DEVNULL) as run:
+            try:
+                return run.wait()
+            except KeyboardInterrupt:
+                run.terminate()
+                return run.wait()
+
+
+def main(words):
+    only_look = "--apply" in words
+    words = [it for it in words if it != "--apply"]
+    top = TOP
+    if words and pathlib.Path(words[0], "crates.txt").is_file():
+        top = pathlib.Path(words.pop(0)).resolve()
+    have = {it.parts[-2] for it in top.glob("bench/edits/*/*.edit")}
+    if only_look:
+        have |= {it.parts[-3] for it in top.glob("crates/*/must-fail/*.edit")}
+    lacking = [it for it in words if it not in have]
+    if lacking or not have:
+        print(f"there are no edits of {' '.join(lacking) or 'any crate'} below {top}", file=sys.stderr)
+        return 2
+    crates = words or sorted(have)
+    is_bad = look(top, crates)
+    return is_bad if only_look else try_them(top, crates) or is_bad
+
+
+if __name__ == "__main__":
+    sys.exit(main(sys.argv[1:]))
