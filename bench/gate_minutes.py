@@ -57,13 +57,14 @@ def edited(edit):
     texts, file, old = {}, "", ""
     for line in edit.read_text(encoding="utf-8").splitlines():
         word, _, rest = line.partition(":")
+        rest = rest[1:] if rest.startswith(" ") else rest
         if word == "file":
             file = rest.strip()
             texts.setdefault(file, (edit.parent.parent / file).read_text(encoding="utf-8"))
         elif word == "old":
-            old = rest.removeprefix(" ")
+            old = rest
         elif word == "new":
-            texts[file] = texts[file].replace(old, rest.removeprefix(" "))
+            texts[file] = texts[file].replace(old, rest)
     return texts
 
 
