@@ -94,10 +94,7 @@ impl CopyOf for View {
 
 impl CopyOf for Stored {
     fn copy_of(&self) -> Result<Stored, NoMemory> {
-        Ok(Stored {
-            value: self.value.copy_of()?,
-            date: self.date,
-        })
+        Ok(self.duplicate())
     }
 }
 

@@ -1,4 +1,4 @@
-//! Names and values: a contract sees each as its bytes.
+//! Names and values: a contract sees each as its bytes. They stand in the value itself, so that none of it takes memory.
 
 ghost use Rattle.std.specs.Prelude.{◌≡◌, ◌++◌, OnOk, OnErr, IfOk};
 ghost use Rattle.std.specs.Str.{bytes_eq};
@@ -20,47 +20,59 @@ use vp_text::{Class, Cursor, Unexpected};
 /// The name of a record: 1 to 16 bytes of a to z, 0 to 9 and the underscore.
 #[derive(Drop)]
 pub struct Name {
-    bytes: Vec<u8>,
+    bytes: [u8; 16],
+    len: u8,
 }
 
 impl Model for Name {
-    ghost use Rattle.std.specs.Prelude.{List, ℕ};
+    ghost use Rattle.std.specs.Prelude.{List, ℕ, take, ◌≤◌};
     ghost use Rattle.vp_base.specs.Words.{IsName};
 
     ghost Value = { List ℕ };
 
-    ghost view = { λ a. a.bytes.items };
+    ghost view = { λ a. take a.len a.bytes };
 
-    ghost invariant = { λ a. IsName a.bytes.items a.bytes.items };
+    ghost invariant = { λ a. (a.len ≤ 16) × IsName (take a.len a.bytes) (take a.len a.bytes) };
 }
 
 impl CopyOf for Name {
     fn copy_of(&self) -> Result<Name, NoMemory> {
-        let bytes = Vec::from_slice(*self.bytes.allocator(), &self.bytes)?;
-        Ok(Name { bytes })
+        Ok(Name {
+            bytes: self.bytes,
+            len: self.len,
+        })
     }
 }
 
 impl Name {
+    /// The word, which is one.
+    fn of(word: &[u8]) -> Name
+        requires { IsName word.now word.now }
+        ensures { result ≡ word.now }
+    {
+        let mut bytes = [0; 16];
+        bytes[..word.len()].copy_from_slice(word);
+        Name {
+            bytes,
+            len: word.len() as u8,
+        }
+    }
+
     /// The name that the whole text is. `BadName` says how many of its bytes begin one.
-    pub fn read(alloc: Global, text: &[u8]) -> Result<Name, NameFault>
+    pub fn read(_alloc: Global, text: &[u8]) -> Result<Name, NameFault>
         ensures { Answers IsName (λ a. a) name_place text.now result }
     {
         let word = whole_word(Class::Name, text)?;
-        Ok(Name {
-            bytes: Vec::from_slice(alloc, word)?,
-        })
+        Ok(Name::of(word))
     }
 
-    /// Takes a name from the front of what is left, as long as it goes. Without memory the cursor stands behind it.
-    pub fn take(alloc: Global, cursor: &mut Cursor) -> Result<Name, LineFault>
+    /// Takes a name from the front of what is left, as long as it goes. It takes no memory.
+    pub fn take(_alloc: Global, cursor: &mut Cursor) -> Result<Name, LineFault>
         ensures taken { Tries (λ a. a) line_left result cursor.new (word_at (has classes.Name) (most classes.Name) cursor.old) }
         ensures allowed { IfOk result (λ a. IsName a a) }
     {
         let word = cursor.word(Class::Name)?;
-        Ok(Name {
-            bytes: Vec::from_slice(alloc, word)?,
-        })
+        Ok(Name::of(word))
     }
 
     /// Its bytes, which are its text.
@@ -68,7 +80,7 @@ impl Name {
         ensures bytes { result.now ≡ self.now }
         ensures allowed { IsName self.now self.now }
     {
-        &self.bytes
+        &self.bytes[..self.len as usize]
     }
 
     /// Whether it is this word.
@@ -83,7 +95,7 @@ impl Name {
         ensures ok { OnOk result (out.new.items ≡ out.old.items ++ self.now) }
         ensures err { OnErr result (out.new.items ≡ out.old.items) }
     {
-        out.extend_from_slice(&self.bytes)?;
+        out.extend_from_slice(self.as_bytes())?;
         Ok(())
     }
 }
@@ -91,47 +103,66 @@ impl Name {
 /// The value of a record: 1 to 64 printed bytes of ASCII, without spaces.
 #[derive(Drop)]
 pub struct Value {
-    bytes: Vec<u8>,
+    bytes: [u8; 64],
+    len: u8,
 }
 
 impl Model for Value {
-    ghost use Rattle.std.specs.Prelude.{List, ℕ};
+    ghost use Rattle.std.specs.Prelude.{List, ℕ, take, ◌≤◌};
     ghost use Rattle.vp_base.specs.Words.{IsValue};
 
     ghost Value = { List ℕ };
 
-    ghost view = { λ a. a.bytes.items };
+    ghost view = { λ a. take a.len a.bytes };
 
-    ghost invariant = { λ a. IsValue a.bytes.items a.bytes.items };
+    ghost invariant = { λ a. (a.len ≤ 64) × IsValue (take a.len a.bytes) (take a.len a.bytes) };
 }
 
 impl CopyOf for Value {
     fn copy_of(&self) -> Result<Value, NoMemory> {
-        let bytes = Vec::from_slice(*self.bytes.allocator(), &self.bytes)?;
-        Ok(Value { bytes })
+        Ok(self.duplicate())
     }
 }
 
 impl Value {
+    /// An equal value. It takes no memory.
+    pub fn duplicate(&self) -> Value
+        ensures { result ≡ self.now }
+    {
+        Value {
+            bytes: self.bytes,
+            len: self.len,
+        }
+    }
+
+    /// The word, which is one.
+    fn of(word: &[u8]) -> Value
+        requires { IsValue word.now word.now }
+        ensures { result ≡ word.now }
+    {
+        let mut bytes = [0; 64];
+        bytes[..word.len()].copy_from_slice(word);
+        Value {
+            bytes,
+            len: word.len() as u8,
+        }
+    }
+
     /// The value that the whole text is. `BadName` says how many of its bytes begin one.
-    pub fn read(alloc: Global, text: &[u8]) -> Result<Value, NameFault>
+    pub fn read(_alloc: Global, text: &[u8]) -> Result<Value, NameFault>
         ensures { Answers IsValue (λ a. a) name_place text.now result }
     {
         let word = whole_word(Class::Value, text)?;
-        Ok(Value {
-            bytes: Vec::from_slice(alloc, word)?,
-        })
+        Ok(Value::of(word))
     }
 
-    /// Takes a value from the front of what is left, as long as it goes. Without memory the cursor stands behind it.
-    pub fn take(alloc: Global, cursor: &mut Cursor) -> Result<Value, LineFault>
+    /// Takes a value from the front of what is left, as long as it goes. It takes no memory.
+    pub fn take(_alloc: Global, cursor: &mut Cursor) -> Result<Value, LineFault>
         ensures taken { Tries (λ a. a) line_left result cursor.new (word_at (has classes.Value) (most classes.Value) cursor.old) }
         ensures allowed { IfOk result (λ a. IsValue a a) }
     {
         let word = cursor.word(Class::Value)?;
-        Ok(Value {
-            bytes: Vec::from_slice(alloc, word)?,
-        })
+        Ok(Value::of(word))
     }
 
     /// Its bytes, which are its text.
@@ -139,7 +170,7 @@ impl Value {
         ensures bytes { result.now ≡ self.now }
         ensures allowed { IsValue self.now self.now }
     {
-        &self.bytes
+        &self.bytes[..self.len as usize]
     }
 
     /// Whether it is this word.
@@ -154,7 +185,7 @@ impl Value {
         ensures ok { OnOk result (out.new.items ≡ out.old.items ++ self.now) }
         ensures err { OnErr result (out.new.items ≡ out.old.items) }
     {
-        out.extend_from_slice(&self.bytes)?;
+        out.extend_from_slice(self.as_bytes())?;
         Ok(())
     }
 }

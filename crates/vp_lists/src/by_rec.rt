@@ -1,11 +1,10 @@
 //! Lists of pairs of a record and its value.
 
-ghost use Rattle.std.specs.Prelude.{◌≡◌, OnOk, option_copied, if◌then◌else◌, ◌==◌};
+ghost use Rattle.std.specs.Prelude.{◌≡◌, option_copied, if◌then◌else◌, ◌==◌};
 ghost use Rattle.vp_model.specs.Words.{value_at, replace_at};
 ghost use Rattle.vp_model.specs.Durable.{with_writes};
 
-use std::mem;
-use vp_base::{Copies, CopyOf, NoMemory, RecId, Stored, Value, ViewId};
+use vp_base::{RecId, Stored, Value, ViewId};
 
 /// The first value of the record.
 pub fn value_at<'a, V>(pairs: &'a [(RecId, V)], rec: RecId) -> Option<&'a V>
@@ -14,46 +13,32 @@ pub fn value_at<'a, V>(pairs: &'a [(RecId, V)], rec: RecId) -> Option<&'a V>
     pairs.iter().find(|pair| pair.0 == rec).map(|pair| &pair.1)
 }
 
-fn replace_one<V: CopyOf>(pair: &mut (RecId, V), rec: RecId, value: &V) -> Result<(), NoMemory>
-    ensures { OnOk result (pair.new ≡ (if pair.old.0 == rec then (rec, value.now) else pair.old)) }
+fn replace_one(copy: &mut (RecId, Stored), rec: RecId, stored: &Stored)
+    ensures { copy.new ≡ (if copy.old.0 == rec then (rec, stored.now) else copy.old) }
 {
-    if pair.0 == rec {
-        pair.1 = value.copy_of()?;
+    if copy.0 == rec {
+        copy.1 = stored.duplicate();
     }
-    Ok(())
 }
 
-/// The value goes where the record has one.
-pub fn replace_at<V: CopyOf>(
-    pairs: &mut [(RecId, V)],
-    rec: RecId,
-    value: &V,
-) -> Result<(), NoMemory>
-    ensures { OnOk result (pairs.new ≡ replace_at rec value.now pairs.old) }
+/// This copy goes where the record has one.
+pub fn replace_at(copies: &mut [(RecId, Stored)], rec: RecId, stored: &Stored)
+    ensures { copies.new ≡ replace_at rec stored.now copies.old }
 {
-    for pair in pairs.iter_mut() {
-        replace_one(pair, rec, value)?;
+    for copy in copies.iter_mut() {
+        replace_one(copy, rec, stored);
     }
-    Ok(())
 }
 
-/// A transaction of the view wrote these values: a record without a copy is passed over. Without memory some copies may be lost.
-pub fn write_copies(
-    copies: &mut Copies,
-    date: &ViewId,
-    writes: &[(RecId, Value)],
-) -> Result<(), NoMemory>
-    ensures { OnOk result (copies.new ≡ with_writes date.now writes.now copies.old) }
+/// A transaction of the view wrote these values: a record without a copy is passed over.
+pub fn write_copies(copies: &mut [(RecId, Stored)], date: &ViewId, writes: &[(RecId, Value)])
+    ensures { copies.new ≡ with_writes date.now writes.now copies.old }
 {
-    let none = Copies::new(copies.allocator());
-    let mut items = mem::replace(copies, none).into_vec();
     for write in writes {
         let stored = Stored {
-            value: write.1.copy_of()?,
+            value: write.1.duplicate(),
             date: *date,
         };
-        replace_at(&mut items, write.0, &stored)?;
+        replace_at(copies, write.0, &stored);
     }
-    *copies = Copies::from_vec(items);
-    Ok(())
 }

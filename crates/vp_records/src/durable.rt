@@ -7,7 +7,7 @@ ghost use Rattle.vp_model.specs.Durable.{empty_durable, apply, apply_all, doubt_
 ghost use Rattle.vp_records.specs.Applying.{AppliesSome};
 ghost use Rattle.vp_records.specs.Records.{CanBeSaved, IsLogRecord};
 
-use crate::copies::{committed, replaced, restored, written};
+use crate::copies::{commit_doubt, restore};
 use crate::decisions::{acknowledge, with_decision};
 use crate::doubts::{drop_doubt, with_doubt};
 use std::marker::Model;
@@ -15,14 +15,14 @@ use vp_base::{
     Copies, CopyOf, Decisions, InDoubt, LogRecord, NoMemory, RecId, SiteId, Sites, Stored, TxnId,
     ViewId, Writes,
 };
-use vp_lists::{copy_all, find_txn, value_at};
+use vp_lists::{copy_all, find_txn, replace_at, value_at, write_copies};
 
 /// What a site has after a crash: its promise, its life, its copies, the transactions in doubt, and the decisions that
 /// some site has not acknowledged.
 pub struct Durable {
     promise: ViewId,
     life: u32,
-    copies: Copies,
+    copies: Vec<(RecId, Stored)>,
     doubts: InDoubt,
     decisions: Decisions,
 }
@@ -44,7 +44,7 @@ impl Model for Durable {
 
     ghost Value = { DurableState };
 
-    ghost view = { λ d. record { promise = d.promise; life = d.life; copies = d.copies; doubts = d.doubts; decisions = d.decisions } };
+    ghost view = { λ d. record { promise = d.promise; life = d.life; copies = d.copies.items; doubts = d.doubts; decisions = d.decisions } };
 }
 
 impl CopyOf for Durable {
@@ -52,7 +52,7 @@ impl CopyOf for Durable {
         Ok(Durable {
             promise: self.promise,
             life: self.life,
-            copies: self.copies.copy_of()?,
+            copies: copy_all(*self.copies.allocator(), &self.copies)?,
             doubts: self.doubts.copy_of()?,
             decisions: self.decisions.copy_of()?,
         })
@@ -68,7 +68,7 @@ impl Durable {
         Durable {
             promise: ViewId { number: 0, site: 0 },
             life: 0,
-            copies,
+            copies: copies.into_vec(),
             doubts: InDoubt::new(alloc),
             decisions: Decisions::new(alloc),
         }
@@ -87,7 +87,7 @@ impl Durable {
         Durable {
             promise,
             life,
-            copies,
+            copies: copies.into_vec(),
             doubts,
             decisions,
         }
@@ -104,7 +104,7 @@ impl Durable {
             doubts: _,
             decisions: _,
         } = self;
-        copies
+        Copies::from_vec(copies)
     }
 
     /// The highest view that the site has promised to.
@@ -127,7 +127,7 @@ impl Durable {
         ensures copy { option_copied result ≡ value_at rec self.now.copies }
         ensures there { is_some result ≡ has (keys self.now.copies) rec }
     {
-        value_at(self.copies.as_slice(), rec)
+        value_at(&self.copies, rec)
     }
 
     /// The transactions that the site voted yes on and knows no outcome of.
@@ -149,8 +149,8 @@ impl Durable {
         ensures record { IfOk result (λ r. r ≡ log_record.Checkpoint generation self.now.life self.now.promise self.now.copies self.now.doubts self.now.decisions) }
         ensures spelled { CanBeSaved self.now → IfOk result IsLogRecord }
     {
-        let alloc = self.copies.allocator();
-        let copies = copy_all(alloc, self.copies.as_slice())?;
+        let alloc = *self.copies.allocator();
+        let copies = copy_all(alloc, &self.copies)?;
         let doubts = copy_all(alloc, self.doubts.as_slice())?;
         let decisions = copy_all(alloc, self.decisions.as_slice())?;
         Ok(LogRecord::Checkpoint {
@@ -188,26 +188,22 @@ impl Durable {
     }
 
     /// What the transaction in doubt writes becomes copies, with its view as their date.
-    fn write_doubt(&mut self, txn: &TxnId) -> Result<(), NoMemory>
-        ensures ok { OnOk result (self.new ≡ record self.old { copies = with_outcome (doubt_of txn.now self.old.doubts) true self.old.copies }) }
-        ensures err { OnErr result (self.new ≡ self.old) }
+    fn write_doubt(&mut self, txn: &TxnId)
+        ensures { self.new ≡ record self.old { copies = with_outcome (doubt_of txn.now self.old.doubts) true self.old.copies } }
     {
         let doubt = find_txn(self.doubts.as_slice(), txn);
-        self.copies = committed(&self.copies, doubt)?;
-        Ok(())
+        commit_doubt(&mut self.copies, doubt);
     }
 
     /// The doubt ends: only a commit makes its writes copies.
     #[tactic(auto, unfolding(vp_model::specs::Durable::apply))]
-    fn end_doubt(&mut self, txn: &TxnId, commit: bool) -> Result<(), NoMemory>
-        ensures ok { OnOk result (self.new ≡ apply (log_record.Outcome txn.now commit) self.old) }
-        ensures err { OnErr result (self.new ≡ self.old) }
+    fn end_doubt(&mut self, txn: &TxnId, commit: bool)
+        ensures { self.new ≡ apply (log_record.Outcome txn.now commit) self.old }
     {
         if commit {
-            self.write_doubt(txn)?;
+            self.write_doubt(txn);
         }
         drop_doubt(&mut self.doubts, txn);
-        Ok(())
     }
 
     /// The site committed a transaction of its own.
@@ -222,19 +218,16 @@ impl Durable {
         ensures ok { OnOk result (self.new ≡ apply (log_record.Commit txn.now view.now writes.now waiting.now) self.old) }
         ensures err { OnErr result (self.new ≡ self.old) }
     {
-        let copies = written(&self.copies, view, writes.as_slice())?;
         self.decisions = with_decision(&self.decisions, txn, waiting)?;
-        self.copies = copies;
+        write_copies(&mut self.copies, view, writes.as_slice());
         Ok(())
     }
 
     #[tactic(auto, unfolding(vp_model::specs::Durable::apply))]
-    fn set_copy(&mut self, rec: RecId, stored: &Stored) -> Result<(), NoMemory>
-        ensures ok { OnOk result (self.new ≡ apply (log_record.Copy rec stored.now) self.old) }
-        ensures err { OnErr result (self.new ≡ self.old) }
+    fn set_copy(&mut self, rec: RecId, stored: &Stored)
+        ensures { self.new ≡ apply (log_record.Copy rec stored.now) self.old }
     {
-        self.copies = replaced(&self.copies, rec, stored)?;
-        Ok(())
+        replace_at(&mut self.copies, rec, stored);
     }
 
     #[tactic(auto, unfolding(vp_model::specs::Durable::apply))]
@@ -262,14 +255,12 @@ impl Durable {
         }) }
         ensures err { OnErr result (self.new ≡ self.old) }
     {
-        let restored = Durable {
-            promise: *promise,
-            life,
-            copies: restored(&self.copies, copies.as_slice())?,
-            doubts: doubts.copy_of()?,
-            decisions: decisions.copy_of()?,
-        };
-        *self = restored;
+        let doubts = doubts.copy_of()?;
+        self.decisions = decisions.copy_of()?;
+        self.doubts = doubts;
+        self.promise = *promise;
+        self.life = life;
+        restore(&mut self.copies, copies.as_slice());
         Ok(())
     }
 
@@ -290,14 +281,20 @@ impl Durable {
                 Ok(())
             }
             LogRecord::Yes { txn, view, writes } => self.vote(txn, view, writes),
-            LogRecord::Outcome { txn, commit } => self.end_doubt(txn, *commit),
+            LogRecord::Outcome { txn, commit } => {
+                self.end_doubt(txn, *commit);
+                Ok(())
+            }
             LogRecord::Commit {
                 txn,
                 view,
                 writes,
                 waiting,
             } => self.commit(txn, view, writes, waiting),
-            LogRecord::Copy { rec, stored } => self.set_copy(*rec, stored),
+            LogRecord::Copy { rec, stored } => {
+                self.set_copy(*rec, stored);
+                Ok(())
+            }
             LogRecord::Acked { txn, site } => {
                 self.acknowledge(txn, *site);
                 Ok(())

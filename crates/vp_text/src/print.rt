@@ -7,10 +7,15 @@ use itoa::Buffer;
 use std::alloc::AllocError;
 
 /// Appends the number in decimal digits. Without memory the bytes stay as they are.
+#[tactic(auto, using(std::proofs::lemmas::Fmt::decimal_digit))]
 pub fn print_number(out: &mut Vec<u8>, number: u64) -> Result<(), AllocError>
     ensures ok { OnOk result (out.new.items ≡ out.old.items ++ decimal number) }
     ensures err { OnErr result (out.new.items ≡ out.old.items) }
 {
+    if number < 10 {
+        out.push(b'0' + number as u8)?;
+        return Ok(());
+    }
     let mut digits = Buffer::new();
     out.extend_from_slice(digits.format(number).as_bytes())
 }

@@ -1,6 +1,6 @@
 use Rattle.std.proofs.lemmas.List.Edits.{map_over_more}
 use Rattle.vp_lists.proofs.by_rec.replace_at.Goals as goal
 
-pub loop-pair-preserved : goal.loop-pair-preserved
-loop-pair-preserved g c =
-    rw (c.in_ok-replace_one.ensures, ← c.pair-item.is) (map_over_more _ _ _ _ c.pair-item.result c.loop-pair-test.true c.loop-pair.invariant c.pair-item.is)
+pub loop-copy-preserved : goal.loop-copy-preserved
+loop-copy-preserved c =
+    rw (c.replace_one.ensures, ← c.copy-item.is) (map_over_more _ _ _ _ c.copy-item.result c.loop-copy-test.true c.loop-copy.invariant c.copy-item.is)

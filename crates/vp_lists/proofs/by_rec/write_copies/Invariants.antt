@@ -3,4 +3,4 @@ use Rattle.vp_model.specs.Durable.{with_writes}
 use Rattle.vp_lists.proofs.by_rec.write_copies.Given as goal
 
 abbrev pub invariant-loop-write : goal.invariant-loop-write
-invariant-loop-write l = l.items.items ≡ with_writes l.date (take l.write-index l.writes) l.initial.items.items
+invariant-loop-write l = l.copies ≡ with_writes l.date (take l.write-index l.writes) l.initial.copies

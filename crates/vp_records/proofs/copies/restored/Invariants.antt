@@ -1,6 +1,0 @@
-use Rattle.std.proofs.Common.{◌≡◌, take}
-use Rattle.vp_model.specs.Words.{for_each, replace_at}
-use Rattle.vp_records.proofs.copies.restored.Given as goal
-
-abbrev pub invariant-loop-copy : goal.invariant-loop-copy
-invariant-loop-copy l = l.items.items ≡ for_each (take l.copy-index l.saved) (λ c. replace_at c.0 c.1) l.initial.items.items
