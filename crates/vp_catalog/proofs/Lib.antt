@@ -2,7 +2,9 @@ pub mod Apart
 pub mod Entries
 pub mod EntriesExact
 pub mod Holders
+pub mod Least
 pub mod Majorities
+pub mod Names
 pub mod Newlines
 pub mod Only
 pub mod Sites

@@ -1,9 +1,7 @@
 //! The catalogue and its look-ups.
 
-ghost use Rattle.std.specs.Prelude.{◌≡◌, ◌≤◌, ◌<◌, ◌++◌, ◌∷◌, [], length, map, slice_get, option_map, option_copied, if◌then◌else◌, is_ok, nat_lt, ◌==◌, ◌&&◌, not, false, filter, Some, None, OnOk, IfOk, IfSome};
-ghost use Rattle.std.specs.List.{position_from};
-ghost use Rattle.std.specs.Str.{bytes_eq};
-ghost use Rattle.vp_model.specs.Words.{keys, value_at, has};
+ghost use Rattle.std.specs.Prelude.{◌≡◌, ◌≤◌, ◌<◌, ◌++◌, ◌∷◌, [], length, map, slice_get, option_map, option_copied, if◌then◌else◌, is_ok, nat_lt, ◌==◌, ◌&&◌, not, false, filter, find, Some, None, OnOk, IfOk};
+ghost use Rattle.vp_model.specs.Words.{first, keys, value_at, has};
 ghost use Rattle.vp_model.specs.Refresh.{members_in, other_holders_in};
 ghost use Rattle.vp_catalog.specs.Entries.{IsSite, IsRecord, last_site, has_port, has_name};
 ghost use Rattle.vp_catalog.specs.Adding.{IsAllowed, Adds};
@@ -13,6 +11,7 @@ ghost use Rattle.vp_model.specs.Catalogue.{sites_of, find_record, weights_of, ho
 use crate::entry::Entry;
 use crate::fault::CatalogFault;
 use crate::placed::{Placed, has_site};
+use indexmap::IndexSet;
 use std::alloc::Global;
 use std::marker::Model;
 use vp_base::{
@@ -20,11 +19,13 @@ use vp_base::{
     ViewId,
 };
 
-/// Sites with their ports, ascending by site, and at most 256 records, which are known by their places.
+/// Sites with their ports, ascending by site, and at most 256 records, which are known by their places. The bytes of the
+/// records' names stand in a set beside them, each at the place of its record.
 pub struct Catalog {
     sites: Sites,
     ports: Vec<(SiteId, u16)>,
     records: Vec<Placed>,
+    names: IndexSet<Vec<u8>>,
 }
 
 impl Drop for Catalog {
@@ -33,12 +34,13 @@ impl Drop for Catalog {
             sites: _,
             ports: _,
             records: _,
+            names: _,
         } = self;
     }
 }
 
 impl Model for Catalog {
-    ghost use Rattle.std.specs.Prelude.{◌≡◌};
+    ghost use Rattle.std.specs.Prelude.{◌≡◌, map};
     ghost use Rattle.vp_model.specs.Catalogue.{Catalogue};
     ghost use Rattle.vp_model.specs.Words.{keys};
     ghost use Rattle.vp_catalog.specs.Document.{IsCatalogueSoFar};
@@ -47,7 +49,7 @@ impl Model for Catalog {
 
     ghost view = { λ c. record { sites = c.ports.items; records = c.records.items } };
 
-    ghost invariant = { λ c. (c.sites ≡ keys c.ports.items) × IsCatalogueSoFar (record { sites = c.ports.items; records = c.records.items }) };
+    ghost invariant = { λ c. (c.sites ≡ keys c.ports.items) × (map (λ name. name.items) c.names.keys ≡ map (λ entry. entry.name) c.records.items) × IsCatalogueSoFar (record { sites = c.ports.items; records = c.records.items }) };
 }
 
 impl CopyOf for Catalog {
@@ -56,6 +58,7 @@ impl CopyOf for Catalog {
             sites: self.sites.copy_of()?,
             ports: Vec::from_slice(*self.ports.allocator(), &self.ports)?,
             records: copy_records(*self.records.allocator(), &self.records)?,
+            names: self.names.clone()?,
         })
     }
 }
@@ -69,6 +72,7 @@ impl Catalog {
             sites: Sites::new(alloc),
             ports: Vec::new(alloc),
             records: Vec::new(alloc),
+            names: IndexSet::new(alloc),
         }
     }
 
@@ -92,6 +96,9 @@ impl Catalog {
         requires fresh { has_name self.old placed.name ≡ false }
         ensures { self.new ≡ (if is_ok result then record self.old { records = self.old.records ++ placed ∷ [] } else self.old) }
     {
+        let name = Vec::from_slice(*self.records.allocator(), placed.name().as_bytes())?;
+        self.records.reserve(1)?;
+        self.names.insert(name)?;
         self.records.push(placed)?;
         Ok(())
     }
@@ -135,9 +142,7 @@ impl Catalog {
     fn has_name(&self, name: &[u8]) -> bool
         ensures { result ≡ has_name self.now name.now }
     {
-        self.records
-            .iter()
-            .any(|placed| placed.name().as_bytes() == name)
+        self.names.contains(name)
     }
 
     /// The sites, ascending.
@@ -195,7 +200,7 @@ impl Catalog {
     pub fn find(&self, name: &Name) -> Option<RecId>
         ensures { result ≡ find_record self.now name.now }
     {
-        match place_of(&self.records, name.as_bytes()) {
+        match self.names.get_index_of(name.as_bytes()) {
             Some(place) => Some(RecId::new(place as u8)),
             None => None,
         }
@@ -261,6 +266,18 @@ impl Catalog {
         match self.holders(rec) {
             Some(sites) => others_in(alloc, sites.as_slice(), members_of(held, &none), id),
             None => Ok(none),
+        }
+    }
+
+    /// The least of the other holders of the record in the view; none where there is no view.
+    #[tactic(auto, using(crate::proofs::Least::first_kept))]
+    pub fn least_other_holder(&self, id: SiteId, held: Option<&View>, rec: RecId) -> Option<SiteId>
+        ensures { result ≡ first (other_holders_in self.now id (option_copied held.entry) rec) }
+    {
+        let none = Sites::new(*self.records.allocator());
+        match self.holders(rec) {
+            Some(sites) => least_other(sites.as_slice(), members_of(held, &none), id),
+            None => None,
         }
     }
 
@@ -358,6 +375,15 @@ fn others_in(
     Ok(Sites::from_vec(others))
 }
 
+fn least_other(sites: &[SiteId], members: &Sites, id: SiteId) -> Option<SiteId>
+    ensures { result ≡ find (λ q. has members.now q && not (q == id)) sites.now }
+{
+    sites
+        .iter()
+        .copied()
+        .find(|site| is_other_member(members, id, *site))
+}
+
 fn copy_records(alloc: Global, records: &[Placed]) -> Result<Vec<Placed>, NoMemory>
     ensures { IfOk result (λ copies. copies.items ≡ records.now) }
 {
@@ -408,14 +434,4 @@ fn copies_at(
         }
     }
     Ok(copies)
-}
-
-/// The place of the first record of that name.
-fn place_of(records: &[Placed], name: &[u8]) -> Option<usize>
-    ensures place { result ≡ position_from (λ entry. bytes_eq entry.name name.now) 0 records.now }
-    ensures within { IfSome result (λ place. place < length records.now) }
-{
-    records
-        .iter()
-        .position(|placed| placed.name().as_bytes() == name)
 }
