@@ -1,9 +1,10 @@
 -- Slots, and the places of the locks that pass a test.
-use Rattle.std.proofs.Common.{◌≡◌, ℕ, zero, suc, ◌+◌, ◌<◌, ◌||◌, not, ◌∙◌, Bool, true, false, ◌==◌, List, [], ◌∷◌, ◌++◌, map, filter, fold, take, drop, set, Option, Some, None, get_or, length, if◌then◌else◌, is_some, refl, ap, sym, take-suc, arith}
+use Rattle.std.proofs.Common.{◌≡◌, ℕ, zero, suc, ◌+◌, ◌<◌, ◌&&◌, ◌||◌, not, ◌∙◌, Bool, true, false, ◌==◌, List, [], ◌∷◌, ◌++◌, map, filter, fold, take, drop, set, Option, Some, None, get_or, length, if◌then◌else◌, is_some, refl, ap, sym, subst, take-suc, arith}
 use Rattle.std.specs.List.{filter_map, cons_option}
 use Rattle.std.specs.Option.{option_map_or}
 use Rattle.std.proofs.lemmas.Bool.Decides.{nat_tests}
-use Rattle.std.proofs.lemmas.List.{get_or_default}
+use Rattle.std.specs.List.Sorted.{IsStrictlyIncreasing}
+use Rattle.std.proofs.lemmas.List.{get_or_default, get_or-map, length-map}
 use Rattle.std.proofs.lemmas.List.Edits.{map_over_more}
 use Rattle.vp_model.specs.Types.{Owner, Lock}
 use Rattle.vp_locks.specs.Places.{present, lock_at, passes, places, revised, if_kept}
@@ -45,7 +46,44 @@ present_next xs i x within at =
     let next : i + 1 ≡ suc i = omega arith in
     ap (λ n. present (take n xs)) next ∙ ap present (take-suc xs i x within) ∙ present_more (take i xs) (get_or xs i x) ∙ ap (λ s. present (take i xs) ++ cons_option s []) (sym at)
 
--- without a place
+-- a filter of places behind the first one
+filter_later : (p : ℕ → Bool) (ks : List ℕ) → filter p (map suc ks) ≡ map suc (filter (λ k. p (suc k)) ks)
+filter_later p [] = refl
+filter_later p (k ∷ ks) = let rest = filter_later p ks in grind (arith, rest)
+
+-- each place is below those after it
+rise_later : (ks : List ℕ) → IsStrictlyIncreasing ks → IsStrictlyIncreasing (map suc ks)
+rise_later ks h k within =
+    let long = length-map ks suc in
+    let low = get_or-map suc ks k 0 0 (omega (arith, within, long)) in
+    let high = get_or-map suc ks (k + 1) 0 0 (omega (arith, within, long)) in
+    omega (arith, low, high, h k (omega (arith, within, long)))
+
+rise_first : (ks : List ℕ) → IsStrictlyIncreasing (map suc ks) → IsStrictlyIncreasing (0 ∷ map suc ks)
+rise_first [] h k within = absurd (omega (arith, within))
+rise_first (x ∷ ks) h zero within = omega arith
+rise_first (x ∷ ks) h (suc k) within =
+    let e : suc (k + 1) ≡ suc k + 1 = omega arith in
+    subst (λ n. get_or (map suc (x ∷ ks)) k 0 < get_or (0 ∷ map suc (x ∷ ks)) n 0) e (h k (omega (arith, within)))
+
+pub places_rise : (test : Lock → Bool) (slots : List (Option Lock)) → IsStrictlyIncreasing (places test slots)
+places_rise test [] = λ k within. absurd (omega (arith, within))
+places_rise test (None ∷ slots) = rise_later (places test slots) (places_rise test slots)
+places_rise test (Some l ∷ slots) =
+    let later = rise_later (places test slots) (places_rise test slots) in
+    elim (test l) as (λ b. IsStrictlyIncreasing (if b then 0 ∷ map suc (places test slots) else map suc (places test slots)))
+    [ true ↦ rise_first (places test slots) later | false ↦ later ]
+
+-- of the places, those whose lock passes a test too
+pub places_both : (t u : Lock → Bool) (slots : List (Option Lock)) → filter (λ k. passes u (lock_at slots k)) (places t slots) ≡ places (λ lock. t lock && u lock) slots
+places_both t u [] = refl
+places_both t u (None ∷ slots) = filter_later (λ k. passes u (lock_at (None ∷ slots) k)) (places t slots) ∙ ap (map suc) (places_both t u slots)
+places_both t u (Some l ∷ slots) =
+    let later = filter_later (λ k. passes u (lock_at (Some l ∷ slots) k)) (places t slots) ∙ ap (map suc) (places_both t u slots) in
+    let rest = map suc (places (λ lock. t lock && u lock) slots) in
+    elim (t l) as (λ b. filter (λ k. passes u (lock_at (Some l ∷ slots) k)) (if b then 0 ∷ map suc (places t slots) else map suc (places t slots)) ≡ (if b && u l then 0 ∷ rest else rest))
+    [ true ↦ ap (λ ks. if u l then 0 ∷ ks else ks) later | false ↦ later ]
+
 later_others : (p : ℕ) (ks : List ℕ) → filter (λ k. not (k == suc p)) (map suc ks) ≡ map suc (filter (λ k. not (k == p)) ks)
 later_others p [] = refl
 later_others p (k ∷ ks) = let rest = later_others p ks in grind (arith, nat_tests, rest)
@@ -69,23 +107,12 @@ places_apart test [] p h = refl
 places_apart test (s ∷ slots) zero h = grind (arith, h)
 places_apart test (s ∷ slots) (suc p) h = let rest = places_apart test slots p h in grind (arith, rest)
 
--- a place behind all slots is in no list
-pub places_below : (test : Lock → Bool) (slots : List (Option Lock)) → filter (λ k. not (k == length slots)) (places test slots) ≡ places test slots
-places_below test [] = refl
-places_below test (s ∷ slots) =
-    let rest = places_below test slots in
-    let later = later_others (length slots) (places test slots) in
-    grind (arith, nat_tests, rest, later)
-
 -- of the places, those that have a lock
 abbrev taken : List (Option Lock) → List ℕ → List ℕ
 taken slots ks = filter (λ k. is_some (lock_at slots k)) ks
 
 later_taken : (s : Option Lock) (slots : List (Option Lock)) (ks : List ℕ) → taken (s ∷ slots) (map suc ks) ≡ map suc (taken slots ks)
-later_taken s slots [] = refl
-later_taken s slots (k ∷ ks) =
-    elim (is_some (lock_at slots k)) as (λ b. (if b then suc k ∷ taken (s ∷ slots) (map suc ks) else taken (s ∷ slots) (map suc ks)) ≡ map suc (if b then k ∷ taken slots ks else taken slots ks))
-    [ true ↦ ap (λ l. suc k ∷ l) (later_taken s slots ks) | false ↦ later_taken s slots ks ]
+later_taken s slots ks = filter_later (λ k. is_some (lock_at (s ∷ slots) k)) ks
 
 module _ (t : Lock → Bool) (l : Lock) (ks : List ℕ) (new : List (Option Lock)) (rest : taken new ks ≡ places t new) where
   stays_at : taken (Some l ∷ new) (if t l then 0 ∷ map suc ks else map suc ks) ≡ places t (Some l ∷ new)
@@ -142,11 +169,11 @@ module _ (test : Lock → Bool) where
     present_changed (None ∷ slots) = present_changed slots
     present_changed (Some l ∷ slots) = let rest = present_changed slots in grind (arith, rest)
 
-    -- a change that a test does not see
-    pub places_changed : (t : Lock → Bool) → ((lock : Lock) → t (g lock) ≡ t lock) → (slots : List (Option Lock)) → places t (map (revised_where test (λ lock. Some (g lock))) slots) ≡ places t slots
-    places_changed t same [] = refl
-    places_changed t same (None ∷ slots) = ap (map suc) (places_changed t same slots)
-    places_changed t same (Some l ∷ slots) = let rest = places_changed t same slots in grind (arith, rest, same l)
+    -- what a test sees of the changed locks, another sees before
+    pub places_changed : (t u : Lock → Bool) → ((lock : Lock) → t (if test lock then g lock else lock) ≡ u lock) → (slots : List (Option Lock)) → places t (map (revised_where test (λ lock. Some (g lock))) slots) ≡ places u slots
+    places_changed t u same [] = refl
+    places_changed t u same (None ∷ slots) = ap (map suc) (places_changed t u same slots)
+    places_changed t u same (Some l ∷ slots) = let rest = places_changed t u same slots in grind (arith, rest, same l)
 
   module _ (keeps : Lock → Bool) where
     pub present_kept : (slots : List (Option Lock)) → present (map (revised_where test (if_kept keeps)) slots) ≡ filter (λ lock. not (test lock) || keeps lock) (present slots)

@@ -1,72 +1,62 @@
 -- The lists of places stay those of the locks in the slots, whatever becomes of the slots.
-use Rattle.std.proofs.Common.{◌≡◌, ℕ, nat_eq, ◌&&◌, ◌||◌, not, ◌∙◌, Bool, true, false, ◌==◌, List, [], ◌∷◌, ◌++◌, map, filter, fold, set, Option, Some, None, length, if◌then◌else◌, is_some, refl, ap, sym, append-nil, arith}
+use Rattle.std.proofs.Common.{◌≡◌, ℕ, nat_eq, ◌&&◌, ◌||◌, not, ◌∙◌, Bool, true, false, ◌==◌, List, [], ◌∷◌, ◌++◌, map, filter, fold, set, Option, Some, None, length, if◌then◌else◌, is_some, refl, ap, sym, subst, arith}
+use Rattle.std.specs.List.Sorted.{IsStrictlyIncreasing}
 use Rattle.std.specs.List.{filter_map, cons_option, list_any}
 use Rattle.std.specs.Option.{option_map_or}
 use Rattle.std.specs.declared.vec.Vec.{Vec}
 use Rattle.std.proofs.lemmas.Bool.Decides.{nat_tests}
-use Rattle.std.proofs.lemmas.List.Elements.{filter-append}
+use Rattle.std.proofs.lemmas.Map.Views.{any-filter_same}
 use Rattle.indexmap.specs.IndexMap.{IndexMap}
 use Rattle.vp_model.specs.Types.{Owner, Lock}
 use Rattle.vp_base.specs.declared.entry.Owner.TheVariants.{Txn, Refresh}
-use Rattle.vp_model.specs.Locks.{raised, lesser, conflicting, least_owner, holds}
+use Rattle.vp_model.specs.Locks.{raised, lesser, conflicting, holds}
 use Rattle.vp_model.specs.Words.{same_owner}
 use Rattle.vp_locks.specs.Places.{present, lock_at, passes, places, revised, if_kept}
-use Rattle.vp_locks.specs.Index.{places_of, IsIndex, IsRecIndex, IsOwnerIndex, OwnerKey, owner_key, key_eq}
-use Rattle.vp_locks.proofs.InSlots.{found, places_more, places_without, places_apart, places_below, places_changed, places_kept, places_untouched, present_changed, present_kept, revised_each, revised_where}
+use Rattle.vp_locks.specs.declared.places.RecPlaces.{RecPlaces}
+use Rattle.vp_locks.specs.Index.{places_of, Changes, IsIndex, IsRecIndex, IsOwnerIndex, OwnerKey, owner_key, key_eq, on_rec, exclusive_on, owned_by}
+use Rattle.vp_locks.proofs.InSlots.{found, places_more, places_rise, places_both, places_without, places_apart, places_changed, places_kept, places_untouched, present_changed, present_kept, revised_each, revised_where}
 
--- a place behind all others comes and goes
-without_last : (ks : List ℕ) (n : ℕ) → filter (λ k. not (k == n)) ks ≡ ks → filter (λ k. not (k == n)) (ks ++ n ∷ []) ≡ ks
-without_last ks n h = let joined = filter-append (λ k. not (k == n)) ks (n ∷ []) in let nil = append-nil ks in grind (arith, nat_tests, joined, h, nil)
+module _ {K A S : Type 0} (eq : K → K → Bool) (fits : Lock → K → Bool) (old : IndexMap K (Vec ℕ A) S) (slots : List (Option Lock)) (index : IsIndex eq fits old slots) where
+  -- the locks at the places of a key, and that the places rise
+  pub locks_of : (key : K) → filter_map (lock_at slots) (places_of eq old key) ≡ filter (λ lock. fits lock key) (present slots)
+  locks_of key = ap (filter_map (lock_at slots)) (index key) ∙ found (λ lock. fits lock key) slots
 
-module _ {K A S : Type 0} (eq : K → K → Bool) (key_of : Lock → K) (old : IndexMap K (Vec ℕ A) S) (slots : List (Option Lock)) (index : IsIndex eq key_of old slots) where
+  pub rises : (key : K) → IsStrictlyIncreasing (places_of eq old key)
+  rises key = subst IsStrictlyIncreasing (sym (index key)) (places_rise (λ lock. fits lock key) slots)
+
   -- one more lock in a slot of its own
-  pub index_more : (new : IndexMap K (Vec ℕ A) S) (lock : Lock) (n : ℕ) → n ≡ length slots → ((q : K) → places_of eq new q ≡ (if eq (key_of lock) q then places_of eq old q ++ n ∷ [] else places_of eq old q)) → IsIndex eq key_of new (slots ++ Some lock ∷ [])
+  pub index_more : (new : IndexMap K (Vec ℕ A) S) (lock : Lock) (n : ℕ) → n ≡ length slots → Changes eq (fits lock) (λ ps. ps ++ n ∷ []) old new → IsIndex eq fits new (slots ++ Some lock ∷ [])
   index_more new lock n long noted = λ q.
-      noted q ∙ ap (λ m. if eq (key_of lock) q then places_of eq old q ++ m ∷ [] else places_of eq old q) long
-      ∙ ap (λ ps. if eq (key_of lock) q then ps ++ length slots ∷ [] else ps) (index q) ∙ sym (places_more (λ lock. eq (key_of lock) q) slots (Some lock))
-
-  -- a place that was noted is forgotten again
-  pub index_back : (mid new : IndexMap K (Vec ℕ A) S) (key : K) (n : ℕ) → n ≡ length slots
-      → ((q : K) → places_of eq mid q ≡ (if eq key q then places_of eq old q ++ n ∷ [] else places_of eq old q))
-      → ((q : K) → places_of eq new q ≡ (if eq key q then filter (λ k. not (k == n)) (places_of eq mid q) else places_of eq mid q))
-      → IsIndex eq key_of new slots
-  index_back mid new key n long noted forgot = λ q.
-      let f = λ (k : ℕ). not (k == n) in
-      let was = places_of eq old q in
-      let below : filter f was ≡ was =
-      ap (filter f) (index q) ∙ ap (λ m. filter (λ k. not (k == m)) (places (λ lock. eq (key_of lock) q) slots)) long ∙ places_below (λ lock. eq (key_of lock) q) slots ∙ sym (index q) in
-      forgot q ∙ ap (λ ps. if eq key q then filter f ps else ps) (noted q)
-      ∙ elim (eq key q) as (λ b. (if b then filter f (if b then was ++ n ∷ [] else was) else (if b then was ++ n ∷ [] else was)) ≡ was) [ true ↦ without_last was n below | false ↦ refl ]
-      ∙ index q
+      noted q ∙ ap (λ m. if fits lock q then places_of eq old q ++ m ∷ [] else places_of eq old q) long
+      ∙ ap (λ ps. if fits lock q then ps ++ length slots ∷ [] else ps) (index q) ∙ sym (places_more (λ lock. fits lock q) slots (Some lock))
 
   -- the lock at a place goes
   pub index_without : (new : IndexMap K (Vec ℕ A) S) (place : ℕ) (lock : Lock) → lock_at slots place ≡ Some lock
-      → ((q : K) → places_of eq new q ≡ (if eq (key_of lock) q then filter (λ k. not (k == place)) (places_of eq old q) else places_of eq old q))
-      → IsIndex eq key_of new (set slots place None)
+      → Changes eq (fits lock) (filter (λ k. not (k == place))) old new → IsIndex eq fits new (set slots place None)
   index_without new place lock at forgot = λ q.
-      forgot q ∙ ap (λ ps. if eq (key_of lock) q then filter (λ k. not (k == place)) ps else ps) (index q) ∙ by q (eq (key_of lock) q) refl
+      forgot q ∙ ap (λ ps. if fits lock q then filter (λ k. not (k == place)) ps else ps) (index q) ∙ by q (fits lock q) refl
     where
-      by : (q : K) (b : Bool) → eq (key_of lock) q ≡ b → (if b then filter (λ k. not (k == place)) (places (λ lock. eq (key_of lock) q) slots) else places (λ lock. eq (key_of lock) q) slots) ≡ places (λ lock. eq (key_of lock) q) (set slots place None)
-      by q true e = sym (places_without (λ lock. eq (key_of lock) q) slots place)
-      by q false e = sym (places_apart (λ lock. eq (key_of lock) q) slots place (ap (passes (λ lock. eq (key_of lock) q)) at ∙ e))
+      by : (q : K) (b : Bool) → fits lock q ≡ b → (if b then filter (λ k. not (k == place)) (places (λ lock. fits lock q) slots) else places (λ lock. fits lock q) slots) ≡ places (λ lock. fits lock q) (set slots place None)
+      by q true e = sym (places_without (λ lock. fits lock q) slots place)
+      by q false e = sym (places_apart (λ lock. fits lock q) slots place (ap (passes (λ lock. fits lock q)) at ∙ e))
 
-  -- locks change, and keep their keys
-  pub index_changed : (test : Lock → Bool) (g : Lock → Lock) → ((lock : Lock) → key_of (g lock) ≡ key_of lock) → IsIndex eq key_of old (map (revised_where test (λ lock. Some (g lock))) slots)
-  index_changed test g same = λ q. index q ∙ sym (places_changed test g (λ lock. eq (key_of lock) q) (λ lock. ap (λ k. eq k q) (same lock)) slots)
+  -- locks change, and fit the same keys
+  pub index_changed : (test : Lock → Bool) (g : Lock → Lock) → ((lock : Lock) (q : K) → fits (if test lock then g lock else lock) q ≡ fits lock q) → IsIndex eq fits old (map (revised_where test (λ lock. Some (g lock))) slots)
+  index_changed test g same = λ q. index q ∙ sym (places_changed test g (λ lock. fits lock q) (λ lock. fits lock q) (λ lock. same lock q) slots)
 
   -- of the locks of a key some go
-  pub index_kept : ((a k q : K) → eq k q ≡ false → eq a q ≡ true → eq a k ≡ false) → (new : IndexMap K (Vec ℕ A) S) (key : K) (keeps : Lock → Bool)
-      → ((q : K) → places_of eq new q ≡ (if eq key q then filter (λ k. is_some (lock_at (map (revised_where (λ lock. eq (key_of lock) key) (if_kept keeps)) slots) k)) (places_of eq old q) else places_of eq old q))
-      → IsIndex eq key_of new (map (revised_where (λ lock. eq (key_of lock) key) (if_kept keeps)) slots)
-  index_kept apart new key keeps kept = λ q.
+  pub index_kept : (new : IndexMap K (Vec ℕ A) S) (key : K) (keeps : Lock → Bool) → ((lock : Lock) (q : K) → eq key q ≡ false → fits lock q ≡ true → fits lock key ≡ false)
+      → Changes eq (eq key) (filter (λ k. is_some (lock_at (map (revised_where (λ lock. fits lock key) (if_kept keeps)) slots) k))) old new
+      → IsIndex eq fits new (map (revised_where (λ lock. fits lock key) (if_kept keeps)) slots)
+  index_kept new key keeps apart kept = λ q.
       kept q ∙ ap (λ ps. if eq key q then filter (λ k. is_some (lock_at rest k)) ps else ps) (index q) ∙ by q (eq key q) refl
     where
       rest : List (Option Lock)
-      rest = map (revised_where (λ lock. eq (key_of lock) key) (if_kept keeps)) slots
+      rest = map (revised_where (λ lock. fits lock key) (if_kept keeps)) slots
 
-      by : (q : K) (b : Bool) → eq key q ≡ b → (if b then filter (λ k. is_some (lock_at rest k)) (places (λ lock. eq (key_of lock) q) slots) else places (λ lock. eq (key_of lock) q) slots) ≡ places (λ lock. eq (key_of lock) q) rest
-      by q true e = places_kept (λ lock. eq (key_of lock) key) keeps (λ lock. eq (key_of lock) q) slots
-      by q false e = sym (places_untouched (λ lock. eq (key_of lock) key) keeps (λ lock. eq (key_of lock) q) (λ lock h. apart (key_of lock) key q e h) slots)
+      by : (q : K) (b : Bool) → eq key q ≡ b → (if b then filter (λ k. is_some (lock_at rest k)) (places (λ lock. fits lock q) slots) else places (λ lock. fits lock q) slots) ≡ places (λ lock. fits lock q) rest
+      by q true e = places_kept (λ lock. fits lock key) keeps (λ lock. fits lock q) slots
+      by q false e = sym (places_untouched (λ lock. fits lock key) keeps (λ lock. fits lock q) (λ lock h. apart lock q e h) slots)
 
 -- keys of owners
 pub key_same : (a b : Owner) → key_eq (owner_key a) (owner_key b) ≡ same_owner a b
@@ -84,78 +74,109 @@ key_apart (Some a) (Some k) None e h = grind (arith, nat_tests, e, h)
 key_apart (Some a) (Some k) (Some q) e h = grind (arith, nat_tests, e, h)
 
 -- what is asked of the locks at places
-filter_twice : {X : Type 0} (p q r : X → Bool) (xs : List X) → filter (λ x. q x && r x) (filter p xs) ≡ filter (λ x. p x && q x && r x) xs
-filter_twice p q r [] = refl
-filter_twice p q r (x ∷ xs) = let rest = filter_twice p q r xs in grind (arith, nat_tests, rest)
+filter_both : {X : Type 0} (p q r : X → Bool) → ((x : X) → (p x && q x) ≡ r x) → (xs : List X) → filter q (filter p xs) ≡ filter r xs
+filter_both p q r same [] = refl
+filter_both p q r same (x ∷ xs) = let rest = filter_both p q r same xs in let here = same x in grind (arith, nat_tests, rest, here)
 
-any_twice : {X : Type 0} (p q r s : X → Bool) (xs : List X) → ((x : X) → p x ≡ s x) → list_any (λ x. q x && r x) (filter p xs) ≡ list_any (λ x. q x && r x && s x) xs
-any_twice p q r s [] same = refl
-any_twice p q r s (x ∷ xs) same = let rest = any_twice p q r s xs same in let here = same x in grind (arith, nat_tests, rest, here)
-
-any_found : (g : Lock → Bool) (slots : List (Option Lock)) (ks : List ℕ) → list_any (λ k. option_map_or g (lock_at slots k) false) ks ≡ list_any g (filter_map (lock_at slots) ks)
+pub any_found : (g : Lock → Bool) (slots : List (Option Lock)) (ks : List ℕ) → list_any (λ k. passes g (lock_at slots k)) ks ≡ list_any g (filter_map (lock_at slots) ks)
 any_found g slots [] = refl
 any_found g slots (k ∷ ks) =
-    elim (lock_at slots k) as (λ o. (option_map_or g o false || list_any (λ k. option_map_or g (lock_at slots k) false) ks) ≡ list_any g (cons_option o (filter_map (lock_at slots) ks)))
+    elim (lock_at slots k) as (λ o. (passes g o || list_any (λ k. passes g (lock_at slots k)) ks) ≡ list_any g (cons_option o (filter_map (lock_at slots) ks)))
     [ None ↦ any_found g slots ks | Some l ↦ ap (λ b. g l || b) (any_found g slots ks) ]
 
--- whether the lock at a place is on the record, an exclusive one where that is asked
-abbrev pub is_on : Bool → List (Option Lock) → ℕ → ℕ → Bool
-is_on exclusive slots rec k =
-    option_map_or (λ lock. (lock.rec == rec) && (not exclusive || lock.exclusive)) (lock_at slots k) false
-
-module _ (exclusive : Bool) (owner : Owner) where
+module _ (owner : Owner) where
   -- the least owner so far, after one more place
   abbrev pub least_step : List (Option Lock) → Option Owner → ℕ → Option Owner
   least_step slots best k =
-      option_map_or (λ lock. if (exclusive || lock.exclusive) && not (same_owner lock.owner owner) then Some (lesser best lock.owner) else best) (lock_at slots k) best
+      option_map_or (λ lock. if not (same_owner lock.owner owner) then Some (lesser best lock.owner) else best) (lock_at slots k) best
 
-  least_found : (slots : List (Option Lock)) (best : Option Owner) (ks : List ℕ) → fold (least_step slots) best ks ≡ fold (λ best lock. Some (lesser best lock.owner)) best (filter (λ lock. (exclusive || lock.exclusive) && not (same_owner lock.owner owner)) (filter_map (lock_at slots) ks))
+  pub least_found : (slots : List (Option Lock)) (best : Option Owner) (ks : List ℕ) → fold (least_step slots) best ks ≡ fold (λ best lock. Some (lesser best lock.owner)) best (filter (λ lock. not (same_owner lock.owner owner)) (filter_map (lock_at slots) ks))
   least_found slots best [] = refl
   least_found slots best (k ∷ ks) =
-      elim (lock_at slots k) as (λ o. fold (least_step slots) (option_map_or (λ lock. if (exclusive || lock.exclusive) && not (same_owner lock.owner owner) then Some (lesser best lock.owner) else best) o best) ks ≡ fold (λ best lock. Some (lesser best lock.owner)) best (filter (λ lock. (exclusive || lock.exclusive) && not (same_owner lock.owner owner)) (cons_option o (filter_map (lock_at slots) ks)))) [
+      let rest = filter (λ lock. not (same_owner lock.owner owner)) (filter_map (lock_at slots) ks) in
+      elim (lock_at slots k) as (λ o. fold (least_step slots) (option_map_or (λ lock. if not (same_owner lock.owner owner) then Some (lesser best lock.owner) else best) o best) ks ≡ fold (λ best lock. Some (lesser best lock.owner)) best (filter (λ lock. not (same_owner lock.owner owner)) (cons_option o (filter_map (lock_at slots) ks)))) [
         | None ↦ least_found slots best ks
-        | Some l ↦ elim ((exclusive || l.exclusive) && not (same_owner l.owner owner)) as (λ b. fold (least_step slots) (if b then Some (lesser best l.owner) else best) ks ≡ fold (λ best lock. Some (lesser best lock.owner)) best (if b then l ∷ filter (λ lock. (exclusive || lock.exclusive) && not (same_owner lock.owner owner)) (filter_map (lock_at slots) ks) else filter (λ lock. (exclusive || lock.exclusive) && not (same_owner lock.owner owner)) (filter_map (lock_at slots) ks)))
+        | Some l ↦ elim (not (same_owner l.owner owner)) as (λ b. fold (least_step slots) (if b then Some (lesser best l.owner) else best) ks ≡ fold (λ best lock. Some (lesser best lock.owner)) best (if b then l ∷ rest else rest))
             [ true ↦ least_found slots (Some (lesser best l.owner)) ks | false ↦ least_found slots best ks ]
       ]
 
-  -- the record's locks tell which is the least other owner in the way
-  pub least_of : {A S : Type 0} (lists : IndexMap ℕ (Vec ℕ A) S) (slots : List (Option Lock)) (rec : ℕ) → IsRecIndex lists slots → fold (least_step slots) None (places_of nat_eq lists rec) ≡ least_owner (conflicting rec exclusive owner (present slots))
-  least_of lists slots rec index =
-      ap (fold (least_step slots) None) (index rec) ∙ least_found slots None (places (λ lock. lock.rec == rec) slots)
-      ∙ ap (λ ls. least_owner (filter (λ lock. (exclusive || lock.exclusive) && not (same_owner lock.owner owner)) ls)) (found (λ lock. lock.rec == rec) slots)
-      ∙ ap least_owner (filter_twice (λ (lock : Lock). lock.rec == rec) (λ lock. exclusive || lock.exclusive) (λ lock. not (same_owner lock.owner owner)) (present slots))
+  module _ (p : RecPlaces) (slots : List (Option Lock)) (index : IsRecIndex p slots) (rec : ℕ) where
+    -- an exclusive lock is forbidden by all locks of the record, and a shared one by the exclusive ones
+    pub forbids_exclusive : filter (λ lock. not (same_owner lock.owner owner)) (filter_map (lock_at slots) (places_of nat_eq p.all.lists rec)) ≡ conflicting rec true owner (present slots)
+    forbids_exclusive =
+        ap (filter (λ (lock : Lock). not (same_owner lock.owner owner))) (locks_of nat_eq on_rec p.all.lists slots index.0 rec)
+        ∙ filter_both (λ lock. on_rec lock rec) (λ lock. not (same_owner lock.owner owner)) (λ lock. (lock.rec == rec) && (true || lock.exclusive) && not (same_owner lock.owner owner)) (λ lock. grind (arith, nat_tests)) (present slots)
 
-  -- the owner's locks tell whether one is on the record
-  pub holds_of : {A S : Type 0} (lists : IndexMap OwnerKey (Vec ℕ A) S) (slots : List (Option Lock)) (rec : ℕ) → IsOwnerIndex lists slots → list_any (is_on exclusive slots rec) (places_of key_eq lists (owner_key owner)) ≡ holds rec exclusive owner (present slots)
-  holds_of lists slots rec index =
-      let on = λ (lock : Lock). (lock.rec == rec) && (not exclusive || lock.exclusive) in
-      ap (list_any (λ k. option_map_or on (lock_at slots k) false)) (index (owner_key owner))
-      ∙ any_found on slots (places (λ lock. key_eq (owner_key lock.owner) (owner_key owner)) slots)
-      ∙ ap (list_any on) (found (λ lock. key_eq (owner_key lock.owner) (owner_key owner)) slots)
-      ∙ any_twice (λ (lock : Lock). key_eq (owner_key lock.owner) (owner_key owner)) (λ lock. lock.rec == rec) (λ lock. not exclusive || lock.exclusive) (λ lock. same_owner lock.owner owner) (present slots) (λ lock. key_same lock.owner owner)
+    pub forbids_shared : filter (λ lock. not (same_owner lock.owner owner)) (filter_map (lock_at slots) (places_of nat_eq p.exclusive.lists rec)) ≡ conflicting rec false owner (present slots)
+    forbids_shared =
+        ap (filter (λ (lock : Lock). not (same_owner lock.owner owner))) (locks_of nat_eq exclusive_on p.exclusive.lists slots index.1 rec)
+        ∙ filter_both (λ lock. exclusive_on lock rec) (λ lock. not (same_owner lock.owner owner)) (λ lock. (lock.rec == rec) && (false || lock.exclusive) && not (same_owner lock.owner owner)) (λ lock. grind (arith, nat_tests)) (present slots)
 
-abbrev pub of_owner : Owner → Lock → Bool
-of_owner owner lock = key_eq (owner_key lock.owner) (owner_key owner)
+  -- a lock that the owner has on the record is among the record's and among the owner's
+  pub held_of : {K A S : Type 0} (eq : K → K → Bool) (fits : Lock → K → Bool) (lists : IndexMap K (Vec ℕ A) S) (slots : List (Option Lock)) → IsIndex eq fits lists slots
+      → (rec : ℕ) (exclusive : Bool) (key : K) → ((lock : Lock) → ((lock.rec == rec) && (not exclusive || lock.exclusive) && same_owner lock.owner owner) ≡ true → fits lock key ≡ true)
+      → holds rec exclusive owner (filter_map (lock_at slots) (places_of eq lists key)) ≡ holds rec exclusive owner (present slots)
+  held_of eq fits lists slots index rec exclusive key implies =
+      ap (holds rec exclusive owner) (locks_of eq fits lists slots index key)
+      ∙ any-filter_same (λ (lock : Lock). (lock.rec == rec) && (not exclusive || lock.exclusive) && same_owner lock.owner owner) (λ lock. fits lock key) true implies (present slots)
+
+  module _ (rec : ℕ) (exclusive : Bool) (lock : Lock) (is : ((lock.rec == rec) && (not exclusive || lock.exclusive) && same_owner lock.owner owner) ≡ true) where
+    pub fits_rec : on_rec lock rec ≡ true
+    fits_rec = grind (arith, nat_tests, is)
+
+    pub fits_owner : owned_by lock (owner_key owner) ≡ true
+    fits_owner = let own : same_owner lock.owner owner ≡ true = grind (arith, nat_tests, is) in key_same lock.owner owner ∙ own
 
 module _ {A S : Type 0} (lists : IndexMap OwnerKey (Vec ℕ A) S) (slots : List (Option Lock)) (index : IsOwnerIndex lists slots) (owner : Owner) where
   -- a change at each of the owner's places is one of the owner's locks
-  pub owner_revised : (f : Lock → Option Lock) → fold (revised f) slots (places_of key_eq lists (owner_key owner)) ≡ map (revised_where (of_owner owner) f) slots
-  owner_revised f = ap (fold (revised f) slots) (index (owner_key owner)) ∙ revised_each f (of_owner owner) slots
+  pub owner_revised : (f : Lock → Option Lock) → fold (revised f) slots (places_of key_eq lists (owner_key owner)) ≡ map (revised_where (λ lock. owned_by lock (owner_key owner)) f) slots
+  owner_revised f = ap (fold (revised f) slots) (index (owner_key owner)) ∙ revised_each f (λ lock. owned_by lock (owner_key owner)) slots
 
   -- the owner's locks that are not kept go
-  pub owner_swept : (keeps : Lock → Bool) → present (map (revised_where (of_owner owner) (if_kept keeps)) slots) ≡ filter (λ lock. not (same_owner lock.owner owner) || keeps lock) (present slots)
-  owner_swept keeps = present_kept (of_owner owner) keeps slots ∙ (λ i. filter (λ (lock : Lock). not (key_same lock.owner owner i) || keeps lock) (present slots))
+  pub owner_swept : (keeps : Lock → Bool) → present (map (revised_where (λ lock. owned_by lock (owner_key owner)) (if_kept keeps)) slots) ≡ filter (λ lock. not (same_owner lock.owner owner) || keeps lock) (present slots)
+  owner_swept keeps = present_kept (λ lock. owned_by lock (owner_key owner)) keeps slots ∙ (λ i. filter (λ (lock : Lock). not (key_same lock.owner owner i) || keeps lock) (present slots))
 
-  module _ (rec : ℕ) (exclusive : Bool) where
-    raised_own : (lock : Lock) → (if of_owner owner lock then raised rec exclusive owner lock else lock) ≡ raised rec exclusive owner lock
-    raised_own lock = let same = key_same lock.owner owner in grind (arith, nat_tests, same)
+-- the owner's locks on a record are raised
+module _ (rec : ℕ) (owner : Owner) where
+  raised_on : (lock : Lock) → (if on_rec lock rec then raised rec true owner lock else lock) ≡ raised rec true owner lock
+  raised_on lock = grind (arith, nat_tests)
 
-    -- the owner's lock on the record is raised
-    pub owner_raised : present (map (revised_where (of_owner owner) (λ lock. Some (raised rec exclusive owner lock))) slots) ≡ map (raised rec exclusive owner) (present slots)
-    owner_raised = present_changed (of_owner owner) (raised rec exclusive owner) slots ∙ (λ i. map (λ (lock : Lock). raised_own lock i) (present slots))
+  pub raised_rec : (lock : Lock) (q : ℕ) → on_rec (if on_rec lock rec then raised rec true owner lock else lock) q ≡ on_rec lock q
+  raised_rec lock q = grind (arith, nat_tests)
 
-pub raised_owner : (rec : ℕ) (exclusive : Bool) (owner : Owner) (lock : Lock) → (raised rec exclusive owner lock).owner ≡ lock.owner
-raised_owner rec exclusive owner lock = grind (arith, nat_tests)
+  pub raised_owner : (lock : Lock) (q : OwnerKey) → owned_by (if on_rec lock rec then raised rec true owner lock else lock) q ≡ owned_by lock q
+  raised_owner lock q = ap (λ o. key_eq (owner_key o) q) (by lock)
+    where
+      by : (lock : Lock) → (if on_rec lock rec then raised rec true owner lock else lock).owner ≡ lock.owner
+      by lock = grind (arith, nat_tests)
 
-pub raised_rec : (rec : ℕ) (exclusive : Bool) (owner : Owner) (lock : Lock) → (raised rec exclusive owner lock).rec ≡ lock.rec
-raised_rec rec exclusive owner lock = grind (arith, nat_tests)
+  -- a lock of another record is as exclusive as before, and one of this record if it was or is the owner's
+  exclusive_elsewhere : (q : ℕ) → nat_eq rec q ≡ false → (lock : Lock) → exclusive_on (if on_rec lock rec then raised rec true owner lock else lock) q ≡ exclusive_on lock q
+  exclusive_elsewhere q apart lock = grind (arith, nat_tests, apart)
+
+  exclusive_here : (q : ℕ) → nat_eq rec q ≡ true → (lock : Lock) → exclusive_on (if on_rec lock rec then raised rec true owner lock else lock) q ≡ (on_rec lock rec && (lock.exclusive || same_owner lock.owner owner))
+  exclusive_here q same lock = grind (arith, nat_tests, same)
+
+  pub all_raised : (slots : List (Option Lock)) → present (map (revised_where (λ lock. on_rec lock rec) (λ lock. Some (raised rec true owner lock))) slots) ≡ map (raised rec true owner) (present slots)
+  all_raised slots = present_changed (λ lock. on_rec lock rec) (raised rec true owner) slots ∙ (λ i. map (λ (lock : Lock). raised_on lock i) (present slots))
+
+  module _ (old : RecPlaces) (slots : List (Option Lock)) (index : IsRecIndex old slots) where
+    pub rec_revised : (f : Lock → Option Lock) → fold (revised f) slots (places_of nat_eq old.all.lists rec) ≡ map (revised_where (λ lock. on_rec lock rec) f) slots
+    rec_revised f = ap (fold (revised f) slots) (index.0 rec) ∙ revised_each f (λ lock. on_rec lock rec) slots
+
+    -- the record's exclusive locks are those that were, and the owner's
+    pub index_raised : {A S : Type 0} (new : IndexMap ℕ (Vec ℕ A) S) → ((q : ℕ) → places_of nat_eq new q ≡ (if nat_eq rec q then filter (λ k. passes (λ lock. lock.exclusive || same_owner lock.owner owner) (lock_at slots k)) (places_of nat_eq old.all.lists rec) else places_of nat_eq old.exclusive.lists q))
+        → IsIndex nat_eq exclusive_on new (map (revised_where (λ lock. on_rec lock rec) (λ lock. Some (raised rec true owner lock))) slots)
+    index_raised new is q = is q ∙ by (nat_eq rec q) refl
+      where
+        own : Lock → Bool
+        own lock = lock.exclusive || same_owner lock.owner owner
+
+        by : (b : Bool) → nat_eq rec q ≡ b → (if b then filter (λ k. passes own (lock_at slots k)) (places_of nat_eq old.all.lists rec) else places_of nat_eq old.exclusive.lists q) ≡ places (λ lock. exclusive_on lock q) (map (revised_where (λ lock. on_rec lock rec) (λ lock. Some (raised rec true owner lock))) slots)
+        by true e = ap (filter (λ k. passes own (lock_at slots k))) (index.0 rec) ∙ places_both (λ lock. on_rec lock rec) own slots ∙ sym (places_changed (λ lock. on_rec lock rec) (raised rec true owner) (λ lock. exclusive_on lock q) (λ lock. on_rec lock rec && own lock) (exclusive_here q e) slots)
+        by false e = index.1 q ∙ sym (places_changed (λ lock. on_rec lock rec) (raised rec true owner) (λ lock. exclusive_on lock q) (λ lock. exclusive_on lock q) (exclusive_elsewhere q e) slots)
+
+-- what is asked for already
+pub raised_none : (rec : ℕ) (owner : Owner) (locks : List Lock) → map (raised rec false owner) locks ≡ locks
+raised_none rec owner [] = refl
+raised_none rec owner (lock ∷ locks) = let rest = raised_none rec owner locks in grind (arith, nat_tests, rest)

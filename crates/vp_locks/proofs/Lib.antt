@@ -1,3 +1,4 @@
 pub mod InSlots
 pub mod Indexes
+pub mod Listed
 pub mod Lists

@@ -2,9 +2,11 @@
 #![tactic(auto)]
 
 ghost use Rattle.std.specs.Prelude.{◌≡◌, ◌==◌, ◌++◌, ◌∷◌, [], is_ok, not, ◌&&◌, ◌||◌, Some, None, option_copied, if◌then◌else◌, filter, map, fold, true, false};
+ghost use Rattle.std.specs.List.{filter_map};
 ghost use Rattle.std.specs.Option.{option_map_or};
 ghost use Rattle.vp_base.specs.declared.entry.Owner.TheVariants as owner;
 ghost use Rattle.vp_locks.specs.Faults.{holder_in};
+ghost use Rattle.vp_locks.specs.Places.{lock_at, passes};
 ghost use Rattle.vp_model.specs.Locks.{conflict, conflicting, least_owner, holds, with_lock, with_guard, without_owner, without_guard, without_shared, lesser, raised};
 ghost use Rattle.vp_locks.specs.Staying.{stays};
 ghost use Rattle.vp_model.specs.Words.{same_owner, owner_before};
@@ -15,8 +17,8 @@ mod slots;
 
 pub use keeps::Keeps;
 use keeps::Staying;
-use places::{OwnerKey, Places, owner_key};
-use slots::{lock_at, raise, sweep, sweep_all};
+use places::{OwnerKey, Places, RecPlaces, owner_key};
+use slots::{exclusive_or_own, lock_at, raise, sweep, sweep_all};
 use std::alloc::Global;
 use std::marker::Model;
 use vp_base::{CopyOf, Lock, NoMemory, Owner, RecId, TxnId};
@@ -55,44 +57,70 @@ fn lesser_of(best: Option<Owner>, owner: &Owner) -> Owner
     }
 }
 
-/// The least owner so far, or that of a lock of the record which forbids this owner one.
-fn least_with(
-    best: Option<Owner>,
-    lock: Option<&Lock>,
-    exclusive: bool,
-    owner: &Owner,
-) -> Option<Owner>
-    ensures { result ≡ option_map_or (λ lock. if (exclusive || lock.exclusive) && not (same_owner lock.owner owner.now) then Some (lesser best lock.owner) else best) (option_copied lock.entry) best }
+/// The least owner so far, or that of the lock, unless it is this owner's own.
+fn least_with(best: Option<Owner>, lock: Option<&Lock>, owner: &Owner) -> Option<Owner>
+    ensures { result ≡ option_map_or (λ lock. if not (same_owner lock.owner owner.now) then Some (lesser best lock.owner) else best) (option_copied lock.entry) best }
 {
     match lock {
-        Some(lock) if (exclusive || lock.exclusive) && !is_same_owner(&lock.owner, owner) => {
-            Some(lesser_of(best, &lock.owner))
-        }
+        Some(lock) if !is_same_owner(&lock.owner, owner) => Some(lesser_of(best, &lock.owner)),
         _ => best,
     }
 }
 
-/// Whether the owner's lock is on the record, and exclusive where that is asked.
-fn is_on(lock: Option<&Lock>, rec: RecId, exclusive: bool) -> bool
-    ensures { result ≡ option_map_or (λ lock. (lock.rec == rec) && (not exclusive || lock.exclusive)) (option_copied lock.entry) false }
+/// The least owner of the locks at the places, other than this one.
+fn least_other(slots: &[Option<Lock>], places: &[usize], owner: &Owner) -> Option<Owner>
+    ensures { result ≡ least_owner (filter (λ lock. not (same_owner lock.owner owner.now)) (filter_map (lock_at slots.now) places.now)) }
+{
+    let mut best = None;
+    for place in places {
+        best = least_with(best, lock_at(slots, *place), owner);
+    }
+    best
+}
+
+/// Whether the lock is the owner's on the record, and exclusive where that is asked.
+fn is_held(lock: Option<&Lock>, rec: RecId, exclusive: bool, owner: &Owner) -> bool
+    ensures { result ≡ passes (λ lock. (lock.rec == rec) && (not exclusive || lock.exclusive) && same_owner lock.owner owner.now) (option_copied lock.entry) }
 {
     match lock {
-        Some(lock) => lock.rec == rec && (!exclusive || lock.exclusive),
+        Some(lock) => {
+            lock.rec == rec && (!exclusive || lock.exclusive) && is_same_owner(&lock.owner, owner)
+        }
         None => false,
     }
 }
 
-/// How many slots a table may use beyond twice the locks that its last copy had.
+/// Whether one of the locks at the places is the owner's on the record, and exclusive where that is asked.
+fn is_among(
+    slots: &[Option<Lock>],
+    places: &[usize],
+    rec: RecId,
+    exclusive: bool,
+    owner: &Owner,
+) -> bool
+    ensures { result ≡ holds rec exclusive owner.now (filter_map (lock_at slots.now) places.now) }
+{
+    for place in places {
+        if is_held(lock_at(slots, *place), rec, exclusive, owner) {
+            return true;
+        }
+    }
+    false
+}
+
+/// How many slots a table may use beyond four times the locks that its last copy had.
 const ROOM: usize = 64;
 
-/// The locks at a site, in slots in the order in which they were taken, with the places of each record's locks and of each owner's:
-/// what is asked of a record or of an owner reads no others. A lock that goes leaves an empty slot behind. When the slots reach the
+/// The locks at a site, in slots in the order in which they were taken, with the places of each record's locks, of its exclusive ones,
+/// and of each owner's: what is asked of a record or of an owner reads no others. An owner's records are listed too, so that no lock is
+/// read where it has none on a record; a record stays listed until the owner releases all. A lock that goes leaves an empty slot behind. When the slots reach the
 /// limit, a copy without the empty ones takes the table's place; as many locks were taken by then as it has, so that each
 /// lock costs no more than a constant for this.
 pub struct Locks {
     slots: Vec<Option<Lock>>,
-    by_rec: Places<u8>,
+    by_rec: RecPlaces,
     by_owner: Places<OwnerKey>,
+    recs: Places<OwnerKey>,
     limit: usize,
 }
 
@@ -102,6 +130,7 @@ impl Drop for Locks {
             slots: _,
             by_rec: _,
             by_owner: _,
+            recs: _,
             limit: _,
         } = self;
     }
@@ -110,14 +139,14 @@ impl Drop for Locks {
 impl Model for Locks {
     ghost use Rattle.std.specs.Prelude.{List};
     ghost use Rattle.vp_base.specs.declared.site.Lock.{Lock};
-    ghost use Rattle.vp_locks.specs.Index.{IsOwnerIndex, IsRecIndex};
+    ghost use Rattle.vp_locks.specs.Index.{AreListed, IsOwnerIndex, IsRecIndex};
     ghost use Rattle.vp_locks.specs.Places.{present};
 
     ghost Value = { List Lock };
 
     ghost view = { λ a. present a.slots.items };
 
-    ghost invariant = { λ a. IsRecIndex a.by_rec.lists a.slots.items × IsOwnerIndex a.by_owner.lists a.slots.items };
+    ghost invariant = { λ a. IsRecIndex a.by_rec a.slots.items × IsOwnerIndex a.by_owner.lists a.slots.items × AreListed a.recs.lists (present a.slots.items) };
 }
 
 impl CopyOf for Locks {
@@ -128,7 +157,7 @@ impl CopyOf for Locks {
                 copy.append(lock.rec, lock.exclusive, &lock.owner)?;
             }
         }
-        copy.limit = copy.slots.len().saturating_mul(2).saturating_add(ROOM);
+        copy.limit = copy.slots.len().saturating_mul(4).saturating_add(ROOM);
         Ok(copy)
     }
 }
@@ -140,8 +169,9 @@ impl Locks {
     {
         Locks {
             slots: Vec::new(alloc),
-            by_rec: Places::new(alloc),
+            by_rec: RecPlaces::new(alloc),
             by_owner: Places::new(alloc),
+            recs: Places::new(alloc),
             limit: ROOM,
         }
     }
@@ -150,46 +180,51 @@ impl Locks {
     fn blocker(&self, rec: RecId, exclusive: bool, owner: &Owner) -> Option<Owner>
         ensures { result ≡ least_owner (conflicting rec exclusive owner.now self.now) }
     {
-        let mut best = None;
-        for place in self.by_rec.of(&rec.get()) {
-            best = least_with(best, lock_at(&self.slots, *place), exclusive, owner);
+        if exclusive {
+            least_other(&self.slots, self.by_rec.all.of(&rec.get()), owner)
+        } else {
+            least_other(&self.slots, self.by_rec.exclusive.of(&rec.get()), owner)
         }
-        best
     }
 
+    /// The owner's lock on the record stands in the lists of both, so that the shorter one is read.
     fn has(&self, rec: RecId, exclusive: bool, owner: &Owner) -> bool
         ensures { result ≡ holds rec exclusive owner.now self.now }
     {
-        for place in self.by_owner.of(&owner_key(owner)) {
-            if is_on(lock_at(&self.slots, *place), rec, exclusive) {
-                return true;
-            }
+        let key = owner_key(owner);
+        if !self.recs.has(&key, usize::from(rec.get())) {
+            return false;
         }
-        false
+        let of_rec = self.by_rec.all.of(&rec.get());
+        let of_owner = self.by_owner.of(&key);
+        if of_rec.len() < of_owner.len() {
+            is_among(&self.slots, of_rec, rec, exclusive, owner)
+        } else {
+            is_among(&self.slots, of_owner, rec, exclusive, owner)
+        }
     }
 
     fn put(&mut self, rec: RecId, exclusive: bool, owner: &Owner) -> Result<(), NoMemory>
         ensures { self.new ≡ (if is_ok result then with_lock rec exclusive owner.now self.old else self.old) }
     {
-        if self.has(rec, false, owner) {
-            self.raise(rec, exclusive, owner);
+        if !self.has(rec, false, owner) {
+            self.add(rec, exclusive, owner)
+        } else if exclusive {
+            self.raise(rec, owner)
         } else {
-            self.add(rec, exclusive, owner)?;
+            Ok(())
         }
-        Ok(())
     }
 
-    /// The owner's lock on the record becomes exclusive where that is asked.
-    fn raise(&mut self, rec: RecId, exclusive: bool, owner: &Owner)
-        ensures { self.new ≡ map (raised rec exclusive owner.now) self.old }
+    /// The owner's lock on the record becomes exclusive.
+    fn raise(&mut self, rec: RecId, owner: &Owner) -> Result<(), NoMemory>
+        ensures { self.new ≡ (if is_ok result then map (raised rec true owner.now) self.old else self.old) }
     {
-        raise(
-            &mut self.slots,
-            self.by_owner.of(&owner_key(owner)),
-            rec,
-            exclusive,
-            owner,
-        );
+        let places = self.by_rec.all.of(&rec.get());
+        let exclusive = exclusive_or_own(*self.slots.allocator(), &self.slots, places, owner)?;
+        self.by_rec.exclusive.set(rec.get(), exclusive)?;
+        raise(&mut self.slots, self.by_rec.all.of(&rec.get()), rec, owner);
+        Ok(())
     }
 
     /// One more lock, behind the others, whoever has one on the record.
@@ -207,17 +242,20 @@ impl Locks {
         ensures { self.new ≡ (if is_ok result then self.old ++ (record { rec = rec; exclusive = exclusive; owner = owner.now }) ∷ [] else self.old) }
     {
         let place = self.slots.len();
-        self.slots.reserve(1)?;
-        self.by_rec.note(rec.get(), place)?;
-        if let Err(fault) = self.by_owner.note(owner_key(owner), place) {
-            self.by_rec.forget(&rec.get(), place);
-            return Err(fault);
-        }
-        self.slots.push(Some(Lock {
+        let lock = Lock {
             rec,
             exclusive,
             owner: *owner,
-        }))?;
+        };
+        self.slots.reserve(1)?;
+        self.recs
+            .note_once(owner_key(owner), usize::from(rec.get()))?;
+        self.by_rec.note(&lock, place)?;
+        if let Err(fault) = self.by_owner.note(owner_key(owner), place) {
+            self.by_rec.forget_last(&lock);
+            return Err(fault);
+        }
+        self.slots.push(Some(lock))?;
         Ok(())
     }
 
@@ -303,7 +341,9 @@ impl Locks {
     pub fn release(&mut self, txn: TxnId)
         ensures { self.new ≡ without_owner (owner.Txn txn) self.old }
     {
-        self.sweep(&Owner::Txn(txn), Staying::None);
+        let owner = Owner::Txn(txn);
+        self.sweep(&owner, Staying::None);
+        self.recs.remove(&owner_key(&owner));
     }
 
     /// The shared locks of the transaction go, and its exclusive ones stay.

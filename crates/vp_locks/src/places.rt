@@ -1,14 +1,16 @@
 //! Lists of the places of locks, by the records or by the owners of the locks.
 
-ghost use Rattle.std.specs.Prelude.{◌≡◌, ◌++◌, ◌∷◌, ◌==◌, [], OnErr, OnOk, filter, if◌then◌else◌, is_some, not};
-ghost use Rattle.vp_locks.specs.Index.{owner_key, places_of};
+ghost use Rattle.std.specs.Prelude.{◌≡◌, ℕ, ◌-◌, ◌++◌, ◌∷◌, ◌==◌, [], OnErr, OnOk, filter, if◌then◌else◌, is_some, length, nat_eq, not, take, true};
+ghost use Rattle.std.specs.List.{list_any};
+ghost use Rattle.std.specs.List.Sorted.{IsStrictlyIncreasing};
+ghost use Rattle.vp_locks.specs.Index.{Changes, ChangesAt, IsSame, owner_key, places_of};
 ghost use Rattle.vp_locks.specs.Places.{lock_at};
 
 use crate::slots::is_taken;
 use indexmap::IndexMap;
 use std::alloc::Global;
 use std::hash::Hash;
-use vp_base::{Lock, NoMemory, Owner};
+use vp_base::{Lock, NoMemory, Owner, RecId};
 
 /// A key for an owner, of plain numbers: those of its transaction.
 pub(crate) type OwnerKey = Option<(u8, u32, u32)>;
@@ -47,27 +49,74 @@ impl<K: Eq + Hash + Drop> Places<K> {
         }
     }
 
+    /// Whether the place is one of the key's.
+    pub(crate) fn has(&self, key: &K, place: usize) -> bool
+        ensures { result ≡ list_any (λ k. k == place) (places_of K.eq self.now.lists key.now) }
+    {
+        self.of(key).contains(&place)
+    }
+
     /// One more place of the key, behind its others.
     pub(crate) fn note(&mut self, key: K, place: usize) -> Result<(), NoMemory>
-        ensures noted { OnOk result ((q : K) → places_of K.eq self.new.lists q ≡ (if K.eq key q then places_of K.eq self.old.lists q ++ place ∷ [] else places_of K.eq self.old.lists q)) }
+        ensures noted { OnOk result (Changes K.eq (K.eq key) (λ ps. ps ++ place ∷ []) self.old.lists self.new.lists) }
         ensures err { OnErr result ((q : K) → places_of K.eq self.new.lists q ≡ places_of K.eq self.old.lists q) }
     {
         self.lists.entry(key)?.or_default().push(place)?;
         Ok(())
     }
 
-    /// The place is no longer the key's.
-    pub(crate) fn forget(&mut self, key: &K, place: usize)
-        ensures { (q : K) → places_of K.eq self.new.lists q ≡ (if K.eq key.now q then filter (λ k. not (k == place)) (places_of K.eq self.old.lists q) else places_of K.eq self.old.lists q) }
+    /// The place is the key's, as one more if it was not yet.
+    pub(crate) fn note_once(&mut self, key: K, place: usize) -> Result<(), NoMemory>
+        ensures noted { OnOk result (list_any (λ k. k == place) (places_of K.eq self.new.lists key) ≡ true) }
+        ensures kept { (q : K) (n : ℕ) → list_any (λ k. k == n) (places_of K.eq self.old.lists q) ≡ true → list_any (λ k. k == n) (places_of K.eq self.new.lists q) ≡ true }
+    {
+        if self.has(&key, place) {
+            return Ok(());
+        }
+        self.note(key, place)
+    }
+
+    /// No place is the key's any more.
+    pub(crate) fn remove(&mut self, key: &K)
+        ensures { Changes K.eq (K.eq key.now) (λ _. []) self.old.lists self.new.lists }
+    {
+        self.lists.swap_remove(key);
+    }
+
+    /// These places are now the key's, and no others.
+    pub(crate) fn set(&mut self, key: K, places: Vec<usize>) -> Result<(), NoMemory>
+        ensures set { OnOk result (Changes K.eq (K.eq key) (λ _. places.items) self.old.lists self.new.lists) }
+        ensures err { OnErr result ((q : K) → places_of K.eq self.new.lists q ≡ places_of K.eq self.old.lists q) }
+    {
+        self.lists.insert(key, places)?;
+        Ok(())
+    }
+
+    /// The last place is no longer the key's.
+    pub(crate) fn forget_last(&mut self, key: &K)
+        ensures { Changes K.eq (K.eq key.now) (λ ps. take (length ps - 1) ps) self.old.lists self.new.lists }
     {
         if let Some(list) = self.lists.get_mut(key) {
-            list.retain(|other| *other != place);
+            list.pop();
+        }
+    }
+
+    /// The place is no longer the key's. It is sought by halves, since the places rise.
+    pub(crate) fn forget(&mut self, key: &K, place: usize)
+        requires { IsStrictlyIncreasing (places_of K.eq self.old.lists key.now) }
+        ensures { Changes K.eq (K.eq key.now) (filter (λ k. not (k == place))) self.old.lists self.new.lists }
+    {
+        let Some(list) = self.lists.get_mut(key) else {
+            return;
+        };
+        if let Ok(at) = list.binary_search(&place) {
+            list.remove(at);
         }
     }
 
     /// Of the key's places those stay that have a lock. A key without places takes no memory.
     pub(crate) fn keep_taken(&mut self, key: &K, slots: &[Option<Lock>])
-        ensures { (q : K) → places_of K.eq self.new.lists q ≡ (if K.eq key.now q then filter (λ k. is_some (lock_at slots.now k)) (places_of K.eq self.old.lists q) else places_of K.eq self.old.lists q) }
+        ensures { Changes K.eq (K.eq key.now) (filter (λ k. is_some (lock_at slots.now k))) self.old.lists self.new.lists }
     {
         let Some(list) = self.lists.get_mut(key) else {
             return;
@@ -75,6 +124,63 @@ impl<K: Eq + Hash + Drop> Places<K> {
         list.retain(|place| is_taken(slots, *place));
         if list.is_empty() {
             self.lists.swap_remove(key);
+        }
+    }
+}
+
+/// The places of each record's locks, of all of them and of the exclusive ones: a shared lock is forbidden by those alone.
+#[derive(Drop)]
+pub(crate) struct RecPlaces {
+    pub(crate) all: Places<u8>,
+    pub(crate) exclusive: Places<u8>,
+}
+
+impl RecPlaces {
+    pub(crate) fn new(alloc: Global) -> RecPlaces
+        ensures all { (q : ℕ) → places_of nat_eq result.all.lists q ≡ [] }
+        ensures exclusive { (q : ℕ) → places_of nat_eq result.exclusive.lists q ≡ [] }
+    {
+        RecPlaces {
+            all: Places::new(alloc),
+            exclusive: Places::new(alloc),
+        }
+    }
+
+    /// The place of one more lock, behind the others.
+    pub(crate) fn note(&mut self, lock: &Lock, place: usize) -> Result<(), NoMemory>
+        ensures noted { OnOk result (ChangesAt lock.now (λ ps. ps ++ place ∷ []) self.old self.new) }
+        ensures err { OnErr result (IsSame self.old self.new) }
+    {
+        self.all.note(lock.rec.get(), place)?;
+        if !lock.exclusive {
+            return Ok(());
+        }
+        if let Err(fault) = self.exclusive.note(lock.rec.get(), place) {
+            self.all.forget_last(&lock.rec.get());
+            return Err(fault);
+        }
+        Ok(())
+    }
+
+    /// The last place is no longer the lock's.
+    pub(crate) fn forget_last(&mut self, lock: &Lock)
+        ensures { ChangesAt lock.now (λ ps. take (length ps - 1) ps) self.old self.new }
+    {
+        self.all.forget_last(&lock.rec.get());
+        if lock.exclusive {
+            self.exclusive.forget_last(&lock.rec.get());
+        }
+    }
+
+    /// The place is no longer the lock's.
+    pub(crate) fn forget(&mut self, lock: &Lock, place: usize)
+        requires all { IsStrictlyIncreasing (places_of nat_eq self.old.all.lists lock.now.rec) }
+        requires exclusive { IsStrictlyIncreasing (places_of nat_eq self.old.exclusive.lists lock.now.rec) }
+        ensures { ChangesAt lock.now (filter (λ k. not (k == place))) self.old self.new }
+    {
+        self.all.forget(&lock.rec.get(), place);
+        if lock.exclusive {
+            self.exclusive.forget(&lock.rec.get(), place);
         }
     }
 }

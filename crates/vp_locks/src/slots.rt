@@ -1,14 +1,16 @@
 //! Slots for locks: each has a lock, or had one.
 
-ghost use Rattle.std.specs.Prelude.{◌≡◌, ◌<◌, IfSome, None, Some, fold, if◌then◌else◌, is_some, length, map};
+ghost use Rattle.std.specs.Prelude.{◌≡◌, ◌<◌, ◌&&◌, ◌||◌, IfOk, IfSome, None, Some, filter, fold, if◌then◌else◌, is_some, length, map, true, false};
 ghost use Rattle.std.specs.Option.{option_copied, option_map_or};
 ghost use Rattle.vp_locks.specs.Index.{IsOwnerIndex, IsRecIndex};
-ghost use Rattle.vp_locks.specs.Places.{if_kept, lock_at, revised};
+ghost use Rattle.vp_locks.specs.Places.{if_kept, lock_at, passes, revised};
 ghost use Rattle.vp_model.specs.Locks.{raised};
+ghost use Rattle.vp_model.specs.Words.{same_owner};
 
 use crate::keeps::Keeps;
-use crate::places::{OwnerKey, Places, owner_key};
-use vp_base::{Lock, Owner, RecId};
+use crate::places::{OwnerKey, Places, RecPlaces, owner_key};
+use std::alloc::Global;
+use vp_base::{Lock, NoMemory, Owner, RecId};
 use vp_lists::is_same_owner;
 
 /// The lock at a place.
@@ -26,73 +28,95 @@ pub(crate) fn is_taken(slots: &[Option<Lock>], place: usize) -> bool
     lock_at(slots, place).is_some()
 }
 
-/// The owner's lock on the record, exclusive where that is asked; any other lock as it is.
-fn raised(lock: &Lock, rec: RecId, exclusive: bool, owner: &Owner) -> Lock
-    ensures { result ≡ raised rec exclusive owner.now lock.now }
+/// Whether the lock is exclusive, or the owner's.
+fn is_exclusive_or_own(lock: Option<&Lock>, owner: &Owner) -> bool
+    ensures { result ≡ passes (λ lock. lock.exclusive || same_owner lock.owner owner.now) (option_copied lock.entry) }
+{
+    match lock {
+        Some(lock) => lock.exclusive || is_same_owner(&lock.owner, owner),
+        None => false,
+    }
+}
+
+/// Those of the places whose lock is exclusive, or the owner's.
+pub(crate) fn exclusive_or_own(
+    alloc: Global,
+    slots: &[Option<Lock>],
+    places: &[usize],
+    owner: &Owner,
+) -> Result<Vec<usize>, NoMemory>
+    ensures { IfOk result (λ kept. kept.items ≡ filter (λ k. passes (λ lock. lock.exclusive || same_owner lock.owner owner.now) (lock_at slots.now k)) places.now) }
+{
+    let mut kept = Vec::new(alloc);
+    for place in places {
+        if is_exclusive_or_own(lock_at(slots, *place), owner) {
+            kept.push(*place)?;
+        }
+    }
+    Ok(kept)
+}
+
+/// The owner's lock on the record as an exclusive one; any other lock as it is.
+fn raised(lock: &Lock, rec: RecId, owner: &Owner) -> Lock
+    ensures { result ≡ raised rec true owner.now lock.now }
 {
     let is_own = lock.rec == rec && is_same_owner(&lock.owner, owner);
     Lock {
         rec: lock.rec,
-        exclusive: lock.exclusive || is_own && exclusive,
+        exclusive: lock.exclusive || is_own,
         owner: lock.owner,
     }
 }
 
-fn raise_at(slots: &mut [Option<Lock>], place: usize, rec: RecId, exclusive: bool, owner: &Owner)
-    ensures { slots.new ≡ revised (λ lock. Some (raised rec exclusive owner.now lock)) slots.old place }
+fn raise_at(slots: &mut [Option<Lock>], place: usize, rec: RecId, owner: &Owner)
+    ensures { slots.new ≡ revised (λ lock. Some (raised rec true owner.now lock)) slots.old place }
 {
     if let Some(lock) = lock_at(slots, place) {
-        slots[place] = Some(raised(lock, rec, exclusive, owner));
+        slots[place] = Some(raised(lock, rec, owner));
     }
 }
 
-/// The owner's lock on the record becomes exclusive where that is asked.
-pub(crate) fn raise(
-    slots: &mut [Option<Lock>],
-    places: &[usize],
-    rec: RecId,
-    exclusive: bool,
-    owner: &Owner,
-)
-    ensures { slots.new ≡ fold (revised (λ lock. Some (raised rec exclusive owner.now lock))) slots.old places.now }
+/// Of the locks at the places, those of the owner on the record become exclusive.
+pub(crate) fn raise(slots: &mut [Option<Lock>], places: &[usize], rec: RecId, owner: &Owner)
+    ensures { slots.new ≡ fold (revised (λ lock. Some (raised rec true owner.now lock))) slots.old places.now }
 {
     for place in places {
-        raise_at(slots, *place, rec, exclusive, owner);
+        raise_at(slots, *place, rec, owner);
     }
 }
 
 /// The lock at the place goes if it is not kept. Its owner is given.
 fn sweep_at<K: Keeps>(
     slots: &mut [Option<Lock>],
-    by_rec: &mut Places<u8>,
+    by_rec: &mut RecPlaces,
     place: usize,
     kept: &K,
 ) -> Option<Owner>
-    requires index { IsRecIndex by_rec.old.lists slots.old }
+    requires index { IsRecIndex by_rec.old slots.old }
     ensures slots { slots.new ≡ revised (if_kept (K.keeps kept.now)) slots.old place }
-    ensures index { IsRecIndex by_rec.new.lists slots.new }
+    ensures index { IsRecIndex by_rec.new slots.new }
     ensures owner { result ≡ option_map_or (λ lock. if K.keeps kept.now lock then None else Some lock.owner) (lock_at slots.old place) None }
 {
     let lock = lock_at(slots, place)?;
     if kept.keeps(lock) {
         return None;
     }
-    let (rec, owner) = (lock.rec, lock.owner);
+    let owner = lock.owner;
+    by_rec.forget(lock, place);
     slots[place] = None;
-    by_rec.forget(&rec.get(), place);
     Some(owner)
 }
 
 /// Of the locks at the places those go that are not kept.
 pub(crate) fn sweep<K: Keeps>(
     slots: &mut [Option<Lock>],
-    by_rec: &mut Places<u8>,
+    by_rec: &mut RecPlaces,
     places: &[usize],
     kept: &K,
 )
-    requires index { IsRecIndex by_rec.old.lists slots.old }
+    requires index { IsRecIndex by_rec.old slots.old }
     ensures slots { slots.new ≡ fold (revised (if_kept (K.keeps kept.now))) slots.old places.now }
-    ensures index { IsRecIndex by_rec.new.lists slots.new }
+    ensures index { IsRecIndex by_rec.new slots.new }
 {
     for place in places {
         sweep_at(slots, by_rec, *place, kept);
@@ -102,14 +126,14 @@ pub(crate) fn sweep<K: Keeps>(
 /// The locks that are not kept go.
 pub(crate) fn sweep_all<K: Keeps>(
     slots: &mut [Option<Lock>],
-    by_rec: &mut Places<u8>,
+    by_rec: &mut RecPlaces,
     by_owner: &mut Places<OwnerKey>,
     kept: &K,
 )
-    requires records { IsRecIndex by_rec.old.lists slots.old }
+    requires records { IsRecIndex by_rec.old slots.old }
     requires owners { IsOwnerIndex by_owner.old.lists slots.old }
     ensures slots { slots.new ≡ map (λ s. option_map_or (if_kept (K.keeps kept.now)) s None) slots.old }
-    ensures records { IsRecIndex by_rec.new.lists slots.new }
+    ensures records { IsRecIndex by_rec.new slots.new }
     ensures owners { IsOwnerIndex by_owner.new.lists slots.new }
 {
     for place in 0..slots.len() {

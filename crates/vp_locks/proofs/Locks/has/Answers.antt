@@ -1,28 +1,38 @@
-use Rattle.std.proofs.Common.{◌∙◌, ◌&&◌, ◌||◌, ◌==◌, not, false, get_or, sym, ap, take_all}
-use Rattle.std.specs.List.{list_any}
-use Rattle.std.specs.Option.{option_map_or}
-use Rattle.std.proofs.lemmas.List.Folds.{list_any_at}
-use Rattle.vp_model.specs.Types.{Lock}
+use Rattle.std.proofs.Common.{◌∙◌, ◌==◌, nat_eq, sym, ap, ap₂}
+use Rattle.std.specs.List.{filter_map, list_any}
 use Rattle.vp_model.specs.Locks.{holds}
-use Rattle.vp_locks.specs.Index.{places_of, key_eq}
-use Rattle.vp_locks.specs.Places.{lock_at}
-use Rattle.vp_locks.proofs.Indexes.{is_on, holds_of}
+use Rattle.vp_locks.specs.Index.{places_of, owner_key, key_eq, on_rec, owned_by}
+use Rattle.vp_locks.specs.Places.{lock_at, present}
+use Rattle.vp_locks.proofs.Indexes.{held_of, fits_rec, fits_owner}
+use Rattle.vp_locks.proofs.Listed.{none_held}
 use Rattle.vp_locks.proofs.Locks.has.Goals as goal
 
-pub returns-then-is_on : goal.returns-then-is_on
-returns-then-is_on c =
-    let slots = c.self.inside.slots.items in
-    let lists = c.self.inside.by_owner.lists in
-    let items = c.of-place-items.result.now in
-    let here = sym c.if-is_on.true ∙ c.is_on.ensures ∙ ap (λ o. option_map_or (λ (lock : Lock). (lock.rec == c.args.rec) && (not c.args.exclusive || lock.exclusive)) o false) (c.lock_at.ensures.lock ∙ ap (λ xs. lock_at xs (get_or items c.loop-place.place-index 0)) c.deref.ensures.value) in
-    sym (list_any_at (is_on c.args.exclusive slots c.args.rec) items c.loop-place.place-index 0 c.loop-place-test.true (sym here))
-    ∙ ap (list_any (is_on c.args.exclusive slots c.args.rec)) (c.of-place-items.ensures ∙ ap (places_of key_eq lists) c.owner_key.ensures)
-    ∙ holds_of c.args.exclusive c.args.owner.now lists slots c.args.rec c.self.invariant.1 ∙ ap (holds c.args.rec c.args.exclusive c.args.owner.now) c.self.view_is
+pub returns-then-not-has : goal.returns-then-not-has
+returns-then-not-has c =
+    let rec = c.args.rec in
+    let owner = c.args.owner.now in
+    let recs = c.self.inside.recs.lists in
+    let absent = ap₂ (λ key n. list_any (λ k. k == n) (places_of key_eq recs key)) (sym c.owner_key-key.ensures) (sym (c.from.ensures ∙ c.get.ensures.value)) ∙ sym c.has.ensures ∙ c.if-not-has.true in
+    none_held recs rec c.args.exclusive owner absent (present c.self.inside.slots.items) c.self.invariant.2 ∙ ap (holds rec c.args.exclusive owner) c.self.view_is
 
-pub returns : goal.returns
-returns c =
-    let slots = c.self.inside.slots.items in
+pub returns-then-of_rec-of_owner : goal.returns-then-of_rec-of_owner
+returns-then-of_rec-of_owner c =
+    let rec = c.args.rec in
+    let exclusive = c.args.exclusive in
+    let owner = c.args.owner.now in
+    let lists = c.self.inside.by_rec.all.lists in
+    c.is_among.ensures
+    ∙ ap₂ (λ slots ks. holds rec exclusive owner (filter_map (lock_at slots) ks)) c.deref.ensures.value (c.of-of_rec.ensures ∙ ap (places_of nat_eq lists) c.get-2.ensures.value)
+    ∙ held_of owner nat_eq on_rec lists c.self.inside.slots.items c.self.invariant.0.0 rec exclusive rec (fits_rec owner rec exclusive)
+    ∙ ap (holds rec exclusive owner) c.self.view_is
+
+pub returns-else-of_rec-of_owner : goal.returns-else-of_rec-of_owner
+returns-else-of_rec-of_owner c =
+    let rec = c.args.rec in
+    let exclusive = c.args.exclusive in
+    let owner = c.args.owner.now in
     let lists = c.self.inside.by_owner.lists in
-    let all = take_all c.loop-place.place-index c.of-place-items.result.now c.loop-place-test.false ∙ c.of-place-items.ensures ∙ ap (places_of key_eq lists) c.owner_key.ensures in
-    sym c.loop-place.invariant ∙ ap (list_any (is_on c.args.exclusive slots c.args.rec)) all
-    ∙ holds_of c.args.exclusive c.args.owner.now lists slots c.args.rec c.self.invariant.1 ∙ ap (holds c.args.rec c.args.exclusive c.args.owner.now) c.self.view_is
+    c.is_among-else-of_rec-of_owner.ensures
+    ∙ ap₂ (λ slots ks. holds rec exclusive owner (filter_map (lock_at slots) ks)) c.deref-else-of_rec-of_owner.ensures.value (c.of-of_owner.ensures ∙ ap (places_of key_eq lists) c.owner_key-key.ensures)
+    ∙ held_of owner key_eq owned_by lists c.self.inside.slots.items c.self.invariant.1 rec exclusive (owner_key owner) (fits_owner owner rec exclusive)
+    ∙ ap (holds rec exclusive owner) c.self.view_is

@@ -6,4 +6,4 @@ use Rattle.vp_locks.proofs.slots.sweep.Given as goal
 abbrev pub invariant-loop-place : goal.invariant-loop-place
 invariant-loop-place g l =
     (l.slots ≡ fold (revised (if_kept (g.K.Keeps.keeps l.kept))) l.fn.slots (take l.place-index l.places))
-    × IsRecIndex l.by_rec.lists l.slots
+    × IsRecIndex l.by_rec l.slots

@@ -1,9 +1,12 @@
 use Rattle.std.proofs.Common.{◌≡◌, ◌∙◌, ◌==◌, not, filter, if◌then◌else◌, sym, ap, subst}
-use Rattle.vp_locks.specs.Index.{places_of, OwnerKey, owner_key, key_eq, IsOwnerIndex}
+use Rattle.vp_locks.specs.Index.{places_of, OwnerKey, owner_key, key_eq, owned_by, IsOwnerIndex}
 use Rattle.vp_locks.proofs.InSlots.{swept_none, swept_some, swept_more}
-use Rattle.vp_locks.proofs.Indexes.{index_without}
+use Rattle.vp_locks.proofs.Indexes.{index_without, rises}
 use Rattle.vp_locks.proofs.slots.sweep_all.Goals.{in-Some, in_default}
 use Rattle.vp_locks.proofs.slots.sweep_all.Goals as goal
+
+pub forget-requires : goal.forget-requires
+forget-requires g c = rises key_eq owned_by c.loop-place.by_owner.lists c.loop-place.slots c.loop-place.invariant.2 c.owner_key.result
 
 pub loop-place-preserved : goal.loop-place-preserved
 loop-place-preserved g c =
@@ -19,7 +22,7 @@ loop-place-preserved g c =
             let new = w.forget.new.self.lists in
             let forgot : (q : OwnerKey) → places_of key_eq new q ≡ (if key_eq (owner_key some.0.owner) q then filter (λ p. not (p == place)) (places_of key_eq lists q) else places_of key_eq lists q) = λ q. w.forget.ensures q ∙ ap (λ k. if key_eq k q then filter (λ p. not (p == place)) (places_of key_eq lists q) else places_of key_eq lists q) (w.owner_key.ensures ∙ ap owner_key (sym some.2)) in
             subst (λ b. IsOwnerIndex b.lists c.sweep_at.new.slots) (sym w.by_owner-is)
-            (subst (IsOwnerIndex new) (sym (c.sweep_at.ensures.slots ∙ some.3)) (index_without key_eq (λ lock. owner_key lock.owner) lists slots c.loop-place.invariant.2 new place some.0 some.1 forgot))
+            (subst (IsOwnerIndex new) (sym (c.sweep_at.ensures.slots ∙ some.3)) (index_without key_eq owned_by lists slots c.loop-place.invariant.2 new place some.0 some.1 forgot))
         | in_default w ↦
             subst (λ b. IsOwnerIndex b.lists c.sweep_at.new.slots) (sym w.by_owner-is)
             (subst (IsOwnerIndex lists) (sym (c.sweep_at.ensures.slots ∙ swept_none keeps slots place (sym c.sweep_at.ensures.owner ∙ w.in_default.is))) c.loop-place.invariant.2)

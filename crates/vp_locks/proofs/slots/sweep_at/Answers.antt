@@ -1,10 +1,16 @@
-use Rattle.std.proofs.Common.{◌∙◌, ◌==◌, Some, None, not, filter, nat_eq, if◌then◌else◌, option_copied, sym, ap}
+use Rattle.std.proofs.Common.{◌∙◌, Some, None, if◌then◌else◌, nat_eq, option_copied, sym, ap}
 use Rattle.std.specs.Option.{option_map_or}
-use Rattle.vp_locks.specs.Index.{places_of}
+use Rattle.vp_locks.specs.Index.{on_rec, exclusive_on}
 use Rattle.vp_locks.specs.Places.{if_kept}
 use Rattle.vp_locks.proofs.InSlots.{revised_same}
-use Rattle.vp_locks.proofs.Indexes.{index_without}
+use Rattle.vp_locks.proofs.Indexes.{index_without, rises}
 use Rattle.vp_locks.proofs.slots.sweep_at.Goals as goal
+
+pub forget-requires-clause-all : goal.forget-requires-clause-all
+forget-requires-clause-all g c = rises nat_eq on_rec c.args.by_rec.now.all.lists c.args.slots.now c.requires.index.0 c.in_ok-lock.lock.now.rec
+
+pub forget-requires-clause-exclusive : goal.forget-requires-clause-exclusive
+forget-requires-clause-exclusive g c = rises nat_eq exclusive_on c.args.by_rec.now.exclusive.lists c.args.slots.now c.requires.index.1 c.in_ok-lock.lock.now.rec
 
 pub returns-then-keeps-clause-slots : goal.returns-then-keeps-clause-slots
 returns-then-keeps-clause-slots g c =
@@ -15,7 +21,10 @@ returns-then-keeps-clause-slots g c =
 
 pub returns-clause-index : goal.returns-clause-index
 returns-clause-index g c =
-    let lists = c.args.by_rec.now.lists in
+    let lock = c.in_ok-lock.lock.now in
     let at = sym c.lock_at.ensures.lock ∙ ap option_copied c.in_ok-lock.was in
-    index_without nat_eq (λ lock. lock.rec) lists c.args.slots.now c.requires.index c.forget.new.self.lists c.args.place c.in_ok-lock.lock.now at
-    (λ q. c.forget.ensures q ∙ ap (λ k. if nat_eq k q then filter (λ p. not (p == c.args.place)) (places_of nat_eq lists q) else places_of nat_eq lists q) c.get.ensures.value)
+    let old = c.args.by_rec.now in
+    let new = c.forget.new.self in (
+      index_without nat_eq on_rec old.all.lists c.args.slots.now c.requires.index.0 new.all.lists c.args.place lock at c.forget.ensures.0,
+      index_without nat_eq exclusive_on old.exclusive.lists c.args.slots.now c.requires.index.1 new.exclusive.lists c.args.place lock at c.forget.ensures.1,
+    )

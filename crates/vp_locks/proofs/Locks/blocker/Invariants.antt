@@ -1,7 +1,0 @@
-use Rattle.std.proofs.Common.{◌≡◌, take, fold, None}
-use Rattle.vp_locks.proofs.Indexes.{least_step}
-use Rattle.vp_locks.proofs.Locks.blocker.Given as goal
-
-abbrev pub invariant-loop-place : goal.invariant-loop-place
-invariant-loop-place l =
-    l.best ≡ fold (least_step l.exclusive l.owner l.self-inside.slots.items) None (take l.place-index l.place-items)
