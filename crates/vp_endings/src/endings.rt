@@ -18,7 +18,6 @@ use vp_base::{
     Answer, Commit, CopyOf, Effects, Ending, Live, LogRecord, Name, NoMemory, Op, Ops, Owner,
     RecId, SiteId, Sites, Value, Writes,
 };
-use vp_lists::write_copies;
 use vp_transactions::{Handled, tell_outcome};
 
 impl Lent {
@@ -137,7 +136,7 @@ impl Lent {
     {
         let alloc = t.ops.allocator();
         let own = writes_held(alloc, at.catalog, at.id, writes.as_slice())?;
-        write_copies(&mut self.here.copies, &t.view, own.as_slice())?;
+        self.here.copies.write(&t.view, own.as_slice());
         let waiting = writing_parts(alloc, at.catalog, t, writes.as_slice())?;
         self.coordinator.keep_decision(&t.txn, waiting.copy_of()?)?;
         self.effects.force(LogRecord::Commit {

@@ -2,6 +2,7 @@
 
 ghost use Rattle.std.specs.Prelude.{◌≡◌, []};
 
+use crate::copies::SiteCopies;
 use std::alloc::Global;
 use std::marker::Model;
 use vp_base::Copies;
@@ -11,7 +12,7 @@ use vp_locks::Locks;
 #[derive(Drop)]
 pub struct Here {
     pub locks: Locks,
-    pub copies: Copies,
+    pub copies: SiteCopies,
 }
 
 impl Model for Here {
@@ -29,7 +30,7 @@ impl Here {
     {
         Here {
             locks: Locks::new(alloc),
-            copies: Copies::new(alloc),
+            copies: SiteCopies::new(Copies::new(alloc)),
         }
     }
 }

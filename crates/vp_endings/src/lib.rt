@@ -4,12 +4,14 @@
 
 mod around;
 mod closing;
+mod copies;
 mod endings;
 mod here;
 mod lent;
 mod writes;
 
 pub use around::{Around, first_of};
+pub use copies::SiteCopies;
 pub use here::Here;
 pub use lent::Lent;
 pub use writes::{last_writes, writes_held};

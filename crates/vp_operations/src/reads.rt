@@ -10,7 +10,7 @@ ghost use Rattle.vp_endings.specs.Lent.{in_place};
 use crate::records::{copy_here, own_write, usable_record};
 use std::alloc::Global;
 use vp_base::{Live, Message, Name, NoMemory, RecId, SiteId, Sites, Value};
-use vp_endings::{Around, Lent, first_of};
+use vp_endings::{Around, Lent};
 use vp_lists::put_in;
 use vp_locks::LockFault;
 use vp_transactions::Handled;
@@ -48,8 +48,7 @@ fn read_there(
     ensures { OnOk result (lent.new ≡
         for_some (first (other_holders_in at.now.catalog.now at.now.id (option_copied at.now.held) rec)) (read_at at.now.id handled.old.live handled.old.pending rec) (in_place handled.old.live lent.old)) }
 {
-    let asked = at.catalog.other_holders(at.id, at.held, rec)?;
-    match first_of(asked.as_slice()) {
+    match at.catalog.least_other_holder(at.id, at.held, rec) {
         None => {
             lent.put_back(handled);
             Ok(())

@@ -1,19 +1,18 @@
 //! The record of an operation: whether it may be used, and what its transaction and its site have of it.
 
-ghost use Rattle.std.specs.Prelude.{◌≡◌, IfOk, Some, None, nat_le, if◌then◌else◌, length, option_copied};
+ghost use Rattle.std.specs.Prelude.{◌≡◌, IfOk, Some, None, nat_le, if◌then◌else◌, length, option_copied, is_some};
 ghost use Rattle.std.specs.Option.{option_map_or};
 ghost use Rattle.vp_base.specs.declared.answer.Answer.TheVariants as answer;
 ghost use Rattle.vp_model.specs.Words.{value_at};
 ghost use Rattle.vp_model.specs.Catalogue.{inside, total};
 ghost use Rattle.vp_model.specs.Refresh.{members_in, is_usable_in};
 ghost use Rattle.vp_model.specs.Transactions.{last_writes};
-ghost use Rattle.vp_operations.specs.Records.{usable_as, usable_record};
+ghost use Rattle.vp_operations.specs.Records.{usable_as, usable_record, writes};
 
 use std::alloc::Global;
-use vp_base::{Answer, CopyOf, Live, MOST_OPS, Name, NoMemory, RecId, Sites, Stored, Value};
+use vp_base::{Answer, CopyOf, Live, MOST_OPS, Name, NoMemory, Op, RecId, Sites, Stored, Value};
 use vp_catalog::members_of;
-use vp_endings::{Around, Here, last_writes};
-use vp_lists::value_at;
+use vp_endings::{Around, Here};
 use vp_transactions::Handled;
 
 /// Whether the record may be used in the held view.
@@ -87,12 +86,38 @@ pub fn usable_record(
     }
 }
 
+fn writes(op: &Op, rec: RecId) -> bool
+    ensures { result ≡ writes rec op.now }
+{
+    match op {
+        Op::Read { .. } => false,
+        Op::Write { rec: written, .. } => *written == rec,
+    }
+}
+
+/// The value that the operations wrote last to the record.
+fn last_write<'a>(ops: &'a [Op], rec: RecId) -> Option<&'a Value>
+    ensures { option_copied result ≡ value_at rec (last_writes ops.now) }
+{
+    match ops.iter().rev().find(|op| writes(op, rec)) {
+        None => None,
+        Some(Op::Read { .. }) => None,
+        Some(Op::Write { value, .. }) => Some(value),
+    }
+}
+
+/// Whether the transaction wrote the record.
+pub fn wrote(t: &Live, rec: RecId) -> bool
+    ensures { result ≡ is_some (value_at rec (last_writes t.now.ops)) }
+{
+    last_write(t.ops.as_slice(), rec).is_some()
+}
+
 /// The value that the transaction wrote last.
 pub fn own_write(t: &Live, rec: RecId) -> Result<Option<Value>, NoMemory>
     ensures { IfOk result (λ value. value ≡ value_at rec (last_writes t.now.ops)) }
 {
-    let writes = last_writes(t.ops.allocator(), t.ops.as_slice())?;
-    match value_at(writes.as_slice(), rec) {
+    match last_write(t.ops.as_slice(), rec) {
         None => Ok(None),
         Some(value) => Ok(Some(value.copy_of()?)),
     }
@@ -102,7 +127,7 @@ pub fn own_write(t: &Live, rec: RecId) -> Result<Option<Value>, NoMemory>
 pub fn copy_here(here: &Here, rec: RecId) -> Result<Option<Stored>, NoMemory>
     ensures { IfOk result (λ stored. stored ≡ value_at rec here.now.copies) }
 {
-    match value_at(here.copies.as_slice(), rec) {
+    match here.copies.get(rec) {
         None => Ok(None),
         Some(stored) => Ok(Some(stored.copy_of()?)),
     }

@@ -9,7 +9,7 @@ ghost use Rattle.vp_model.specs.Calls.{with_record, lock_here, answer_write, wri
 ghost use Rattle.vp_transactions.specs.Waiting.{waits};
 ghost use Rattle.vp_endings.specs.Lent.{in_place};
 
-use crate::records::{copy_here, own_write, usable_record};
+use crate::records::{usable_record, wrote};
 use vp_base::{Effects, Message, Name, NoMemory, RecId, SiteId, Sites, Value};
 use vp_endings::{Around, Lent};
 use vp_lists::put_in;
@@ -72,7 +72,7 @@ fn write_here(
     }
 }
 
-#[tactic(auto, unfolding(vp_model::specs::Calls::write))]
+#[tactic(auto, unfolding(vp_model::specs::Calls::write), using(crate::proofs::Presence::by_presence))]
 fn write(
     lent: &mut Lent,
     at: &Around<'_>,
@@ -84,12 +84,12 @@ fn write(
     ensures { OnOk result (lent.new ≡
         write at.now.catalog.now at.now.id (option_copied at.now.held) handled.old.live handled.old.pending name.now value.now rec (in_place handled.old.live lent.old)) }
 {
-    match own_write(&handled.live, rec)? {
-        Some(_) => lent.answer_write(handled, rec, value),
-        None => match copy_here(&lent.here, rec)? {
-            Some(_) => write_here(lent, at, handled, name, value, rec),
-            None => write_elsewhere(lent, at, handled, rec, value),
-        },
+    if wrote(&handled.live, rec) {
+        lent.answer_write(handled, rec, value)
+    } else if lent.here.copies.has(rec) {
+        write_here(lent, at, handled, name, value, rec)
+    } else {
+        write_elsewhere(lent, at, handled, rec, value)
     }
 }
 

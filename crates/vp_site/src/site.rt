@@ -11,7 +11,7 @@ use std::marker::Model;
 use vp_base::{CopyOf, Effects, Input, LogRecord, Newest, NoMemory, SiteId, View, ViewId};
 use vp_catalog::Catalog;
 use vp_coordinator::Coordinator;
-use vp_endings::Here;
+use vp_endings::{Here, SiteCopies};
 use vp_locks::Locks;
 use vp_participant::Participant;
 use vp_records::Durable;
@@ -79,7 +79,7 @@ impl Site {
         Ok(Durable::new(
             state.views.promise(),
             state.coordinator.life(),
-            state.here.copies.copy_of()?,
+            state.here.copies.to_list()?,
             state.participant.in_doubt()?,
             state.coordinator.decisions()?,
         ))
@@ -136,7 +136,7 @@ fn live(catalog: &Catalog, id: SiteId, durable: Durable) -> Result<Box<SiteState
         coordinator: Coordinator::restore(alloc, id, durable.life() + 1, &durable)?,
         here: Here {
             locks,
-            copies: durable.into_copies(),
+            copies: SiteCopies::new(durable.into_copies()),
         },
     };
     Ok(Box::new(alloc, state)?)

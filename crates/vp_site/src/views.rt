@@ -11,7 +11,6 @@ ghost use Rattle.vp_site.specs.Lifted.{by_views};
 use vp_base::{NoMemory, SiteId, View, ViewId};
 use vp_catalog::Catalog;
 use vp_lists::view_comes_before;
-use vp_refresh::Refresh;
 use vp_stepped::{SiteState, Stepped};
 use vp_views::InviteFault;
 
@@ -30,7 +29,7 @@ fn drop_view(stepped: &mut Stepped)
 {
     let site: &mut SiteState = &mut stepped.site;
     site.participant.leave(&mut site.here.locks);
-    site.refresh = Refresh::none(site.here.copies.allocator());
+    site.refresh.clear();
     site.views.leave();
 }
 

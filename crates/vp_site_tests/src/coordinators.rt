@@ -6,7 +6,7 @@ use vp_base::{
 };
 use vp_catalog::Catalog;
 use vp_coordinator::Coordinator;
-use vp_endings::Here;
+use vp_endings::{Here, SiteCopies};
 use vp_locks::Locks;
 use vp_records::Durable;
 
@@ -97,7 +97,7 @@ fn unlocked(alloc: Global, catalog: &Catalog) -> Option<Here> {
     let copies = catalog.copies(SiteId::of(1)).ok()?;
     Some(Here {
         locks: Locks::new(alloc),
-        copies,
+        copies: SiteCopies::new(copies),
     })
 }
 

@@ -19,7 +19,6 @@ use vp_base::{
     CallNo, LogRecord, Message, NoMemory, Obstacle, RecId, Recs, SiteId, TxnId, ViewId, Writes,
 };
 use vp_catalog::Catalog;
-use vp_lists::write_copies;
 use vp_participant::{PartFault, PrepareFault, Settled, Voted};
 
 /// A transaction's request for a lock on a record, in its view, as its call of this number.
@@ -149,9 +148,10 @@ impl Stepped {
         ensures { OnOk result (self.new ≡ on_write_request from request.now.txn request.now.view request.now.number request.now.rec self.old) }
     {
         let Request { txn, number, .. } = *request;
-        match self.copy_here(request.rec)? {
-            None => self.pass_over(request, from),
-            Some(_) => self.grant(request, true, Message::WriteAnswer { txn, number }, from),
+        if self.site().here.copies.has(request.rec) {
+            self.grant(request, true, Message::WriteAnswer { txn, number }, from)
+        } else {
+            self.pass_over(request, from)
         }
     }
 
@@ -219,7 +219,7 @@ impl Stepped {
     {
         if commit {
             let site: &mut SiteState = &mut self.site;
-            write_copies(&mut site.here.copies, &doubt.0, doubt.1.as_slice())?;
+            site.here.copies.write(&doubt.0, doubt.1.as_slice());
         }
         self.force(LogRecord::Outcome { txn, commit })
     }

@@ -2,19 +2,16 @@
 
 ghost use Rattle.std.specs.Prelude.{◌≡◌, ◌&&◌, not, false, OnOk, IfOk, option_map};
 ghost use Rattle.std.specs.Option.{option_map_or};
-ghost use Rattle.vp_model.specs.Words.{◌|>◌, for_some, has, is_empty, replace_at};
+ghost use Rattle.vp_model.specs.Words.{◌|>◌, for_some, has, is_empty};
 ghost use Rattle.vp_model.specs.Refresh.{is_doubtful, is_open, refreshing_of, unanswered, newest, take_newer, unlist, settle, settle_all, start_refresh, start_refresh_all};
 ghost use Rattle.vp_model.specs.Views.{usable_here, refresh_here};
 ghost use Rattle.vp_model.specs.Messages.{on_refresh_request, on_refresh_answer};
 
 use crate::state::SiteState;
 use crate::stepped::Stepped;
-use std::mem;
-use vp_base::{
-    Copies, CopyOf, LogRecord, Message, NoMemory, RecId, SiteId, Sites, Stored, View, ViewId,
-};
+use vp_base::{LogRecord, Message, NoMemory, RecId, SiteId, Sites, Stored, View, ViewId};
 use vp_catalog::{Catalog, has_site, members_of};
-use vp_lists::{replace_at, view_comes_before};
+use vp_lists::view_comes_before;
 
 /// The copy of another site, as it answers to a refresh in the view.
 #[derive(Clone, Copy, Drop)]
@@ -70,7 +67,7 @@ impl Stepped {
             return Ok(());
         }
         let site: &mut SiteState = &mut self.site;
-        replace_copy(&mut site.here.copies, rec, &best)?;
+        site.here.copies.replace(rec, best.duplicate());
         self.force(LogRecord::Copy { rec, stored: best })
     }
 
@@ -161,14 +158,13 @@ impl Stepped {
     fn usable_here(&self, catalog: &Catalog) -> Result<Vec<RecId>, NoMemory>
         ensures { IfOk result (λ recs. recs.items ≡ usable_here catalog.now self.now.site) }
     {
-        let copies = &self.site().here.copies;
+        let copies = self.site().here.copies.as_slice();
         Ok(
             copies
-                .as_slice()
                 .iter()
                 .map(|copy| copy.0)
                 .filter(|rec| self.is_open(catalog, *rec))
-                .collect(copies.allocator())?,
+                .collect(catalog.sites().allocator())?,
         )
     }
 
@@ -219,15 +215,4 @@ impl Stepped {
         site.refresh.on_answer(from, rec, answer.stored)?;
         self.settle(catalog, rec)
     }
-}
-
-/// The copy of the record is replaced, where there is one. Without memory some copies may be lost.
-fn replace_copy(copies: &mut Copies, rec: RecId, stored: &Stored) -> Result<(), NoMemory>
-    ensures { OnOk result (copies.new ≡ replace_at rec stored.now copies.old) }
-{
-    let none = Copies::new(copies.allocator());
-    let mut items = mem::replace(copies, none).into_vec();
-    replace_at(&mut items, rec, stored)?;
-    *copies = Copies::from_vec(items);
-    Ok(())
 }

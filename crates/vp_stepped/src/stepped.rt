@@ -11,7 +11,6 @@ use std::marker::Model;
 use vp_base::{
     Answer, CopyOf, Effects, LogRecord, Message, NoMemory, RecId, SiteId, Stored, View, ViewId,
 };
-use vp_lists::value_at;
 
 /// A site, in its box, with what its step has given so far. After want of memory both may only be dropped.
 #[derive(Drop)]
@@ -101,7 +100,7 @@ impl Stepped {
     pub fn copy_here(&self, rec: RecId) -> Result<Option<Stored>, NoMemory>
         ensures { IfOk result (λ stored. stored ≡ value_at rec self.now.site.copies) }
     {
-        match value_at(self.site().here.copies.as_slice(), rec) {
+        match self.site().here.copies.get(rec) {
             None => Ok(None),
             Some(stored) => Ok(Some(stored.copy_of()?)),
         }
