@@ -3,15 +3,15 @@
 ghost use Rattle.std.specs.Prelude.{◌≡◌, ◌++◌, ◌∷◌, [], IfOk, OnOk, map, flat_map};
 ghost use Rattle.std.specs.List.{AllByRecursion};
 ghost use Rattle.vp_laws.specs.ShapeLaws.{message_frame, reply_frame};
-ghost use Rattle.vp_runs.specs.Turns.{datagram_to, message_datagram, reply_datagram};
+ghost use Rattle.vp_runs.specs.Turns.{message_datagram, reply_datagram};
 ghost use Rattle.vp_wire.specs.Grammar.{IsFrame};
 
 use bytes::BytesMut;
 use std::alloc::Global;
-use vp_base::{Messages, NoMemory, Replies, Reply, Sent, SiteId};
+use vp_base::{NoMemory, Reply, Sent, SiteId};
 use vp_catalog::Catalog;
 use vp_outside::{Datagram, Datagrams};
-use vp_wire::{Body, Frame, encode};
+use vp_wire::{encode_message, encode_reply};
 
 /// Room for a frame of most kinds, in bytes.
 const ROOM: usize = 64;
@@ -30,14 +30,11 @@ fn room_for(alloc: Global, frames: usize) -> Result<BytesMut, NoMemory>
     Ok(BytesMut::with_capacity(alloc, room)?)
 }
 
-/// The frame as a datagram to the port. Its bytes are put into the room, which is empty again behind them.
-fn datagram_to(port: u16, frame: &Frame, room: &mut BytesMut) -> Result<Datagram, NoMemory>
-    requires frame { IsFrame frame.now }
-    requires empty { room.old.items ≡ [] }
-    ensures datagram { IfOk result (λ datagram. datagram ≡ datagram_to port frame.now) }
+/// What was put into the room as a datagram to the port. The room is empty again behind it.
+fn datagram_to(port: u16, room: &mut BytesMut) -> Result<Datagram, NoMemory>
+    ensures datagram { IfOk result (λ datagram. datagram ≡ record { port = port; bytes = room.old.items }) }
     ensures empty { OnOk result (room.new.items ≡ []) }
 {
-    encode(frame, room)?;
     Ok(Datagram {
         port,
         bytes: room.freeze_to(room.len())?,
@@ -47,39 +44,35 @@ fn datagram_to(port: u16, frame: &Frame, room: &mut BytesMut) -> Result<Datagram
 /// Puts the message's datagram behind the others; a message to a site that the catalogue lacks has none.
 fn put_message(
     catalog: &Catalog,
-    sent: Sent,
+    sent: &Sent,
     room: &mut BytesMut,
     datagrams: &mut Datagrams,
 ) -> Result<(), NoMemory>
-    requires frame { IsFrame (message_frame sent) }
+    requires frame { IsFrame (message_frame sent.now) }
     requires empty { room.old.items ≡ [] }
-    ensures datagram { OnOk result (datagrams.new ≡ datagrams.old ++ message_datagram catalog.now sent) }
+    ensures datagram { OnOk result (datagrams.new ≡ datagrams.old ++ message_datagram catalog.now sent.now) }
     ensures empty { OnOk result (room.new.items ≡ []) }
 {
     let Some(port) = catalog.port(sent.to) else {
         return Ok(());
     };
-    let frame = Frame {
-        from: sent.from.get(),
-        to: sent.to.get(),
-        body: Body::Message(sent.into_message()),
-    };
-    datagrams.push(datagram_to(port, &frame, room)?)
+    encode_message(sent.from, sent.to, &sent.message, room)?;
+    datagrams.push(datagram_to(port, room)?)
 }
 
 /// Puts the datagrams of the messages behind the others.
 fn put_messages(
     catalog: &Catalog,
-    messages: Messages,
+    messages: &[Sent],
     room: &mut BytesMut,
     datagrams: &mut Datagrams,
 ) -> Result<(), NoMemory>
-    requires frames { AllByRecursion (λ sent. IsFrame (message_frame sent)) messages }
+    requires frames { AllByRecursion (λ sent. IsFrame (message_frame sent)) messages.now }
     requires empty { room.old.items ≡ [] }
-    ensures datagrams { OnOk result (datagrams.new ≡ datagrams.old ++ flat_map (message_datagram catalog.now) messages) }
+    ensures datagrams { OnOk result (datagrams.new ≡ datagrams.old ++ flat_map (message_datagram catalog.now) messages.now) }
     ensures empty { OnOk result (room.new.items ≡ []) }
 {
-    for sent in messages.into_vec() {
+    for sent in messages {
         put_message(catalog, sent, room, datagrams)?;
     }
     Ok(())
@@ -88,37 +81,32 @@ fn put_messages(
 /// Puts the reply's datagram behind the others.
 fn put_reply(
     id: SiteId,
-    reply: Reply,
+    reply: &Reply,
     room: &mut BytesMut,
     datagrams: &mut Datagrams,
 ) -> Result<(), NoMemory>
-    requires frame { IsFrame (reply_frame id reply) }
+    requires frame { IsFrame (reply_frame id reply.now) }
     requires empty { room.old.items ≡ [] }
-    ensures datagram { OnOk result (datagrams.new ≡ datagrams.old ++ reply_datagram id reply ∷ []) }
+    ensures datagram { OnOk result (datagrams.new ≡ datagrams.old ++ reply_datagram id reply.now ∷ []) }
     ensures empty { OnOk result (room.new.items ≡ []) }
 {
-    let port = reply.to;
-    let frame = Frame {
-        from: id.get(),
-        to: 0,
-        body: Body::Reply(reply.into_answer()),
-    };
-    datagrams.push(datagram_to(port, &frame, room)?)
+    encode_reply(id, &reply.answer, room)?;
+    datagrams.push(datagram_to(reply.to, room)?)
 }
 
 /// Puts the datagrams of the replies behind the others.
 fn put_replies(
     id: SiteId,
-    replies: Replies,
+    replies: &[Reply],
     room: &mut BytesMut,
     datagrams: &mut Datagrams,
 ) -> Result<(), NoMemory>
-    requires frames { AllByRecursion (λ reply. IsFrame (reply_frame id reply)) replies }
+    requires frames { AllByRecursion (λ reply. IsFrame (reply_frame id reply)) replies.now }
     requires empty { room.old.items ≡ [] }
-    ensures datagrams { OnOk result (datagrams.new ≡ datagrams.old ++ map (reply_datagram id) replies) }
+    ensures datagrams { OnOk result (datagrams.new ≡ datagrams.old ++ map (reply_datagram id) replies.now) }
     ensures empty { OnOk result (room.new.items ≡ []) }
 {
-    for reply in replies.into_vec() {
+    for reply in replies {
         put_reply(id, reply, room, datagrams)?;
     }
     Ok(())
@@ -128,19 +116,16 @@ fn put_replies(
 pub fn datagrams_of(
     catalog: &Catalog,
     id: SiteId,
-    messages: Messages,
-    replies: Replies,
+    messages: &[Sent],
+    replies: &[Reply],
 ) -> Result<Datagrams, NoMemory>
-    requires messages { AllByRecursion (λ sent. IsFrame (message_frame sent)) messages }
-    requires replies { AllByRecursion (λ reply. IsFrame (reply_frame id reply)) replies }
-    ensures { IfOk result (λ it. it ≡ flat_map (message_datagram catalog.now) messages ++ map (reply_datagram id) replies) }
+    requires messages { AllByRecursion (λ sent. IsFrame (message_frame sent)) messages.now }
+    requires replies { AllByRecursion (λ reply. IsFrame (reply_frame id reply)) replies.now }
+    ensures { IfOk result (λ it. it ≡ flat_map (message_datagram catalog.now) messages.now ++ map (reply_datagram id) replies.now) }
 {
     let alloc = catalog.sites().allocator();
     let mut datagrams = Datagrams::new(alloc);
-    let frames = messages
-        .as_slice()
-        .len()
-        .saturating_add(replies.as_slice().len());
+    let frames = messages.len().saturating_add(replies.len());
     let mut room = room_for(alloc, frames)?;
     put_messages(catalog, messages, &mut room, &mut datagrams)?;
     put_replies(id, replies, &mut room, &mut datagrams)?;

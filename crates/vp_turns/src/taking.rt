@@ -34,7 +34,7 @@ fn step(site: Site, catalog: &Catalog, input: Input) -> Result<(Site, Batch, Out
         messages,
         replies,
     } = effects;
-    let datagrams = datagrams_of(catalog, id, messages, replies)?;
+    let datagrams = datagrams_of(catalog, id, messages.as_slice(), replies.as_slice())?;
     let outcome = Outcome {
         datagrams,
         commits,

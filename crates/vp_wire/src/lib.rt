@@ -9,4 +9,4 @@ mod writing;
 
 pub use frame::{Body, Frame};
 pub use kind::{AnswerKind, CallKind, Kind, MessageKind};
-pub use writing::encode;
+pub use writing::{encode, encode_message, encode_reply};

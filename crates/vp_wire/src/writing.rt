@@ -4,15 +4,18 @@ ghost use Rattle.std.specs.Prelude.{◌≡◌, ◌++◌, ◌∷◌, []};
 ghost use Rattle.vp_text.specs.Printing.{Appends};
 ghost use Rattle.vp_bytes.specs.Fields.{IsSites, IsRecs, IsWrites, view_bytes, txn_bytes, counted_bytes, writes_bytes, numbered_bytes, request_bytes};
 ghost use Rattle.vp_bytes.specs.Copies.{copy_bytes};
-ghost use Rattle.vp_wire.specs.Grammar.{IsMessage, IsFrame, message_fields, fields, frame_bytes, obstacle_bytes};
-ghost use Rattle.vp_wire.specs.Kinds.{frame_code, kind_of_body};
+ghost use Rattle.vp_wire.specs.Grammar.{IsMessage, IsFrame, message_fields, fields, frame_of, frame_bytes, obstacle_bytes};
+ghost use Rattle.vp_wire.specs.Kinds.{frame_code};
+ghost use Rattle.vp_wire.specs.declared.frame.Body.TheVariants as body;
 
 use crate::answers::{put_answer, put_numbered_value};
 use crate::calls::put_call;
 use crate::frame::{Body, Frame};
-use crate::kind::Kind;
+use crate::kind::{Kind, MessageKind};
 use bytes::BytesMut;
-use vp_base::{CallNo, Message, NoMemory, Obstacle, RecId, SiteId, Stored, TxnId, Value, ViewId};
+use vp_base::{
+    Answer, CallNo, Message, NoMemory, Obstacle, RecId, SiteId, Stored, TxnId, Value, ViewId,
+};
 use vp_bytes::{
     put_byte, put_copy, put_maybe_view, put_numbered, put_outcome, put_owner, put_recs,
     put_request, put_sites, put_txn, put_view, put_writes,
@@ -24,19 +27,46 @@ pub fn encode(frame: &Frame, out: &mut BytesMut) -> Result<(), NoMemory>
     requires { IsFrame frame.now }
     ensures { Appends result out.old.items (frame_bytes frame.now) out.new.items }
 {
-    put_head(out, frame)?;
+    put_head(out, Kind::of_body(&frame.body), frame.from, frame.to)?;
     put_fields(out, frame)
 }
 
+/// Like `encode`, for the frame in which a message goes from site to site: the message stays where it stands.
 #[tactic(auto, using(vp_bytes::proofs::Writing::writing))]
-fn put_head(out: &mut BytesMut, frame: &Frame) -> Result<(), NoMemory>
-    ensures { Appends result out.old.items (86 ∷ 1 ∷ frame_code (kind_of_body frame.now.body) ∷ frame.now.from ∷ frame.now.to ∷ []) out.new.items }
+pub fn encode_message(
+    from: SiteId,
+    to: SiteId,
+    message: &Message,
+    out: &mut BytesMut,
+) -> Result<(), NoMemory>
+    requires { IsFrame (frame_of from to (body.Message message.now)) }
+    ensures { Appends result out.old.items (frame_bytes (frame_of from to (body.Message message.now))) out.new.items }
+{
+    let kind = Kind::Message(MessageKind::of_message(message));
+    put_head(out, kind, from.get(), to.get())?;
+    put_message(out, message)
+}
+
+/// Like `encode`, for the frame in which an answer goes from a site to its client: the answer stays where it stands.
+#[tactic(auto, using(vp_bytes::proofs::Writing::writing))]
+pub fn encode_reply(from: SiteId, answer: &Answer, out: &mut BytesMut) -> Result<(), NoMemory>
+    requires { IsFrame (frame_of from 0 (body.Reply answer.now)) }
+    ensures { Appends result out.old.items (frame_bytes (frame_of from 0 (body.Reply answer.now))) out.new.items }
+{
+    put_head(out, Kind::Reply, from.get(), 0)?;
+    put_answer(out, answer)
+}
+
+/// What every frame begins with.
+#[tactic(auto, using(vp_bytes::proofs::Writing::writing))]
+fn put_head(out: &mut BytesMut, kind: Kind, from: u8, to: u8) -> Result<(), NoMemory>
+    ensures { Appends result out.old.items (86 ∷ 1 ∷ frame_code kind ∷ from ∷ to ∷ []) out.new.items }
 {
     put_byte(out, 0x56)?;
     put_byte(out, 1)?;
-    put_byte(out, Kind::of_body(&frame.body).code())?;
-    put_byte(out, frame.from)?;
-    put_byte(out, frame.to)
+    put_byte(out, kind.code())?;
+    put_byte(out, from)?;
+    put_byte(out, to)
 }
 
 #[tactic(auto, using(vp_bytes::proofs::Writing::writing))]

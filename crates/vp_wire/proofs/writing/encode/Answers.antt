@@ -6,4 +6,5 @@ use Rattle.vp_wire.proofs.writing.encode.Goals as goal
 
 pub returns-in_err-put_head : goal.returns-in_err-put_head
 returns-in_err-put_head c =
-    begun_err _ _ _ _ c.from_residual.ensures.0 (begun_as c.args.out.now.items (86 ∷ 1 ∷ frame_code (kind_of_body c.args.frame.now.body) ∷ c.args.frame.now.from ∷ c.args.frame.now.to ∷ []) (fields c.args.frame.now.body) _ _ (refl) c.put_head.ensures.begun)
+    let begun = rw c.of_body.ensures at c.put_head.ensures.begun in
+    begun_err _ _ _ _ c.from_residual.ensures.0 (begun_as c.args.out.now.items (86 ∷ 1 ∷ frame_code (kind_of_body c.args.frame.now.body) ∷ c.args.frame.now.from ∷ c.args.frame.now.to ∷ []) (fields c.args.frame.now.body) _ _ (refl) begun)
