@@ -7,36 +7,29 @@ ghost use Rattle.vp_model.specs.Texts.Answers.{answer_text, numbered_text};
 ghost use Rattle.vp_model.specs.Texts.Fields.{view_text, held_text, txn_text, owner_text};
 
 use crate::fields::{
-    print_count, print_held, print_numbered, print_owner, print_txn, print_value, print_view,
-    print_word,
+    print_counted, print_held, print_numbered, print_owner, print_site, print_txn, print_value,
+    print_view, print_word,
 };
 use vp_base::{Answer, CallNo, Name, NoMemory, Owner, SiteId, TxnId, Value, ViewId};
 use vp_text::print_number;
 
-#[tactic(auto, using(vp_text::proofs::Printing::printing))]
 fn print_begun(out: &mut Vec<u8>, txn: &TxnId, view: &ViewId) -> Result<(), NoMemory>
     ensures { Appends result out.old.items (codes "begun " ++ (txn_text txn.now ++ 32 ∷ view_text view.now)) out.new.items }
 {
-    print_word(out, b"begun ")?;
-    txn.print(out)?;
-    out.push(b' ')?;
-    view.print(out)
+    print_txn(out, b"begun ", txn)?;
+    print_view(out, b" ", view)
 }
 
-#[tactic(auto, using(vp_text::proofs::Printing::printing))]
 fn print_weights(out: &mut Vec<u8>, name: &Name, inside: u32, total: u32) -> Result<(), NoMemory>
     ensures { Appends result out.old.items (32 ∷ (name.now ++ 32 ∷ (decimal inside ++ (codes " of " ++ decimal total)))) out.new.items }
 {
     out.push(b' ')?;
     name.print(out)?;
-    out.push(b' ')?;
-    print_count(out, inside)?;
-    print_word(out, b" of ")?;
-    print_count(out, total)
+    print_counted(out, b" ", inside)?;
+    print_counted(out, b" of ", total)
 }
 
 /// Appends the weights of a record that may not be used.
-#[tactic(auto, using(vp_text::proofs::Printing::printing))]
 fn print_inaccessible(
     out: &mut Vec<u8>,
     txn: &TxnId,
@@ -52,7 +45,6 @@ fn print_inaccessible(
 }
 
 /// Appends who has the lock, and where.
-#[tactic(auto, using(vp_text::proofs::Printing::printing))]
 fn print_lock_held(
     out: &mut Vec<u8>,
     txn: &TxnId,
@@ -66,13 +58,11 @@ fn print_lock_held(
     print_numbered(out, b"lockheld ", txn, number)?;
     out.push(b' ')?;
     name.print(out)?;
-    print_word(out, b" at ")?;
-    at.print(out)?;
+    print_site(out, b" at ", at)?;
     print_word(out, b" by ")?;
     print_owner(out, owner)
 }
 
-#[tactic(auto, using(vp_text::proofs::Printing::printing))]
 fn print_change(
     out: &mut Vec<u8>,
     at: SiteId,
@@ -81,16 +71,13 @@ fn print_change(
 ) -> Result<(), NoMemory>
     ensures { Appends result out.old.items (codes " at " ++ (decimal at ++ (codes " held " ++ (view_text held.now ++ (codes " now " ++ held_text now.now))))) out.new.items }
 {
-    print_word(out, b" at ")?;
-    at.print(out)?;
-    print_word(out, b" held ")?;
-    held.print(out)?;
+    print_site(out, b" at ", at)?;
+    print_view(out, b" held ", held)?;
     print_word(out, b" now ")?;
     print_held(out, now)
 }
 
 /// Appends which view a site held in place of the transaction's.
-#[tactic(auto, using(vp_text::proofs::Printing::printing))]
 fn print_view_changed(
     out: &mut Vec<u8>,
     txn: &TxnId,
@@ -105,7 +92,6 @@ fn print_view_changed(
     print_change(out, at, held, now)
 }
 
-#[tactic(auto, using(vp_text::proofs::Printing::printing))]
 fn print_timed_out(
     out: &mut Vec<u8>,
     txn: &TxnId,
@@ -115,11 +101,9 @@ fn print_timed_out(
     ensures { Appends result out.old.items (numbered_text (codes "timedout ") txn.now number ++ (codes " at " ++ decimal at)) out.new.items }
 {
     print_numbered(out, b"timedout ", txn, number)?;
-    print_word(out, b" at ")?;
-    at.print(out)
+    print_site(out, b" at ", at)
 }
 
-#[tactic(auto, using(vp_text::proofs::Printing::printing))]
 fn print_read(out: &mut Vec<u8>, txn: &TxnId, number: CallNo, value: &Value) -> Result<(), NoMemory>
     ensures { Appends result out.old.items (numbered_text (codes "value ") txn.now number ++ 32 ∷ value.now) out.new.items }
 {
@@ -127,7 +111,6 @@ fn print_read(out: &mut Vec<u8>, txn: &TxnId, number: CallNo, value: &Value) -> 
     print_value(out, value)
 }
 
-#[tactic(auto, using(vp_text::proofs::Printing::printing))]
 fn print_spent(out: &mut Vec<u8>, number: u64) -> Result<(), NoMemory>
     ensures { Appends result out.old.items (codes "spent " ++ decimal number) out.new.items }
 {
@@ -136,18 +119,14 @@ fn print_spent(out: &mut Vec<u8>, number: u64) -> Result<(), NoMemory>
     Ok(())
 }
 
-#[tactic(auto, using(vp_text::proofs::Printing::printing))]
 fn print_skipped(out: &mut Vec<u8>, txn: &TxnId, expected: CallNo) -> Result<(), NoMemory>
     ensures { Appends result out.old.items (codes "skipped " ++ (txn_text txn.now ++ (codes " expected " ++ decimal expected))) out.new.items }
 {
-    print_word(out, b"skipped ")?;
-    txn.print(out)?;
-    print_word(out, b" expected ")?;
-    print_count(out, expected.get())
+    print_txn(out, b"skipped ", txn)?;
+    print_counted(out, b" expected ", expected.get())
 }
 
 /// Appends an answer's text. Without memory only a beginning of it may stand there.
-#[tactic(auto, using(vp_text::proofs::Printing::printing))]
 pub fn print_answer(answer: &Answer, out: &mut Vec<u8>) -> Result<(), NoMemory>
     ensures { Appends result out.old.items (answer_text answer.now) out.new.items }
 {

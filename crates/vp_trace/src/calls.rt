@@ -6,11 +6,10 @@ ghost use Rattle.std.specs.Fmt.{decimal};
 ghost use Rattle.vp_model.specs.Texts.Calls.{call_text, event_text, pair_text};
 ghost use Rattle.vp_model.specs.Texts.Fields.{call_name_text};
 
-use crate::fields::{print_call_name, print_count, print_word};
+use crate::fields::{print_call_name, print_counted, print_site, print_value, print_word};
 use vp_base::{Call, CallNo, Event, Name, NoMemory, SiteId, TxnId, Value};
 
 /// Appends a call as it stands behind the site. Without memory only a beginning of it may stand there.
-#[tactic(auto, using(vp_text::proofs::Printing::printing))]
 pub fn print_call(call: &Call, out: &mut Vec<u8>) -> Result<(), NoMemory>
     ensures { Appends result out.old.items (call_text call.now) out.new.items }
 {
@@ -24,18 +23,11 @@ pub fn print_call(call: &Call, out: &mut Vec<u8>) -> Result<(), NoMemory>
             name,
             value,
         } => print_write(out, txn, *number, name, value),
-        Call::Commit { txn, number } => {
-            print_call_name(out, txn, *number)?;
-            print_word(out, b" commit")
-        }
-        Call::Abort { txn, number } => {
-            print_call_name(out, txn, *number)?;
-            print_word(out, b" abort")
-        }
+        Call::Commit { txn, number } => print_end(out, txn, *number, b" commit"),
+        Call::Abort { txn, number } => print_end(out, txn, *number, b" abort"),
     }
 }
 
-#[tactic(auto, using(vp_text::proofs::Printing::printing))]
 fn print_read(out: &mut Vec<u8>, txn: &TxnId, number: CallNo, name: &Name) -> Result<(), NoMemory>
     ensures { Appends result out.old.items (call_name_text txn.now number ++ (codes " read " ++ name.now)) out.new.items }
 {
@@ -44,7 +36,6 @@ fn print_read(out: &mut Vec<u8>, txn: &TxnId, number: CallNo, name: &Name) -> Re
     name.print(out)
 }
 
-#[tactic(auto, using(vp_text::proofs::Printing::printing))]
 fn print_write(
     out: &mut Vec<u8>,
     txn: &TxnId,
@@ -57,19 +48,16 @@ fn print_write(
     print_call_name(out, txn, number)?;
     print_word(out, b" write ")?;
     name.print(out)?;
-    out.push(b' ')?;
-    value.print(out)
+    print_value(out, value)
 }
 
-#[tactic(auto, using(vp_text::proofs::Printing::printing))]
-fn print_at(out: &mut Vec<u8>, word: &[u8], site: SiteId) -> Result<(), NoMemory>
-    ensures { Appends result out.old.items (word.now ++ decimal site) out.new.items }
+fn print_end(out: &mut Vec<u8>, txn: &TxnId, number: CallNo, word: &[u8]) -> Result<(), NoMemory>
+    ensures { Appends result out.old.items (call_name_text txn.now number ++ word.now) out.new.items }
 {
-    print_word(out, word)?;
-    site.print(out)
+    print_call_name(out, txn, number)?;
+    print_word(out, word)
 }
 
-#[tactic(auto, using(vp_text::proofs::Printing::printing))]
 fn print_pair(out: &mut Vec<u8>, word: &[u8], a: SiteId, b: SiteId) -> Result<(), NoMemory>
     ensures { Appends result out.old.items (pair_text word.now a b) out.new.items }
 {
@@ -79,25 +67,15 @@ fn print_pair(out: &mut Vec<u8>, word: &[u8], a: SiteId, b: SiteId) -> Result<()
     b.print(out)
 }
 
-#[tactic(auto, using(vp_text::proofs::Printing::printing))]
-fn print_counted(out: &mut Vec<u8>, word: &[u8], count: u32) -> Result<(), NoMemory>
-    ensures { Appends result out.old.items (word.now ++ decimal count) out.new.items }
-{
-    print_word(out, word)?;
-    print_count(out, count)
-}
-
-#[tactic(auto, using(vp_text::proofs::Printing::printing))]
 fn print_called(out: &mut Vec<u8>, site: SiteId, call: &Call) -> Result<(), NoMemory>
     ensures { Appends result out.old.items (codes "call " ++ (decimal site ++ 32 ∷ call_text call.now)) out.new.items }
 {
-    print_at(out, b"call ", site)?;
+    print_site(out, b"call ", site)?;
     out.push(b' ')?;
     print_call(call, out)
 }
 
 /// Appends an event as a schedule writes it, without the end of its line.
-#[tactic(auto, using(vp_text::proofs::Printing::printing))]
 pub fn print_event(event: &Event, out: &mut Vec<u8>) -> Result<(), NoMemory>
     ensures { Appends result out.old.items (event_text event.now) out.new.items }
 {
@@ -105,11 +83,11 @@ pub fn print_event(event: &Event, out: &mut Vec<u8>) -> Result<(), NoMemory>
         Event::Call { site, call } => print_called(out, *site, call),
         Event::Deliver { k } => print_counted(out, b"deliver ", *k),
         Event::Flow { count } => print_counted(out, b"flow ", *count),
-        Event::Tick { site } => print_at(out, b"tick ", *site),
-        Event::Probe { site } => print_at(out, b"probe ", *site),
+        Event::Tick { site } => print_site(out, b"tick ", *site),
+        Event::Probe { site } => print_site(out, b"probe ", *site),
         Event::Cut { a, b } => print_pair(out, b"cut ", *a, *b),
         Event::Heal { a, b } => print_pair(out, b"heal ", *a, *b),
-        Event::Crash { site } => print_at(out, b"crash ", *site),
-        Event::Restart { site } => print_at(out, b"restart ", *site),
+        Event::Crash { site } => print_site(out, b"crash ", *site),
+        Event::Restart { site } => print_site(out, b"restart ", *site),
     }
 }

@@ -28,8 +28,23 @@ pub fn print_count(out: &mut Vec<u8>, number: u32) -> Result<(), NoMemory>
     Ok(())
 }
 
+/// Appends given bytes and a number.
+pub fn print_counted(out: &mut Vec<u8>, word: &[u8], count: u32) -> Result<(), NoMemory>
+    ensures { Appends result out.old.items (word.now ++ decimal count) out.new.items }
+{
+    print_word(out, word)?;
+    print_count(out, count)
+}
+
+/// Appends given bytes and a site.
+pub fn print_site(out: &mut Vec<u8>, word: &[u8], site: SiteId) -> Result<(), NoMemory>
+    ensures { Appends result out.old.items (word.now ++ decimal site) out.new.items }
+{
+    print_word(out, word)?;
+    site.print(out)
+}
+
 /// Appends the view that a site holds, or that it holds none.
-#[tactic(auto, using(vp_text::proofs::Printing::printing))]
 pub fn print_held(out: &mut Vec<u8>, held: &Option<ViewId>) -> Result<(), NoMemory>
     ensures { Appends result out.old.items (held_text held.now) out.new.items }
 {
@@ -39,7 +54,6 @@ pub fn print_held(out: &mut Vec<u8>, held: &Option<ViewId>) -> Result<(), NoMemo
     }
 }
 
-#[tactic(auto, using(vp_text::proofs::Printing::printing))]
 pub fn print_owner(out: &mut Vec<u8>, owner: &Owner) -> Result<(), NoMemory>
     ensures { Appends result out.old.items (owner_text owner.now) out.new.items }
 {
@@ -50,7 +64,6 @@ pub fn print_owner(out: &mut Vec<u8>, owner: &Owner) -> Result<(), NoMemory>
 }
 
 /// Appends a transaction and the number of one of its calls.
-#[tactic(auto, using(vp_text::proofs::Printing::printing))]
 pub fn print_call_name(out: &mut Vec<u8>, txn: &TxnId, number: CallNo) -> Result<(), NoMemory>
     ensures { Appends result out.old.items (call_name_text txn.now number) out.new.items }
 {
@@ -60,7 +73,6 @@ pub fn print_call_name(out: &mut Vec<u8>, txn: &TxnId, number: CallNo) -> Result
 }
 
 /// Appends given bytes and a view.
-#[tactic(auto, using(vp_text::proofs::Printing::printing))]
 pub fn print_view(out: &mut Vec<u8>, word: &[u8], view: &ViewId) -> Result<(), NoMemory>
     ensures { Appends result out.old.items (word.now ++ view_text view.now) out.new.items }
 {
@@ -69,7 +81,6 @@ pub fn print_view(out: &mut Vec<u8>, word: &[u8], view: &ViewId) -> Result<(), N
 }
 
 /// Appends given bytes and a transaction.
-#[tactic(auto, using(vp_text::proofs::Printing::printing))]
 pub fn print_txn(out: &mut Vec<u8>, word: &[u8], txn: &TxnId) -> Result<(), NoMemory>
     ensures { Appends result out.old.items (word.now ++ txn_text txn.now) out.new.items }
 {
@@ -78,7 +89,6 @@ pub fn print_txn(out: &mut Vec<u8>, word: &[u8], txn: &TxnId) -> Result<(), NoMe
 }
 
 /// Appends given bytes, a transaction and the number of one of its calls.
-#[tactic(auto, using(vp_text::proofs::Printing::printing))]
 pub fn print_numbered(
     out: &mut Vec<u8>,
     word: &[u8],
@@ -105,7 +115,6 @@ pub fn print_sites(out: &mut Vec<u8>, sites: &[SiteId]) -> Result<(), NoMemory>
     }
 }
 
-#[tactic(auto, using(vp_text::proofs::Printing::printing))]
 fn print_later_sites(out: &mut Vec<u8>, sites: &[SiteId]) -> Result<(), NoMemory>
     ensures { Appends result out.old.items (flat_map later_site_text sites.now) out.new.items }
 {
@@ -117,7 +126,6 @@ fn print_later_sites(out: &mut Vec<u8>, sites: &[SiteId]) -> Result<(), NoMemory
 }
 
 /// Appends a blank and a value.
-#[tactic(auto, using(vp_text::proofs::Printing::printing))]
 pub fn print_value(out: &mut Vec<u8>, value: &Value) -> Result<(), NoMemory>
     ensures { Appends result out.old.items (32 ∷ value.now) out.new.items }
 {
@@ -126,7 +134,6 @@ pub fn print_value(out: &mut Vec<u8>, value: &Value) -> Result<(), NoMemory>
 }
 
 /// Appends a blank and the name of a record; the blank alone where the catalogue has no record at that place.
-#[tactic(auto, using(vp_text::proofs::Printing::printing))]
 pub fn print_record_behind(out: &mut Vec<u8>, catalog: &Catalog, rec: RecId) -> Result<(), NoMemory>
     ensures { Appends result out.old.items (32 ∷ name_of catalog.now rec) out.new.items }
 {

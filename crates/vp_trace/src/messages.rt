@@ -14,16 +14,13 @@ use crate::fields::{
 use vp_base::{CallNo, Message, NoMemory, Obstacle, RecId, SiteId, Stored, TxnId, Value, ViewId};
 use vp_catalog::Catalog;
 
-#[tactic(auto, using(vp_text::proofs::Printing::printing))]
-fn print_two_views(out: &mut Vec<u8>, word: &[u8], a: &ViewId, b: &ViewId) -> Result<(), NoMemory>
-    ensures { Appends result out.old.items (word.now ++ (view_text a.now ++ 32 ∷ view_text b.now)) out.new.items }
+fn print_stale(out: &mut Vec<u8>, id: &ViewId, promise: &ViewId) -> Result<(), NoMemory>
+    ensures { Appends result out.old.items (codes "stale " ++ (view_text id.now ++ 32 ∷ view_text promise.now)) out.new.items }
 {
-    print_view(out, word, a)?;
-    out.push(b' ')?;
-    b.print(out)
+    print_view(out, b"stale ", id)?;
+    print_view(out, b" ", promise)
 }
 
-#[tactic(auto, using(vp_text::proofs::Printing::printing))]
 fn print_members(out: &mut Vec<u8>, id: &ViewId, members: &[SiteId]) -> Result<(), NoMemory>
     ensures { Appends result out.old.items (codes "view " ++ (view_text id.now ++ 32 ∷ sites_text members.now)) out.new.items }
 {
@@ -32,7 +29,6 @@ fn print_members(out: &mut Vec<u8>, id: &ViewId, members: &[SiteId]) -> Result<(
     print_sites(out, members)
 }
 
-#[tactic(auto, using(vp_text::proofs::Printing::printing))]
 fn print_request(
     out: &mut Vec<u8>,
     word: &[u8],
@@ -50,7 +46,6 @@ fn print_request(
     print_count(out, number.get())
 }
 
-#[tactic(auto, using(vp_text::proofs::Printing::printing))]
 fn print_lock_request(
     out: &mut Vec<u8>,
     catalog: &Catalog,
@@ -66,7 +61,6 @@ fn print_lock_request(
     print_record_behind(out, catalog, rec)
 }
 
-#[tactic(auto, using(vp_text::proofs::Printing::printing))]
 fn print_read_answer(
     out: &mut Vec<u8>,
     txn: &TxnId,
@@ -79,7 +73,6 @@ fn print_read_answer(
     print_value(out, value)
 }
 
-#[tactic(auto, using(vp_text::proofs::Printing::printing))]
 fn print_obstacle(out: &mut Vec<u8>, why: &Obstacle) -> Result<(), NoMemory>
     ensures { Appends result out.old.items (obstacle_text why.now) out.new.items }
 {
@@ -95,7 +88,6 @@ fn print_obstacle(out: &mut Vec<u8>, why: &Obstacle) -> Result<(), NoMemory>
     }
 }
 
-#[tactic(auto, using(vp_text::proofs::Printing::printing))]
 fn print_refuse(
     out: &mut Vec<u8>,
     txn: &TxnId,
@@ -109,7 +101,6 @@ fn print_refuse(
     print_obstacle(out, why)
 }
 
-#[tactic(auto, using(vp_text::proofs::Printing::printing))]
 fn print_reads(out: &mut Vec<u8>, catalog: &Catalog, reads: &[RecId]) -> Result<(), NoMemory>
     ensures { Appends result out.old.items (flat_map (read_text catalog.now) reads.now) out.new.items }
 {
@@ -120,7 +111,6 @@ fn print_reads(out: &mut Vec<u8>, catalog: &Catalog, reads: &[RecId]) -> Result<
     Ok(())
 }
 
-#[tactic(auto, using(vp_text::proofs::Printing::printing))]
 fn print_writes(
     out: &mut Vec<u8>,
     catalog: &Catalog,
@@ -136,7 +126,6 @@ fn print_writes(
     Ok(())
 }
 
-#[tactic(auto, using(vp_text::proofs::Printing::printing))]
 fn print_outcome(out: &mut Vec<u8>, txn: &TxnId, commit: bool) -> Result<(), NoMemory>
     ensures { Appends result out.old.items (codes "outcome " ++ (txn_text txn.now ++ outcome_text commit)) out.new.items }
 {
@@ -155,7 +144,6 @@ fn print_decided(out: &mut Vec<u8>, commit: bool) -> Result<(), NoMemory>
     }
 }
 
-#[tactic(auto, using(vp_text::proofs::Printing::printing))]
 fn print_refresh_request(
     out: &mut Vec<u8>,
     catalog: &Catalog,
@@ -168,7 +156,6 @@ fn print_refresh_request(
     print_record_behind(out, catalog, rec)
 }
 
-#[tactic(auto, using(vp_text::proofs::Printing::printing))]
 fn print_copy(
     out: &mut Vec<u8>,
     catalog: &Catalog,
@@ -183,7 +170,6 @@ fn print_copy(
     stored.date.print(out)
 }
 
-#[tactic(auto, using(vp_text::proofs::Printing::printing))]
 fn print_refresh_answer(
     out: &mut Vec<u8>,
     catalog: &Catalog,
@@ -197,7 +183,6 @@ fn print_refresh_answer(
     print_copy(out, catalog, rec, stored)
 }
 
-#[tactic(auto, using(vp_text::proofs::Printing::printing))]
 fn print_prepare(
     out: &mut Vec<u8>,
     catalog: &Catalog,
@@ -215,7 +200,6 @@ fn print_prepare(
 }
 
 /// Appends a message as a trace shows it, with its records by name. Without memory only a beginning of it may stand there.
-#[tactic(auto, using(vp_text::proofs::Printing::printing))]
 pub fn print_message(
     catalog: &Catalog,
     message: &Message,
@@ -226,7 +210,7 @@ pub fn print_message(
     match message {
         Message::Invite { id } => print_view(out, b"invite ", id),
         Message::Accept { id } => print_view(out, b"accept ", id),
-        Message::Stale { id, promise } => print_two_views(out, b"stale ", id, promise),
+        Message::Stale { id, promise } => print_stale(out, id, promise),
         Message::ViewCommit { id, members } => print_members(out, id, members.as_slice()),
         Message::ReadRequest {
             txn,

@@ -8,25 +8,21 @@ ghost use Rattle.vp_model.specs.Texts.Trace.{commit_line, sent_line, sent_lines,
 
 use crate::answers::print_answer;
 use crate::calls::print_event;
-use crate::fields::{print_count, print_word};
+use crate::fields::{print_count, print_site, print_txn, print_view, print_word};
 use crate::messages::print_message;
 use vp_base::{Commit, Line, NoMemory, Reply, Sent, Shown, SiteId};
 use vp_catalog::Catalog;
 use vp_text::print_number;
 
-#[tactic(auto, using(vp_text::proofs::Printing::printing))]
 fn print_commit(commit: &Commit, out: &mut Vec<u8>) -> Result<(), NoMemory>
     ensures { Appends result out.old.items (commit_line commit.now) out.new.items }
 {
-    print_word(out, b" commit ")?;
-    commit.txn.print(out)?;
-    out.push(b' ')?;
-    commit.view.print(out)?;
+    print_txn(out, b" commit ", &commit.txn)?;
+    print_view(out, b" ", &commit.view)?;
     out.push(b'\n')?;
     Ok(())
 }
 
-#[tactic(auto, using(vp_text::proofs::Printing::printing))]
 fn print_commits(commits: &[Commit], out: &mut Vec<u8>) -> Result<(), NoMemory>
     ensures { Appends result out.old.items (flat_map commit_line commits.now) out.new.items }
 {
@@ -36,7 +32,6 @@ fn print_commits(commits: &[Commit], out: &mut Vec<u8>) -> Result<(), NoMemory>
     Ok(())
 }
 
-#[tactic(auto, using(vp_text::proofs::Printing::printing))]
 fn print_routed(catalog: &Catalog, sent: &Sent, out: &mut Vec<u8>) -> Result<(), NoMemory>
     ensures { Appends result out.old.items
         (decimal sent.now.from ++ 62 ∷ (decimal sent.now.to ++ 32 ∷ (message_text catalog.now sent.now.message ++ 10 ∷ [])))
@@ -51,7 +46,6 @@ fn print_routed(catalog: &Catalog, sent: &Sent, out: &mut Vec<u8>) -> Result<(),
     Ok(())
 }
 
-#[tactic(auto, using(vp_text::proofs::Printing::printing))]
 fn print_sent(catalog: &Catalog, k: u64, sent: &Sent, out: &mut Vec<u8>) -> Result<(), NoMemory>
     ensures { Appends result out.old.items (sent_line catalog.now k sent.now) out.new.items }
 {
@@ -63,7 +57,6 @@ fn print_sent(catalog: &Catalog, k: u64, sent: &Sent, out: &mut Vec<u8>) -> Resu
 }
 
 /// The messages are numbered, the first of them by `first`.
-#[tactic(auto, using(vp_text::proofs::Printing::printing))]
 fn print_messages(
     catalog: &Catalog,
     first: u64,
@@ -81,7 +74,6 @@ fn print_messages(
     Ok(())
 }
 
-#[tactic(auto, using(vp_text::proofs::Printing::printing))]
 fn print_reply(reply: &Reply, out: &mut Vec<u8>) -> Result<(), NoMemory>
     ensures { Appends result out.old.items (reply_line reply.now) out.new.items }
 {
@@ -91,7 +83,6 @@ fn print_reply(reply: &Reply, out: &mut Vec<u8>) -> Result<(), NoMemory>
     Ok(())
 }
 
-#[tactic(auto, using(vp_text::proofs::Printing::printing))]
 fn print_replies(replies: &[Reply], out: &mut Vec<u8>) -> Result<(), NoMemory>
     ensures { Appends result out.old.items (flat_map reply_line replies.now) out.new.items }
 {
@@ -101,7 +92,6 @@ fn print_replies(replies: &[Reply], out: &mut Vec<u8>) -> Result<(), NoMemory>
     Ok(())
 }
 
-#[tactic(auto, using(vp_text::proofs::Printing::printing))]
 fn print_told(out: &mut Vec<u8>, word: &[u8], number: u32) -> Result<(), NoMemory>
     ensures { Appends result out.old.items (told_line word.now number) out.new.items }
 {
@@ -111,14 +101,11 @@ fn print_told(out: &mut Vec<u8>, word: &[u8], number: u32) -> Result<(), NoMemor
     Ok(())
 }
 
-#[tactic(auto, using(vp_text::proofs::Printing::printing))]
 fn print_parted(out: &mut Vec<u8>, from: SiteId, to: SiteId) -> Result<(), NoMemory>
     ensures { Appends result out.old.items (codes " cut " ++ (decimal from ++ 32 ∷ (decimal to ++ 10 ∷ []))) out.new.items }
 {
-    print_word(out, b" cut ")?;
-    from.print(out)?;
-    out.push(b' ')?;
-    to.print(out)?;
+    print_site(out, b" cut ", from)?;
+    print_site(out, b" ", to)?;
     out.push(b'\n')?;
     Ok(())
 }
@@ -149,7 +136,6 @@ fn print_shown(catalog: &Catalog, shown: &Shown, out: &mut Vec<u8>) -> Result<()
 }
 
 /// Appends the line `number EVENT` and the lines of what it gave. Without memory only a beginning of it may stand there.
-#[tactic(auto, using(vp_text::proofs::Printing::printing))]
 pub fn print_line(
     number: u32,
     line: &Line,

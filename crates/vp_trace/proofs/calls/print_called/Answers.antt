@@ -1,11 +1,14 @@
-use Rattle.std.proofs.Common.{◌++◌, rules}
+use Rattle.std.proofs.Common.{[], ◌++◌, ◌∷◌}
 use Rattle.std.specs.Fmt.{decimal}
 use Rattle.std.specs.Prelude.{codes}
-use Rattle.vp_text.proofs.Printing.{begun_first}
+use Rattle.vp_trace.proofs.Printed.{behind, none_of, within}
 use Rattle.vp_trace.proofs.calls.print_called.Goals as goal
 
-pub returns-in_err-print_at : goal.returns-in_err-print_at
-returns-in_err-print_at c = record {
-  whole = search rules;
-  begun = begun_first _ (codes "call " ++ decimal c.args.site) _ _ c.print_at.ensures.begun;
-}
+pub returns-in_err-print_site : goal.returns-in_err-print_site
+returns-in_err-print_site c = within _ _ (codes "call " ++ decimal c.args.site) _ _ c.from_residual.ensures.0 c.print_site.ensures.begun
+
+pub returns-in_err-push : goal.returns-in_err-push
+returns-in_err-push c = behind _ _ (codes "call " ++ decimal c.args.site) _ _ _ c.in_ok-print_site.ensures.whole (none_of _ _ _ _ c.from_residual-in_err-push.ensures.0 c.in_err-push.ensures.items)
+
+pub returns : goal.returns
+returns c = behind _ _ (codes "call " ++ decimal c.args.site) _ _ _ c.in_ok-print_site.ensures.whole (behind _ _ (32 ∷ []) _ _ _ c.in_ok-push.ensures.items c.print_call.ensures)

@@ -1,22 +1,13 @@
-use Rattle.std.proofs.Common.{arith, rules}
-use Rattle.std.proofs.lemmas.Grind.{common_steps}
 use Rattle.std.specs.Prelude.{codes}
 use Rattle.vp_model.specs.Texts.Fields.{call_name_text}
-use Rattle.vp_trace.proofs.Printed.{all_or_none, behind}
-use Rattle.vp_text.proofs.Printing.{begun_first, begun_then, printing}
+use Rattle.vp_trace.proofs.Printed.{all_or_none, behind, none_of, within}
 use Rattle.vp_trace.proofs.calls.print_read.Goals as goal
 
 pub returns-in_err-print_call_name : goal.returns-in_err-print_call_name
-returns-in_err-print_call_name c = record {
-  whole = search rules;
-  begun = begun_first _ (call_name_text c.args.txn.now c.args.number) _ _ c.print_call_name.ensures.begun;
-}
+returns-in_err-print_call_name c = within _ _ (call_name_text c.args.txn.now c.args.number) _ _ c.from_residual.ensures.0 c.print_call_name.ensures.begun
 
 pub returns-in_err-print_word : goal.returns-in_err-print_word
-returns-in_err-print_word c = record {
-  whole = search rules;
-  begun = begun_then _ (call_name_text c.args.txn.now c.args.number) _ _ (grind (arith, printing));
-}
+returns-in_err-print_word c = behind _ _ (call_name_text c.args.txn.now c.args.number) _ _ _ c.in_ok-print_call_name.ensures.whole (none_of _ _ _ _ c.from_residual-in_err-print_word.ensures.0 c.in_err-print_word.ensures.err)
 
 pub returns : goal.returns
-returns c = behind _ _ (call_name_text c.args.txn.now c.args.number) _ c.print_call_name.new.out.items _ (grind (arith, common_steps)) (behind _ _ (codes " read ") _ c.print_word.new.out.items _ (grind (arith, common_steps)) (all_or_none _ _ (c.args.name.now) _ c.print.ensures.ok c.print.ensures.err))
+returns c = behind _ _ (call_name_text c.args.txn.now c.args.number) _ _ _ c.in_ok-print_call_name.ensures.whole (behind _ _ (codes " read ") _ _ _ c.in_ok-print_word.ensures.ok (all_or_none _ _ c.args.name.now _ c.print.ensures.ok c.print.ensures.err))

@@ -1,21 +1,16 @@
-use Rattle.std.proofs.Common.{[], ◌∷◌, arith, rules}
-use Rattle.std.proofs.lemmas.Grind.{common_steps}
+use Rattle.std.proofs.Common.{[], ◌∷◌}
 use Rattle.vp_model.specs.Catalogue.{name_of}
-use Rattle.vp_trace.proofs.Printed.{behind}
-use Rattle.vp_text.proofs.Printing.{begun_first, begun_then, printing}
+use Rattle.vp_trace.proofs.Printed.{behind, none_of, within}
 use Rattle.vp_trace.proofs.messages.print_copy.Goals as goal
 
 pub returns-in_err-print_record_behind : goal.returns-in_err-print_record_behind
-returns-in_err-print_record_behind c = record {
-  whole = search rules;
-  begun = begun_first _ (32 ∷ name_of c.args.catalog.now c.args.rec) _ _ c.print_record_behind.ensures.begun;
-}
+returns-in_err-print_record_behind c = within _ _ (32 ∷ name_of c.args.catalog.now c.args.rec) _ _ c.from_residual.ensures.0 c.print_record_behind.ensures.begun
 
 pub returns-in_err-print_value : goal.returns-in_err-print_value
-returns-in_err-print_value c = record {
-  whole = search rules;
-  begun = begun_then _ (32 ∷ name_of c.args.catalog.now c.args.rec) _ _ (begun_first _ (32 ∷ c.args.stored.now.value) _ _ (grind (arith, printing)));
-}
+returns-in_err-print_value c = behind _ _ (32 ∷ name_of c.args.catalog.now c.args.rec) _ _ _ c.in_ok-print_record_behind.ensures.whole (within _ _ (32 ∷ c.args.stored.now.value) _ _ c.from_residual-in_err-print_value.ensures.0 c.print_value.ensures.begun)
+
+pub returns-in_err-push : goal.returns-in_err-push
+returns-in_err-push c = behind _ _ (32 ∷ name_of c.args.catalog.now c.args.rec) _ _ _ c.in_ok-print_record_behind.ensures.whole (behind _ _ (32 ∷ c.args.stored.now.value) _ _ _ c.in_ok-print_value.ensures.whole (none_of _ _ _ _ c.from_residual-in_err-push.ensures.0 c.in_err-push.ensures.items))
 
 pub returns : goal.returns
-returns c = behind _ _ (32 ∷ name_of c.args.catalog.now c.args.rec) _ c.print_record_behind.new.out.items _ (grind (arith, common_steps)) (behind _ _ (32 ∷ c.args.stored.now.value) _ c.print_value.new.out.items _ (grind (arith, common_steps)) (behind _ _ (32 ∷ []) _ c.push.new.self.items _ (grind (arith, common_steps)) c.print.ensures))
+returns c = behind _ _ (32 ∷ name_of c.args.catalog.now c.args.rec) _ _ _ c.in_ok-print_record_behind.ensures.whole (behind _ _ (32 ∷ c.args.stored.now.value) _ _ _ c.in_ok-print_value.ensures.whole (behind _ _ (32 ∷ []) _ _ _ c.in_ok-push.ensures.items c.print.ensures))

@@ -1,23 +1,13 @@
-use Rattle.std.proofs.Common.{arith, rules}
-use Rattle.std.proofs.lemmas.Grind.{common_steps}
-use Rattle.std.specs.List.{flat_map}
-use Rattle.std.specs.Prelude.{codes}
+use Rattle.std.specs.Prelude.{codes, flat_map}
 use Rattle.vp_model.specs.Texts.Messages.{read_text, request_text}
-use Rattle.vp_trace.proofs.Printed.{behind}
-use Rattle.vp_text.proofs.Printing.{begun_first, begun_then, printing}
+use Rattle.vp_trace.proofs.Printed.{behind, within}
 use Rattle.vp_trace.proofs.messages.print_prepare.Goals as goal
 
 pub returns-in_err-print_request : goal.returns-in_err-print_request
-returns-in_err-print_request c = record {
-  whole = search rules;
-  begun = begun_first _ (request_text (codes "prepare ") c.args.txn.now c.args.view.now c.args.number) _ _ c.print_request.ensures.begun;
-}
+returns-in_err-print_request c = within _ _ (request_text (codes "prepare ") c.args.txn.now c.args.view.now c.args.number) _ _ c.from_residual.ensures.0 c.print_request.ensures.begun
 
 pub returns-in_err-print_reads : goal.returns-in_err-print_reads
-returns-in_err-print_reads c = record {
-  whole = search rules;
-  begun = begun_then _ (request_text (codes "prepare ") c.args.txn.now c.args.view.now c.args.number) _ _ (begun_first _ (flat_map (read_text c.args.catalog.now) c.args.reads.now) _ _ (grind (arith, printing)));
-}
+returns-in_err-print_reads c = behind _ _ (request_text (codes "prepare ") c.args.txn.now c.args.view.now c.args.number) _ _ _ c.in_ok-print_request.ensures.whole (within _ _ (flat_map (read_text c.args.catalog.now) c.args.reads.now) _ _ c.from_residual-in_err-print_reads.ensures.0 c.print_reads.ensures.begun)
 
 pub returns : goal.returns
-returns c = behind _ _ (request_text (codes "prepare ") c.args.txn.now c.args.view.now c.args.number) _ c.print_request.new.out.items _ (grind (arith, common_steps)) (behind _ _ (flat_map (read_text c.args.catalog.now) c.args.reads.now) _ c.print_reads.new.out.items _ (grind (arith, common_steps)) c.print_writes.ensures)
+returns c = behind _ _ (request_text (codes "prepare ") c.args.txn.now c.args.view.now c.args.number) _ _ _ c.in_ok-print_request.ensures.whole (behind _ _ (flat_map (read_text c.args.catalog.now) c.args.reads.now) _ _ _ c.in_ok-print_reads.ensures.whole c.print_writes.ensures)

@@ -1,29 +1,17 @@
-use Rattle.std.proofs.Common.{[], ◌∷◌, arith, rules}
+use Rattle.std.proofs.Common.{◌++◌, ◌∷◌}
 use Rattle.std.specs.Prelude.{codes}
 use Rattle.vp_model.specs.Texts.Fields.{txn_text, view_text}
-use Rattle.vp_text.proofs.Printing.{begun_first, begun_then, printing}
+use Rattle.vp_trace.proofs.Printed.{all_of, behind, none_of, within}
 use Rattle.vp_trace.proofs.trace.print_commit.Goals as goal
 
-pub returns-in_err-print : goal.returns-in_err-print
-returns-in_err-print c = record {
-  whole = search rules;
-  begun = begun_then _ (codes " commit ") _ _ (begun_first _ (txn_text c.args.commit.now.txn) _ _ (grind (arith, printing)));
-}
+pub returns-in_err-print_txn : goal.returns-in_err-print_txn
+returns-in_err-print_txn c = within _ _ (codes " commit " ++ txn_text c.args.commit.now.txn) _ _ c.from_residual.ensures.0 c.print_txn.ensures.begun
+
+pub returns-in_err-print_view : goal.returns-in_err-print_view
+returns-in_err-print_view c = behind _ _ (codes " commit " ++ txn_text c.args.commit.now.txn) _ _ _ c.in_ok-print_txn.ensures.whole (within _ _ (32 ∷ view_text c.args.commit.now.view) _ _ c.from_residual-in_err-print_view.ensures.0 c.print_view.ensures.begun)
 
 pub returns-in_err-push : goal.returns-in_err-push
-returns-in_err-push c = record {
-  whole = search rules;
-  begun = begun_then _ (codes " commit ") _ _ (begun_then _ (txn_text c.args.commit.now.txn) _ _ (grind (arith, printing)));
-}
+returns-in_err-push c = behind _ _ (codes " commit " ++ txn_text c.args.commit.now.txn) _ _ _ c.in_ok-print_txn.ensures.whole (behind _ _ (32 ∷ view_text c.args.commit.now.view) _ _ _ c.in_ok-print_view.ensures.whole (none_of _ _ _ _ c.from_residual-in_err-push.ensures.0 c.in_err-push.ensures.items))
 
-pub returns-in_err-print-2 : goal.returns-in_err-print-2
-returns-in_err-print-2 c = record {
-  whole = search rules;
-  begun = begun_then _ (codes " commit ") _ _ (begun_then _ (txn_text c.args.commit.now.txn) _ _ (begun_then _ (32 ∷ []) _ _ (begun_first _ (view_text c.args.commit.now.view) _ _ (grind (arith, printing)))));
-}
-
-pub returns-in_err-push-2 : goal.returns-in_err-push-2
-returns-in_err-push-2 c = record {
-  whole = search rules;
-  begun = begun_then _ (codes " commit ") _ _ (begun_then _ (txn_text c.args.commit.now.txn) _ _ (begun_then _ (32 ∷ []) _ _ (begun_then _ (view_text c.args.commit.now.view) _ _ (grind (arith, printing)))));
-}
+pub returns : goal.returns
+returns c = behind _ _ (codes " commit " ++ txn_text c.args.commit.now.txn) _ _ _ c.in_ok-print_txn.ensures.whole (behind _ _ (32 ∷ view_text c.args.commit.now.view) _ _ _ c.in_ok-print_view.ensures.whole (all_of _ _ _ c.in_ok-push.ensures.items))

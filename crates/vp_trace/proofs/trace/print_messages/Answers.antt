@@ -1,9 +1,12 @@
-use Rattle.std.proofs.Common.{◌≡◌, ◌++◌, ◌+◌, drop, sym, subst, List, ℕ, true, rules, arith}
+use Rattle.std.proofs.Common.{◌≡◌, ◌++◌, ◌+◌, drop, refl, sym, subst, List, ℕ, true, rules, arith}
 use Rattle.std.proofs.lemmas.Grind.{common_steps}
 use Rattle.vp_text.specs.Printing.{is_begun}
-use Rattle.vp_text.proofs.Printing.{begun_first, begun_on, begun_whole}
+use Rattle.vp_text.proofs.Printing.{begun_none, begun_first, begun_on, begun_whole}
 use Rattle.vp_model.specs.Texts.Trace.{sent_line, sent_lines}
 use Rattle.vp_trace.proofs.trace.print_messages.Goals as goal
+
+pub loop-sent-init : goal.loop-sent-init
+loop-sent-init c = record { count = search rules; rest = search rules; begun = begun_none _ _ _ refl }
 
 pub loop-sent-preserved : goal.loop-sent-preserved
 loop-sent-preserved c =
