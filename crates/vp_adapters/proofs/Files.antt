@@ -5,7 +5,7 @@ use Rattle.vp_outside.specs.Disk.{Torn, MaybeCut, Untouched}
 use Rattle.vp_outside.specs.DiskCalls.{GoesOn, KeepsToStop, Changes}
 use Rattle.vp_outside.specs.Output.{HasOutCause}
 use Rattle.vp_outside.specs.declared.sink.OutFault.{OutFault}
-use Rattle.vp_outside.proofs.LogRecords.{InHalf-refl}
+use Rattle.vp_outside.proofs.Halves.{InHalf-refl}
 use Rattle.vp_adapters.specs.Files.{of_files}
 
 pub Torn-same : (at n : ℕ) (bytes : List ℕ) → Torn at n bytes bytes

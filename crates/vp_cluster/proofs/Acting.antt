@@ -14,9 +14,10 @@ use Rattle.vp_laws.proofs.Invariant.Views.{InvViews}
 use Rattle.vp_runs.specs.Arrivals.{arrival}
 use Rattle.vp_runs.specs.Turns.{Turn, turn_on, step_turn}
 use Rattle.vp_kept.proofs.Happened.{Acts}
-use Rattle.vp_cluster.specs.declared.letter.Letter.{Letter}
-use Rattle.vp_cluster.specs.Letters.{letter_of, as_received}
-use Rattle.vp_cluster.specs.Hosts.{turn_at}
+use Rattle.vp_hosts.specs.declared.letter.Letter.{Letter}
+use Rattle.vp_hosts.specs.Letters.{as_received}
+use Rattle.vp_cluster.specs.Letters.{letter_of}
+use Rattle.vp_hosts.specs.Hosts.{turn_at}
 use Rattle.vp_cluster.specs.Nodes.{NodesValue}
 use Rattle.vp_cluster.specs.Clusters.{HasSite, AreTied}
 use Rattle.vp_cluster.proofs.TiedLetters.{Brings, brought}

@@ -1,11 +1,7 @@
 pub mod Acting
-mod Appending
-mod Begun
 mod Calls
-mod Changing
-mod HostStops
-mod Hosting
-mod Replaced
+mod Coming
+mod Found
 pub mod Running
 pub mod Tied
 mod TiedLetters

@@ -22,15 +22,16 @@ use Rattle.vp_playing.specs.Played.{SeesAll, SeesSome, Plays}
 use Rattle.vp_playing.proofs.Seen.{sees_appended}
 use Rattle.vp_stable.specs.Halves.{HaveBatches}
 use Rattle.vp_kept.specs.Kept.{kept, kept_in}
-use Rattle.vp_cluster.specs.Hosts.{HostValue, address_of, site_log, log_in, IsHost}
-use Rattle.vp_cluster.specs.Nodes.{NodesValue, AreHosts, Begin, Follows, host_at}
+use Rattle.vp_hosts.specs.Hosts.{HostValue, address_of, site_log, log_in, IsHost}
+use Rattle.vp_hosts.specs.Ports.{AreHosts, host_at}
+use Rattle.vp_cluster.specs.Nodes.{NodesValue, Begin, Follows}
 use Rattle.vp_cluster.specs.Clusters.{AreTied}
 use Rattle.vp_cluster.specs.Ran.{AreLogs, Runs}
 use Rattle.vp_cluster.specs.declared.cluster.Ran.{Ran}
 use Rattle.vp_cluster.specs.declared.cluster.Cluster.{Cluster}
 use Rattle.vp_cluster.proofs.TiedLines.{FollowAll}
 use Rattle.vp_cluster.proofs.Tied.{traces_tie}
-use Rattle.vp_cluster.proofs.Begun.{hosts_differ, each_found}
+use Rattle.vp_cluster.proofs.Found.{hosts_differ, each_found}
 
 -- two that see the same lines
 pub sees_both : {A B S : Type 0} (f : S → A) (g : S → B) (one : ℕ × Line → A → A → Type 0) (two : ℕ × Line → B → B → Type 0) (lines : List (ℕ × Line)) (old new : S)

@@ -26,8 +26,9 @@ use Rattle.vp_runs.specs.Asking.{call_frame}
 use Rattle.vp_runs.specs.Turns.{datagram_to, message_datagram}
 use Rattle.vp_runs.proofs.Arriving.{messages_arrive, calls_arrive}
 use Rattle.vp_kept.proofs.Coming.{has_port, own, no_port, tick_comes, probe_comes}
-use Rattle.vp_cluster.specs.declared.letter.Letter.{Letter}
-use Rattle.vp_cluster.specs.Letters.{letter_to, letter_of, as_received, sent_from, port_of, letter_for}
+use Rattle.vp_hosts.specs.declared.letter.Letter.{Letter}
+use Rattle.vp_hosts.specs.Letters.{as_received}
+use Rattle.vp_cluster.specs.Letters.{letter_to, sent_from, letter_of, port_of, letter_for}
 
 -- ---- ports
 

@@ -26,10 +26,12 @@ use Rattle.vp_runs.specs.Turns.{Turn, step_turn, datagrams_of, reply_datagram}
 use Rattle.vp_kept.specs.Kept.{with_life, kept_after, kept_in as batches_in}
 use Rattle.vp_kept.proofs.Happened.{Leaves, LeavesIt, LeavesOthers, Acts, put_down, RestartEffect, IsPlain, Effect, named, happened}
 use Rattle.vp_kept.proofs.Folds.{folds_on}
-use Rattle.vp_cluster.specs.declared.letter.Letter.{Letter}
-use Rattle.vp_cluster.specs.Letters.{letter_of, as_received, sent_from, letter_for}
-use Rattle.vp_cluster.specs.Hosts.{HostValue, IsAt, node_at, Takes, Crashes, Restarts}
-use Rattle.vp_cluster.specs.Nodes.{NodesValue, host_at, ChangesOf, Comes, Steps, Does, Follows}
+use Rattle.vp_hosts.specs.declared.letter.Letter.{Letter}
+use Rattle.vp_hosts.specs.Letters.{as_received}
+use Rattle.vp_cluster.specs.Letters.{sent_from, letter_of, letter_for}
+use Rattle.vp_hosts.specs.Hosts.{HostValue, IsAt, node_at, Takes, Crashes, Restarts}
+use Rattle.vp_hosts.specs.Ports.{host_at, ChangesOf}
+use Rattle.vp_cluster.specs.Nodes.{NodesValue, Comes, Steps, Does, Follows}
 use Rattle.vp_cluster.specs.Clusters.{HasSite, AreTied}
 use Rattle.vp_cluster.proofs.TiedLetters.{ports_differ, Brings, posted}
 use Rattle.vp_cluster.proofs.Acting.{Facts}

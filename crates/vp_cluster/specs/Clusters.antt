@@ -4,9 +4,10 @@ use Rattle.vp_model.specs.Words.{value_at}
 use Rattle.vp_model.specs.Catalogue.{Catalogue}
 use Rattle.vp_model.specs.World.{WorldState, Place, Moment, place_of}
 use Rattle.vp_kept.specs.Kept.{kept_in}
-use Rattle.vp_cluster.specs.Hosts.{HostValue, IsAt}
+use Rattle.vp_hosts.specs.Hosts.{HostValue, IsAt}
 use Rattle.vp_cluster.specs.Letters.{letter_for}
-use Rattle.vp_cluster.specs.Nodes.{NodesValue, host_at}
+use Rattle.vp_hosts.specs.Ports.{host_at}
+use Rattle.vp_cluster.specs.Nodes.{NodesValue}
 
 -- The host at this port is that of the site: up at its state or down, and its log has what these moments leave in it.
 pub record HasSite (catalogue : Catalogue) (moments : List Moment) (w : WorldState) (nodes : NodesValue) (id port : ℕ) : Type 0 where

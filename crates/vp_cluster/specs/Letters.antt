@@ -1,4 +1,4 @@
--- Datagrams between the ports of a cluster, and which one an event brings to a site.
+-- The letters of clients and of messages, and which one an event brings to a site.
 use Rattle.std.specs.Prelude.{ℕ, ◌-◌, ◌==◌, if◌then◌else◌, List, slice_get, Option, None, option_map}
 use Rattle.std.specs.Option.{option_map_or}
 use Rattle.vp_model.specs.Types.{Event, Sent}
@@ -11,7 +11,7 @@ use Rattle.vp_wire.specs.declared.frame.Frame.{Frame}
 use Rattle.vp_wire.specs.declared.frame.Body.TheVariants as body
 use Rattle.vp_wire.specs.Grammar.{frame_of, frame_bytes}
 use Rattle.vp_runs.specs.Asking.{call_frame}
-use Rattle.vp_cluster.specs.declared.letter.Letter.{Letter}
+use Rattle.vp_hosts.specs.declared.letter.Letter.{Letter}
 
 -- the frame in a letter from port 0, which is no site's, to the port of the site
 abbrev pub letter_to : Catalogue → ℕ → Frame → Option Letter
@@ -28,10 +28,6 @@ letter_of catalogue letters (event.Deliver k) = in_order k letters
 letter_of catalogue letters (event.Tick site) = letter_to catalogue site (frame_of 0 site body.Tick)
 letter_of catalogue letters (event.Probe site) = letter_to catalogue site (frame_of 0 site body.ProbeNow)
 letter_of catalogue letters _ = None
-
--- it as its receiver gets it
-abbrev pub as_received : Letter → Datagram
-as_received letter = record { port = letter.from; bytes = letter.bytes }
 
 -- a datagram that was sent from this port
 abbrev pub sent_from : ℕ → Datagram → Letter

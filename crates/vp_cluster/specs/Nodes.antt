@@ -1,45 +1,22 @@
 -- The nodes of a cluster: what they do of each line of a trace.
-use Rattle.std.specs.Prelude.{◌≡◌, ◌≢◌, ℕ, ◌==◌, Bool, List, [], ◌++◌, map, find, length, take, Option, Some, None}
-use Rattle.std.specs.List.{AllByRecursion}
+use Rattle.std.specs.Prelude.{◌≡◌, ℕ, Bool, List, [], ◌++◌, map, length, take, Option, Some}
 use Rattle.vp_model.specs.Types.{Event, Shown, Line}
 use Rattle.vp_model.specs.Types.event
 use Rattle.vp_model.specs.Types.shown
 use Rattle.vp_model.specs.Words.{value_at}
 use Rattle.vp_model.specs.Catalogue.{Catalogue}
 use Rattle.vp_outside.specs.declared.datagram.Datagram.{Datagram}
-use Rattle.vp_cluster.specs.declared.letter.Letter.{Letter}
-use Rattle.vp_cluster.specs.Hosts.{HostValue, address_of, IsHost, Takes, Stops, Crashes, Restarts, Begins}
-use Rattle.vp_cluster.specs.Letters.{letter_of, as_received, sent_from}
+use Rattle.vp_hosts.specs.declared.letter.Letter.{Letter}
+use Rattle.vp_hosts.specs.Hosts.{HostValue, Takes, Stops, Crashes, Restarts, Begins}
+use Rattle.vp_hosts.specs.Letters.{as_received}
+use Rattle.vp_hosts.specs.Ports.{host_at, ChangesAt, ChangesOf}
+use Rattle.vp_cluster.specs.Letters.{sent_from, letter_of}
 
 -- what contracts see of the nodes: their catalogue, their hosts, and the letters of the messages that were sent so far, in order
 pub record NodesValue : Type 0 where
   pub catalogue : Catalogue
   pub hosts : List HostValue
   pub letters : List Letter
-
--- There is a host for each site of the catalogue, in its order.
-pub record AreHosts (catalogue : Catalogue) (hosts : List HostValue) : Type 0 where
-  pub sites_are : map address_of hosts ≡ catalogue.sites
-  pub each : AllByRecursion (IsHost catalogue) hosts
-
--- each in the first life of its site
-pub record AreBegun (catalogue : Catalogue) (hosts : List HostValue) : Type 0 where
-  pub sites_are : map address_of hosts ≡ catalogue.sites
-  pub each : AllByRecursion (λ host. Begins catalogue host.id host.port host) hosts
-
--- the host at this port
-abbrev pub host_at : ℕ → List HostValue → Option HostValue
-host_at port hosts = find (λ (host : HostValue). host.port == port) hosts
-
--- The host at this port changes so, and the others stay.
-pub record ChangesAt (port : ℕ) (does : HostValue → HostValue → Type 0) (old new : List HostValue) : Type 0 where
-  pub there : (host : HostValue) → host_at port old ≡ Some host → (after : HostValue) × (host_at port new ≡ Some after) × does host after
-  pub others : (other : ℕ) → other ≢ port → host_at other new ≡ host_at other old
-
--- that of a site of the catalogue; for another site all stay
-pub record ChangesOf (catalogue : Catalogue) (site : ℕ) (does : HostValue → HostValue → Type 0) (old new : List HostValue) : Type 0 where
-  pub there : (port : ℕ) → value_at site catalogue.sites ≡ Some port → ChangesAt port does old new
-  pub nowhere : value_at site catalogue.sites ≡ None → new ≡ old
 
 -- The letter comes to its receiver. Of the datagrams that this gives the first are those of its messages, and are letters from then on.
 abbrev pub Comes : Letter → ℕ → NodesValue → NodesValue → Type 0

@@ -3,11 +3,11 @@
 ghost use Rattle.vp_cluster.specs.Ran.{Runs};
 ghost use Rattle.vp_schedule.specs.Document.{IsSchedule};
 
-use crate::host::Logs;
 use crate::nodes::Nodes;
 use std::mem::replace;
 use vp_base::{Commits, CopyOf, Line, NoMemory};
 use vp_catalog::Catalog;
+use vp_hosts::Logs;
 use vp_playing::{Observer, TraceText, play};
 use vp_schedule::Schedule;
 use vp_world::WorldEnd;

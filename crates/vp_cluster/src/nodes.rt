@@ -2,20 +2,21 @@
 
 ghost use Rattle.std.specs.Prelude.{◌≡◌, OnOk, IfOk, IfSome, Some, None, length, map, option_copied};
 ghost use Rattle.vp_laws.specs.ShapeLaws.{IsEvent};
-ghost use Rattle.vp_cluster.specs.Hosts.{Crashes, Restarts, site_log};
+ghost use Rattle.vp_hosts.specs.Hosts.{Crashes, Restarts, site_log};
 ghost use Rattle.vp_cluster.specs.Letters.{letter_of, in_order};
-ghost use Rattle.vp_cluster.specs.Nodes.{Begin, ChangesOf, Comes, Does, Follows, StopsWith};
-ghost use Rattle.vp_cluster.specs.Stops.{is_kept};
-ghost use Rattle.vp_cluster.specs.declared.letter.Letter.{Letter};
+ghost use Rattle.vp_hosts.specs.Ports.{ChangesOf};
+ghost use Rattle.vp_cluster.specs.Nodes.{Begin, Comes, Does, Follows, StopsWith};
+ghost use Rattle.vp_hosts.specs.Stops.{is_kept};
+ghost use Rattle.vp_hosts.specs.declared.letter.Letter.{Letter};
 
-use crate::host::{Host, Logs};
-use crate::hosts::{begin_all, crash_at, logs_of, restart_at, stop_at, take_at};
-use crate::letter::{Letter, put_letters, to_site};
-use crate::stopping::Stop;
+use crate::letters::{put_letters, to_site};
 use std::alloc::Global;
 use std::marker::Model;
 use vp_base::{CopyOf, Event, Line, NoMemory, Shown, SiteId};
 use vp_catalog::Catalog;
+use vp_hosts::{
+    Host, Letter, Logs, Stop, begin_all, crash_at, logs_of, restart_at, stop_at, take_at,
+};
 use vp_playing::Observer;
 use vp_wire::Body;
 
@@ -28,7 +29,8 @@ pub struct Nodes {
 }
 
 impl Model for Nodes {
-    ghost use Rattle.vp_cluster.specs.Nodes.{NodesValue, AreHosts};
+    ghost use Rattle.vp_hosts.specs.Ports.{AreHosts};
+    ghost use Rattle.vp_cluster.specs.Nodes.{NodesValue};
 
     ghost Value = { NodesValue };
 

@@ -5,7 +5,8 @@ use std::alloc::{AllocError, Global};
 use vp_base::{SiteId, Word};
 use vp_catalog::{Catalog, has_site};
 use vp_commands::serve_log;
-use vp_outside::{Datagram, MemDisk, MemLink, OutFault, TextSink};
+use vp_disks::MemDisk;
+use vp_outside::{Datagram, MemLink, OutFault, TextSink};
 use vp_status::Status;
 
 /// Site 1 alone.

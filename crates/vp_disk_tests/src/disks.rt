@@ -3,7 +3,8 @@ ghost use Rattle.std.specs.Prelude.{◌≤◌, IsTrue};
 use std::alloc::Global;
 use std::process::Abort;
 use vp_base::Word;
-use vp_outside::{Disk, Failed, MemDisk, OutFault, SureDisk};
+use vp_disks::{MemDisk, SureDisk};
+use vp_outside::{Disk, Failed, OutFault};
 
 const TEXT: &[u8] = b"abcdefgh";
 

@@ -3,7 +3,8 @@ ghost use Rattle.std.specs.Prelude.{◌≤◌};
 use std::alloc::Global;
 use std::process::Abort;
 use vp_base::Word;
-use vp_outside::{Disk, Failed, MemDisk, OutFault};
+use vp_disks::MemDisk;
+use vp_outside::{Disk, Failed, OutFault};
 
 fn word(rt: &impl Abort, alloc: Global, text: &[u8]) -> Word {
     Word::from_vec(text.to_vec(alloc).expect(rt, "memory"))

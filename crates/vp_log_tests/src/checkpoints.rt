@@ -6,7 +6,8 @@ ghost use Rattle.vp_records.specs.Records.{CanBeSaved};
 use std::alloc::Global;
 use std::process::Abort;
 use vp_base::{Batches, Copies, Decisions, InDoubt, LogRecord, ViewId, Word};
-use vp_outside::{Disk, MemDisk, SureDisk};
+use vp_disks::{MemDisk, SureDisk};
+use vp_outside::Disk;
 use vp_records::Durable;
 use vp_stable::{AppendFault, Log, LogFault};
 

@@ -5,7 +5,8 @@ ghost use Rattle.vp_records.specs.Batches.{IsBatch};
 use std::alloc::Global;
 use std::process::Abort;
 use vp_base::{Batch, Batches, LogRecord, Word};
-use vp_outside::{Disk, MemDisk, SureDisk};
+use vp_disks::{MemDisk, SureDisk};
+use vp_outside::Disk;
 use vp_stable::{AppendFault, Log, LogFault};
 
 /// One batch, Start of life 1, behind an open gate, and a closed gate.

@@ -2,7 +2,7 @@
 
 use std::alloc::{AllocError, Global};
 use std::process::Abort;
-use vp_outside::SureDisk;
+use vp_disks::SureDisk;
 use vp_stable::{Log, LogFault};
 
 /// Three batches, Start of the lives 1, 2 and 3, each behind an open gate, and a closed gate.

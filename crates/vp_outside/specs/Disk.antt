@@ -78,7 +78,7 @@ pub record DiskState : Type 1 where
   pub faults : ℕ
   -- what a read gave of a log as it was last synced, where the disk tells it
   pub synced : Option (List ℕ) → Option Halves
-  -- how many changes and syncs more it does before it stops, where it is to stop
+  -- how many calls it still does before it stops, if it is to stop and no other one is planned to fail
   pub until_stop : Option ℕ
 
 -- the log that the calls speak of

@@ -5,7 +5,7 @@ use Rattle.std.specs.Prelude.{IsErrOf, nat_lt, IfSome, IsErr, Option, Some, None
 use Rattle.vp_outside.specs.Disk.{Halves, InHalf, Written, Becomes, DiskState, log_of, Steps}
 use Rattle.vp_outside.specs.declared.sink.OutFault.{OutFault}
 use Rattle.vp_outside.specs.declared.sink.OutFault.TheVariants.{Failed, NoMemory}
-use Rattle.vp_outside.proofs.LogRecords.{InHalf-refl}
+use Rattle.vp_outside.proofs.Halves.{InHalf-refl}
 use Rattle.vp_stable.specs.Stops.{WritesToStop, AppendsToStop, StaysPut, PutsWhere}
 use Rattle.vp_stable.proofs.Tears.{torn_behind, torn_written}
 use Rattle.vp_stable.proofs.Writes.{in_half_as, in_half_then, becomes-as, becomes-same, becomes-then, both_written}

@@ -19,10 +19,11 @@ use Rattle.vp_kept.specs.Kept.{input_of, forced, forced_at, kept_in as batches_i
 use Rattle.vp_kept.proofs.Happened.{Acts, Effect, effect, named}
 use Rattle.vp_stops.specs.Stopped.{appends, appender}
 use Rattle.vp_world.specs.Steps.{taker}
-use Rattle.vp_cluster.specs.declared.letter.Letter.{Letter}
-use Rattle.vp_cluster.specs.Letters.{letter_of, as_received}
+use Rattle.vp_hosts.specs.declared.letter.Letter.{Letter}
+use Rattle.vp_hosts.specs.Letters.{as_received}
+use Rattle.vp_cluster.specs.Letters.{letter_of}
 use Rattle.vp_stable.specs.Stops.{with_batch}
-use Rattle.vp_cluster.specs.Hosts.{HostValue, IsAt, Stops, turn_at, log_in}
+use Rattle.vp_hosts.specs.Hosts.{HostValue, IsAt, Stops, turn_at, log_in}
 use Rattle.vp_cluster.specs.Nodes.{NodesValue, StopsWith}
 use Rattle.vp_cluster.specs.Clusters.{AreTied}
 use Rattle.vp_cluster.proofs.Acting.{Facts}

@@ -10,7 +10,7 @@ use Rattle.vp_world.specs.Steps.{taker}
 use Rattle.vp_world.specs.Limits.{limit_of}
 use Rattle.vp_world.specs.declared.end.WorldEnd.{WorldEnd}
 use Rattle.vp_world.specs.declared.end.WorldEnd.TheVariants as end
-use Rattle.vp_cluster.specs.declared.letter.Letter.{Letter}
+use Rattle.vp_hosts.specs.declared.letter.Letter.{Letter}
 use Rattle.vp_stopping.specs.declared.stopped.Steps.{Steps}
 use Rattle.vp_stopping.specs.declared.stopped.Front.{Front}
 use Rattle.vp_stopping.specs.declared.stopped.Stopped.{Stopped}

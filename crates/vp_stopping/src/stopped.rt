@@ -11,13 +11,14 @@ ghost use Rattle.vp_world.specs.Limits.{Ends};
 ghost use Rattle.vp_world.specs.Steps.{taker};
 ghost use Rattle.vp_stopping.specs.Left.{CanRise, left_then, next_single};
 ghost use Rattle.vp_cluster.specs.Nodes.{Follows};
-ghost use Rattle.vp_cluster.specs.Stops.{is_kept};
+ghost use Rattle.vp_hosts.specs.Stops.{is_kept};
 ghost use Rattle.vp_stopping.specs.RanStopped.{RunsStopped};
 ghost use Rattle.vp_stopping.specs.Singles.{AreBefore, ComesTo, GoesOn, HaveDone, IsBegun, StopsIn, moment_in, run_in_place};
 
 use crate::left::Left;
 use vp_base::{Commits, CopyOf, Event, Events, Line, NoMemory, SiteId};
-use vp_cluster::{Nodes, Stop};
+use vp_cluster::Nodes;
+use vp_hosts::Stop;
 use vp_schedule::Schedule;
 use vp_world::{World, WorldEnd};
 

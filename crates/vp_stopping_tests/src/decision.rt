@@ -5,7 +5,7 @@ ghost use Rattle.std.specs.Prelude.{◌≤◌};
 use crate::texts::{DECISION, schedule_text};
 use std::alloc::Global;
 use vp_base::NoMemory;
-use vp_cluster::Stop;
+use vp_hosts::Stop;
 use vp_schedule::read;
 use vp_stopping::run_stopped;
 

@@ -6,7 +6,7 @@ ghost use Rattle.vp_schedule.specs.Document.{IsSchedule};
 use crate::texts::{DECISION, HELD_LOCK, LATE_COMMIT, history_text, schedule_text};
 use std::alloc::Global;
 use std::process::Abort;
-use vp_cluster::Stop;
+use vp_hosts::Stop;
 use vp_replay::{checked, replayed};
 use vp_schedule::{Schedule, read};
 use vp_status::Status;

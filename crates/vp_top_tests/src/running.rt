@@ -2,7 +2,8 @@
 
 use std::alloc::{AllocError, Global};
 use vp_base::Word;
-use vp_outside::{Sink, Source, SureDisk, SureLink, SureSink, SureSource};
+use vp_disks::SureDisk;
+use vp_outside::{Sink, Source, SureLink, SureSink, SureSource};
 use vp_status::Status;
 use vp_top::run;
 

@@ -1,4 +1,3 @@
-pub mod Changed
 pub mod Moves
 pub mod Limited
 pub mod Least

@@ -12,11 +12,12 @@ use Rattle.vp_model.specs.Catalogue.{Catalogue}
 use Rattle.vp_model.specs.Site.{SiteState}
 use Rattle.vp_model.specs.Step.{step}
 use Rattle.vp_model.specs.World.{Place, WorldState, Moved, shows, place_of, site_of, is_cut, change_place, fixed_view, after_step, site_step, at_site, deliver, crash, restart_place, restart_from, restart, happens, message_at, same_pair}
-use Rattle.vp_world.specs.declared.place.Taken.{Taken}
+use Rattle.vp_places.specs.declared.place.Taken.{Taken}
 use Rattle.vp_world.specs.declared.end.WorldEnd.{WorldEnd}
 use Rattle.vp_mail.specs.Posted.{Posted}
 use Rattle.vp_world.specs.Limits.{Does, too_many}
-use Rattle.vp_world.specs.Steps.{newly_agreed, taken, site_in, stepped_place, crashed_place, restarted_place, restart_line, takes_in}
+use Rattle.vp_places.specs.Places.{newly_agreed, taken, site_in, stepped_place, crashed_place, restarted_place, restart_line}
+use Rattle.vp_world.specs.Steps.{takes_in}
 
 -- changes of the first item that passes a test
 

@@ -4,8 +4,6 @@
 #![tactic(auto)]
 
 mod end;
-mod place;
-mod places;
 mod state;
 mod world;
 

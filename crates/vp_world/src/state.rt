@@ -16,8 +16,6 @@ ghost use Rattle.vp_world.specs.Steps.{takes_in, if_up, receiver, taker_now, pas
 ghost use Rattle.vp_world.specs.Heads.{is_open, head_of, lesser};
 
 use crate::end::WorldEnd;
-use crate::place::Taken;
-use crate::places::Places;
 use std::alloc::Global;
 use std::marker::Model;
 use vp_base::{
@@ -26,6 +24,7 @@ use vp_base::{
 };
 use vp_catalog::Catalog;
 use vp_mail::{Cuts, Mail, PAIRS, SITES};
+use vp_places::{Places, Taken};
 
 /// The opening view.
 const OPENING: ViewId = ViewId { number: 0, site: 0 };

@@ -13,11 +13,11 @@ use std::marker::Model;
 use vp_base::{Commits, CopyOf, Event, Line, Newest, NoMemory, SiteId};
 use vp_catalog::Catalog;
 
-/// The sites of a catalogue, with their messages.
+/// The sites of a catalogue, with their messages. The state stands in a box, so that little is moved where a world goes from call to call.
 #[derive(Drop)]
 pub struct World {
     catalog: Catalog,
-    state: State,
+    state: Box<State>,
 }
 
 impl Model for World {
@@ -25,9 +25,9 @@ impl Model for World {
 
     ghost Value = { Known };
 
-    ghost view = { λ w. record { catalogue = w.catalog; world = w.state } };
+    ghost view = { λ w. record { catalogue = w.catalog; world = w.state.value } };
 
-    ghost invariant = { λ w. IsWithinLimits w.state };
+    ghost invariant = { λ w. IsWithinLimits w.state.value };
 }
 
 impl World {
@@ -36,7 +36,8 @@ impl World {
     pub fn new(catalog: Catalog) -> Result<World, NoMemory>
         ensures { IfOk result (λ w. w ≡ record { catalogue = catalog; world = start_world catalog }) }
     {
-        let state = State::start(catalog.sites().allocator(), &catalog)?;
+        let alloc = catalog.sites().allocator();
+        let state = Box::new(alloc, State::start(alloc, &catalog)?)?;
         Ok(World { catalog, state })
     }
 

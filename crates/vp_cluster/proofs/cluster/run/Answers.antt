@@ -6,7 +6,8 @@ use Rattle.vp_model.specs.World.{Schedule}
 use Rattle.vp_laws.specs.ShapeLaws.{IsEvent}
 use Rattle.vp_model.specs.Texts.Trace.{trace_text}
 use Rattle.vp_playing.specs.Played.{schedule_of}
-use Rattle.vp_cluster.specs.Nodes.{NodesValue, AreHosts, Begin}
+use Rattle.vp_hosts.specs.Ports.{AreHosts}
+use Rattle.vp_cluster.specs.Nodes.{NodesValue, Begin}
 use Rattle.vp_cluster.specs.Ran.{AreLogs, Runs}
 use Rattle.vp_cluster.specs.declared.cluster.Cluster.{Cluster}
 use Rattle.vp_node.proofs.Faults.{gave_err}

@@ -4,7 +4,7 @@ use Rattle.vp_model.specs.Types.{Event}
 use Rattle.vp_node.proofs.Faults.{gave_err}
 use Rattle.vp_stopping.specs.declared.stopped.Front.{Front}
 use Rattle.vp_stopping.specs.declared.stopped.StoppedSite.{StoppedSite}
-use Rattle.vp_cluster.specs.Stops.{is_kept}
+use Rattle.vp_hosts.specs.Stops.{is_kept}
 use Rattle.vp_stopping.specs.Singles.{ComesTo, IsBefore, StopsIn}
 use Rattle.vp_stopping.specs.RanStopped.{RunsStopped}
 use Rattle.vp_stopping.proofs.Ending.{no_step, nothing_there, came_ends, before_after, appender_is, nothing_done, nothing_ends, rest_ends, all_done, all_rise}

@@ -1,5 +1,5 @@
 use Rattle.std.proofs.Common.{refl}
-use Rattle.vp_cluster.proofs.Begun.{nodes_begin}
+use Rattle.vp_cluster.proofs.Found.{nodes_begin}
 use Rattle.vp_cluster.proofs.nodes.Nodes.begin.Goals as goal
 
 -- src/nodes.rt:50:5

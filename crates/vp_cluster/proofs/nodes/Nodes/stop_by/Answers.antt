@@ -1,10 +1,11 @@
 use Rattle.std.proofs.Common.{◌≡◌, ◌∙◌, ◌++◌, ap, subst, length, take, drop, arith}
 use Rattle.std.proofs.Math.Seq.{take-append_seam}
 use Rattle.std.specs.Vec.{with_items}
-use Rattle.vp_cluster.specs.Hosts.{Stops}
-use Rattle.vp_cluster.specs.Letters.{as_received}
-use Rattle.vp_cluster.specs.Nodes.{ChangesAt}
-use Rattle.vp_cluster.proofs.Changing.{answered_so, letter_stops}
+use Rattle.vp_hosts.specs.Hosts.{Stops}
+use Rattle.vp_hosts.specs.Letters.{as_received}
+use Rattle.vp_hosts.specs.Ports.{ChangesAt}
+use Rattle.vp_hosts.proofs.Changing.{answered_so}
+use Rattle.vp_cluster.proofs.Coming.{letter_stops}
 use Rattle.vp_cluster.proofs.nodes.Nodes.stop_by.Goals as goal
 
 pub returns-clause-stops : goal.returns-clause-stops

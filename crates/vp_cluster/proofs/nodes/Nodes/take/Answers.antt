@@ -1,10 +1,12 @@
 use Rattle.std.proofs.Common.{◌≡◌, ◌∙◌, ◌++◌, ap, sym, subst, length, take, drop, arith, OnOk}
 use Rattle.std.proofs.Math.Seq.{take-append_seam}
 use Rattle.std.specs.Vec.{with_items}
-use Rattle.vp_cluster.specs.Hosts.{Takes}
-use Rattle.vp_cluster.specs.Letters.{as_received}
-use Rattle.vp_cluster.specs.Nodes.{ChangesAt, Comes}
-use Rattle.vp_cluster.proofs.Changing.{done_so, letter_came}
+use Rattle.vp_hosts.specs.Hosts.{Takes}
+use Rattle.vp_hosts.specs.Letters.{as_received}
+use Rattle.vp_hosts.specs.Ports.{ChangesAt}
+use Rattle.vp_cluster.specs.Nodes.{Comes}
+use Rattle.vp_hosts.proofs.Changing.{done_so}
+use Rattle.vp_cluster.proofs.Coming.{letter_came}
 use Rattle.vp_cluster.proofs.nodes.Nodes.take.Goals as goal
 
 -- src/nodes.rt:85:5

@@ -2,7 +2,7 @@ use Rattle.std.proofs.Common.{◌≡◌, refl, sym, ap, ◌∙◌}
 use Rattle.std.specs.Option.{option_map_or}
 use Rattle.vp_model.specs.Types.shown
 use Rattle.vp_model.specs.World.{shows, place_of, restart}
-use Rattle.vp_world.specs.Steps.{restart_line}
+use Rattle.vp_places.specs.Places.{restart_line}
 use Rattle.vp_world.specs.contracts.state.State.{the_view}
 use Rattle.vp_world.proofs.Moves.{restarts_so, both_ok}
 use Rattle.vp_world.proofs.state.State.restart.Goals as goal

@@ -1,6 +1,0 @@
-use Rattle.std.proofs.Common.{◌≡◌, ◌++◌, map}
-use Rattle.vp_cluster.specs.Letters.{sent_from}
-use Rattle.vp_cluster.proofs.letter.put_letters.Given as goal
-
-abbrev pub invariant-loop-datagram : goal.invariant-loop-datagram
-invariant-loop-datagram l = l.letters.items ≡ l.fn.letters.items ++ map (sent_from l.from) l.yielded

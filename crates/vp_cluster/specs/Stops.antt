@@ -1,7 +1,0 @@
--- Whether a stop within an append leaves the batch in the log.
-use Rattle.std.specs.Prelude.{nat_lt, Bool, if◌then◌else◌}
-use Rattle.vp_cluster.specs.declared.stopping.Stop.{Stop}
-
--- The third call opens the gate of the batch, and the fourth syncs that. What isn't synced is left where the stop is late.
-abbrev pub is_kept : Stop → Bool
-is_kept stop = if stop.late then nat_lt 2 stop.calls else nat_lt 3 stop.calls

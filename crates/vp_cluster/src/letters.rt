@@ -1,0 +1,60 @@
+//! The letters of clients, and those of messages.
+
+ghost use Rattle.std.specs.Prelude.{◌≡◌, ◌++◌, ℕ, IfOk, OnOk, map, take};
+ghost use Rattle.vp_bytes.specs.Fields.{IsSite};
+ghost use Rattle.vp_cluster.specs.Letters.{letter_to, sent_from};
+ghost use Rattle.vp_wire.specs.Grammar.{IsFrame, frame_of};
+
+use bytes::BytesMut;
+use vp_base::{NoMemory, SiteId};
+use vp_catalog::Catalog;
+use vp_hosts::Letter;
+use vp_outside::Datagrams;
+use vp_wire::{Body, Frame, encode};
+
+/// Room for the frame of most calls, in bytes.
+const ROOM: usize = 64;
+
+/// The letter of a client to the site, which comes from port 0; none where the catalogue lacks the site. The body is one that can be
+/// framed.
+pub fn to_site(catalog: &Catalog, site: SiteId, body: Body) -> Result<Option<Letter>, NoMemory>
+    requires { (id : ℕ) → IsSite id → IsFrame (frame_of 0 id body) }
+    ensures { IfOk result (λ letter. letter ≡ letter_to catalog.now site (frame_of 0 site body)) }
+{
+    let Some(port) = catalog.port(site) else {
+        return Ok(None);
+    };
+    let frame = Frame {
+        from: 0,
+        to: site.get(),
+        body,
+    };
+    let mut bytes = BytesMut::with_capacity(catalog.sites().allocator(), ROOM)?;
+    encode(&frame, &mut bytes)?;
+    Ok(Some(Letter {
+        from: 0,
+        to: port,
+        bytes: bytes.freeze()?,
+    }))
+}
+
+/// Puts the first of the datagrams, which were sent from this port, behind the other letters.
+pub fn put_letters(
+    from: u16,
+    count: usize,
+    given: Datagrams,
+    letters: &mut Vec<Letter>,
+) -> Result<(), NoMemory>
+    ensures { OnOk result (letters.new.items ≡ letters.old.items ++ map (sent_from from) (take count given)) }
+{
+    let mut sent = given.into_vec();
+    sent.truncate(count);
+    for datagram in sent {
+        letters.push(Letter {
+            from,
+            to: datagram.port,
+            bytes: datagram.bytes,
+        })?;
+    }
+    Ok(())
+}

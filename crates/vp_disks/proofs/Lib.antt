@@ -1,0 +1,6 @@
+pub mod Torn
+pub mod LogRecords
+pub mod LeftImages
+pub mod NamedPlaces
+pub mod LaidLogs
+pub mod Recorded

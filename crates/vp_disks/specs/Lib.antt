@@ -1,0 +1,6 @@
+pub mod Changes
+pub mod NamedLogs
+pub mod DiskLaws
+pub mod Images
+pub mod ImagedDisks
+pub mod MemDisks

@@ -1,0 +1,72 @@
+-- What the change of one host is to all of them.
+use Rattle.std.proofs.Common.{◌≡◌, ◌∙◌, ap, sym, subst, ℕ, ◌<◌, Bool, List, length, get_or, set, Some, None, refl, arith, ◌==◌}
+use Rattle.std.specs.Prelude.{Result, Ok, Err, OnOk, IfOk}
+use Rattle.std.specs.List.{position}
+use Rattle.std.proofs.lemmas.Bool.Decides.{nat_tests}
+use Rattle.std.proofs.lemmas.List.Quantifiers.{position-Some}
+use Rattle.vp_lists.proofs.Found.{find_none, find_some}
+use Rattle.vp_model.specs.Words.{value_at}
+use Rattle.vp_model.specs.Catalogue.{Catalogue}
+use Rattle.vp_hosts.specs.Hosts.{HostValue, address_of, IsHost, Stays}
+use Rattle.vp_hosts.specs.Ports.{AreHosts, ChangesAt, ChangesOf}
+use Rattle.vp_hosts.proofs.Replaced.{finds_new, finds_others, maps_same, all_set}
+
+module _ (port : ℕ) (does : HostValue → HostValue → Type 0) (hosts : List HostValue) where
+  abbrev at : HostValue → Bool
+  at host = host.port == port
+
+  -- there is no host at the port
+  pub none_changes : position at hosts ≡ None → ChangesAt port does hosts hosts
+  none_changes none = record {
+    there = λ host found. absurd (let no = find_none at hosts none in cc);
+    others = λ other differs. refl;
+  }
+
+  -- the host at the port is this one
+  module _ (d after : HostValue) (i : ℕ) (some : position at hosts ≡ Some i) (same : address_of after ≡ address_of (get_or hosts i d)) where
+    within : i < length hosts
+    within = (position-Some at hosts i d some).0
+
+    own : (get_or hosts i d).port ≡ port
+    own = grind (arith, nat_tests, (position-Some at hosts i d some).1)
+
+    now : after.port ≡ port
+    now = ap (λ (p : ℕ × ℕ). p.1) same ∙ own
+
+    pub one_changes : does (get_or hosts i d) after → ChangesAt port does hosts (set hosts i after)
+    one_changes r = record {
+      there = λ host found. (after, finds_new d at after hosts i some (grind (arith, nat_tests, now)), subst (λ (h : HostValue). does h after) (let z = find_some at hosts i d some in cc) r);
+      others = λ other differs. finds_others d (λ (host : HostValue). host.port == other) after hosts i within (grind (arith, nat_tests, own, differs)) (grind (arith, nat_tests, now, differs));
+    }
+
+    pub hosts_still : (catalogue : Catalogue) → AreHosts catalogue hosts → IsHost catalogue after → AreHosts catalogue (set hosts i after)
+    hosts_still catalogue h is = record { sites_are = maps_same d address_of after hosts i within same ∙ h.sites_are; each = all_set d (IsHost catalogue) after hosts i is h.each }
+
+-- a host that stays is at its place
+pub stays_placed : (catalogue : Catalogue) (old new : HostValue) → Stays catalogue old new → address_of new ≡ address_of old
+stays_placed catalogue old new h = ap (λ id. (id, new.port)) h.same_id ∙ ap (λ port. (old.id, port)) h.same_port
+
+-- the same of what is answered
+pub answered_so : {T E : Type 0} (r : Result T E) (P Q : T → Type 0) → ((x : T) → P x → Q x) → IfOk r P → IfOk r Q
+answered_so (Ok x) P Q f h = f x h
+answered_so (Err e) P Q f h = tt
+
+pub done_so : {T E A B : Type 0} (r : Result T E) → (A → B) → OnOk r A → OnOk r B
+done_so (Ok x) f h = f h
+done_so (Err e) f h = tt
+
+-- ---- the host of a site
+
+-- the port of the site is this one
+pub at_own_port : (catalogue : Catalogue) (site port : ℕ) (does : HostValue → HostValue → Type 0) (old new : List HostValue) → value_at site catalogue.sites ≡ Some port → ChangesAt port does old new → ChangesOf catalogue site does old new
+at_own_port catalogue site port does old new is h = record {
+  there = λ p e. subst (λ p. ChangesAt p does old new) (let z = sym is ∙ e in cc) h;
+  nowhere = λ none. absurd (let z = sym is ∙ none in cc);
+}
+
+-- the catalogue lacks the site
+pub at_no_port : (catalogue : Catalogue) (site : ℕ) (does : HostValue → HostValue → Type 0) (hosts : List HostValue) → value_at site catalogue.sites ≡ None → ChangesOf catalogue site does hosts hosts
+at_no_port catalogue site does hosts none = record {
+  there = λ p e. absurd (let z = sym none ∙ e in cc);
+  nowhere = λ none. refl;
+}

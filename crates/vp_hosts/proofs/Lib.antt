@@ -1,0 +1,6 @@
+mod Appending
+mod Begun
+pub mod Changing
+mod HostStops
+mod Hosting
+mod Replaced

@@ -1,0 +1,108 @@
+-- A host: a node in memory, with the disk that keeps its log.
+use Rattle.std.specs.Prelude.{◌≡◌, ◌≢◌, ℕ, ◌-◌, ◌^◌, Bool, true, List, [], Option, Some, None, IfSome, IfNone, option_map}
+use Rattle.vp_model.specs.Types.{LogRecord}
+use Rattle.vp_model.specs.Words.{value_at}
+use Rattle.vp_model.specs.Catalogue.{Catalogue}
+use Rattle.vp_model.specs.Site.{SiteState}
+use Rattle.vp_outside.specs.Disk.{Halves, DiskState}
+use Rattle.vp_disks.specs.Changes.{asked_of, changes_of, content_of, state_after}
+use Rattle.vp_disks.specs.declared.changes.Change.{Change}
+use Rattle.vp_outside.specs.declared.datagram.Datagram.{Datagram}
+use Rattle.vp_stable.specs.Halves.{StandsAt, HaveBatches}
+use Rattle.vp_stable.specs.Stops.{with_batch}
+use Rattle.vp_runs.specs.Arrivals.{arrival}
+use Rattle.vp_runs.specs.Keeping.{durable_in}
+use Rattle.vp_runs.specs.Runs.{NodeState, start_node, after_turn}
+use Rattle.vp_runs.specs.Turns.{Turn, turn_on}
+use Rattle.vp_node.specs.Nodes.{NodeValue, IsNode, IsKept}
+
+-- what contracts see of a host: its site with its port, what was done to its disk, and its node where the site is up
+pub record HostValue : Type 0 where
+  pub id : ℕ
+  pub port : ℕ
+  pub disk : List Change
+  pub node : Option NodeValue
+
+-- what its disk tells
+abbrev pub told : HostValue → DiskState
+told host = state_after host.disk true 0
+
+-- the halves of the log on a disk in memory
+abbrev pub log_on : List Change → Halves
+log_on changes = content_of (changes_of (asked_of changes) changes)
+
+-- the halves of its log
+abbrev pub log_in : HostValue → Halves
+log_in host = log_on host.disk
+
+-- its site with them
+abbrev pub site_log : HostValue → ℕ × List ℕ × List ℕ
+site_log host = (host.id, (log_in host).0, (log_in host).1)
+
+-- where it stands: its site with its port
+abbrev pub address_of : HostValue → ℕ × ℕ
+address_of host = (host.id, host.port)
+
+-- It is a host over this catalogue: its port is its site's, and where the site is up it is at its node, whose log the disk keeps.
+pub record IsHost (catalogue : Catalogue) (host : HostValue) : Type 0 where
+  pub port_is : value_at host.id catalogue.sites ≡ Some host.port
+  pub node_is : IfSome host.node (λ node. (node.site.id ≡ host.id) × IsNode catalogue node × IsKept catalogue node (told host))
+
+-- Its log has these batches, and its site is up at this state or down.
+pub record IsAt (batches : List (List LogRecord)) (up : Option SiteState) (host : HostValue) : Type 0 where
+  pub has : HaveBatches batches (log_in host)
+  pub site_is : option_map (λ (node : NodeValue). node.site) host.node ≡ up
+  pub stands : IfSome host.node (λ node. StandsAt node.at batches (log_in host))
+
+-- ---- what is done with a host
+
+-- it is the host of the same site
+pub record Stays (catalogue : Catalogue) (old new : HostValue) : Type 0 where
+  pub host : IsHost catalogue new
+  pub same_id : new.id ≡ old.id
+  pub same_port : new.port ≡ old.port
+
+-- a node at this state with these batches
+abbrev pub node_at : SiteState → List (List LogRecord) → NodeState
+node_at site batches = record { site = site; batches = batches }
+
+abbrev pub turn_at : Catalogue → SiteState → Datagram → Turn
+turn_at catalogue site d = turn_on catalogue site (arrival catalogue site.id d)
+
+-- A datagram comes to it: where its site is up that takes the turn, and gives these datagrams.
+pub record Takes (catalogue : Catalogue) (d : Datagram) (old new : HostValue) (given : List Datagram) : Type 0 where
+  pub stays : Stays catalogue old new
+  pub up : (batches : List (List LogRecord)) (site : SiteState) → IsAt batches (Some site) old
+      → IsAt (after_turn (node_at site batches) (turn_at catalogue site d)).batches (Some (turn_at catalogue site d).site) new × (given ≡ (turn_at catalogue site d).datagrams)
+  pub down : (batches : List (List LogRecord)) → IsAt batches None old → IsAt batches None new × (given ≡ [])
+
+-- A datagram comes to it, and its site stops within the append of the turn's batch: it is down then, and the log has the batch or not, as is
+-- answered. Nothing is answered where it was down, or the turn has no batch.
+pub record Stops (catalogue : Catalogue) (d : Datagram) (old new : HostValue) (kept : Option Bool) : Type 0 where
+  pub stays : Stays catalogue old new
+  pub up : (batches : List (List LogRecord)) (site : SiteState) → IsAt batches (Some site) old → IfNone kept ((turn_at catalogue site d).batch ≡ [])
+      × IfSome kept (λ k. ((turn_at catalogue site d).batch ≢ []) × IsAt (with_batch k (turn_at catalogue site d).batch batches) None new)
+
+-- Its site goes down, and the log stays.
+pub record Crashes (catalogue : Catalogue) (old new : HostValue) : Type 0 where
+  pub stays : Stays catalogue old new
+  pub down : (batches : List (List LogRecord)) (up : Option SiteState) → IsAt batches up old → IsAt batches None new
+
+-- the log ends in the last life
+abbrev pub is_spent : Catalogue → ℕ → List (List LogRecord) → Type 0
+is_spent catalogue id batches = (durable_in catalogue id batches).life ≡ 2 ^ 32 - 1
+
+-- Where its site is down and a life is left, that starts from its log.
+pub record Restarts (catalogue : Catalogue) (old new : HostValue) : Type 0 where
+  pub stays : Stays catalogue old new
+  pub up : (batches : List (List LogRecord)) (site : SiteState) → IsAt batches (Some site) old → IsAt batches (Some site) new
+  pub spent : (batches : List (List LogRecord)) → IsAt batches None old → is_spent catalogue old.id batches → IsAt batches None new
+  pub down : (batches : List (List LogRecord)) → IsAt batches None old → (is_spent catalogue old.id batches → ⊥)
+      → IsAt (start_node catalogue old.id batches).batches (Some (start_node catalogue old.id batches).site) new
+
+-- It is the host of this site in its first life.
+pub record Begins (catalogue : Catalogue) (id port : ℕ) (host : HostValue) : Type 0 where
+  pub is_host : IsHost catalogue host
+  pub id_is : host.id ≡ id
+  pub port_is : host.port ≡ port
+  pub first : IsAt (start_node catalogue id []).batches (Some (start_node catalogue id []).site) host

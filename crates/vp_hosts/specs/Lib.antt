@@ -1,0 +1,4 @@
+pub mod Hosts
+pub mod Letters
+pub mod Ports
+pub mod Stops

@@ -1,0 +1,30 @@
+-- The hosts of a catalogue, each at the port of its site.
+use Rattle.std.specs.Prelude.{◌≡◌, ◌≢◌, ℕ, ◌==◌, List, map, find, Option, Some, None}
+use Rattle.std.specs.List.{AllByRecursion}
+use Rattle.vp_model.specs.Words.{value_at}
+use Rattle.vp_model.specs.Catalogue.{Catalogue}
+use Rattle.vp_hosts.specs.Hosts.{HostValue, address_of, IsHost, Begins}
+
+-- There is a host for each site of the catalogue, in its order.
+pub record AreHosts (catalogue : Catalogue) (hosts : List HostValue) : Type 0 where
+  pub sites_are : map address_of hosts ≡ catalogue.sites
+  pub each : AllByRecursion (IsHost catalogue) hosts
+
+-- each in the first life of its site
+pub record AreBegun (catalogue : Catalogue) (hosts : List HostValue) : Type 0 where
+  pub sites_are : map address_of hosts ≡ catalogue.sites
+  pub each : AllByRecursion (λ host. Begins catalogue host.id host.port host) hosts
+
+-- the host at this port
+abbrev pub host_at : ℕ → List HostValue → Option HostValue
+host_at port hosts = find (λ (host : HostValue). host.port == port) hosts
+
+-- The host at this port changes so, and the others stay.
+pub record ChangesAt (port : ℕ) (does : HostValue → HostValue → Type 0) (old new : List HostValue) : Type 0 where
+  pub there : (host : HostValue) → host_at port old ≡ Some host → (after : HostValue) × (host_at port new ≡ Some after) × does host after
+  pub others : (other : ℕ) → other ≢ port → host_at other new ≡ host_at other old
+
+-- that of a site of the catalogue; for another site all stay
+pub record ChangesOf (catalogue : Catalogue) (site : ℕ) (does : HostValue → HostValue → Type 0) (old new : List HostValue) : Type 0 where
+  pub there : (port : ℕ) → value_at site catalogue.sites ≡ Some port → ChangesAt port does old new
+  pub nowhere : value_at site catalogue.sites ≡ None → new ≡ old

@@ -1,0 +1,108 @@
+//! The hosts of a cluster, each found by its port.
+
+ghost use Rattle.std.specs.Prelude.{◌≡◌, ◌==◌, ◌<◌, OnOk, IfOk, IfSome, length, map};
+ghost use Rattle.std.specs.List.{position};
+ghost use Rattle.vp_hosts.specs.Hosts.{Takes, Crashes, Restarts, Stops, site_log};
+ghost use Rattle.vp_hosts.specs.Letters.{as_received};
+ghost use Rattle.vp_hosts.specs.Stops.{is_kept};
+ghost use Rattle.vp_hosts.specs.Ports.{AreBegun, AreHosts, ChangesAt, ChangesOf};
+
+use crate::host::{Host, SiteLog};
+use crate::letter::Letter;
+use crate::stopping::Stop;
+use std::alloc::Global;
+use vp_base::{NoMemory, SiteId};
+use vp_catalog::Catalog;
+use vp_outside::Datagrams;
+
+/// A host for each site of the catalogue, in its first life.
+pub fn begin_all(catalog: &Catalog) -> Result<Vec<Host>, NoMemory>
+    ensures { IfOk result (λ hosts. AreBegun catalog.now hosts.items) }
+{
+    let mut hosts = Vec::new(catalog.sites().allocator());
+    for (id, port) in catalog.ports() {
+        hosts.push(Host::begin(catalog, *id, *port)?)?;
+    }
+    Ok(hosts)
+}
+
+fn index_of(hosts: &[Host], port: u16) -> Option<usize>
+    ensures place { result ≡ position (λ host. host.port == port) hosts.now }
+    ensures within { IfSome result (λ i. i < length hosts.now) }
+{
+    hosts.iter().position(|host| host.port() == port)
+}
+
+/// The logs on the disks of the hosts.
+pub fn logs_of(alloc: Global, hosts: &[Host]) -> Result<Vec<SiteLog>, NoMemory>
+    ensures { IfOk result (λ logs. logs.items ≡ map site_log hosts.now) }
+{
+    let mut logs = Vec::new(alloc);
+    for host in hosts {
+        logs.push(host.log(alloc)?)?;
+    }
+    Ok(logs)
+}
+
+/// The letter comes to the host at its port, which takes it.
+pub fn take_at(
+    hosts: &mut [Host],
+    catalog: &Catalog,
+    letter: &Letter,
+) -> Result<Datagrams, NoMemory>
+    requires { AreHosts catalog.now hosts.old }
+    ensures takes { IfOk result (λ given. ChangesAt letter.now.to (λ host after. Takes catalog.now (as_received letter.now) host after given) hosts.old hosts.new) }
+    ensures hosts { AreHosts catalog.now hosts.new }
+{
+    match index_of(hosts, letter.to) {
+        None => Ok(Datagrams::new(catalog.sites().allocator())),
+        Some(i) => hosts[i].take(catalog, letter),
+    }
+}
+
+/// The letter comes to the host at its port, whose site stops within the append that this asks for.
+pub fn stop_at(
+    hosts: &mut [Host],
+    catalog: &Catalog,
+    letter: &Letter,
+    stop: &Stop,
+) -> Result<Option<bool>, NoMemory>
+    requires { AreHosts catalog.now hosts.old }
+    ensures stops { IfOk result (λ kept. ChangesAt letter.now.to (λ host after. Stops catalog.now (as_received letter.now) host after kept) hosts.old hosts.new) }
+    ensures kept { IfOk result (λ kept. IfSome kept (λ k. k ≡ is_kept stop.now)) }
+    ensures hosts { AreHosts catalog.now hosts.new }
+{
+    match index_of(hosts, letter.to) {
+        None => Ok(None),
+        Some(i) => hosts[i].stop(catalog, letter, stop),
+    }
+}
+
+/// The host of the site crashes.
+pub fn crash_at(hosts: &mut [Host], catalog: &Catalog, site: SiteId)
+    requires { AreHosts catalog.now hosts.old }
+    ensures crashes { ChangesOf catalog.now site (Crashes catalog.now) hosts.old hosts.new }
+    ensures hosts { AreHosts catalog.now hosts.new }
+{
+    let Some(port) = catalog.port(site) else {
+        return;
+    };
+    if let Some(i) = index_of(hosts, port) {
+        hosts[i].crash(catalog);
+    }
+}
+
+/// The host of the site restarts.
+pub fn restart_at(hosts: &mut [Host], catalog: &Catalog, site: SiteId) -> Result<(), NoMemory>
+    requires { AreHosts catalog.now hosts.old }
+    ensures restarts { OnOk result (ChangesOf catalog.now site (Restarts catalog.now) hosts.old hosts.new) }
+    ensures hosts { AreHosts catalog.now hosts.new }
+{
+    let Some(port) = catalog.port(site) else {
+        return Ok(());
+    };
+    match index_of(hosts, port) {
+        None => Ok(()),
+        Some(i) => hosts[i].restart(catalog),
+    }
+}

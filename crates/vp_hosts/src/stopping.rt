@@ -1,0 +1,86 @@
+//! What is left of a log whose disk stops in an append.
+
+ghost use Rattle.std.specs.Prelude.{◌≡◌, IfOk, IsTrue, List, Some};
+ghost use Rattle.vp_model.specs.Types.{LogRecord};
+ghost use Rattle.vp_records.specs.Batches.{IsBatch};
+ghost use Rattle.vp_outside.specs.Disk.{Only, log_of};
+ghost use Rattle.vp_stable.specs.Halves.{StandsAt};
+ghost use Rattle.vp_stable.specs.Stops.{GainsWhere};
+ghost use Rattle.vp_hosts.specs.Hosts.{log_on};
+ghost use Rattle.vp_hosts.specs.Stops.{is_kept};
+
+use std::alloc::Global;
+use vp_base::{Batch, NoMemory, Word};
+use vp_disks::{MemDisk, SureDisk};
+use vp_outside::Disk;
+use vp_stable::{AppendFault, Log};
+
+/// Where a run stops: in the step of this number, counted from 1, after so many device calls of its append. What was written and not
+/// synced by then is in the log where `late`.
+#[derive(Clone, Copy, Debug, Drop, PartialEq, Eq)]
+pub struct Stop {
+    pub step: u32,
+    pub calls: u8,
+    pub late: bool,
+}
+
+impl Stop {
+    /// Whether the batch is in the log that is left: its gate was opened, and that was synced or is left nevertheless.
+    pub fn keeps_batch(&self) -> bool
+        ensures { result ≡ is_kept self.now }
+    {
+        if self.late {
+            self.calls > 2
+        } else {
+            self.calls > 3
+        }
+    }
+}
+
+/// A disk that stops after so many calls, whose log is that of this disk.
+fn stopping_disk(alloc: Global, disk: &SureDisk, calls: u8) -> Result<MemDisk, NoMemory>
+    ensures attached { IfOk result (λ it. IsTrue (⟦<MemDisk as Disk>⟧.state it).attached) }
+    ensures log { IfOk result (λ it. log_of (⟦<MemDisk as Disk>⟧.state it) ≡ Some (log_on disk.now)) }
+    ensures stop { IfOk result (λ it. (⟦<MemDisk as Disk>⟧.state it).until_stop ≡ Some calls) }
+    ensures as_synced { IfOk result (λ it. (⟦<MemDisk as Disk>⟧.state it).synced (⟦<MemDisk as Disk>⟧.state it).asked ≡ log_of (⟦<MemDisk as Disk>⟧.state it)) }
+    ensures synced { IfOk result (λ it. Only (log_on disk.now) ((⟦<MemDisk as Disk>⟧.state it).may_leave (⟦<MemDisk as Disk>⟧.state it).asked)) }
+{
+    let name = Word::from_vec(Vec::new(alloc));
+    let mut stopping = MemDisk::new(alloc, Vec::new(alloc));
+    stopping.lay(
+        &name,
+        disk.half(0).to_vec(alloc)?,
+        disk.half(1).to_vec(alloc)?,
+    )?;
+    // no call is planned to fail
+    let Ok(()) = stopping.attach(&name) else {
+        return Err(NoMemory);
+    };
+    stopping.stop_after(u64::from(calls));
+    Ok(stopping)
+}
+
+/// The log with which its disk is left, which stops in the append of the batch: with that where the stop keeps it, else without.
+pub fn append_stopped(
+    alloc: Global,
+    log: Log,
+    batch: &Batch,
+    disk: &SureDisk,
+    stop: &Stop,
+) -> Result<SureDisk, NoMemory>
+    requires stands { (batches : List (List LogRecord)) × StandsAt log batches (log_on disk.now) }
+    requires batch { IsBatch batch.now }
+    ensures { IfOk result (λ left. GainsWhere batch.now log (is_kept stop.now) (log_on disk.now) (log_on left)) }
+{
+    let mut log = log;
+    let mut stopping = stopping_disk(alloc, disk, stop.calls)?;
+    if let Err(AppendFault::NoMemory) = log.append(&mut stopping, batch) {
+        return Err(NoMemory);
+    }
+    stopping.leave(stop.late);
+    SureDisk::holding(
+        alloc,
+        stopping.half(0).to_vec(alloc)?,
+        stopping.half(1).to_vec(alloc)?,
+    )
+}

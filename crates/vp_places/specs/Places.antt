@@ -1,0 +1,58 @@
+-- What a step of a site gives beside the site, and how a site starts again.
+use Rattle.std.specs.Prelude.{◌≡◌, ◌<◌, ◌+◌, ◌-◌, ◌^◌, ◌==◌, ◌&&◌, ℕ, Bool, not, if◌then◌else◌, is_some, List, Option, Some, None, option_map, option_and_then, Result, Ok, Err}
+use Rattle.std.specs.Option.{option_map_or}
+use Rattle.vp_model.specs.Types.{ViewId, View, Input, Shown}
+use Rattle.vp_model.specs.Types.shown
+use Rattle.vp_model.specs.Words.{same_view}
+use Rattle.vp_model.specs.Catalogue.{Catalogue}
+use Rattle.vp_model.specs.Site.{SiteState, Stepped}
+use Rattle.vp_model.specs.Step.{step}
+use Rattle.vp_model.specs.World.{Place, place_of, after_step, restart_place}
+use Rattle.vp_site.specs.declared.fault.StartFault.{StartFault}
+use Rattle.vp_site.specs.declared.fault.StartFault.TheVariants as fault
+use Rattle.vp_places.specs.declared.place.Taken.{Taken}
+
+-- the view that the site had invited to, and holds now
+abbrev pub newly_agreed : Option ViewId → Option View → Option View
+newly_agreed (Some inviting) (Some view) = if same_view view.id inviting then Some view else None
+newly_agreed (Some inviting) None = None
+newly_agreed None held = None
+
+-- what the step gives beside the site and its log
+abbrev pub taken : SiteState → Stepped → Taken
+taken before o = record { effects = o.effects; agreed = newly_agreed (option_map (λ inviting. inviting.0) before.inviting) o.site.held }
+
+-- a site of these places that is up
+abbrev pub site_in : ℕ → List Place → Option SiteState
+site_in id places = option_and_then (λ place. place.up) (place_of id places)
+
+-- a place where the input comes
+abbrev pub stepped_place : Catalogue → Input → Place → Place
+stepped_place catalogue given place = option_map_or (λ site. after_step (step catalogue site given) place) place.up place
+
+-- a place whose site goes down
+abbrev pub crashed_place : Place → Place
+crashed_place place = record place { up = None }
+
+-- how a site starts
+
+-- a life is left, or all are spent
+abbrev pub BeginsLife : Catalogue → Place → Place → Result (Unit {0}) StartFault → Type 0
+BeginsLife catalogue old new (Ok _) = (old.durable.life < 2 ^ 32 - 1) × (new ≡ restart_place catalogue old)
+BeginsLife catalogue old new (Err (fault.LivesSpent life)) = (old.durable.life ≡ 2 ^ 32 - 1) × (life ≡ 2 ^ 32 - 1) × (new ≡ old)
+BeginsLife catalogue old new (Err fault.NoMemory) = Unit {0}
+
+-- the site is down and has a life left
+abbrev pub restarts : Place → Bool
+restarts place = not (is_some place.up) && not (place.durable.life == 2 ^ 32 - 1)
+
+-- a place that is told to start again
+abbrev pub restarted_place : Catalogue → Place → Place
+restarted_place catalogue place = if restarts place then restart_place catalogue place else place
+
+-- the line under its restart
+abbrev pub restart_line : Place → Shown
+restart_line place =
+    if is_some place.up
+    then shown.Up place.id
+    else (if place.durable.life == 2 ^ 32 - 1 then shown.LivesSpent (2 ^ 32 - 1) else shown.Life (place.durable.life + 1))

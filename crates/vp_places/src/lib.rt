@@ -1,0 +1,8 @@
+//! The sites of a world: each with what its log keeps, and the site itself while it is up; and what a step, a crash and a restart make of it.
+#![tactic(auto)]
+
+mod place;
+mod places;
+
+pub use place::Taken;
+pub use places::Places;

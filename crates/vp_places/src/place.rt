@@ -1,0 +1,164 @@
+//! A site of the world, up or down.
+
+ghost use Rattle.std.specs.Prelude.{◌≡◌, ◌==◌, ◌-◌, ◌^◌, ◌&&◌, not, OnOk, IfOk, is_some, if◌then◌else◌, option_map, option_to_list, option_copied, option_and_then, Some, None};
+ghost use Rattle.std.specs.Option.{option_map_or};
+ghost use Rattle.vp_model.specs.Durable.{apply_all};
+ghost use Rattle.vp_model.specs.Generated.{newest};
+ghost use Rattle.vp_model.specs.Step.{step};
+ghost use Rattle.vp_model.specs.World.{start_place, after_step};
+ghost use Rattle.vp_places.specs.Places.{newly_agreed, taken, stepped_place, BeginsLife, crashed_place, restarted_place, restart_line};
+
+use std::marker::Model;
+use vp_base::{CopyOf, Effects, Input, LogRecord, Newest, NoMemory, Shown, SiteId, View, ViewId};
+use vp_catalog::Catalog;
+use vp_lists::is_same_view;
+use vp_records::Durable;
+use vp_site::{Site, StartFault};
+
+/// What a step gives beside the site and its log: its effects, and the view that is agreed from here on.
+#[derive(Drop)]
+pub struct Taken {
+    pub effects: Effects,
+    pub agreed: Option<View>,
+}
+
+/// A site of the world: what its log keeps, and the site itself while it is up.
+#[derive(Drop)]
+pub struct Place {
+    id: SiteId,
+    durable: Durable,
+    up: Option<Site>,
+}
+
+impl Model for Place {
+    ghost use Rattle.vp_model.specs.World.{Place as PlaceState};
+
+    ghost Value = { PlaceState };
+
+    ghost view = { λ p. record { id = p.id; durable = p.durable; up = p.up } };
+}
+
+/// The view that is held now, where it was invited to.
+fn newly_agreed(inviting: Option<ViewId>, held: Option<&View>) -> Result<Option<View>, NoMemory>
+    ensures { IfOk result (λ agreed. agreed ≡ newly_agreed inviting (option_copied held.entry)) }
+{
+    match (inviting, held) {
+        (Some(inviting), Some(view)) => {
+            if is_same_view(&view.id, &inviting) {
+                Ok(Some(view.copy_of()?))
+            } else {
+                Ok(None)
+            }
+        }
+        _ => Ok(None),
+    }
+}
+
+impl Place {
+    /// The site in its first life.
+    #[tactic(auto, unfolding(vp_model::specs::Durable::apply))]
+    pub fn start(catalog: &Catalog, id: SiteId) -> Result<Place, NoMemory>
+        ensures { IfOk result (λ place. place ≡ start_place catalog.now id) }
+    {
+        let mut place = Place {
+            id,
+            durable: Durable::empty(catalog.copies(id)?),
+            up: None,
+        };
+        match place.begin_life(catalog) {
+            Ok(()) => Ok(place),
+            // a first life is never the last one
+            Err(StartFault::LivesSpent { .. }) => unreachable!(),
+            Err(StartFault::NoMemory) => Err(NoMemory),
+        }
+    }
+
+    pub fn id(&self) -> SiteId
+        ensures { result ≡ self.now.id }
+    {
+        self.id
+    }
+
+    pub fn is_up(&self) -> bool
+        ensures { result ≡ is_some self.now.up }
+    {
+        self.up.is_some()
+    }
+
+    /// The newest live transaction of the site, where it is up and has one.
+    pub fn newest(&self) -> Option<Newest>
+        ensures { result ≡ option_and_then (λ site. newest site.live) self.now.up }
+    {
+        match &self.up {
+            None => None,
+            Some(site) => site.newest(),
+        }
+    }
+
+    /// The site goes down.
+    pub fn crash(&mut self)
+        ensures { self.new ≡ crashed_place self.old }
+    {
+        self.up = None;
+    }
+
+    /// The site starts with its durable part. Without memory the place may only be dropped.
+    fn begin_life(&mut self, catalog: &Catalog) -> Result<(), StartFault>
+        ensures { BeginsLife catalog.now self.old self.new result }
+    {
+        let (site, entry) = Site::start(catalog, self.id, self.durable.copy_of()?)?;
+        self.durable.apply(&entry)?;
+        self.up = Some(site);
+        Ok(())
+    }
+
+    /// The site starts again, where it is down and a life is left. Without memory the place may only be dropped.
+    #[tactic(auto, unfolding(vp_model::specs::Durable::apply))]
+    pub fn restart(&mut self, catalog: &Catalog) -> Result<Shown, NoMemory>
+        ensures place { OnOk result (self.new ≡ restarted_place catalog.now self.old) }
+        ensures shown { IfOk result (λ shown. shown ≡ restart_line self.old) }
+    {
+        if self.is_up() {
+            return Ok(Shown::Up { site: self.id });
+        }
+        match self.begin_life(catalog) {
+            Ok(()) => Ok(Shown::Life {
+                life: self.durable.life(),
+            }),
+            Err(StartFault::LivesSpent { life }) => Ok(Shown::LivesSpent { life }),
+            Err(StartFault::NoMemory) => Err(NoMemory),
+        }
+    }
+
+    /// An input comes to the site; nothing is taken where it is down. Without memory the place may only be dropped.
+    pub fn step(&mut self, catalog: &Catalog, input: &Input) -> Result<Option<Taken>, NoMemory>
+        ensures taken { IfOk result (λ t. t ≡ option_map (λ site. taken site (step catalog.now site input.now)) self.old.up) }
+        ensures place { OnOk result (self.new ≡ stepped_place catalog.now input.now self.old) }
+    {
+        match self.up.take() {
+            None => Ok(None),
+            Some(site) => Ok(Some(self.step_up(site, catalog, input)?)),
+        }
+    }
+
+    /// An input comes to this site, which is up.
+    fn step_up(&mut self, site: Site, catalog: &Catalog, input: &Input) -> Result<Taken, NoMemory>
+        ensures taken { IfOk result (λ t. t ≡ taken site (step catalog.now site input.now)) }
+        ensures place { OnOk result (self.new ≡ after_step (step catalog.now site input.now) self.old) }
+    {
+        let inviting = site.inviting();
+        let (site, effects) = site.step(catalog, input)?;
+        let agreed = newly_agreed(inviting, site.held())?;
+        self.take_back(site, effects.records.as_slice())?;
+        Ok(Taken { effects, agreed })
+    }
+
+    /// The site is as it is after its step, which has forced these records.
+    fn take_back(&mut self, site: Site, records: &[LogRecord]) -> Result<(), NoMemory>
+        ensures { OnOk result (self.new ≡ record self.old { durable = apply_all records.now self.old.durable; up = Some site }) }
+    {
+        self.durable.apply_all(records)?;
+        self.up = Some(site);
+        Ok(())
+    }
+}

@@ -1,0 +1,153 @@
+//! The sites of the world.
+
+ghost use Rattle.std.specs.Prelude.{◌≡◌, ◌==◌, ◌<◌, OnOk, IfOk, IfSome, is_some, if◌then◌else◌, length, map, option_map, option_copied, option_and_then, None};
+ghost use Rattle.std.specs.Option.{option_map_or};
+ghost use Rattle.std.specs.List.{position};
+ghost use Rattle.vp_base.specs.declared.event.Shown.TheVariants as shown;
+ghost use Rattle.vp_model.specs.Catalogue.{sites_of};
+ghost use Rattle.vp_model.specs.Generated.{newest};
+ghost use Rattle.vp_model.specs.Step.{step};
+ghost use Rattle.vp_model.specs.World.{start_place, place_of, change_place};
+ghost use Rattle.vp_places.specs.Places.{site_in, taken, stepped_place, crashed_place, restarted_place, restart_line};
+
+use crate::place::{Place, Taken};
+use std::alloc::Global;
+use std::marker::Model;
+use vp_base::{Input, Newest, NoMemory, Shown, SiteId};
+use vp_catalog::Catalog;
+
+/// The sites of the world, in the order of the catalogue.
+#[derive(Drop)]
+pub struct Places {
+    items: Vec<Place>,
+}
+
+impl Model for Places {
+    ghost use Rattle.std.specs.Prelude.{List};
+    ghost use Rattle.vp_model.specs.World.{Place as PlaceState};
+
+    ghost Value = { List PlaceState };
+
+    ghost view = { λ p. p.items.items };
+}
+
+/// All sites of the catalogue, up in their first life.
+fn start_all(alloc: Global, catalog: &Catalog) -> Result<Vec<Place>, NoMemory>
+    ensures { IfOk result (λ places. places.items ≡ map (start_place catalog.now) (sites_of catalog.now)) }
+{
+    let mut places = Vec::new(alloc);
+    for site in catalog.sites().as_slice() {
+        places.push(Place::start(catalog, *site)?)?;
+    }
+    Ok(places)
+}
+
+fn place_at(places: &[Place], id: SiteId) -> Option<usize>
+    ensures place { result ≡ position (λ p. p.id == id) places.now }
+    ensures within { IfSome result (λ i. i < length places.now) }
+{
+    places.iter().position(|place| place.id() == id)
+}
+
+fn find_place(places: &[Place], id: SiteId) -> Option<&Place>
+    ensures { option_copied result ≡ place_of id places.now }
+{
+    places.iter().find(|place| place.id() == id)
+}
+
+/// An input comes to the site; nothing is taken where it is down.
+#[tactic(auto, using(vp_lists::proofs::Found::first_changes, vp_lists::proofs::Found::first_places))]
+fn step_at(
+    places: &mut [Place],
+    catalog: &Catalog,
+    id: SiteId,
+    input: &Input,
+) -> Result<Option<Taken>, NoMemory>
+    ensures taken { IfOk result (λ t. t ≡ option_map (λ site. taken site (step catalog.now site input.now)) (site_in id places.old)) }
+    ensures places { OnOk result (places.new ≡ change_place id (stepped_place catalog.now input.now) places.old) }
+{
+    match place_at(places, id) {
+        None => Ok(None),
+        Some(i) => places[i].step(catalog, input),
+    }
+}
+
+/// The site goes down.
+#[tactic(auto, using(vp_lists::proofs::Found::first_changes, vp_lists::proofs::Found::first_places))]
+fn crash_at(places: &mut [Place], id: SiteId)
+    ensures { places.new ≡ change_place id crashed_place places.old }
+{
+    if let Some(i) = place_at(places, id) {
+        places[i].crash();
+    }
+}
+
+/// The site starts again, where it is down and a life is left.
+#[tactic(auto, using(vp_lists::proofs::Found::first_changes, vp_lists::proofs::Found::first_places))]
+fn restart_at(places: &mut [Place], catalog: &Catalog, id: SiteId) -> Result<Shown, NoMemory>
+    ensures places { OnOk result (places.new ≡ change_place id (restarted_place catalog.now) places.old) }
+    ensures shown { IfOk result (λ s. s ≡ option_map_or restart_line (place_of id places.old) shown.Nothing) }
+{
+    match place_at(places, id) {
+        None => Ok(Shown::Nothing),
+        Some(i) => places[i].restart(catalog),
+    }
+}
+
+impl Places {
+    /// All sites of the catalogue, up in their first life.
+    pub fn start(alloc: Global, catalog: &Catalog) -> Result<Places, NoMemory>
+        ensures { IfOk result (λ places. places ≡ map (start_place catalog.now) (sites_of catalog.now)) }
+    {
+        Ok(Places {
+            items: start_all(alloc, catalog)?,
+        })
+    }
+
+    pub fn is_up(&self, id: SiteId) -> bool
+        ensures { result ≡ is_some (site_in id self.now) }
+    {
+        match find_place(&self.items, id) {
+            None => false,
+            Some(place) => place.is_up(),
+        }
+    }
+
+    /// The newest live transaction of the site, where it is up and has one.
+    pub fn newest(&self, id: SiteId) -> Option<Newest>
+        ensures { result ≡ option_and_then (λ site. newest site.live) (site_in id self.now) }
+    {
+        match find_place(&self.items, id) {
+            None => None,
+            Some(place) => place.newest(),
+        }
+    }
+
+    /// An input comes to the site; nothing is taken where it is down. Without memory the places may only be dropped.
+    pub fn step(
+        &mut self,
+        catalog: &Catalog,
+        id: SiteId,
+        input: &Input,
+    ) -> Result<Option<Taken>, NoMemory>
+        ensures taken { IfOk result (λ t. t ≡ option_map (λ site. taken site (step catalog.now site input.now)) (site_in id self.old)) }
+        ensures places { OnOk result (self.new ≡ change_place id (stepped_place catalog.now input.now) self.old) }
+    {
+        step_at(&mut self.items, catalog, id, input)
+    }
+
+    /// The site goes down.
+    pub fn crash(&mut self, id: SiteId)
+        ensures { self.new ≡ change_place id crashed_place self.old }
+    {
+        crash_at(&mut self.items, id);
+    }
+
+    /// The site starts again, where it is down and a life is left. Without memory the places may only be dropped.
+    pub fn restart(&mut self, catalog: &Catalog, id: SiteId) -> Result<Shown, NoMemory>
+        ensures places { OnOk result (self.new ≡ change_place id (restarted_place catalog.now) self.old) }
+        ensures shown { IfOk result (λ s. s ≡ option_map_or restart_line (place_of id self.old) shown.Nothing) }
+    {
+        restart_at(&mut self.items, catalog, id)
+    }
+}

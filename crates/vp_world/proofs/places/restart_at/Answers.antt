@@ -1,8 +1,0 @@
-use Rattle.std.proofs.lemmas.Result.{on_ok_weaker}
-use Rattle.vp_world.specs.Steps.{restarted_place}
-use Rattle.vp_world.proofs.Changed.{changed_here}
-use Rattle.vp_world.proofs.places.restart_at.Goals as goal
-
-pub returns-in-Some-clause-places : goal.returns-in-Some-clause-places
-returns-in-Some-clause-places c =
-    on_ok_weaker c.restart.result (λ e. changed_here c.args.id c.in-Some.i (restarted_place c.args.catalog.now) c.args.places.now c.place_at.result c.index-places-i.result c.restart.new.self c.place_at.ensures.place c.in-Some.is e) c.restart.ensures.place
