@@ -299,7 +299,7 @@ fn answered(
 {
     match message {
         Message::ReadAnswer { number, value, .. } => {
-            read_answered(lent, at, from, handled, *number, value)
+            read_answered(lent, at, from, handled, *number, value.as_ref())
         }
         Message::WriteAnswer { number, .. } => write_answered(lent, at, from, handled, *number),
         Message::Refuse { number, why, .. } => refused(lent, at, from, handled, *number, why),

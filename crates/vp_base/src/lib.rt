@@ -5,6 +5,7 @@
 #![tactic(auto)]
 
 mod answer;
+mod boxed;
 mod copies;
 mod entry;
 mod event;
@@ -23,6 +24,7 @@ mod txn_text;
 mod view_text;
 
 pub use answer::{Answer, Reply};
+pub use boxed::Boxed;
 pub use entry::{Commit, Decision, Doubt, LogRecord, Op, Owner, Stored, View};
 pub use event::{Call, Counted, Effects, Event, Input, Line, Shown};
 pub use fault::{BadName, LineFault, NameFault};

@@ -6,7 +6,7 @@ ghost use Rattle.vp_wire.specs.declared.kind.MessageKind.TheVariants as kinds;
 ghost use Rattle.vp_decoding.specs.Messages.{message_at, obstacle_at};
 
 use std::alloc::Global;
-use vp_base::{LineFault, Message, Obstacle, Stored};
+use vp_base::{Boxed, LineFault, Message, Obstacle, Stored};
 use vp_bytes::{
     take_byte, take_maybe_view, take_numbered, take_outcome, take_owner, take_rec, take_recs,
     take_request, take_sites, take_txn, take_value, take_view, take_writes,
@@ -97,7 +97,7 @@ fn take_read_answer(alloc: Global, cursor: &mut Cursor) -> Result<Message, LineF
     ensures { Tries (λ m. m) line_left result cursor.new (message_at kinds.ReadAnswer cursor.old) }
 {
     let (txn, number) = take_numbered(cursor)?;
-    let value = take_value(alloc, cursor)?;
+    let value = Boxed::new(alloc, take_value(alloc, cursor)?)?;
     Ok(Message::ReadAnswer { txn, number, value })
 }
 
@@ -152,8 +152,8 @@ fn take_prepare(alloc: Global, cursor: &mut Cursor) -> Result<Message, LineFault
     ensures { Tries (λ m. m) line_left result cursor.new (message_at kinds.Prepare cursor.old) }
 {
     let (txn, view, number) = take_request(cursor)?;
-    let reads = take_recs(alloc, cursor)?;
-    let writes = take_writes(alloc, cursor)?;
+    let reads = Boxed::new(alloc, take_recs(alloc, cursor)?)?;
+    let writes = Boxed::new(alloc, take_writes(alloc, cursor)?)?;
     Ok(Message::Prepare {
         txn,
         view,
@@ -213,7 +213,7 @@ fn take_refresh_answer(alloc: Global, cursor: &mut Cursor) -> Result<Message, Li
     let rec = take_rec(cursor)?;
     let value = take_value(alloc, cursor)?;
     let date = take_view(cursor)?;
-    let stored = Stored { value, date };
+    let stored = Boxed::new(alloc, Stored { value, date })?;
     Ok(Message::RefreshAnswer { view, rec, stored })
 }
 

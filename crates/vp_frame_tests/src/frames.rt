@@ -2,7 +2,7 @@
 
 use bytes::BytesMut;
 use std::alloc::Global;
-use vp_base::{Answer, Call, CopyOf, Message, NoMemory, RecId, Stored, Value, ViewId};
+use vp_base::{Answer, Boxed, Call, CopyOf, Message, NoMemory, RecId, Stored, Value, ViewId};
 use vp_decoding::{WireFault, decode};
 use vp_wire::{Body, Frame, encode};
 
@@ -54,16 +54,17 @@ fn numbers_stand_with_their_highest_byte_first(rt: HostRuntime) {
 fn a_copy_has_its_bytes(rt: HostRuntime) {
     let value = Value::read(rt.alloc(), b"11").expect(&rt, "a value");
     let mut out = BytesMut::new(rt.alloc());
+    let stored = Stored {
+        value,
+        date: ViewId { number: 0, site: 0 },
+    };
     let copy = Frame {
         from: 3,
         to: 2,
         body: Body::Message(Message::RefreshAnswer {
             view: ViewId { number: 1, site: 2 },
             rec: RecId::new(0),
-            stored: Stored {
-                value,
-                date: ViewId { number: 0, site: 0 },
-            },
+            stored: Boxed::new(rt.alloc(), stored).expect(&rt, "memory"),
         }),
     };
     encode(&copy, &mut out).expect(&rt, "memory");

@@ -9,7 +9,7 @@ ghost use Rattle.vp_endings.specs.Lent.{in_place};
 
 use std::alloc::Global;
 use vp_base::{
-    CopyOf, Effects, Live, Message, NoMemory, Pending, RecId, Recs, SiteId, Sites, Value,
+    Boxed, CopyOf, Effects, Live, Message, NoMemory, Pending, RecId, Recs, SiteId, Sites, Value,
 };
 use vp_catalog::Catalog;
 use vp_endings::{Around, Lent, last_writes, writes_held};
@@ -86,7 +86,7 @@ fn prepare_for(
         txn: t.txn,
         view: t.view,
         number: p.number,
-        reads: records_read_at(alloc, site, t.remote.as_slice())?,
-        writes: writes_held(alloc, catalog, site, writes)?,
+        reads: Boxed::new(alloc, records_read_at(alloc, site, t.remote.as_slice())?)?,
+        writes: Boxed::new(alloc, writes_held(alloc, catalog, site, writes)?)?,
     })
 }

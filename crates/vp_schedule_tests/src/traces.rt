@@ -3,7 +3,7 @@
 use std::alloc::Global;
 use std::process::Abort;
 use vp_base::{
-    Answer, CallNo, Commit, Commits, Event, Line, Message, Messages, Obstacle, Ops, Owner, RecId,
+    Answer, Boxed, CallNo, Commit, Commits, Event, Line, Message, Messages, Obstacle, Ops, Owner, RecId,
     Recs, Replies, Reply, Sent, Shown, SiteId, Sites, Stored, TxnId, Value, ViewId, Writes,
 };
 use vp_catalog::Catalog;
@@ -65,7 +65,7 @@ fn of_requests(rt: &impl Abort, alloc: Global, kind: u8) -> Message {
         1 => Message::ReadAnswer {
             txn,
             number,
-            value: value(rt, alloc),
+            value: Boxed::new(alloc, value(rt, alloc)).expect(rt, "memory"),
         },
         2 => Message::WriteRequest {
             txn,
@@ -115,8 +115,8 @@ fn prepare(rt: &impl Abort, alloc: Global) -> Message {
         txn: txn(),
         view: OPENING,
         number: number(rt),
-        reads,
-        writes,
+        reads: Boxed::new(alloc, reads).expect(rt, "memory"),
+        writes: Boxed::new(alloc, writes).expect(rt, "memory"),
     }
 }
 
@@ -139,10 +139,14 @@ fn of_refreshes(rt: &impl Abort, alloc: Global, kind: u8) -> Message {
         _ => Message::RefreshAnswer {
             view,
             rec,
-            stored: Stored {
-                value: value(rt, alloc),
-                date: OPENING,
-            },
+            stored: Boxed::new(
+                alloc,
+                Stored {
+                    value: value(rt, alloc),
+                    date: OPENING,
+                },
+            )
+            .expect(rt, "memory"),
         },
     }
 }

@@ -71,8 +71,8 @@ pub fn on_message(
                 txn: *txn,
                 view: *view,
                 number: *number,
-                reads,
-                writes,
+                reads: reads.as_ref(),
+                writes: writes.as_ref(),
             };
             stepped.on_prepare(from, &asked)
         }
@@ -82,7 +82,7 @@ pub fn on_message(
             let answer = RefreshAnswer {
                 view: *view,
                 rec: *rec,
-                stored,
+                stored: stored.as_ref(),
             };
             stepped.on_refresh_answer(catalog, from, &answer)
         }

@@ -2,7 +2,7 @@
 
 use std::alloc::Global;
 use vp_base::{
-    Call, CallNo, Copies, CopyOf, Effects, Message, Name, SiteId, TxnId, Value, View, ViewId,
+    Boxed, Call, CallNo, Copies, CopyOf, Effects, Message, Name, SiteId, TxnId, Value, View, ViewId,
 };
 use vp_catalog::Catalog;
 use vp_coordinator::Coordinator;
@@ -126,7 +126,7 @@ fn reads(alloc: Global, site: &mut Bench) -> Option<bool> {
 
 fn hears_value(alloc: Global, site: &mut Bench) -> Option<bool> {
     let number = CallNo::new(1)?;
-    let value = Value::read(alloc, b"5").ok()?;
+    let value = Boxed::new(alloc, Value::read(alloc, b"5").ok()?).ok()?;
     let txn = txn();
     Some(site.hears(SiteId::of(2), Message::ReadAnswer { txn, number, value }))
 }

@@ -16,7 +16,7 @@ ghost use Rattle.vp_stepped.specs.Ballots.{told};
 use crate::state::SiteState;
 use crate::stepped::Stepped;
 use vp_base::{
-    CallNo, LogRecord, Message, NoMemory, Obstacle, RecId, Recs, SiteId, TxnId, ViewId, Writes,
+    Boxed, CallNo, LogRecord, Message, NoMemory, Obstacle, RecId, Recs, SiteId, TxnId, ViewId, Writes,
 };
 use vp_catalog::Catalog;
 use vp_participant::{PartFault, PrepareFault, Settled, Voted};
@@ -131,7 +131,7 @@ impl Stepped {
         match self.copy_here(request.rec)? {
             None => self.pass_over(request, from),
             Some(stored) => {
-                let value = stored.into_value();
+                let value = Boxed::new(self.allocator(), stored.into_value())?;
                 self.grant(
                     request,
                     false,

@@ -9,7 +9,7 @@ ghost use Rattle.vp_model.specs.Messages.{on_refresh_request, on_refresh_answer}
 
 use crate::state::SiteState;
 use crate::stepped::Stepped;
-use vp_base::{LogRecord, Message, NoMemory, RecId, SiteId, Sites, Stored, View, ViewId};
+use vp_base::{Boxed, LogRecord, Message, NoMemory, RecId, SiteId, Sites, Stored, View, ViewId};
 use vp_catalog::{Catalog, has_site, members_of};
 use vp_lists::view_comes_before;
 
@@ -193,7 +193,10 @@ impl Stepped {
         }
         match self.copy_here(rec)? {
             None => Ok(()),
-            Some(stored) => self.send(from, Message::RefreshAnswer { view, rec, stored }),
+            Some(stored) => {
+                let stored = Boxed::new(self.allocator(), stored)?;
+                self.send(from, Message::RefreshAnswer { view, rec, stored })
+            }
         }
     }
 

@@ -87,6 +87,10 @@ impl Stepped {
         }
     }
 
+    pub(crate) fn allocator(&self) -> Global {
+        *Box::allocator(&self.site)
+    }
+
     pub fn holds_view(&self, id: ViewId) -> bool
         ensures { result ≡ holds_view self.now.site id }
     {

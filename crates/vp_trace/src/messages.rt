@@ -218,7 +218,9 @@ pub fn print_message(
             number,
             rec,
         } => print_lock_request(out, catalog, b"read-request ", txn, view, *number, *rec),
-        Message::ReadAnswer { txn, number, value } => print_read_answer(out, txn, *number, value),
+        Message::ReadAnswer { txn, number, value } => {
+            print_read_answer(out, txn, *number, value.as_ref())
+        }
         Message::WriteRequest {
             txn,
             view,
@@ -239,8 +241,8 @@ pub fn print_message(
             txn,
             view,
             *number,
-            reads.as_slice(),
-            writes.as_slice(),
+            reads.as_ref().as_slice(),
+            writes.as_ref().as_slice(),
         ),
         Message::Vote { txn } => print_txn(out, b"vote ", txn),
         Message::Outcome { txn, commit } => print_outcome(out, txn, *commit),
@@ -248,7 +250,7 @@ pub fn print_message(
         Message::Inquire { txn } => print_txn(out, b"inquire ", txn),
         Message::RefreshRequest { view, rec } => print_refresh_request(out, catalog, view, *rec),
         Message::RefreshAnswer { view, rec, stored } => {
-            print_refresh_answer(out, catalog, view, *rec, stored)
+            print_refresh_answer(out, catalog, view, *rec, stored.as_ref())
         }
         Message::Probe { view } => print_view(out, b"probe ", view),
     }

@@ -98,7 +98,9 @@ fn put_message(out: &mut BytesMut, message: &Message) -> Result<(), NoMemory>
             number,
             rec,
         } => put_lock_request(out, txn, view, *number, *rec),
-        Message::ReadAnswer { txn, number, value } => put_numbered_value(out, txn, *number, value),
+        Message::ReadAnswer { txn, number, value } => {
+            put_numbered_value(out, txn, *number, value.as_ref())
+        }
         Message::WriteRequest {
             txn,
             view,
@@ -113,13 +115,22 @@ fn put_message(out: &mut BytesMut, message: &Message) -> Result<(), NoMemory>
             number,
             reads,
             writes,
-        } => put_prepare(out, txn, view, *number, reads.as_slice(), writes.as_slice()),
+        } => put_prepare(
+            out,
+            txn,
+            view,
+            *number,
+            reads.as_ref().as_slice(),
+            writes.as_ref().as_slice(),
+        ),
         Message::Vote { txn } => put_txn(out, txn),
         Message::Outcome { txn, commit } => put_outcome(out, txn, *commit),
         Message::Ack { txn } => put_txn(out, txn),
         Message::Inquire { txn } => put_txn(out, txn),
         Message::RefreshRequest { view, rec } => put_refresh_request(out, view, *rec),
-        Message::RefreshAnswer { view, rec, stored } => put_refresh_answer(out, view, *rec, stored),
+        Message::RefreshAnswer { view, rec, stored } => {
+            put_refresh_answer(out, view, *rec, stored.as_ref())
+        }
         Message::Probe { view } => put_view(out, view),
     }
 }

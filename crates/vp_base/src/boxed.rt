@@ -1,0 +1,43 @@
+//! A value in a box: a contract sees it as the value.
+
+ghost use Rattle.std.specs.Prelude.{◌≡◌, IfOk};
+
+use crate::memory::NoMemory;
+use crate::seq::CopyOf;
+use std::alloc::Global;
+use std::marker::Model;
+
+/// A value of its own on the heap: for a field that would make all variants of an enum as large as it is.
+#[derive(Drop)]
+pub struct Boxed<T> {
+    kept: Box<T>,
+}
+
+impl<T> Model for Boxed<T> {
+    ghost Value = { T };
+
+    ghost view = { λ b. b.kept.value };
+}
+
+impl<T: Drop> Boxed<T> {
+    pub fn new(alloc: Global, value: T) -> Result<Boxed<T>, NoMemory>
+        ensures { IfOk result (λ boxed. boxed ≡ value) }
+    {
+        Ok(Boxed {
+            kept: Box::new(alloc, value)?,
+        })
+    }
+
+    pub fn as_ref(&self) -> &T
+        ensures { result.now ≡ self.now }
+    {
+        self.kept.as_ref()
+    }
+}
+
+impl<T: CopyOf> CopyOf for Boxed<T> {
+    fn copy_of(&self) -> Result<Boxed<T>, NoMemory> {
+        let alloc = *Box::allocator(&self.kept);
+        Boxed::new(alloc, self.as_ref().copy_of()?)
+    }
+}
