@@ -3,8 +3,8 @@
 use std::alloc::Global;
 use std::process::Abort;
 use vp_base::{
-    Answer, Boxed, CallNo, Commit, Commits, Event, Line, Message, Messages, Obstacle, Ops, Owner, RecId,
-    Recs, Replies, Reply, Sent, Shown, SiteId, Sites, Stored, TxnId, Value, ViewId, Writes,
+    Answer, Boxed, CallNo, Commit, Commits, Event, Line, Message, Messages, Obstacle, Ops, Owner,
+    RecId, Recs, Replies, Reply, Sent, Shown, SiteId, Sites, Stored, TxnId, Value, ViewId, Writes,
 };
 use vp_catalog::Catalog;
 use vp_trace::{print_line, print_message};

@@ -16,7 +16,8 @@ ghost use Rattle.vp_stepped.specs.Ballots.{told};
 use crate::state::SiteState;
 use crate::stepped::Stepped;
 use vp_base::{
-    Boxed, CallNo, LogRecord, Message, NoMemory, Obstacle, RecId, Recs, SiteId, TxnId, ViewId, Writes,
+    Boxed, CallNo, LogRecord, Message, NoMemory, Obstacle, RecId, Recs, SiteId, TxnId, ViewId,
+    Writes,
 };
 use vp_catalog::Catalog;
 use vp_participant::{PartFault, PrepareFault, Settled, Voted};

@@ -13,7 +13,7 @@ pub returns-in-ReadRequest : goal.returns-in-ReadRequest
 returns-in-ReadRequest c = rw c.in-ReadRequest.is c.print_lock_request.ensures
 
 pub returns-in-ReadAnswer : goal.returns-in-ReadAnswer
-returns-in-ReadAnswer c = rw c.in-ReadAnswer.is c.print_read_answer.ensures
+returns-in-ReadAnswer c = rw (c.in-ReadAnswer.is, ← c.as_ref.ensures) c.print_read_answer.ensures
 
 pub returns-in-WriteRequest : goal.returns-in-WriteRequest
 returns-in-WriteRequest c = rw c.in-WriteRequest.is c.print_lock_request-in-WriteRequest.ensures
@@ -40,7 +40,7 @@ pub returns-in-RefreshRequest : goal.returns-in-RefreshRequest
 returns-in-RefreshRequest c = rw c.in-RefreshRequest.is c.print_refresh_request.ensures
 
 pub returns-in-RefreshAnswer : goal.returns-in-RefreshAnswer
-returns-in-RefreshAnswer c = rw c.in-RefreshAnswer.is c.print_refresh_answer.ensures
+returns-in-RefreshAnswer c = rw (c.in-RefreshAnswer.is, ← c.as_ref-in-RefreshAnswer.ensures) c.print_refresh_answer.ensures
 
 pub returns-in-Probe : goal.returns-in-Probe
 returns-in-Probe c = rw c.in-Probe.is c.print_view-in-Probe.ensures
