@@ -3,6 +3,8 @@
 
 mod place;
 mod places;
+mod stepper;
 
 pub use place::Taken;
 pub use places::Places;
+pub use stepper::{ByThemselves, Stepper};

@@ -1,13 +1,14 @@
 //! A site of the world, up or down.
 
-ghost use Rattle.std.specs.Prelude.{◌≡◌, ◌==◌, ◌-◌, ◌^◌, ◌&&◌, not, OnOk, IfOk, is_some, if◌then◌else◌, option_map, option_to_list, option_copied, option_and_then, Some, None};
+ghost use Rattle.std.specs.Prelude.{◌≡◌, ◌==◌, ◌-◌, ◌^◌, ◌&&◌, not, OnOk, IfOk, IfSome, is_some, if◌then◌else◌, option_map, option_to_list, option_copied, option_and_then, Some, None};
 ghost use Rattle.std.specs.Option.{option_map_or};
 ghost use Rattle.vp_model.specs.Durable.{apply_all};
 ghost use Rattle.vp_model.specs.Generated.{newest};
 ghost use Rattle.vp_model.specs.Step.{step};
 ghost use Rattle.vp_model.specs.World.{start_place, after_step};
-ghost use Rattle.vp_places.specs.Places.{newly_agreed, taken, stepped_place, BeginsLife, crashed_place, restarted_place, restart_line};
+ghost use Rattle.vp_places.specs.Places.{newly_agreed, taken, stepped_place, BeginsLife, crashed_place, restarted_place, restart_line, DidTaken};
 
+use crate::stepper::Stepper;
 use std::marker::Model;
 use vp_base::{CopyOf, Effects, Input, LogRecord, Newest, NoMemory, Shown, SiteId, View, ViewId};
 use vp_catalog::Catalog;
@@ -131,23 +132,38 @@ impl Place {
     }
 
     /// An input comes to the site; nothing is taken where it is down. Without memory the place may only be dropped.
-    pub fn step(&mut self, catalog: &Catalog, input: &Input) -> Result<Option<Taken>, NoMemory>
+    pub fn step<S: Stepper>(
+        &mut self,
+        catalog: &Catalog,
+        input: &Input,
+        stepper: &mut S,
+    ) -> Result<Option<Taken>, NoMemory>
+        requires { IfSome self.old.up (λ site. S.may catalog.now site input.now stepper.old) }
         ensures taken { IfOk result (λ t. t ≡ option_map (λ site. taken site (step catalog.now site input.now)) self.old.up) }
         ensures place { OnOk result (self.new ≡ stepped_place catalog.now input.now self.old) }
+        ensures did { IfOk result (λ t. DidTaken S.did t stepper.old stepper.new) }
     {
         match self.up.take() {
             None => Ok(None),
-            Some(site) => Ok(Some(self.step_up(site, catalog, input)?)),
+            Some(site) => Ok(Some(self.step_up(site, catalog, input, stepper)?)),
         }
     }
 
     /// An input comes to this site, which is up.
-    fn step_up(&mut self, site: Site, catalog: &Catalog, input: &Input) -> Result<Taken, NoMemory>
+    fn step_up<S: Stepper>(
+        &mut self,
+        site: Site,
+        catalog: &Catalog,
+        input: &Input,
+        stepper: &mut S,
+    ) -> Result<Taken, NoMemory>
+        requires { S.may catalog.now site input.now stepper.old }
         ensures taken { IfOk result (λ t. t ≡ taken site (step catalog.now site input.now)) }
         ensures place { OnOk result (self.new ≡ after_step (step catalog.now site input.now) self.old) }
+        ensures did { IfOk result (λ t. S.did t.effects.messages stepper.old stepper.new) }
     {
         let inviting = site.inviting();
-        let (site, effects) = site.step(catalog, input)?;
+        let (site, effects) = stepper.step(catalog, site, input)?;
         let agreed = newly_agreed(inviting, site.held())?;
         self.take_back(site, effects.records.as_slice())?;
         Ok(Taken { effects, agreed })

@@ -8,9 +8,10 @@ ghost use Rattle.vp_model.specs.Catalogue.{sites_of};
 ghost use Rattle.vp_model.specs.Generated.{newest};
 ghost use Rattle.vp_model.specs.Step.{step};
 ghost use Rattle.vp_model.specs.World.{start_place, place_of, change_place};
-ghost use Rattle.vp_places.specs.Places.{site_in, taken, stepped_place, crashed_place, restarted_place, restart_line};
+ghost use Rattle.vp_places.specs.Places.{site_in, taken, stepped_place, crashed_place, restarted_place, restart_line, DidTaken};
 
 use crate::place::{Place, Taken};
+use crate::stepper::Stepper;
 use std::alloc::Global;
 use std::marker::Model;
 use vp_base::{Input, Newest, NoMemory, Shown, SiteId};
@@ -57,18 +58,21 @@ fn find_place(places: &[Place], id: SiteId) -> Option<&Place>
 
 /// An input comes to the site; nothing is taken where it is down.
 #[tactic(auto, using(vp_lists::proofs::Found::first_changes, vp_lists::proofs::Found::first_places))]
-fn step_at(
+fn step_at<S: Stepper>(
     places: &mut [Place],
     catalog: &Catalog,
     id: SiteId,
     input: &Input,
+    stepper: &mut S,
 ) -> Result<Option<Taken>, NoMemory>
+    requires { IfSome (site_in id places.old) (λ site. S.may catalog.now site input.now stepper.old) }
     ensures taken { IfOk result (λ t. t ≡ option_map (λ site. taken site (step catalog.now site input.now)) (site_in id places.old)) }
     ensures places { OnOk result (places.new ≡ change_place id (stepped_place catalog.now input.now) places.old) }
+    ensures did { IfOk result (λ t. DidTaken S.did t stepper.old stepper.new) }
 {
     match place_at(places, id) {
         None => Ok(None),
-        Some(i) => places[i].step(catalog, input),
+        Some(i) => places[i].step(catalog, input, stepper),
     }
 }
 
@@ -124,16 +128,19 @@ impl Places {
     }
 
     /// An input comes to the site; nothing is taken where it is down. Without memory the places may only be dropped.
-    pub fn step(
+    pub fn step<S: Stepper>(
         &mut self,
         catalog: &Catalog,
         id: SiteId,
         input: &Input,
+        stepper: &mut S,
     ) -> Result<Option<Taken>, NoMemory>
+        requires { IfSome (site_in id self.old) (λ site. S.may catalog.now site input.now stepper.old) }
         ensures taken { IfOk result (λ t. t ≡ option_map (λ site. taken site (step catalog.now site input.now)) (site_in id self.old)) }
         ensures places { OnOk result (self.new ≡ change_place id (stepped_place catalog.now input.now) self.old) }
+        ensures did { IfOk result (λ t. DidTaken S.did t stepper.old stepper.new) }
     {
-        step_at(&mut self.items, catalog, id, input)
+        step_at(&mut self.items, catalog, id, input, stepper)
     }
 
     /// The site goes down.

@@ -2,26 +2,32 @@
 
 ghost use Rattle.std.specs.Prelude.{◌≤◌, [], OnErr, OnOk, length};
 ghost use Rattle.std.specs.List.{AllByRecursion};
-ghost use Rattle.vp_model.specs.World.{one_step, flow, one_event};
+ghost use Rattle.vp_model.specs.World.{one_step, flow, one_event, moments_of};
 ghost use Rattle.vp_model.specs.Texts.Trace.{own_line};
-ghost use Rattle.vp_playing.specs.Played.{SeesAll, SeesSome, Sees, Plays, run_in, schedule_of};
+ghost use Rattle.vp_playing.specs.Played.{SeesAll, SeesSome, Sees, Plays, StepsAll, IsReadyFor, run_in, schedule_of};
+ghost use Rattle.vp_world.specs.Steps.{IsReady};
 
 use crate::observer::Observer;
 use vp_base::{Event, Line, NoMemory, Shown};
 use vp_catalog::Catalog;
+use vp_places::Stepper;
 use vp_world::{World, WorldEnd};
 
 /// Does one step, and shows its line.
-fn play_step<O: Observer>(
+fn play_step<S: Stepper, O: Observer>(
     number: u32,
     event: &Event,
     world: World,
+    stepper: &mut S,
     observer: &mut O,
 ) -> Result<World, WorldEnd>
-    requires { O.allows event.now }
-    ensures { Sees O.sees O.begins world.catalogue [] (one_step world.catalogue number event.now (run_in world.world)) result observer.old observer.new }
+    requires allowed { O.allows event.now }
+    requires hears { S.hears event.now }
+    requires ready { IsReady S.heard (S.may world.catalogue) event.now world.world stepper.old }
+    ensures seen { Sees O.sees O.begins world.catalogue [] (one_step world.catalogue number event.now (run_in world.world)) result observer.old observer.new }
+    ensures stepped { OnOk result (StepsAll S.heard S.did (one_step world.catalogue number event.now (run_in world.world)).moments stepper.old stepper.new) }
 {
-    match world.next(event) {
+    match world.next_by(event, stepper) {
         Err(end) => Err(end),
         Ok((world, line)) => {
             observer.see(number, &line, world.catalog())?;
@@ -31,19 +37,22 @@ fn play_step<O: Observer>(
 }
 
 /// Delivers up to `count` messages, each time the lowest one that may be delivered and never was, and shows the lines.
-fn play_flow<O: Observer>(
+fn play_flow<S: Stepper, O: Observer>(
     number: u32,
     count: u32,
     world: World,
+    stepper: &mut S,
     observer: &mut O,
 ) -> Result<World, WorldEnd>
-    ensures { Sees O.sees O.begins world.catalogue [] (flow world.catalogue number count (run_in world.world)) result observer.old observer.new }
+    requires { IsReadyFor S.hears S.heard S.did (S.may world.catalogue) (flow world.catalogue number count (run_in world.world)).moments stepper.old }
+    ensures stepped { OnOk result (StepsAll S.heard S.did (flow world.catalogue number count (run_in world.world)).moments stepper.old stepper.new) }
+    ensures seen { Sees O.sees O.begins world.catalogue [] (flow world.catalogue number count (run_in world.world)) result observer.old observer.new }
 {
     let mut world = world;
     for _ in 0..count {
         match world.flowing() {
             None => return Ok(world),
-            Some(k) => world = play_step(number, &Event::Deliver { k }, world, observer)?,
+            Some(k) => world = play_step(number, &Event::Deliver { k }, world, stepper, observer)?,
         }
     }
     Ok(world)
@@ -71,39 +80,45 @@ fn show_own_line<O: Observer>(
 
 /// Does the steps of the event, and shows their lines.
 #[tactic(auto, unfolding(vp_model::specs::World::one_event))]
-pub fn play_event<O: Observer>(
+pub fn play_event<S: Stepper, O: Observer>(
     number: u32,
     event: &Event,
     world: World,
+    stepper: &mut S,
     observer: &mut O,
 ) -> Result<World, WorldEnd>
-    requires { O.allows event.now }
-    ensures { Sees O.sees O.begins world.catalogue (own_line number event.now) (one_event world.catalogue number event.now (run_in world.world)) result
+    requires allowed { O.allows event.now }
+    requires ready { IsReadyFor S.hears S.heard S.did (S.may world.catalogue) (one_event world.catalogue number event.now (run_in world.world)).moments stepper.old }
+    ensures stepped { OnOk result (StepsAll S.heard S.did (one_event world.catalogue number event.now (run_in world.world)).moments stepper.old stepper.new) }
+    ensures seen { Sees O.sees O.begins world.catalogue (own_line number event.now) (one_event world.catalogue number event.now (run_in world.world)) result
         observer.old observer.new }
 {
     show_own_line(number, event, world.catalog(), observer)?;
     match event {
-        Event::Flow { count } => play_flow(number, *count, world, observer),
-        _ => play_step(number, event, world, observer),
+        Event::Flow { count } => play_flow(number, *count, world, stepper, observer),
+        _ => play_step(number, event, world, stepper, observer),
     }
 }
 
 /// Plays the events one after the other, from the start of the world on. Where a limit ends them, the observer has seen the lines of
 /// the steps before; without memory, some of these.
-pub fn play<O: Observer>(
+pub fn play<S: Stepper, O: Observer>(
     catalog: Catalog,
     events: &[Event],
+    stepper: &mut S,
     observer: &mut O,
 ) -> Result<World, WorldEnd>
     requires few { length events.now ≤ 100000 }
     requires allowed { AllByRecursion O.allows events.now }
-    ensures { Plays O.sees O.begins (schedule_of catalog events.now) result observer.old observer.new }
+    requires ready { IsReadyFor S.hears S.heard S.did (S.may catalog) (moments_of (schedule_of catalog events.now)) stepper.old }
+    ensures stepped { OnOk result (StepsAll S.heard S.did (moments_of (schedule_of catalog events.now)) stepper.old stepper.new) }
+    ensures played { Plays O.sees O.begins (schedule_of catalog events.now) result observer.old observer.new }
 {
     let mut world = World::new(catalog)?;
     let mut number = 0;
     for event in events {
         number += 1;
-        world = play_event(number, event, world, observer)?;
+        world = play_event(number, event, world, stepper, observer)?;
     }
     Ok(world)
 }

@@ -1,9 +1,11 @@
 -- What a step of a site gives the world, and which site takes one.
-use Rattle.std.specs.Prelude.{ℕ, ◌+◌, if◌then◌else◌, is_some, [], ◌∷◌, ◌++◌, length, Option, Some, None, option_and_then, option_to_list}
-use Rattle.vp_model.specs.Types.{Sent, Event}
+use Rattle.std.specs.Prelude.{◌≡◌, ℕ, ◌+◌, if◌then◌else◌, is_some, List, [], ◌∷◌, ◌++◌, length, Option, Some, None, IfSome, option_map, option_and_then, option_to_list}
+use Rattle.vp_model.specs.Types.{Sent, Event, Input, Shown, Line}
 use Rattle.vp_model.specs.Types.event
+use Rattle.vp_model.specs.Types.input
 use Rattle.vp_model.specs.Types.shown
 use Rattle.vp_model.specs.Catalogue.{Catalogue}
+use Rattle.vp_model.specs.Site.{SiteState}
 use Rattle.vp_model.specs.World.{WorldState, Moved, site_of, message_at, is_cut, next}
 use Rattle.vp_model.specs.Justified.{site_named}
 use Rattle.vp_model.specs.Told.{is_step}
@@ -38,6 +40,34 @@ taker_now (event.Deliver k) w = receiver w k
 taker_now (event.Tick site) w = if_up w site
 taker_now (event.Probe site) w = if_up w site
 taker_now _ w = None
+
+-- a site that is up, with what comes to it
+abbrev pub step_at : WorldState → ℕ → Input → Option (SiteState × Input)
+step_at w id given = option_map (λ site. (site, given)) (site_of w id)
+
+abbrev pub step_by : WorldState → Sent → Option (SiteState × Input)
+step_by w sent = if is_cut w sent.from sent.to then None else step_at w sent.to (input.Message sent.from sent.message)
+
+-- the site whose step the event is now, with what comes to it
+abbrev pub step_of : Event → WorldState → Option (SiteState × Input)
+step_of (event.Call site words) w = step_at w site (input.Call 0 words)
+step_of (event.Deliver k) w = option_and_then (step_by w) (message_at w k)
+step_of (event.Tick site) w = step_at w site input.Tick
+step_of (event.Probe site) w = step_at w site input.Probe
+step_of _ w = None
+
+-- what whoever does the steps does of what is shown
+abbrev pub DidShown : {S : Type 0} → (List Sent → S → S → Type 0) → Shown → S → S → Type 0
+DidShown did (shown.Step commits first messages replies) old new = did messages old new
+DidShown did _ old new = new ≡ old
+
+-- the same of a line: it hears of the event, and then does the step
+abbrev pub DidLine : {S : Type 0} → (Event → S → S → Type 0) → (List Sent → S → S → Type 0) → Line → S → S → Type 0
+DidLine {S} heard did line old new = (told : S) × heard line.event old told × DidShown did line.shown told new
+
+-- it may do the step of the event in this world, once it has heard of that
+abbrev pub IsReady : {S : Type 0} → (Event → S → S → Type 0) → (SiteState → Input → S → Type 0) → Event → WorldState → S → Type 0
+IsReady {S} heard may e w old = (told : S) → heard e old told → IfSome (step_of e w) (λ it. may it.0 it.1 told)
 
 -- the world where this message counts as delivered too
 abbrev pub passed_over : ℕ → WorldState → WorldState

@@ -1,6 +1,6 @@
 //! What the world keeps, and what an event does to it.
 
-ghost use Rattle.std.specs.Prelude.{◌≡◌, ◌≤◌, ◌<◌, ◌+◌, ◌++◌, ◌∷◌, [], OnOk, OnErr, IfOk, IsSome, Some, None, is_some, if◌then◌else◌, length, map, option_to_list, option_and_then};
+ghost use Rattle.std.specs.Prelude.{◌≡◌, ◌≤◌, ◌<◌, ◌+◌, ◌++◌, ◌∷◌, [], OnOk, OnErr, IfOk, IfSome, IsSome, Some, None, is_some, if◌then◌else◌, length, map, option_to_list, option_and_then};
 ghost use Rattle.vp_base.specs.declared.event.Event.TheVariants as event;
 ghost use Rattle.vp_base.specs.declared.event.Input.TheVariants as input;
 ghost use Rattle.vp_base.specs.declared.event.Shown.TheVariants as shown;
@@ -12,7 +12,7 @@ ghost use Rattle.vp_world.specs.Limits.{Ends, Does, too_many, too_many_steps};
 ghost use Rattle.vp_mail.specs.Posted.{message_in, posted, are_too_many, Refuses};
 ghost use Rattle.vp_mail.specs.Queues.{AreSited};
 ghost use Rattle.vp_world.specs.Known.{IsWithinLimits};
-ghost use Rattle.vp_world.specs.Steps.{takes_in, if_up, receiver, taker_now, passed_over};
+ghost use Rattle.vp_world.specs.Steps.{takes_in, if_up, receiver, taker_now, passed_over, step_at, step_by, step_of, DidShown};
 ghost use Rattle.vp_world.specs.Heads.{is_open, head_of, lesser};
 
 use crate::end::WorldEnd;
@@ -24,7 +24,7 @@ use vp_base::{
 };
 use vp_catalog::Catalog;
 use vp_mail::{Cuts, Mail, PAIRS, SITES};
-use vp_places::{Places, Taken};
+use vp_places::{Places, Stepper, Taken};
 
 /// The opening view.
 const OPENING: ViewId = ViewId { number: 0, site: 0 };
@@ -230,21 +230,37 @@ impl State {
 
     /// An input comes to a site, where it is up. Where the messages are too many, or without memory, the state may only be dropped,
     /// as after each call below.
-    fn at_site(&mut self, catalog: &Catalog, id: SiteId, input: &Input) -> Result<Shown, WorldEnd>
-        requires { length self.old.sent ≤ 2000000 }
-        ensures { Does (at_site catalog.now id input.now self.old) self.new result }
+    fn at_site<S: Stepper>(
+        &mut self,
+        catalog: &Catalog,
+        id: SiteId,
+        input: &Input,
+        stepper: &mut S,
+    ) -> Result<Shown, WorldEnd>
+        requires few { length self.old.sent ≤ 2000000 }
+        requires may { IfSome (step_at self.old id input.now) (λ it. S.may catalog.now it.0 it.1 stepper.old) }
+        ensures does { Does (at_site catalog.now id input.now self.old) self.new result }
+        ensures did { IfOk result (λ line. DidShown S.did line stepper.old stepper.new) }
     {
-        match self.places.step(catalog, id, input)? {
+        match self.places.step(catalog, id, input, stepper)? {
             None => Ok(Shown::Down { site: id }),
             Some(taken) => self.take_in(taken),
         }
     }
 
     /// Message `k` comes, which is this one, where its receiver is up and its pair is not cut.
-    fn hand_over(&mut self, catalog: &Catalog, k: u32, sent: Sent) -> Result<Shown, WorldEnd>
+    fn hand_over<S: Stepper>(
+        &mut self,
+        catalog: &Catalog,
+        k: u32,
+        sent: Sent,
+        stepper: &mut S,
+    ) -> Result<Shown, WorldEnd>
         requires few { length self.old.sent ≤ 2000000 }
         requires numbered { message_at self.old k ≡ Some sent }
-        ensures { Does (deliver catalog.now k sent self.old) self.new result }
+        requires may { IfSome (step_by self.old sent) (λ it. S.may catalog.now it.0 it.1 stepper.old) }
+        ensures does { Does (deliver catalog.now k sent self.old) self.new result }
+        ensures did { IfOk result (λ line. DidShown S.did line stepper.old stepper.new) }
     {
         let from = sent.from;
         let to = sent.to;
@@ -256,16 +272,23 @@ impl State {
         }
         self.mail.deliver(k, &sent)?;
         let message = sent.into_message();
-        self.at_site(catalog, to, &Input::Message { from, message })
+        self.at_site(catalog, to, &Input::Message { from, message }, stepper)
     }
 
-    fn deliver(&mut self, catalog: &Catalog, k: u32) -> Result<Shown, WorldEnd>
-        requires { length self.old.sent ≤ 2000000 }
-        ensures { Does (happens catalog.now (event.Deliver k) self.old) self.new result }
+    fn deliver<S: Stepper>(
+        &mut self,
+        catalog: &Catalog,
+        k: u32,
+        stepper: &mut S,
+    ) -> Result<Shown, WorldEnd>
+        requires few { length self.old.sent ≤ 2000000 }
+        requires may { IfSome (step_of (event.Deliver k) self.old) (λ it. S.may catalog.now it.0 it.1 stepper.old) }
+        ensures does { Does (happens catalog.now (event.Deliver k) self.old) self.new result }
+        ensures did { IfOk result (λ line. DidShown S.did line stepper.old stepper.new) }
     {
         match self.mail.message(k)? {
             None => Ok(Shown::NoMessage),
-            Some(sent) => self.hand_over(catalog, k, sent),
+            Some(sent) => self.hand_over(catalog, k, sent, stepper),
         }
     }
 
@@ -340,25 +363,40 @@ impl State {
         self.places.restart(catalog, id)
     }
 
-    fn call(&mut self, catalog: &Catalog, site: SiteId, call: &Call) -> Result<Shown, WorldEnd>
-        requires { length self.old.sent ≤ 2000000 }
-        ensures { Does (at_site catalog.now site (input.Call 0 call.now) self.old) self.new result }
+    fn call<S: Stepper>(
+        &mut self,
+        catalog: &Catalog,
+        site: SiteId,
+        call: &Call,
+        stepper: &mut S,
+    ) -> Result<Shown, WorldEnd>
+        requires few { length self.old.sent ≤ 2000000 }
+        requires may { IfSome (step_at self.old site (input.Call 0 call.now)) (λ it. S.may catalog.now it.0 it.1 stepper.old) }
+        ensures does { Does (at_site catalog.now site (input.Call 0 call.now) self.old) self.new result }
+        ensures did { IfOk result (λ line. DidShown S.did line stepper.old stepper.new) }
     {
         let call = call.copy_of()?;
-        self.at_site(catalog, site, &Input::Call { from: 0, call })
+        self.at_site(catalog, site, &Input::Call { from: 0, call }, stepper)
     }
 
     #[tactic(auto, unfolding(vp_model::specs::World::happens))]
-    fn happen(&mut self, catalog: &Catalog, event: &Event) -> Result<Shown, WorldEnd>
-        requires { length self.old.sent ≤ 2000000 }
-        ensures { Does (happens catalog.now event.now self.old) self.new result }
+    fn happen<S: Stepper>(
+        &mut self,
+        catalog: &Catalog,
+        event: &Event,
+        stepper: &mut S,
+    ) -> Result<Shown, WorldEnd>
+        requires few { length self.old.sent ≤ 2000000 }
+        requires may { IfSome (step_of event.now self.old) (λ it. S.may catalog.now it.0 it.1 stepper.old) }
+        ensures does { Does (happens catalog.now event.now self.old) self.new result }
+        ensures did { IfOk result (λ line. DidShown S.did line stepper.old stepper.new) }
     {
         match event {
-            Event::Call { site, call } => self.call(catalog, *site, call),
-            Event::Deliver { k } => self.deliver(catalog, *k),
+            Event::Call { site, call } => self.call(catalog, *site, call, stepper),
+            Event::Deliver { k } => self.deliver(catalog, *k, stepper),
             Event::Flow { .. } => Ok(Shown::Nothing),
-            Event::Tick { site } => self.at_site(catalog, *site, &Input::Tick),
-            Event::Probe { site } => self.at_site(catalog, *site, &Input::Probe),
+            Event::Tick { site } => self.at_site(catalog, *site, &Input::Tick, stepper),
+            Event::Probe { site } => self.at_site(catalog, *site, &Input::Probe, stepper),
             Event::Cut { a, b } => {
                 self.cuts.cut(*a, *b)?;
                 Ok(Shown::Nothing)
@@ -372,14 +410,21 @@ impl State {
         }
     }
 
-    /// Does the event as one more step. After an error the state may only be dropped.
-    pub fn next(&mut self, catalog: &Catalog, event: &Event) -> Result<Shown, WorldEnd>
-        requires { IsWithinLimits self.old }
+    /// Does the event as one more step, whose site's step the stepper does. After an error the state may only be dropped.
+    pub fn next<S: Stepper>(
+        &mut self,
+        catalog: &Catalog,
+        event: &Event,
+        stepper: &mut S,
+    ) -> Result<Shown, WorldEnd>
+        requires within { IsWithinLimits self.old }
+        requires may { IfSome (step_of event.now self.old) (λ it. S.may catalog.now it.0 it.1 stepper.old) }
         ensures shown { IfOk result (λ line. shows self.new line ≡ next catalog.now event.now self.old) }
         ensures within { OnOk result (IsWithinLimits self.new) }
         ensures end { Ends (refused world_limits catalog.now event.now self.old) result }
+        ensures did { IfOk result (λ line. DidShown S.did line stepper.old stepper.new) }
     {
         self.count_step()?;
-        self.happen(catalog, event)
+        self.happen(catalog, event, stepper)
     }
 }

@@ -1,17 +1,18 @@
 //! The world of a schedule.
 
-ghost use Rattle.std.specs.Prelude.{◌≡◌, ◌≤◌, IfOk, IsSome, OnErr, OnOk, is_some, length, option_and_then};
+ghost use Rattle.std.specs.Prelude.{◌≡◌, ◌≤◌, IfOk, IfSome, IsSome, OnErr, OnOk, is_some, length, option_and_then};
 ghost use Rattle.vp_model.specs.Limits.{world_limits, refused};
 ghost use Rattle.vp_model.specs.Generated.{newest};
 ghost use Rattle.vp_model.specs.World.{start_world, site_of, is_cut, message_at, next, flowing};
 ghost use Rattle.vp_world.specs.Limits.{Ends};
-ghost use Rattle.vp_world.specs.Steps.{taker, passed_over};
+ghost use Rattle.vp_world.specs.Steps.{taker, passed_over, IsReady, DidLine};
 
 use crate::end::WorldEnd;
 use crate::state::State;
 use std::marker::Model;
 use vp_base::{Commits, CopyOf, Event, Line, Newest, NoMemory, SiteId};
 use vp_catalog::Catalog;
+use vp_places::{ByThemselves, Stepper};
 
 /// The sites of a catalogue, with their messages. The state stands in a box, so that little is moved where a world goes from call to call.
 #[derive(Drop)]
@@ -48,8 +49,25 @@ impl World {
         ensures line { IfOk result (λ r. r.1 ≡ record { event = event.now; shown = (next self.catalogue event.now self.world).shown }) }
         ensures end { Ends (refused world_limits self.catalogue event.now self.world) result }
     {
+        self.next_by(event, &mut ByThemselves)
+    }
+
+    /// The same, where another one does the step of the event's site, and hears of the event before that. After an error the world is gone.
+    pub fn next_by<S: Stepper>(
+        self,
+        event: &Event,
+        stepper: &mut S,
+    ) -> Result<(World, Line), WorldEnd>
+        requires hears { S.hears event.now }
+        requires ready { IsReady S.heard (S.may self.catalogue) event.now self.world stepper.old }
+        ensures world { IfOk result (λ r. r.0 ≡ record { catalogue = self.catalogue; world = (next self.catalogue event.now self.world).world }) }
+        ensures line { IfOk result (λ r. r.1 ≡ record { event = event.now; shown = (next self.catalogue event.now self.world).shown }) }
+        ensures end { Ends (refused world_limits self.catalogue event.now self.world) result }
+        ensures did { IfOk result (λ r. DidLine S.heard S.did r.1 stepper.old stepper.new) }
+    {
         let World { catalog, mut state } = self;
-        let shown = state.next(&catalog, event)?;
+        stepper.hear(event)?;
+        let shown = state.next(&catalog, event, stepper)?;
         let line = Line {
             event: event.copy_of()?,
             shown,

@@ -1,0 +1,71 @@
+//! Who does the steps of the sites.
+
+ghost use Rattle.std.specs.Prelude.{◌≡◌, OnOk, IfOk, ⊤};
+ghost use Rattle.vp_model.specs.Step.{step};
+
+use vp_base::{Effects, Event, Input, NoMemory};
+use vp_catalog::Catalog;
+use vp_site::Site;
+
+/// Who does the steps of the sites of a world, and knows of each event before it happens. A site is lent for its step.
+pub trait Stepper {
+    ghost use Rattle.std.specs.Prelude.{List};
+    ghost use Rattle.vp_model.specs.Types.{Event, Input, Sent};
+    ghost use Rattle.vp_model.specs.Catalogue.{Catalogue};
+    ghost use Rattle.vp_model.specs.Site.{SiteState};
+
+    /// The events that it may be told.
+    ghost hears: { Event → Type 0 };
+
+    /// What an event makes of it that it is told: before and after.
+    ghost heard: { Event → Self → Self → Type 0 };
+
+    /// The steps that it may be asked for.
+    ghost may: { Catalogue → SiteState → Input → Self → Type 0 };
+
+    /// What a step that sends these messages makes of it.
+    ghost did: { List Sent → Self → Self → Type 0 };
+
+    /// The event is the next one that happens.
+    fn hear(&mut self, event: &Event) -> Result<(), NoMemory>
+        requires { hears event.now }
+        ensures { OnOk result (heard event.now self.old self.new) };
+
+    /// Does what the input does to the site. Without memory the site is gone, as in a crash.
+    fn step(
+        &mut self,
+        catalog: &Catalog,
+        site: Site,
+        input: &Input,
+    ) -> Result<(Site, Effects), NoMemory>
+        requires { may catalog.now site input.now self.old }
+        ensures stepped { IfOk result (λ r. record { site = r.0; effects = r.1 } ≡ step catalog.now site input.now) }
+        ensures did { IfOk result (λ r. did r.1.messages self.old self.new) };
+}
+
+/// Sites that do their steps by themselves.
+#[derive(Clone, Copy, Drop)]
+pub struct ByThemselves;
+
+impl Stepper for ByThemselves {
+    ghost hears = { λ _. ⊤ };
+
+    ghost heard = { λ _ _ _. ⊤ };
+
+    ghost may = { λ _ _ _ _. ⊤ };
+
+    ghost did = { λ _ _ _. ⊤ };
+
+    fn hear(&mut self, _: &Event) -> Result<(), NoMemory> {
+        Ok(())
+    }
+
+    fn step(
+        &mut self,
+        catalog: &Catalog,
+        site: Site,
+        input: &Input,
+    ) -> Result<(Site, Effects), NoMemory> {
+        site.step(catalog, input)
+    }
+}
