@@ -2,3 +2,4 @@ pub mod Moves
 pub mod Limited
 pub mod Least
 pub mod Taking
+pub mod Quiet

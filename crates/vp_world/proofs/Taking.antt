@@ -7,7 +7,7 @@ use Rattle.vp_model.specs.Types.input
 use Rattle.vp_model.specs.Types.shown
 use Rattle.vp_model.specs.Catalogue.{Catalogue}
 use Rattle.vp_model.specs.Told.{is_step}
-use Rattle.vp_model.specs.World.{WorldState, Moved, site_of, message_at, is_cut, shows, site_step, at_site, deliver, happens, next}
+use Rattle.vp_model.specs.World.{WorldState, Moved, site_of, message_at, is_cut, shows, site_step, at_site, deliver, happens}
 use Rattle.vp_world.specs.Steps.{taker, if_up, receiver, taker_now}
 
 -- what one event does is a step where there is something to do it, and nothing is in the way
