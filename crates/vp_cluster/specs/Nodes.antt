@@ -17,6 +17,30 @@ pub record NodesValue : Type 0 where
   pub catalogue : Catalogue
   pub hosts : List HostValue
   pub letters : List Letter
+  pub coming : Option Letter
+
+-- what an event that is heard does with the hosts
+abbrev pub HostsHear : Event → NodesValue → List HostValue → Type 0
+HostsHear (event.Crash site) old hosts = ChangesOf old.catalogue site (Crashes old.catalogue) old.hosts hosts
+HostsHear (event.Restart site) old hosts = ChangesOf old.catalogue site (Restarts old.catalogue) old.hosts hosts
+HostsHear e old hosts = hosts ≡ old.hosts
+
+-- They have heard of the event: a crash and a restart are done, and the letter of another one waits.
+pub record Hears (e : Event) (old new : NodesValue) : Type 0 where
+  pub hosts : HostsHear e old new.hosts
+  pub coming_is : new.coming ≡ letter_of old.catalogue old.letters e
+  pub letters_stay : new.letters ≡ old.letters
+  pub same_catalogue : new.catalogue ≡ old.catalogue
+
+-- The letter that waits brings this input to this site, whose log the host at its port has.
+pub record MayStep (catalogue : Catalogue) (site : SiteState) (given : Input) (nodes : NodesValue) : Type 0 where
+  pub letter : Letter
+  pub coming_is : nodes.coming ≡ Some letter
+  pub catalogue_is : nodes.catalogue ≡ catalogue
+  pub comes : arrival catalogue site.id (as_received letter) ≡ arrives.Gives given
+  pub host : HostValue
+  pub host_is : host_at letter.to nodes.hosts ≡ Some host
+  pub lends : Lends catalogue site host
 
 -- The letter comes to its receiver. Of the datagrams that this gives the first are those of its messages, and are letters from then on.
 abbrev pub Comes : Letter → ℕ → NodesValue → NodesValue → Type 0
@@ -24,24 +48,13 @@ Comes letter count old new = (given : List Datagram)
     × ChangesAt letter.to (λ host after. Takes old.catalogue (as_received letter) host after given) old.hosts new.hosts
     × (new.letters ≡ old.letters ++ map (sent_from letter.to) (take count given))
 
+-- a step with these messages, which takes the letter that waited
+abbrev pub Posts : List Sent → NodesValue → NodesValue → Type 0
+Posts messages old new = ((letter : Letter) → old.coming ≡ Some letter → Comes letter (length messages) old new) × (new.catalogue ≡ old.catalogue)
+
 -- The letter comes to its receiver, whose site stops within the append of its batch.
 abbrev pub StopsWith : Letter → Option Bool → NodesValue → NodesValue → Type 0
 StopsWith letter kept old new = ChangesAt letter.to (λ host after. Stops old.catalogue (as_received letter) host after kept) old.hosts new.hosts
-
--- a step with these messages
-abbrev pub Steps : Event → Shown → NodesValue → NodesValue → Type 0
-Steps e (shown.Step commits first messages replies) old new = (letter : Letter) → letter_of old.catalogue old.letters e ≡ Some letter → Comes letter (length messages) old new
-Steps e _ old new = new ≡ old
-
--- what they do of an event with what is shown of it
-abbrev pub Does : Event → Shown → NodesValue → NodesValue → Type 0
-Does (event.Crash site) s old new = ChangesOf old.catalogue site (Crashes old.catalogue) old.hosts new.hosts × (new.letters ≡ old.letters)
-Does (event.Restart site) s old new = ChangesOf old.catalogue site (Restarts old.catalogue) old.hosts new.hosts × (new.letters ≡ old.letters)
-Does e s old new = Steps e s old new
-
-pub record Follows (line : Line) (old new : NodesValue) : Type 0 where
-  pub does : Does line.event line.shown old new
-  pub same_catalogue : new.catalogue ≡ old.catalogue
 
 -- Each site of the catalogue is in its first life, and no letter was sent.
 pub record Begin (catalogue : Catalogue) (nodes : NodesValue) : Type 0 where

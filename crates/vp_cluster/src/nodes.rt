@@ -1,4 +1,4 @@
-//! The nodes of all sites in one process. They follow the lines of a run, and what they do of each goes from node to node in datagrams.
+//! The nodes of all sites in one process. They do the steps of a world's sites, and what a step sends goes from node to node in datagrams.
 
 ghost use Rattle.std.specs.Prelude.{◌≡◌, OnOk, IfOk, IfSome, Some, None, length, map, option_copied};
 ghost use Rattle.vp_laws.specs.ShapeLaws.{IsEvent};
@@ -12,20 +12,23 @@ ghost use Rattle.vp_hosts.specs.declared.letter.Letter.{Letter};
 use crate::letters::{put_letters, to_site};
 use std::alloc::Global;
 use std::marker::Model;
-use vp_base::{CopyOf, Event, Line, NoMemory, Shown, SiteId};
+use vp_base::{CopyOf, Effects, Event, Input, NoMemory, SiteId};
 use vp_catalog::Catalog;
 use vp_hosts::{
     Host, Letter, Logs, Stop, begin_all, crash_at, logs_of, restart_at, stop_at, take_at,
 };
-use vp_playing::Observer;
+use vp_places::Stepper;
+use vp_site::Site;
+use vp_turns::Outcome;
 use vp_wire::Body;
 
-/// The hosts of the sites of a catalogue, and the letters of the messages that were sent, in order.
+/// The hosts of the sites of a catalogue, the letters of the messages that were sent, in order, and the letter that the next step brings.
 #[derive(Drop)]
 pub struct Nodes {
     catalog: Catalog,
     hosts: Vec<Host>,
     letters: Vec<Letter>,
+    coming: Option<Letter>,
 }
 
 impl Model for Nodes {
@@ -34,7 +37,7 @@ impl Model for Nodes {
 
     ghost Value = { NodesValue };
 
-    ghost view = { λ n. record { catalogue = n.catalog; hosts = n.hosts.items; letters = n.letters.items } };
+    ghost view = { λ n. record { catalogue = n.catalog; hosts = n.hosts.items; letters = n.letters.items; coming = n.coming } };
 
     ghost invariant = { λ n. AreHosts n.catalog n.hosts.items };
 }
@@ -58,6 +61,7 @@ impl Nodes {
         Ok(Nodes {
             hosts: begin_all(&catalog)?,
             letters: Vec::new(alloc),
+            coming: None,
             catalog,
         })
     }
@@ -87,27 +91,6 @@ impl Nodes {
             Event::Tick { site } => to_site(&self.catalog, *site, Body::Tick),
             Event::Probe { site } => to_site(&self.catalog, *site, Body::ProbeNow),
             _ => Ok(None),
-        }
-    }
-
-    /// The letter comes; the first `count` of the datagrams that this gives are those of messages.
-    fn take(&mut self, letter: &Letter, count: usize) -> Result<(), NoMemory>
-        ensures comes { OnOk result (Comes letter.now count self.old self.new) }
-        ensures same { OnOk result (self.new.catalogue ≡ self.old.catalogue) }
-    {
-        let given = take_at(&mut self.hosts, &self.catalog, letter)?;
-        put_letters(letter.to, count, given, &mut self.letters)
-    }
-
-    /// A step of a site, which sends so many messages.
-    fn step(&mut self, event: &Event, count: usize) -> Result<(), NoMemory>
-        requires { IsEvent event.now }
-        ensures comes { OnOk result ((letter : Letter) → letter_of self.old.catalogue self.old.letters event.now ≡ Some letter → Comes letter count self.old self.new) }
-        ensures same { OnOk result (self.new.catalogue ≡ self.old.catalogue) }
-    {
-        match self.letter(event)? {
-            None => Ok(()),
-            Some(letter) => self.take(&letter, count),
         }
     }
 
@@ -151,20 +134,47 @@ impl Nodes {
     {
         restart_at(&mut self.hosts, &self.catalog, site)
     }
+}
 
-    /// What the sites do of the event, as the line shows it.
-    pub fn follow(&mut self, line: &Line) -> Result<(), NoMemory>
-        requires { IsEvent line.now.event }
-        ensures { OnOk result (Follows line.now self.old self.new) }
-    {
-        match (&line.event, &line.shown) {
-            (Event::Crash { site }, _) => {
-                self.crash(*site);
-                Ok(())
-            }
-            (Event::Restart { site }, _) => self.restart(*site),
-            (event, Shown::Step { messages, .. }) => self.step(event, messages.as_slice().len()),
-            _ => Ok(()),
+impl Stepper for Nodes {
+    ghost use Rattle.vp_laws.specs.ShapeLaws.{IsEvent};
+    ghost use Rattle.vp_cluster.specs.Nodes.{Hears, MayStep, Posts};
+
+    ghost hears = { IsEvent };
+
+    ghost heard = { Hears };
+
+    ghost may = { MayStep };
+
+    ghost did = { Posts };
+
+    /// A crash and a restart are done at once; the letter of another event waits for the step that takes it.
+    fn hear(&mut self, event: &Event) -> Result<(), NoMemory> {
+        match event {
+            Event::Crash { site } => self.crash(*site),
+            Event::Restart { site } => self.restart(*site)?,
+            _ => {}
         }
+        self.coming = self.letter(event)?;
+        Ok(())
+    }
+
+    /// The letter comes to the host of the site, whose node takes it. What its step sends are letters from then on.
+    fn step(
+        &mut self,
+        _: &Catalog,
+        site: Site,
+        _: &Input,
+    ) -> Result<(Site, Effects), NoMemory> {
+        let Some(letter) = self.coming.take() else {
+            unreachable!();
+        };
+        let (site, outcome) = take_at(&mut self.hosts, &self.catalog, site, &letter)?;
+        let Outcome {
+            effects, datagrams, ..
+        } = outcome;
+        let count = effects.messages.as_slice().len();
+        put_letters(letter.to, count, datagrams, &mut self.letters)?;
+        Ok((site, effects))
     }
 }
