@@ -1,7 +1,7 @@
 -- What a step of a site gives beside the site, and how a site starts again.
 use Rattle.std.specs.Prelude.{◌≡◌, ◌<◌, ◌+◌, ◌-◌, ◌^◌, ◌==◌, ◌&&◌, ℕ, Bool, not, if◌then◌else◌, is_some, List, Option, Some, None, option_map, option_and_then, Result, Ok, Err}
 use Rattle.std.specs.Option.{option_map_or}
-use Rattle.vp_model.specs.Types.{ViewId, View, Input, Sent, Shown}
+use Rattle.vp_model.specs.Types.{ViewId, View, Input, Shown}
 use Rattle.vp_model.specs.Types.shown
 use Rattle.vp_model.specs.Words.{same_view}
 use Rattle.vp_model.specs.Catalogue.{Catalogue}
@@ -30,10 +30,10 @@ site_in id places = option_and_then (λ place. place.up) (place_of id places)
 abbrev pub stepped_place : Catalogue → Input → Place → Place
 stepped_place catalogue given place = option_map_or (λ site. after_step (step catalogue site given) place) place.up place
 
--- what is done with a step's messages, where one was taken
-abbrev pub DidTaken : {S : Type 0} → (List Sent → S → S → Type 0) → Option Taken → S → S → Type 0
-DidTaken did None old new = new ≡ old
-DidTaken did (Some t) old new = did t.effects.messages old new
+-- what is done, where there is something to do
+abbrev pub Did : {A S : Type 0} → (A → S → S → Type 0) → Option A → S → S → Type 0
+Did does None old new = new ≡ old
+Did does (Some a) old new = does a old new
 
 -- a place whose site goes down
 abbrev pub crashed_place : Place → Place

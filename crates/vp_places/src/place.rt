@@ -6,7 +6,7 @@ ghost use Rattle.vp_model.specs.Durable.{apply_all};
 ghost use Rattle.vp_model.specs.Generated.{newest};
 ghost use Rattle.vp_model.specs.Step.{step};
 ghost use Rattle.vp_model.specs.World.{start_place, after_step};
-ghost use Rattle.vp_places.specs.Places.{newly_agreed, taken, stepped_place, BeginsLife, crashed_place, restarted_place, restart_line, DidTaken};
+ghost use Rattle.vp_places.specs.Places.{newly_agreed, taken, stepped_place, BeginsLife, crashed_place, restarted_place, restart_line, Did};
 
 use crate::stepper::Stepper;
 use std::marker::Model;
@@ -141,7 +141,7 @@ impl Place {
         requires { IfSome self.old.up (λ site. S.may catalog.now site input.now stepper.old) }
         ensures taken { IfOk result (λ t. t ≡ option_map (λ site. taken site (step catalog.now site input.now)) self.old.up) }
         ensures place { OnOk result (self.new ≡ stepped_place catalog.now input.now self.old) }
-        ensures did { IfOk result (λ t. DidTaken S.did t stepper.old stepper.new) }
+        ensures did { OnOk result (Did (λ site. S.did site input.now) self.old.up stepper.old stepper.new) }
     {
         match self.up.take() {
             None => Ok(None),
@@ -160,7 +160,7 @@ impl Place {
         requires { S.may catalog.now site input.now stepper.old }
         ensures taken { IfOk result (λ t. t ≡ taken site (step catalog.now site input.now)) }
         ensures place { OnOk result (self.new ≡ after_step (step catalog.now site input.now) self.old) }
-        ensures did { IfOk result (λ t. S.did t.effects.messages stepper.old stepper.new) }
+        ensures did { OnOk result (S.did site input.now stepper.old stepper.new) }
     {
         let inviting = site.inviting();
         let (site, effects) = stepper.step(catalog, site, input)?;

@@ -8,7 +8,7 @@ ghost use Rattle.vp_model.specs.Catalogue.{sites_of};
 ghost use Rattle.vp_model.specs.Generated.{newest};
 ghost use Rattle.vp_model.specs.Step.{step};
 ghost use Rattle.vp_model.specs.World.{start_place, place_of, change_place};
-ghost use Rattle.vp_places.specs.Places.{site_in, taken, stepped_place, crashed_place, restarted_place, restart_line, DidTaken};
+ghost use Rattle.vp_places.specs.Places.{site_in, taken, stepped_place, crashed_place, restarted_place, restart_line, Did};
 
 use crate::place::{Place, Taken};
 use crate::stepper::Stepper;
@@ -68,7 +68,7 @@ fn step_at<S: Stepper>(
     requires { IfSome (site_in id places.old) (λ site. S.may catalog.now site input.now stepper.old) }
     ensures taken { IfOk result (λ t. t ≡ option_map (λ site. taken site (step catalog.now site input.now)) (site_in id places.old)) }
     ensures places { OnOk result (places.new ≡ change_place id (stepped_place catalog.now input.now) places.old) }
-    ensures did { IfOk result (λ t. DidTaken S.did t stepper.old stepper.new) }
+    ensures did { OnOk result (Did (λ site. S.did site input.now) (site_in id places.old) stepper.old stepper.new) }
 {
     match place_at(places, id) {
         None => Ok(None),
@@ -138,7 +138,7 @@ impl Places {
         requires { IfSome (site_in id self.old) (λ site. S.may catalog.now site input.now stepper.old) }
         ensures taken { IfOk result (λ t. t ≡ option_map (λ site. taken site (step catalog.now site input.now)) (site_in id self.old)) }
         ensures places { OnOk result (self.new ≡ change_place id (stepped_place catalog.now input.now) self.old) }
-        ensures did { IfOk result (λ t. DidTaken S.did t stepper.old stepper.new) }
+        ensures did { OnOk result (Did (λ site. S.did site input.now) (site_in id self.old) stepper.old stepper.new) }
     {
         step_at(&mut self.items, catalog, id, input, stepper)
     }

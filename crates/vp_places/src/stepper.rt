@@ -9,8 +9,7 @@ use vp_site::Site;
 
 /// Who does the steps of the sites of a world, and knows of each event before it happens. A site is lent for its step.
 pub trait Stepper {
-    ghost use Rattle.std.specs.Prelude.{List};
-    ghost use Rattle.vp_model.specs.Types.{Event, Input, Sent};
+    ghost use Rattle.vp_model.specs.Types.{Event, Input};
     ghost use Rattle.vp_model.specs.Catalogue.{Catalogue};
     ghost use Rattle.vp_model.specs.Site.{SiteState};
 
@@ -23,8 +22,8 @@ pub trait Stepper {
     /// The steps that it may be asked for.
     ghost may: { Catalogue → SiteState → Input → Self → Type 0 };
 
-    /// What a step that sends these messages makes of it.
-    ghost did: { List Sent → Self → Self → Type 0 };
+    /// What the step of this site with this input makes of it.
+    ghost did: { SiteState → Input → Self → Self → Type 0 };
 
     /// The event is the next one that happens.
     fn hear(&mut self, event: &Event) -> Result<(), NoMemory>
@@ -40,7 +39,7 @@ pub trait Stepper {
     ) -> Result<(Site, Effects), NoMemory>
         requires { may catalog.now site input.now self.old }
         ensures stepped { IfOk result (λ r. record { site = r.0; effects = r.1 } ≡ step catalog.now site input.now) }
-        ensures did { IfOk result (λ r. did r.1.messages self.old self.new) };
+        ensures did { OnOk result (did site input.now self.old self.new) };
 }
 
 /// Sites that do their steps by themselves.
@@ -54,7 +53,7 @@ impl Stepper for ByThemselves {
 
     ghost may = { λ _ _ _ _. ⊤ };
 
-    ghost did = { λ _ _ _. ⊤ };
+    ghost did = { λ _ _ _ _. ⊤ };
 
     fn hear(&mut self, _: &Event) -> Result<(), NoMemory> {
         Ok(())

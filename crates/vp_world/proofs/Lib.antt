@@ -2,4 +2,3 @@ pub mod Moves
 pub mod Limited
 pub mod Least
 pub mod Taking
-pub mod Quiet

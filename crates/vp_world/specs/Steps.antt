@@ -1,6 +1,6 @@
 -- What a step of a site gives the world, and which site takes one.
-use Rattle.std.specs.Prelude.{◌≡◌, ℕ, ◌+◌, if◌then◌else◌, is_some, List, [], ◌∷◌, ◌++◌, length, Option, Some, None, IfSome, option_map, option_and_then, option_to_list}
-use Rattle.vp_model.specs.Types.{Sent, Event, Input, Shown, Line}
+use Rattle.std.specs.Prelude.{ℕ, ◌+◌, if◌then◌else◌, is_some, [], ◌∷◌, ◌++◌, length, Option, Some, None, IfSome, option_map, option_and_then, option_to_list}
+use Rattle.vp_model.specs.Types.{Sent, Event, Input}
 use Rattle.vp_model.specs.Types.event
 use Rattle.vp_model.specs.Types.input
 use Rattle.vp_model.specs.Types.shown
@@ -10,6 +10,7 @@ use Rattle.vp_model.specs.World.{WorldState, Moved, site_of, message_at, is_cut,
 use Rattle.vp_model.specs.Justified.{site_named}
 use Rattle.vp_model.specs.Told.{is_step}
 use Rattle.vp_places.specs.declared.place.Taken.{Taken}
+use Rattle.vp_places.specs.Places.{Did}
 
 -- the world with what a step of a site gives
 abbrev pub takes_in : Taken → WorldState → Moved
@@ -56,14 +57,9 @@ step_of (event.Tick site) w = step_at w site input.Tick
 step_of (event.Probe site) w = step_at w site input.Probe
 step_of _ w = None
 
--- what whoever does the steps does of what is shown
-abbrev pub DidShown : {S : Type 0} → (List Sent → S → S → Type 0) → Shown → S → S → Type 0
-DidShown did (shown.Step commits first messages replies) old new = did messages old new
-DidShown did _ old new = new ≡ old
-
--- the same of a line: it hears of the event, and then does the step
-abbrev pub DidLine : {S : Type 0} → (Event → S → S → Type 0) → (List Sent → S → S → Type 0) → Line → S → S → Type 0
-DidLine {S} heard did line old new = (told : S) × heard line.event old told × DidShown did line.shown told new
+-- whoever does the steps hears of the event, and then does its step
+abbrev pub DoesEvent : {S : Type 0} → (Event → S → S → Type 0) → (SiteState → Input → S → S → Type 0) → Event → WorldState → S → S → Type 0
+DoesEvent {S} heard did e w old new = (told : S) × heard e old told × Did (λ it. did it.0 it.1) (step_of e w) told new
 
 -- it may do the step of the event in this world, once it has heard of that
 abbrev pub IsReady : {S : Type 0} → (Event → S → S → Type 0) → (SiteState → Input → S → Type 0) → Event → WorldState → S → Type 0

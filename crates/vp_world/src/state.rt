@@ -12,7 +12,8 @@ ghost use Rattle.vp_world.specs.Limits.{Ends, Does, too_many, too_many_steps};
 ghost use Rattle.vp_mail.specs.Posted.{message_in, posted, are_too_many, Refuses};
 ghost use Rattle.vp_mail.specs.Queues.{AreSited};
 ghost use Rattle.vp_world.specs.Known.{IsWithinLimits};
-ghost use Rattle.vp_world.specs.Steps.{takes_in, if_up, receiver, taker_now, passed_over, step_at, step_by, step_of, DidShown};
+ghost use Rattle.vp_world.specs.Steps.{takes_in, if_up, receiver, taker_now, passed_over, step_at, step_by, step_of};
+ghost use Rattle.vp_places.specs.Places.{Did};
 ghost use Rattle.vp_world.specs.Heads.{is_open, head_of, lesser};
 
 use crate::end::WorldEnd;
@@ -240,7 +241,7 @@ impl State {
         requires few { length self.old.sent ≤ 2000000 }
         requires may { IfSome (step_at self.old id input.now) (λ it. S.may catalog.now it.0 it.1 stepper.old) }
         ensures does { Does (at_site catalog.now id input.now self.old) self.new result }
-        ensures did { IfOk result (λ line. DidShown S.did line stepper.old stepper.new) }
+        ensures did { OnOk result (Did (λ it. S.did it.0 it.1) (step_at self.old id input.now) stepper.old stepper.new) }
     {
         match self.places.step(catalog, id, input, stepper)? {
             None => Ok(Shown::Down { site: id }),
@@ -260,7 +261,7 @@ impl State {
         requires numbered { message_at self.old k ≡ Some sent }
         requires may { IfSome (step_by self.old sent) (λ it. S.may catalog.now it.0 it.1 stepper.old) }
         ensures does { Does (deliver catalog.now k sent self.old) self.new result }
-        ensures did { IfOk result (λ line. DidShown S.did line stepper.old stepper.new) }
+        ensures did { OnOk result (Did (λ it. S.did it.0 it.1) (step_by self.old sent) stepper.old stepper.new) }
     {
         let from = sent.from;
         let to = sent.to;
@@ -284,7 +285,7 @@ impl State {
         requires few { length self.old.sent ≤ 2000000 }
         requires may { IfSome (step_of (event.Deliver k) self.old) (λ it. S.may catalog.now it.0 it.1 stepper.old) }
         ensures does { Does (happens catalog.now (event.Deliver k) self.old) self.new result }
-        ensures did { IfOk result (λ line. DidShown S.did line stepper.old stepper.new) }
+        ensures did { OnOk result (Did (λ it. S.did it.0 it.1) (step_of (event.Deliver k) self.old) stepper.old stepper.new) }
     {
         match self.mail.message(k)? {
             None => Ok(Shown::NoMessage),
@@ -373,7 +374,7 @@ impl State {
         requires few { length self.old.sent ≤ 2000000 }
         requires may { IfSome (step_at self.old site (input.Call 0 call.now)) (λ it. S.may catalog.now it.0 it.1 stepper.old) }
         ensures does { Does (at_site catalog.now site (input.Call 0 call.now) self.old) self.new result }
-        ensures did { IfOk result (λ line. DidShown S.did line stepper.old stepper.new) }
+        ensures did { OnOk result (Did (λ it. S.did it.0 it.1) (step_at self.old site (input.Call 0 call.now)) stepper.old stepper.new) }
     {
         let call = call.copy_of()?;
         self.at_site(catalog, site, &Input::Call { from: 0, call }, stepper)
@@ -389,7 +390,7 @@ impl State {
         requires few { length self.old.sent ≤ 2000000 }
         requires may { IfSome (step_of event.now self.old) (λ it. S.may catalog.now it.0 it.1 stepper.old) }
         ensures does { Does (happens catalog.now event.now self.old) self.new result }
-        ensures did { IfOk result (λ line. DidShown S.did line stepper.old stepper.new) }
+        ensures did { OnOk result (Did (λ it. S.did it.0 it.1) (step_of event.now self.old) stepper.old stepper.new) }
     {
         match event {
             Event::Call { site, call } => self.call(catalog, *site, call, stepper),
@@ -422,7 +423,7 @@ impl State {
         ensures shown { IfOk result (λ line. shows self.new line ≡ next catalog.now event.now self.old) }
         ensures within { OnOk result (IsWithinLimits self.new) }
         ensures end { Ends (refused world_limits catalog.now event.now self.old) result }
-        ensures did { IfOk result (λ line. DidShown S.did line stepper.old stepper.new) }
+        ensures did { OnOk result (Did (λ it. S.did it.0 it.1) (step_of event.now self.old) stepper.old stepper.new) }
     {
         self.count_step()?;
         self.happen(catalog, event, stepper)

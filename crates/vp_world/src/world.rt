@@ -1,11 +1,11 @@
 //! The world of a schedule.
 
-ghost use Rattle.std.specs.Prelude.{◌≡◌, ◌≤◌, IfOk, IfSome, IsSome, OnErr, OnOk, is_some, length, option_and_then};
+ghost use Rattle.std.specs.Prelude.{◌≡◌, ◌≤◌, IfOk, IsSome, OnErr, OnOk, is_some, length, option_and_then};
 ghost use Rattle.vp_model.specs.Limits.{world_limits, refused};
 ghost use Rattle.vp_model.specs.Generated.{newest};
 ghost use Rattle.vp_model.specs.World.{start_world, site_of, is_cut, message_at, next, flowing};
 ghost use Rattle.vp_world.specs.Limits.{Ends};
-ghost use Rattle.vp_world.specs.Steps.{taker, passed_over, IsReady, DidLine};
+ghost use Rattle.vp_world.specs.Steps.{taker, passed_over, IsReady, DoesEvent};
 
 use crate::end::WorldEnd;
 use crate::state::State;
@@ -63,7 +63,7 @@ impl World {
         ensures world { IfOk result (λ r. r.0 ≡ record { catalogue = self.catalogue; world = (next self.catalogue event.now self.world).world }) }
         ensures line { IfOk result (λ r. r.1 ≡ record { event = event.now; shown = (next self.catalogue event.now self.world).shown }) }
         ensures end { Ends (refused world_limits self.catalogue event.now self.world) result }
-        ensures did { IfOk result (λ r. DidLine S.heard S.did r.1 stepper.old stepper.new) }
+        ensures did { OnOk result (DoesEvent S.heard S.did event.now self.world stepper.old stepper.new) }
     {
         let World { catalog, mut state } = self;
         stepper.hear(event)?;
