@@ -6,15 +6,15 @@ use Rattle.vp_model.specs.Types.{Line}
 use Rattle.vp_model.specs.World.{Moment}
 use Rattle.vp_playing.specs.Played.{lines_in, SeesAll, SeesSome}
 
-module _ {S : Type 0} (sees : ℕ × Line → S → S → Type 0) where
-  pub sees_append : (xs ys : List (ℕ × Line)) (old mid new : S) → SeesAll sees xs old mid → SeesAll sees ys mid new → SeesAll sees (xs ++ ys) old new
-  sees_append [] ys old mid new e more = subst (λ (s : S). SeesAll sees ys s new) e more
-  sees_append (x ∷ xs) ys old mid new h more = (h.0, h.1, sees_append xs ys h.0 mid new h.2 more)
+pub sees_append : {A S : Type 0} (sees : A → S → S → Type 0) (xs ys : List A) (old mid new : S) → SeesAll sees xs old mid → SeesAll sees ys mid new → SeesAll sees (xs ++ ys) old new
+sees_append {A} {S} sees [] ys old mid new e more = subst (λ (s : S). SeesAll sees ys s new) e more
+sees_append sees (x ∷ xs) ys old mid new h more = (h.0, h.1, sees_append sees xs ys h.0 mid new h.2 more)
 
+module _ {S : Type 0} (sees : ℕ × Line → S → S → Type 0) where
   pub sees_steps : (xs ys : List Moment) (old mid new : S) → SeesAll sees (lines_in xs) old mid → SeesAll sees (lines_in ys) mid new → SeesAll sees (lines_in (xs ++ ys)) old new
   sees_steps xs ys old mid new h more =
       subst (λ (lines : List (ℕ × Line)). SeesAll sees lines old new) (sym (map-append (λ (m : Moment). (m.number, m.line)) xs ys))
-      (sees_append (lines_in xs) (lines_in ys) old mid new h more)
+      (sees_append sees (lines_in xs) (lines_in ys) old mid new h more)
 
 module _ {S : Type 0} (sees begins : ℕ × Line → S → S → Type 0) where
   pub sees_none : (lines : List (ℕ × Line)) (old new : S) → new ≡ old → SeesSome sees begins lines old new

@@ -26,7 +26,7 @@ abbrev over : Moment → Bool
 over = is_over world_limits
 
 -- some moments, and then those of the run
-abbrev behind : List Moment → Run → Run
+abbrev pub behind : List Moment → Run → Run
 behind ms run = record { moments = ms ++ run.moments; world = run.world }
 
 behind_none : (run : Run) → run ≡ behind run.moments (run_in run.world)
@@ -260,7 +260,7 @@ module _ {S : Type 0} (sees : Catalogue → ℕ × Line → S → S → Type 0) 
     }
 
     -- the moments of the whole flow are those so far, this delivery's, and more
-    whole_moments : (rest : List Moment) × ((flow catalogue n count (run_in w)).moments ≡ (so_far.run.moments ++ delivered.moments) ++ rest)
+    pub whole_moments : (rest : List Moment) × ((flow catalogue n count (run_in w)).moments ≡ (so_far.run.moments ++ delivered.moments) ++ rest)
     whole_moments =
         let more = flow catalogue n (count - suc i) (run_in delivered.world) in
         (more.moments, ap (λ (r : Run). r.moments) (sym ahead_more ∙ flow_behind catalogue n (count - suc i) (behind so_far.run.moments delivered)))
@@ -305,6 +305,12 @@ pub record IsEnded {S : Type 0} (sees : Catalogue → ℕ × Line → S → S �
   pub some : limit_reached world_limits s ≡ Some counted
   pub seen : SeesAll (sees s.catalogue) (lines_within world_limits s) old new
 
+pub all_dropped : (es : List Event) (i : ℕ) → i ≡ length es → drop i es ≡ []
+all_dropped [] zero e = refl
+all_dropped [] (suc i) e = refl
+all_dropped (x ∷ es) zero e = absurd (omega (arith, e))
+all_dropped (x ∷ es) (suc i) e = all_dropped es i (omega (arith, e))
+
 pub play_ends : {S : Type 0} (sees : Catalogue → ℕ × Line → S → S → Type 0) (s : Schedule) (i : ℕ) (now : WorldState) (old new : S) → Played sees s i now old new → i ≡ length s.events → IsPlayed sees s now old new
 unfolding run_from lines_within_from
 play_ends sees s i now old new p e =
@@ -321,14 +327,8 @@ play_ends sees s i now old new p e =
           )
           p.seen;
     }
-  where
-    all_dropped : (es : List Event) (i : ℕ) → i ≡ length es → drop i es ≡ []
-    all_dropped [] zero e = refl
-    all_dropped [] (suc i) e = refl
-    all_dropped (x ∷ es) zero e = absurd (omega (arith, e))
-    all_dropped (x ∷ es) (suc i) e = all_dropped es i (omega (arith, e))
 
-next_first : (es : List Event) (i : ℕ) (x : Event) → i < length es → x ≡ get_or es i x → drop i es ≡ x ∷ drop (suc i) es
+pub next_first : (es : List Event) (i : ℕ) (x : Event) → i < length es → x ≡ get_or es i x → drop i es ≡ x ∷ drop (suc i) es
 next_first [] i x lt e = absurd (omega (arith, lt))
 next_first (y ∷ es) zero x lt e = ap (λ (z : Event). z ∷ es) (sym e)
 next_first (y ∷ es) (suc i) x lt e = next_first es i x (omega (arith, lt)) e

@@ -1,13 +1,13 @@
 -- What an observer sees as the events of a schedule are played.
 use Rattle.std.specs.Prelude.{◌≡◌, ◌⊎◌, ℕ, false, List, [], ◌∷◌, ◌++◌, map, Some, None, Result, Ok, Err}
 use Rattle.std.specs.List.{list_any, before_first}
-use Rattle.vp_model.specs.Types.{Event, Input, Line, Sent}
+use Rattle.vp_model.specs.Types.{Event, Input, Line}
 use Rattle.vp_model.specs.Catalogue.{Catalogue}
 use Rattle.vp_model.specs.Site.{SiteState}
 use Rattle.vp_model.specs.World.{WorldState, Moment, Run, Schedule, run_of}
 use Rattle.vp_model.specs.Limits.{world_limits, is_over, limit_in, limit_reached, lines_within}
 use Rattle.vp_world.specs.Known.{Known}
-use Rattle.vp_world.specs.Steps.{DidLine, IsReady}
+use Rattle.vp_world.specs.Steps.{DoesEvent, IsReady}
 use Rattle.vp_world.specs.Limits.{limit_of}
 use Rattle.vp_world.specs.declared.end.WorldEnd.{WorldEnd}
 use Rattle.vp_world.specs.declared.end.WorldEnd.TheVariants as end
@@ -23,10 +23,10 @@ run_in w = record { moments = []; world = w }
 abbrev pub lines_in : List Moment → List (ℕ × Line)
 lines_in moments = map (λ (m : Moment). (m.number, m.line)) moments
 
--- an observer before and after it has seen these lines, one after the other
-abbrev pub SeesAll : {S : Type 0} → (ℕ × Line → S → S → Type 0) → List (ℕ × Line) → S → S → Type 0
+-- an observer before and after it has seen these lines, one after the other; the same of anything else that comes one after the other
+abbrev pub SeesAll : {A S : Type 0} → (A → S → S → Type 0) → List A → S → S → Type 0
 SeesAll sees [] old new = new ≡ old
-SeesAll {S} sees (line ∷ lines) old new = (mid : S) × sees line old mid × SeesAll sees lines mid new
+SeesAll {A} {S} sees (a ∷ rest) old new = (mid : S) × sees a old mid × SeesAll sees rest mid new
 
 -- an observer who has seen some of these lines, the first ones, and perhaps begins to see the next
 abbrev pub SeesSome : {S : Type 0} → (sees begins : ℕ × Line → S → S → Type 0) → List (ℕ × Line) → S → S → Type 0
@@ -34,11 +34,11 @@ SeesSome sees begins [] old new = new ≡ old
 SeesSome {S} sees begins (line ∷ lines) old new = (new ≡ old) ⊎ (begins line old new ⊎ ((mid : S) × sees line old mid × SeesSome sees begins lines mid new))
 
 -- whoever does the steps, before and after those of these moments
-abbrev pub StepsAll : {S : Type 0} → (Event → S → S → Type 0) → (List Sent → S → S → Type 0) → List Moment → S → S → Type 0
-StepsAll heard did moments old new = SeesAll (λ line. DidLine heard did line.1) (lines_in moments) old new
+abbrev pub StepsAll : {S : Type 0} → (Event → S → S → Type 0) → (SiteState → Input → S → S → Type 0) → List Moment → S → S → Type 0
+StepsAll heard did moments old new = SeesAll (λ (m : Moment). DoesEvent heard did m.line.event m.before) moments old new
 
 -- it may do the step of each of these moments, once it has done those before
-abbrev pub IsReadyFor : {S : Type 0} → (hears : Event → Type 0) → (heard : Event → S → S → Type 0) → (did : List Sent → S → S → Type 0) → (may : SiteState → Input → S → Type 0) → List Moment → S → Type 0
+abbrev pub IsReadyFor : {S : Type 0} → (hears : Event → Type 0) → (heard : Event → S → S → Type 0) → (did : SiteState → Input → S → S → Type 0) → (may : SiteState → Input → S → Type 0) → List Moment → S → Type 0
 IsReadyFor {S} hears heard did may moments old = (before rest : List Moment) (m : Moment) (now : S) → moments ≡ before ++ m ∷ rest → StepsAll heard did before old now
     → hears m.line.event × IsReady heard may m.line.event m.before now
 

@@ -6,6 +6,8 @@ use Rattle.vp_world.specs.declared.end.WorldEnd.TheVariants as end
 use Rattle.vp_model.specs.Limits.{world_limits, lines_within}
 use Rattle.vp_playing.proofs.Seen.{sees_none}
 use Rattle.vp_playing.proofs.Turns.{play_starts, play_goes_on, play_is_ended, play_is_over}
+use Rattle.vp_model.specs.Texts.Trace.{own_line}
+use Rattle.vp_playing.proofs.Stepping.{stepping_starts, stepping_ends, event_is_ready, event_did}
 use Rattle.vp_playing.proofs.playing.play.Goals as goal
 
 pub loop-event-init : goal.loop-event-init
@@ -15,10 +17,11 @@ loop-event-init g c =
       catalogue = ap (λ (k : Known). k.catalogue) start;
       count = refl;
       so_far = play_starts g.O.Observer.sees (schedule_of c.args.catalog c.args.events.now) c.in_ok-world.world.world c.args.observer.now (ap (λ (k : Known). k.world) start);
+      stepped = stepping_starts g.S.Stepper.heard g.S.Stepper.did (schedule_of c.args.catalog c.args.events.now) c.in_ok-world.world.world c.args.stepper.now (ap (λ (k : Known). k.world) start);
     }
 
-pub returns-in_err-world-2 : goal.returns-in_err-world-2
-returns-in_err-world-2 g c =
+pub returns-in_err-world-2-clause-played : goal.returns-in_err-world-2-clause-played
+returns-in_err-world-2-clause-played g c =
     let s = schedule_of c.args.catalog c.args.events.now in
     let h = c.loop-event.invariant in
     let why = c.in_err-world-2.field-0.0 in
@@ -27,21 +30,32 @@ returns-in_err-world-2 g c =
     (sym is)
     (play_is_ended g.O.Observer.sees g.O.Observer.begins s c.loop-event.event-index c.loop-event.number c.loop-event.world c.args.observer.now c.loop-event.observer h.catalogue h.count h.so_far c.event-item.result (search rules) (search rules) why c.play_event.new.observer (search rules))
 
+pub play_event-requires-clause-ready : goal.play_event-requires-clause-ready
+play_event-requires-clause-ready g c =
+    let h = c.loop-event.invariant in
+    event_is_ready g.S.Stepper.hears g.S.Stepper.heard g.S.Stepper.did (schedule_of c.args.catalog c.args.events.now) c.loop-event.event-index c.loop-event.number c.loop-event.world c.args.stepper.now c.loop-event.stepper h.catalogue h.count h.stepped c.event-item.result (search rules) (search rules) g.S.Stepper.may c.requires.ready
+
 pub loop-event-preserved : goal.loop-event-preserved
 loop-event-preserved g c =
     let s = schedule_of c.args.catalog c.args.events.now in
     let h = c.loop-event.invariant in
     let turn =
     play_goes_on g.O.Observer.sees g.O.Observer.begins s c.loop-event.event-index c.loop-event.number c.loop-event.world c.args.observer.now c.loop-event.observer h.catalogue h.count h.so_far c.event-item.result (search rules) (search rules) c.in_ok-world-2.world c.play_event.new.observer (search rules) in
-    record { catalogue = turn.0; count = ap (λ n. n + 1) h.count; so_far = turn.1 }
+    let done =
+    event_did g.S.Stepper.hears g.S.Stepper.heard g.S.Stepper.did s c.loop-event.event-index c.loop-event.number c.loop-event.world c.args.stepper.now c.loop-event.stepper h.catalogue h.count h.stepped c.event-item.result (search rules) (search rules) g.O.Observer.sees g.O.Observer.begins (own_line (c.loop-event.number + 1) c.event-item.result) c.in_ok-world-2.world c.loop-event.observer c.play_event.new.observer c.play_event.new.stepper (search rules) (search rules) in
+    record { catalogue = turn.0; count = ap (λ n. n + 1) h.count; so_far = turn.1; stepped = done }
 
-pub returns : goal.returns
-returns g c =
+pub returns-clause-played : goal.returns-clause-played
+returns-clause-played g c =
     let h = c.loop-event.invariant in
     play_is_over g.O.Observer.sees g.O.Observer.begins (schedule_of c.args.catalog c.args.events.now) c.loop-event.event-index c.loop-event.world c.args.observer.now c.loop-event.observer h.catalogue h.so_far (search rules)
 
-pub returns-in_err-world : goal.returns-in_err-world
-returns-in_err-world g c =
+pub returns-clause-stepped : goal.returns-clause-stepped
+returns-clause-stepped g c =
+    stepping_ends g.S.Stepper.heard g.S.Stepper.did (schedule_of c.args.catalog c.args.events.now) c.loop-event.event-index c.loop-event.world.world c.args.stepper.now c.loop-event.stepper c.loop-event.invariant.stepped (search rules)
+
+pub returns-in_err-world-clause-played : goal.returns-in_err-world-clause-played
+returns-in_err-world-clause-played g c =
     let s = schedule_of c.args.catalog c.args.events.now in
     let is : c.from_residual.result ≡ Err end.NoMemory = search rules in
     subst (λ (r : Result Known WorldEnd). Plays g.O.Observer.sees g.O.Observer.begins s r c.args.observer.now c.args.observer.now)

@@ -10,8 +10,8 @@ use Rattle.vp_playing.specs.Played.{Sees, lines_in, run_in}
 use Rattle.vp_playing.proofs.Seen.{some_first}
 use Rattle.vp_playing.proofs.playing.play_event.Goals as goal
 
-pub returns-in_err-show_own_line : goal.returns-in_err-show_own_line
-returns-in_err-show_own_line g c =
+pub returns-in_err-show_own_line-clause-seen : goal.returns-in_err-show_own_line-clause-seen
+returns-in_err-show_own_line-clause-seen g c =
     let run = one_event c.args.world.catalogue c.args.number c.args.event.now (run_in c.args.world.world) in
     let own = own_line c.args.number c.args.event.now in
     let is : c.from_residual.result ≡ Err end.NoMemory = search rules in
