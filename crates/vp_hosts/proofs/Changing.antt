@@ -7,8 +7,9 @@ use Rattle.std.proofs.lemmas.List.Quantifiers.{position-Some}
 use Rattle.vp_lists.proofs.Found.{find_none, find_some}
 use Rattle.vp_model.specs.Words.{value_at}
 use Rattle.vp_model.specs.Catalogue.{Catalogue}
-use Rattle.vp_hosts.specs.Hosts.{HostValue, address_of, IsHost, Stays}
-use Rattle.vp_hosts.specs.Ports.{AreHosts, ChangesAt, ChangesOf}
+use Rattle.vp_model.specs.Site.{SiteState}
+use Rattle.vp_hosts.specs.Hosts.{HostValue, address_of, IsHost, Lends, Stays}
+use Rattle.vp_hosts.specs.Ports.{AreHosts, LendsAt, ChangesAt, ChangesOf}
 use Rattle.vp_hosts.proofs.Replaced.{finds_new, finds_others, maps_same, all_set}
 
 module _ (port : ℕ) (does : HostValue → HostValue → Type 0) (hosts : List HostValue) where
@@ -21,6 +22,16 @@ module _ (port : ℕ) (does : HostValue → HostValue → Type 0) (hosts : List 
     there = λ host found. absurd (let no = find_none at hosts none in cc);
     others = λ other differs. refl;
   }
+
+  -- a site that is lent to the host at the port has one
+  pub lent_somewhere : (catalogue : Catalogue) (site : SiteState) → LendsAt catalogue site port hosts → position at hosts ≡ None → ⊥
+  lent_somewhere catalogue site lent none = let no = find_none at hosts none in let yes = lent.1 in cc
+
+  -- which is the one in its place
+  pub lent_there : (catalogue : Catalogue) (site : SiteState) → LendsAt catalogue site port hosts → (d : HostValue) (i : ℕ) → position at hosts ≡ Some i → Lends catalogue site (get_or hosts i d)
+  lent_there catalogue site lent d i some =
+      let is : lent.0 ≡ get_or hosts i d = (let z = sym lent.1 ∙ find_some at hosts i d some in cc) in
+      subst (λ (host : HostValue). Lends catalogue site host) is lent.2
 
   -- the host at the port is this one
   module _ (d after : HostValue) (i : ℕ) (some : position at hosts ≡ Some i) (same : address_of after ≡ address_of (get_or hosts i d)) where

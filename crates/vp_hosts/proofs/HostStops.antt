@@ -1,20 +1,19 @@
 -- What a stop makes of a host.
 use Rattle.std.proofs.Common.{◌≡◌, ◌≢◌, ◌∙◌, ap, sym, subst, ℕ, Bool, true, false, List, ◌∷◌, [], length, refl, arith}
-use Rattle.std.specs.Prelude.{Option, Some, None, IfSome, IfNone, ◌==◌, option_map}
+use Rattle.std.specs.Prelude.{Option, Some, None, IfSome, IfNone, ◌==◌}
 use Rattle.std.proofs.lemmas.Bool.Decides.{nat_tests}
 use Rattle.vp_model.specs.Types.{LogRecord}
 use Rattle.vp_model.specs.Catalogue.{Catalogue}
 use Rattle.vp_model.specs.Site.{SiteState}
 use Rattle.vp_disks.specs.declared.changes.Change.{Change}
 use Rattle.vp_outside.specs.declared.datagram.Datagram.{Datagram}
-use Rattle.vp_stable.specs.Halves.{StandsAt, HaveBatches}
+use Rattle.vp_stable.specs.Halves.{Standing, StandsAt, HaveBatches}
 use Rattle.vp_stable.specs.Stops.{GainsWhere, with_batch}
 use Rattle.vp_runs.specs.declared.arrival.Arrival.{Arrival}
 use Rattle.vp_runs.specs.Arrivals.{arrival}
 use Rattle.vp_runs.specs.Turns.{turn_on}
-use Rattle.vp_node.specs.Nodes.{NodeValue}
 use Rattle.vp_hosts.specs.Hosts.{HostValue, IsHost, IsAt, Stops, log_on, log_in, turn_at}
-use Rattle.vp_hosts.proofs.Hosting.{host_with, parts_rest, parts_node}
+use Rattle.vp_hosts.proofs.Hosting.{host_with, parts_rest}
 
 -- whether a batch is one without records
 length_none : (batch : List LogRecord) → (length batch == 0) ≡ true → batch ≡ []
@@ -29,51 +28,40 @@ shown_some batch shown b same is e none =
     let test : (length shown == 0) ≡ true = ap (λ (batch : List LogRecord). length batch == 0) (same ∙ none) in
     absurd (let z = sym e ∙ is ∙ test in cc)
 
-module _ (catalogue : Catalogue) (d : Datagram) (parts host : HostValue) (same : parts ≡ host) (is : IsHost catalogue host) where
+module _ (catalogue : Catalogue) (d : Datagram) (site : SiteState) (parts host : HostValue) (same : parts ≡ host) (is : IsHost catalogue host) where
   abbrev After : List Change → Option Bool → Type 0
-  After disk kept = Stops catalogue d host (host_with parts.id parts.port disk None) kept
+  After disk kept = Stops catalogue d site host (host_with parts.id parts.port disk None) kept
 
   stays_so : (disk : List Change) (kept : Option Bool)
-      → ((batches : List (List LogRecord)) (site : SiteState) → IsAt batches (Some site) parts → IfNone kept ((turn_at catalogue site d).batch ≡ [])
+      → ((batches : List (List LogRecord)) → IsAt batches (Some site) parts → IfNone kept ((turn_at catalogue site d).batch ≡ [])
       × IfSome kept (λ k. ((turn_at catalogue site d).batch ≢ []) × IsAt (with_batch k (turn_at catalogue site d).batch batches) None (host_with parts.id parts.port disk None)))
       → After disk kept
   stays_so disk kept up = record {
     stays = record { host = parts_rest catalogue parts host same disk is; same_id = ap (λ (h : HostValue). h.id) same; same_port = ap (λ (h : HostValue). h.port) same };
-    up = λ batches site h. up batches site (subst (λ h. IsAt batches (Some site) h) (sym same) h);
+    up = λ batches h. up batches (subst (λ h. IsAt batches (Some site) h) (sym same) h);
   }
 
-  -- the site was down
-  pub stops_idle : (disk : List Change) → parts.node ≡ None → After disk None
-  stops_idle disk rests = stays_so disk None (λ batches site h. absurd (let z = sym (ap (option_map (λ (node : NodeValue). node.site)) rests) ∙ h.site_is in cc))
-
-  -- it was up at this node, to which this came
-  module _ (node : NodeValue) (up : parts.node ≡ Some node) (what : Arrival) (comes : what ≡ arrival catalogue parts.id d) (batch : List LogRecord) (batch_is : batch ≡ (turn_on catalogue node.site what).batch) where
-    its : (batches : List (List LogRecord)) (site : SiteState) → IsAt batches (Some site) parts → (node.site ≡ site) × ((turn_at catalogue site d).batch ≡ batch)
-    its batches site h =
-        let at : node.site ≡ site = (let z = sym (ap (option_map (λ (node : NodeValue). node.site)) up) ∙ h.site_is in cc) in
-        let id : node.site.id ≡ parts.id = (parts_node catalogue parts host same node up is).0 in (
-          at,
-          ap (λ (x : SiteState). (turn_on catalogue x (arrival catalogue x.id d)).batch) (sym at)
-              ∙ ap (λ (id : ℕ). (turn_on catalogue node.site (arrival catalogue id d)).batch) id
-              ∙ ap (λ (what : Arrival). (turn_on catalogue node.site what).batch) (sym comes) ∙ sym batch_is,
-        )
+  -- its log stood there, and this came to the site
+  module _ (at : Standing) (up : parts.log ≡ Some at) (what : Arrival) (comes : what ≡ arrival catalogue site.id d) (batch : List LogRecord) (batch_is : batch ≡ (turn_on catalogue site what).batch) where
+    its : (turn_at catalogue site d).batch ≡ batch
+    its = ap (λ (what : Arrival). (turn_on catalogue site what).batch) (sym comes) ∙ sym batch_is
 
     -- which asks for no batch
     pub stops_none : (disk : List Change) → batch ≡ [] → After disk None
-    stops_none disk none = stays_so disk None (λ batches site h. ((its batches site h).1 ∙ none, tt))
+    stops_none disk none = stays_so disk None (λ batches h. (its ∙ none, tt))
 
-    stands : (batches : List (List LogRecord)) (site : SiteState) → IsAt batches (Some site) parts → StandsAt node.at batches (log_in parts)
-    stands batches site h = subst (λ (n : Option NodeValue). IfSome n (λ node. StandsAt node.at batches (log_in parts))) up h.stands
+    stands : (batches : List (List LogRecord)) → IsAt batches (Some site) parts → StandsAt at batches (log_in parts)
+    stands batches h = subst (λ (log : Option Standing). IfSome log (λ at. StandsAt at batches (log_in parts))) up h.stands
 
     -- which asks for this batch: the log is left with it or without
-    pub stops_within : (left : List Change) (kept : Bool) → batch ≢ [] → GainsWhere batch node.at kept (log_on parts.disk) (log_on left) → After left (Some kept)
-    stops_within left kept some gains = stays_so left (Some kept) (λ batches site h. (
+    pub stops_within : (left : List Change) (kept : Bool) → batch ≢ [] → GainsWhere batch at kept (log_on parts.disk) (log_on left) → After left (Some kept)
+    stops_within left kept some gains = stays_so left (Some kept) (λ batches h. (
       tt,
       (
-        (λ none. some (sym ((its batches site h).1) ∙ none)),
+        (λ none. some (sym its ∙ none)),
         record {
-          has = subst (λ b. HaveBatches (with_batch kept b batches) (log_on left)) (sym ((its batches site h).1)) (gains batches (stands batches site h));
-          site_is = refl;
+          has = subst (λ b. HaveBatches (with_batch kept b batches) (log_on left)) (sym its) (gains batches (stands batches h));
+          is_up = refl;
           stands = tt;
         },
       ),

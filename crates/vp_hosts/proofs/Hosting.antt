@@ -9,19 +9,21 @@ use Rattle.vp_model.specs.Words.{has, value_at, keys}
 use Rattle.vp_model.specs.Catalogue.{Catalogue, sites_of}
 use Rattle.vp_model.specs.Site.{SiteState}
 use Rattle.vp_model.specs.Step.{start}
-use Rattle.vp_outside.specs.Disk.{Steps}
+use Rattle.vp_outside.specs.Disk.{Steps, DiskState, log_of}
 use Rattle.vp_disks.specs.Changes.{asked_of, changes_of, content_of, state_after}
 use Rattle.vp_disks.specs.declared.changes.Change.{Change}
 use Rattle.vp_outside.specs.declared.datagram.Datagram.{Datagram}
-use Rattle.vp_stable.specs.Halves.{StandsAt, HaveBatches, HasGeneration, ReadAlike, HalvesAreOneLog}
+use Rattle.vp_stable.specs.Halves.{Standing, StandsAt, HaveBatches, HasGeneration, ReadAlike, HalvesAreOneLog, AreKept}
+use Rattle.vp_runs.specs.declared.arrival.Arrival.{Arrival}
 use Rattle.vp_runs.specs.Arrivals.{arrival}
 use Rattle.vp_runs.specs.Runs.{start_node, after_turn}
-use Rattle.vp_runs.proofs.Shaped.{arrives}
-use Rattle.vp_node.specs.Nodes.{NodeValue, IsNode, IsKept, Starts, IsSpent, Gives, Saves, turn_of}
+use Rattle.vp_runs.specs.Turns.{Turn, turn_on}
+use Rattle.vp_node.specs.Nodes.{NodeValue, IsNode, IsKept, Starts, IsSpent, Gives, Saves}
+use Rattle.vp_turns.specs.Taking.{IsStepOf}
 use Rattle.vp_turns.specs.declared.turned.Outcome.{Outcome}
 use Rattle.vp_node.proofs.Kept.{has as have}
-use Rattle.vp_node.proofs.Turning.{same_id}
-use Rattle.vp_hosts.specs.Hosts.{HostValue, IsHost, IsAt, Takes, Crashes, Restarts, Begins, is_spent, log_in, told, node_at, turn_at}
+use Rattle.vp_node.proofs.Turning.{settled}
+use Rattle.vp_hosts.specs.Hosts.{HostValue, IsHost, IsAt, Lends, Takes, Crashes, Restarts, Begins, is_spent, log_in, told, node_at, turn_at}
 
 -- a site with a port is a site
 pub listed : (id port : ℕ) (sites : List (ℕ × ℕ)) → value_at id sites ≡ Some port → has (keys sites) id ≡ true
@@ -34,97 +36,94 @@ no_batches = (0, record { first = 0; second = 0; of_first = none; of_second = no
     none : HasGeneration 0 []
     none = inr (λ batch first. let e = first.open_ in cc, refl)
 
--- the number of a site that starts, and of one that takes a turn
-pub start_id : (catalogue : Catalogue) (id : ℕ) (batches : List (List LogRecord)) → (start_node catalogue id batches).site.id ≡ id
-unfolding start
-start_id catalogue id batches = refl
-
-pub turn_id : (catalogue : Catalogue) (node : NodeValue) (d : Datagram) → IsNode catalogue node → d.port < 2 ^ 16 → (turn_of catalogue node d).site.id ≡ node.site.id
-turn_id catalogue node d is fits = same_id catalogue node.site (arrival catalogue node.site.id d) is.catalogue_is is.site_is (arrives catalogue node.site.id d fits)
-
 -- the life of a site that starts behind the last one would be none
 pub last_life : (catalogue : Catalogue) (id : ℕ) (batches : List (List LogRecord)) → is_spent catalogue id batches → (start_node catalogue id batches).site.life < 2 ^ 32 → ⊥
 unfolding start
 last_life catalogue id batches spent lives = omega (arith, spent, lives)
 
+-- the disk that keeps what a node has to keep keeps its log
+log_kept : (catalogue : Catalogue) (node : NodeValue) (disk : DiskState) → IsKept catalogue node disk → AreKept node.at disk
+log_kept catalogue node disk kept honest = settled catalogue node (disk.may_leave disk.asked) (log_of disk) (kept honest)
+
 -- ---- a host that is up or down
 
-abbrev pub host_with : ℕ → ℕ → List Change → Option NodeValue → HostValue
-host_with id port disk node = record { id = id; port = port; disk = disk; node = node }
+abbrev pub host_with : ℕ → ℕ → List Change → Option Standing → HostValue
+host_with id port disk log = record { id = id; port = port; disk = disk; log = log }
 
-not_down : (batches : List (List LogRecord)) (id port : ℕ) (disk : List Change) (node : NodeValue) → IsAt batches None (host_with id port disk (Some node)) → ⊥
-not_down batches id port disk node h = let e = h.site_is in cc
+not_down : (batches : List (List LogRecord)) (id port : ℕ) (disk : List Change) (at : Standing) → IsAt batches None (host_with id port disk (Some at)) → ⊥
+not_down batches id port disk at h = let e = h.is_up in cc
 
 not_up : (batches : List (List LogRecord)) (site : SiteState) (id port : ℕ) (disk : List Change) → IsAt batches (Some site) (host_with id port disk None) → ⊥
-not_up batches site id port disk h = let e = h.site_is in cc
+not_up batches site id port disk h = let e = h.is_up in cc
 
 -- a host whose site is down
 pub down : (catalogue : Catalogue) (id port : ℕ) (disk : List Change) → value_at id catalogue.sites ≡ Some port → IsHost catalogue (host_with id port disk None)
-down catalogue id port disk is = record { port_is = is; node_is = tt }
+down catalogue id port disk is = record { port_is = is; kept = tt }
 
 pub crashes : (catalogue : Catalogue) (old : HostValue) → IsHost catalogue old → Crashes catalogue old (host_with old.id old.port old.disk None)
 crashes catalogue old is = record {
   stays = record { host = down catalogue old.id old.port old.disk is.port_is; same_id = refl; same_port = refl };
-  down = λ batches up h. record { has = h.has; site_is = refl; stands = tt };
+  down = λ batches up h. record { has = h.has; is_up = refl; stands = tt };
 }
 
 -- ---- a turn
 
-pub takes_none : (catalogue : Catalogue) (d : Datagram) (id port : ℕ) (disk : List Change) → IsHost catalogue (host_with id port disk None) → Takes catalogue d (host_with id port disk None) (host_with id port disk None) []
-takes_none catalogue d id port disk is = record {
-  stays = record { host = is; same_id = refl; same_port = refl };
-  up = λ batches site h. absurd (not_up batches site id port disk h);
-  down = λ batches h. (h, refl);
-}
-
-module _ (catalogue : Catalogue) (d : Datagram) (id port : ℕ) (old new : List Change) (node after : NodeValue) where
+module _ (catalogue : Catalogue) (d : Datagram) (site : SiteState) (id port : ℕ) (old new : List Change) (from : Standing) (after : NodeValue) where
   abbrev before : HostValue
-  before = host_with id port old (Some node)
+  before = host_with id port old (Some from)
 
   abbrev behind : HostValue
-  behind = host_with id port new (Some after)
+  behind = host_with id port new (Some after.at)
 
-  module _ (asked : asked_of new ≡ asked_of old) (site : after.site ≡ (turn_of catalogue node d).site)
-      (saved : Steps (Saves (turn_of catalogue node d) node.at after.at) (state_after old true 0) (state_after new true 0)) where
-    stands_kept : (batches : List (List LogRecord)) → StandsAt node.at batches (log_in before) → StandsAt after.at (after_turn (node_at node.site batches) (turn_of catalogue node d)).batches (log_in behind)
+  abbrev turn : Turn
+  turn = turn_at catalogue site d
+
+  module _ (asked : asked_of new ≡ asked_of old) (saved : Steps (Saves turn from after.at) (state_after old true 0) (state_after new true 0)) where
+    stands_kept : (batches : List (List LogRecord)) → StandsAt from batches (log_in before) → StandsAt after.at (after_turn (node_at site batches) turn).batches (log_in behind)
     stands_kept batches stands =
-        subst (λ name. StandsAt after.at (after_turn (node_at node.site batches) (turn_of catalogue node d)).batches (content_of (changes_of name new))) (sym asked) (saved batches stands)
+        subst (λ name. StandsAt after.at (after_turn (node_at site batches) turn).batches (content_of (changes_of name new))) (sym asked) (saved batches stands)
 
-    turned_at : (batches : List (List LogRecord)) → StandsAt node.at batches (log_in before)
-        → IsAt (after_turn (node_at node.site batches) (turn_of catalogue node d)).batches (Some (turn_of catalogue node d).site) behind
-    turned_at batches stands = record {
-      has = have (stands_kept batches stands);
-      site_is = ap (λ (s : SiteState). Some s) site;
-      stands = stands_kept batches stands;
-    }
+    turned_at : (batches : List (List LogRecord)) → StandsAt from batches (log_in before) → IsAt (after_turn (node_at site batches) turn).batches (Some turn.site) behind
+    turned_at batches stands = record { has = have (stands_kept batches stands); is_up = refl; stands = stands_kept batches stands }
 
-  pub takes_turn : (outcome : Outcome) → d.port < 2 ^ 16 → IsHost catalogue before → asked_of new ≡ asked_of old → Gives (turn_of catalogue node d) after outcome
-      → Steps (Saves (turn_of catalogue node d) node.at after.at) (state_after old true 0) (state_after new true 0) → IsNode catalogue after → IsKept catalogue after (state_after new true 0)
-      → Takes catalogue d before behind outcome.datagrams
-  takes_turn outcome fits is asked gives saved is_node kept = record {
+  takes_turn : (outcome : Outcome) → IsHost catalogue before → asked_of new ≡ asked_of old → Gives turn after outcome → IsStepOf catalogue site (arrival catalogue site.id d) after.site outcome.effects
+      → Steps (Saves turn from after.at) (state_after old true 0) (state_after new true 0) → IsKept catalogue after (state_after new true 0) → Takes catalogue d site before behind after.site outcome
+  takes_turn outcome is asked gives stepped saved kept = record {
     stays = record {
-      host = record {
-        port_is = is.port_is;
-        node_is = (ap (λ (s : SiteState). s.id) gives.site ∙ turn_id catalogue node d is.node_is.1 fits ∙ is.node_is.0, is_node, kept);
-      };
+      host = record { port_is = is.port_is; kept = log_kept catalogue after (state_after new true 0) kept };
       same_id = refl;
       same_port = refl;
     };
-    up = λ batches site h.
-        let same : node.site ≡ site = let e = h.site_is in cc in
-        subst
-        (λ (s : SiteState). IsAt (after_turn (node_at s batches) (turn_at catalogue s d)).batches (Some (turn_at catalogue s d).site) behind × (outcome.datagrams ≡ (turn_at catalogue s d).datagrams))
-        same (turned_at asked gives.site saved batches h.stands, gives.datagrams);
-    down = λ batches h. absurd (not_down batches id port old node h);
+    site_is = gives.site;
+    datagrams_are = gives.datagrams;
+    stepped = stepped;
+    up = λ batches h. turned_at asked saved batches h.stands;
   }
 
--- the same of a host that is known to be up
-pub takes : (catalogue : Catalogue) (d : Datagram) (host : HostValue) (new : List Change) (node after : NodeValue) (outcome : Outcome) → host.node ≡ Some node → d.port < 2 ^ 16 → IsHost catalogue host
-    → asked_of new ≡ asked_of host.disk → Gives (turn_of catalogue node d) after outcome → Steps (Saves (turn_of catalogue node d) node.at after.at) (state_after host.disk true 0) (state_after new true 0)
-    → IsNode catalogue after → IsKept catalogue after (state_after new true 0) → Takes catalogue d host (host_with host.id host.port new (Some after)) outcome.datagrams
-takes catalogue d host new node after outcome up fits is asked gives saved is_node kept =
-    subst (λ (n : Option NodeValue). IsHost catalogue (host_with host.id host.port host.disk n) → Takes catalogue d (host_with host.id host.port host.disk n) (host_with host.id host.port new (Some after)) outcome.datagrams)
-    (sym up) (λ known. takes_turn catalogue d host.id host.port host.disk new node after outcome fits known asked gives saved is_node kept) is
+pub takes : (catalogue : Catalogue) (d : Datagram) (site : SiteState) (host : HostValue) (new : List Change) (from : Standing) (after : NodeValue) (outcome : Outcome) → host.log ≡ Some from → IsHost catalogue host
+    → asked_of new ≡ asked_of host.disk → Gives (turn_at catalogue site d) after outcome → IsStepOf catalogue site (arrival catalogue site.id d) after.site outcome.effects
+    → Steps (Saves (turn_at catalogue site d) from after.at) (told host) (state_after new true 0) → IsKept catalogue after (state_after new true 0)
+    → Takes catalogue d site host (host_with host.id host.port new (Some after.at)) after.site outcome
+takes catalogue d site host new from after outcome up is asked gives stepped saved kept =
+    subst (λ (log : Option Standing). IsHost catalogue (host_with host.id host.port host.disk log) → Takes catalogue d site (host_with host.id host.port host.disk log) (host_with host.id host.port new (Some after.at)) after.site outcome)
+    (sym up) (λ known. takes_turn catalogue d site host.id host.port host.disk new from after outcome known asked gives stepped saved kept) is
+
+-- what is known of the log of a host that is up
+its_log : (catalogue : Catalogue) (host : HostValue) (at : Standing) → host.log ≡ Some at → IsHost catalogue host → AreKept at (told host)
+its_log catalogue host at up is = subst (λ (log : Option Standing). IfSome log (λ at. AreKept at (told host))) up is.kept
+
+-- a site that is lent makes a node with the log of its host
+pub lent_node : (catalogue : Catalogue) (site : SiteState) (host : HostValue) (at : Standing) → host.log ≡ Some at → IsHost catalogue host → Lends catalogue site host
+    → IsNode catalogue (record { site = site; at = at }) × IsKept catalogue (record { site = site; at = at }) (told host)
+lent_node catalogue site host at up is lends = (
+  record { catalogue_is = lends.catalogue_is; site_is = lends.site_is },
+  λ honest. record {
+    synced = (its_log catalogue host at up is honest).synced;
+    batches = lends.batches;
+    stands = subst (λ (log : Option Standing). IfSome log (λ at. StandsAt at lends.batches (log_in host))) up lends.at.stands;
+    folds = lends.folds;
+  },
+)
 
 -- ---- a start
 
@@ -133,7 +132,7 @@ module _ (catalogue : Catalogue) (id port : ℕ) (old new : List Change) where
   at_rest = host_with id port old None
 
   abbrev begun : NodeValue → HostValue
-  begun node = host_with id port new (Some node)
+  begun node = host_with id port new (Some node.at)
 
   module _ (one : HalvesAreOneLog) (asked : asked_of new ≡ asked_of old) (node : NodeValue) (starts : Starts catalogue id node (state_after old true 0) (state_after new true 0)) where
     pub starts_at : (batches : List (List LogRecord)) → HaveBatches batches (log_in at_rest) → IsAt (start_node catalogue id batches).batches (Some (start_node catalogue id batches).site) (begun node)
@@ -142,26 +141,22 @@ module _ (catalogue : Catalogue) (id port : ℕ) (old new : List Change) where
         let there = subst (λ bs. StandsAt node.at (start_node catalogue id bs).batches (content_of (changes_of (asked_of old) new))) same starts.has in
         let stands : StandsAt node.at (start_node catalogue id batches).batches (log_in (begun node)) =
         subst (λ name. StandsAt node.at (start_node catalogue id batches).batches (content_of (changes_of name new))) (sym asked) there in
-        record {
-          has = have stands;
-          site_is = ap (λ (s : SiteState). Some s) (starts.site ∙ ap (λ bs. (start_node catalogue id bs).site) same);
-          stands = stands;
-        }
+        record { has = have stands; is_up = refl; stands = stands }
 
-    pub started : value_at id catalogue.sites ≡ Some port → IsNode catalogue node → IsKept catalogue node (state_after new true 0) → IsHost catalogue (begun node)
-    started is is_node kept = record { port_is = is; node_is = (ap (λ (s : SiteState). s.id) starts.site ∙ start_id catalogue id starts.batches, is_node, kept) }
+    pub started : value_at id catalogue.sites ≡ Some port → IsKept catalogue node (state_after new true 0) → IsHost catalogue (begun node)
+    started is kept = record { port_is = is; kept = log_kept catalogue node (state_after new true 0) kept }
 
-    pub begins : old ≡ [] → value_at id catalogue.sites ≡ Some port → IsNode catalogue node → IsKept catalogue node (state_after new true 0) → Begins catalogue id port (begun node)
-    begins empty is is_node kept = record {
-      is_host = started is is_node kept;
+    pub begins : old ≡ [] → value_at id catalogue.sites ≡ Some port → IsKept catalogue node (state_after new true 0) → Begins catalogue id port (begun node)
+    begins empty is kept = record {
+      is_host = started is kept;
       id_is = refl;
       port_is = refl;
       first = starts_at [] (subst (λ changes. HaveBatches [] (content_of (changes_of (asked_of changes) changes))) (sym empty) no_batches);
     }
 
-    pub restarts : IsHost catalogue at_rest → node.site.life < 2 ^ 32 → IsNode catalogue node → IsKept catalogue node (state_after new true 0) → Restarts catalogue at_rest (begun node)
-    restarts is lives is_node kept = record {
-      stays = record { host = started is.port_is is_node kept; same_id = refl; same_port = refl };
+    pub restarts : IsHost catalogue at_rest → node.site.life < 2 ^ 32 → IsKept catalogue node (state_after new true 0) → Restarts catalogue at_rest (begun node)
+    restarts is lives kept = record {
+      stays = record { host = started is.port_is kept; same_id = refl; same_port = refl };
       up = λ batches site h. absurd (not_up batches site id port old h);
       spent = λ batches h last.
           let same : starts.batches ≡ batches = one starts.batches batches (log_in at_rest) starts.had h.has in
@@ -176,52 +171,42 @@ module _ (catalogue : Catalogue) (id port : ℕ) (old new : List Change) where
   is_over one asked life is spent alike = record {
     stays = record { host = down catalogue id port new is.port_is; same_id = refl; same_port = refl };
     up = λ batches site h. absurd (not_up batches site id port old h);
-    spent = λ batches h last. record { has = subst (λ name. HaveBatches batches (content_of (changes_of name new))) (sym asked) (alike.batches batches h.has); site_is = refl; stands = tt };
+    spent = λ batches h last. record { has = subst (λ name. HaveBatches batches (content_of (changes_of name new))) (sym asked) (alike.batches batches h.has); is_up = refl; stands = tt };
     down = λ batches h left.
         let same : spent.1.0 ≡ batches = one spent.1.0 batches (log_in at_rest) spent.1.1 h.has in
         absurd (left (subst (λ bs. is_spent catalogue id bs) same (spent.1.2 ∙ spent.0)));
   }
 
 -- where its site is up nothing is done
-pub goes_on : (catalogue : Catalogue) (host : HostValue) → is_some host.node ≡ true → IsHost catalogue host → Restarts catalogue host host
-goes_on catalogue host up is = by host.node refl
+pub goes_on : (catalogue : Catalogue) (host : HostValue) → is_some host.log ≡ true → IsHost catalogue host → Restarts catalogue host host
+goes_on catalogue host up is = by host.log refl
   where
-    by : (node : Option NodeValue) → host.node ≡ node → Restarts catalogue host host
-    by (Some n) e = record {
+    by : (log : Option Standing) → host.log ≡ log → Restarts catalogue host host
+    by (Some at) e = record {
       stays = record { host = is; same_id = refl; same_port = refl };
       up = λ batches site h. h;
       spent = λ batches h last. h;
-      down = λ batches h left. absurd (not_down batches host.id host.port host.disk n (rw e at h));
+      down = λ batches h left. absurd (not_down batches host.id host.port host.disk at (rw e at h));
     }
-    by None e = let none : is_some {T = NodeValue} None ≡ true = rw e at up in cc
+    by None e = let none : is_some {T = Standing} None ≡ true = rw e at up in cc
 
-pub is_down : (node : Option NodeValue) → is_some node ≡ false → node ≡ None
+pub is_down : (log : Option Standing) → is_some log ≡ false → log ≡ None
 is_down None e = refl
-is_down (Some n) e = cc
-
--- what is known of the node of a host that is up
-pub its_node : (catalogue : Catalogue) (host : HostValue) (node : NodeValue) → host.node ≡ Some node → IsHost catalogue host → (node.site.id ≡ host.id) × IsNode catalogue node × IsKept catalogue node (told host)
-its_node catalogue host node up is = subst (λ (n : Option NodeValue). IfSome n (λ node. (node.site.id ≡ host.id) × IsNode catalogue node × IsKept catalogue node (told host))) up is.node_is
-
--- a host whose site is down
-pub idles : (catalogue : Catalogue) (d : Datagram) (host : HostValue) → host.node ≡ None → IsHost catalogue host → Takes catalogue d host (host_with host.id host.port host.disk None) []
-idles catalogue d host down is =
-    subst (λ (n : Option NodeValue). IsHost catalogue (host_with host.id host.port host.disk n) → Takes catalogue d (host_with host.id host.port host.disk n) (host_with host.id host.port host.disk None) [])
-    (sym down) (λ known. takes_none catalogue d host.id host.port host.disk known) is
+is_down (Some at) e = cc
 
 -- a start of a host whose site is down
-pub goes_up : (catalogue : Catalogue) (host : HostValue) (new : List Change) (node : NodeValue) → is_some host.node ≡ false → HalvesAreOneLog → asked_of new ≡ asked_of host.disk
-    → Starts catalogue host.id node (told host) (state_after new true 0) → IsHost catalogue host → node.site.life < 2 ^ 32 → IsNode catalogue node → IsKept catalogue node (state_after new true 0)
-    → Restarts catalogue host (host_with host.id host.port new (Some node))
-goes_up catalogue host new node rests one asked starts is lives is_node kept =
-    subst (λ (n : Option NodeValue). IsHost catalogue (host_with host.id host.port host.disk n) → Restarts catalogue (host_with host.id host.port host.disk n) (host_with host.id host.port new (Some node)))
-    (sym (is_down host.node rests)) (λ known. restarts catalogue host.id host.port host.disk new one asked node starts known lives is_node kept) is
+pub goes_up : (catalogue : Catalogue) (host : HostValue) (new : List Change) (node : NodeValue) → is_some host.log ≡ false → HalvesAreOneLog → asked_of new ≡ asked_of host.disk
+    → Starts catalogue host.id node (told host) (state_after new true 0) → IsHost catalogue host → node.site.life < 2 ^ 32 → IsKept catalogue node (state_after new true 0)
+    → Restarts catalogue host (host_with host.id host.port new (Some node.at))
+goes_up catalogue host new node rests one asked starts is lives kept =
+    subst (λ (log : Option Standing). IsHost catalogue (host_with host.id host.port host.disk log) → Restarts catalogue (host_with host.id host.port host.disk log) (host_with host.id host.port new (Some node.at)))
+    (sym (is_down host.log rests)) (λ known. restarts catalogue host.id host.port host.disk new one asked node starts known lives kept) is
 
-pub stays_down : (catalogue : Catalogue) (host : HostValue) (new : List Change) (life : ℕ) → is_some host.node ≡ false → HalvesAreOneLog → asked_of new ≡ asked_of host.disk
+pub stays_down : (catalogue : Catalogue) (host : HostValue) (new : List Change) (life : ℕ) → is_some host.log ≡ false → HalvesAreOneLog → asked_of new ≡ asked_of host.disk
     → IsSpent catalogue host.id life (told host) → Steps ReadAlike (told host) (state_after new true 0) → IsHost catalogue host → Restarts catalogue host (host_with host.id host.port new None)
 stays_down catalogue host new life rests one asked spent alike is =
-    subst (λ (n : Option NodeValue). IsHost catalogue (host_with host.id host.port host.disk n) → Restarts catalogue (host_with host.id host.port host.disk n) (host_with host.id host.port new None))
-    (sym (is_down host.node rests)) (λ known. is_over catalogue host.id host.port host.disk new one asked life known spent alike) is
+    subst (λ (log : Option Standing). IsHost catalogue (host_with host.id host.port host.disk log) → Restarts catalogue (host_with host.id host.port host.disk log) (host_with host.id host.port new None))
+    (sym (is_down host.log rests)) (λ known. is_over catalogue host.id host.port host.disk new one asked life known spent alike) is
 
 -- ---- the same, of a host by its parts
 
@@ -229,41 +214,66 @@ module _ (catalogue : Catalogue) (parts host : HostValue) (same : parts ≡ host
   known : IsHost catalogue host → IsHost catalogue parts
   known is = subst (λ h. IsHost catalogue h) (sym same) is
 
+  pub parts_lent : (site : SiteState) → Lends catalogue site host → Lends catalogue site parts
+  parts_lent site lends = subst (λ h. Lends catalogue site h) (sym same) lends
+
   pub parts_listed : IsHost catalogue host → has (sites_of catalogue) parts.id ≡ true
   parts_listed is = listed parts.id parts.port catalogue.sites (known is).port_is
 
   pub parts_rest : (disk : List Change) → IsHost catalogue host → IsHost catalogue (host_with parts.id parts.port disk None)
   parts_rest disk is = down catalogue parts.id parts.port disk (known is).port_is
 
-  pub parts_node : (node : NodeValue) → parts.node ≡ Some node → IsHost catalogue host → (node.site.id ≡ parts.id) × IsNode catalogue node × IsKept catalogue node (told parts)
-  parts_node node up is = its_node catalogue parts node up (known is)
+  -- a site that is lent is up
+  pub parts_up : (site : SiteState) → Lends catalogue site host → parts.log ≡ None → ⊥
+  parts_up site lends none =
+      let up : is_some parts.log ≡ true = (parts_lent site lends).at.is_up in
+      let rests : is_some {T = Standing} None ≡ true = subst (λ (log : Option Standing). is_some log ≡ true) none up in
+      cc
 
-  -- its log stands where its node says
-  pub parts_stand : (node : NodeValue) → parts.node ≡ Some node → IsHost catalogue host → (batches : List (List LogRecord)) × StandsAt node.at batches (log_in parts)
-  parts_stand node up is = let kept = (parts_node node up is).2 tt in (kept.batches, kept.stands)
+  pub parts_node : (site : SiteState) (at : Standing) (node : NodeValue) → node ≡ record { site = site; at = at } → parts.log ≡ Some at → IsHost catalogue host → Lends catalogue site host
+      → IsNode catalogue node × IsKept catalogue node (told parts)
+  parts_node site at node is_node up is lends =
+      subst (λ (node : NodeValue). IsNode catalogue node × IsKept catalogue node (told parts)) (sym is_node) (lent_node catalogue site parts at up (known is) (parts_lent site lends))
+
+  -- what comes to it comes to its site
+  pub parts_arrival : (site : SiteState) (d : Datagram) (what : Arrival) → Lends catalogue site host → what ≡ arrival catalogue parts.id d → what ≡ arrival catalogue site.id d
+  parts_arrival site d what lends comes = comes ∙ ap (λ (id : ℕ). arrival catalogue id d) (sym (parts_lent site lends).same_id)
+
+  -- its log stands where it says
+  pub parts_stand : (at : Standing) → parts.log ≡ Some at → IsHost catalogue host → (batches : List (List LogRecord)) × StandsAt at batches (log_in parts)
+  parts_stand at up is = let kept = its_log catalogue parts at up (known is) tt in (kept.batches, kept.stands)
 
   pub parts_crash : IsHost catalogue host → Crashes catalogue host (host_with parts.id parts.port parts.disk None)
   parts_crash is = subst (λ h. Crashes catalogue h (host_with parts.id parts.port parts.disk None)) same (crashes catalogue parts (known is))
 
-  pub parts_idle : (d : Datagram) → parts.node ≡ None → IsHost catalogue host → Takes catalogue d host (host_with parts.id parts.port parts.disk None) []
-  parts_idle d rests is = subst (λ h. Takes catalogue d h (host_with parts.id parts.port parts.disk None) []) same (idles catalogue d parts rests (known is))
-
-  pub parts_take : (d : Datagram) (new : List Change) (node after : NodeValue) (outcome : Outcome) → parts.node ≡ Some node → d.port < 2 ^ 16 → IsHost catalogue host → asked_of new ≡ asked_of parts.disk
-      → Gives (turn_of catalogue node d) after outcome → Steps (Saves (turn_of catalogue node d) node.at after.at) (told parts) (state_after new true 0) → IsNode catalogue after
-      → IsKept catalogue after (state_after new true 0) → Takes catalogue d host (host_with parts.id parts.port new (Some after)) outcome.datagrams
-  parts_take d new node after outcome up fits is asked gives saved is_node kept =
-      subst (λ h. Takes catalogue d h (host_with parts.id parts.port new (Some after)) outcome.datagrams) same (takes catalogue d parts new node after outcome up fits (known is) asked gives saved is_node kept)
-
-  pub parts_go_on : is_some parts.node ≡ true → IsHost catalogue host → Restarts catalogue host parts
+  pub parts_go_on : is_some parts.log ≡ true → IsHost catalogue host → Restarts catalogue host parts
   parts_go_on up is = subst (λ h. Restarts catalogue h parts) same (goes_on catalogue parts up (known is))
 
-  module _ (one : HalvesAreOneLog) (rests : is_some parts.node ≡ false) (is : IsHost catalogue host) (new : List Change) (asked : asked_of new ≡ asked_of parts.disk) where
-    pub parts_go_up : (node : NodeValue) → Starts catalogue parts.id node (told parts) (state_after new true 0) → node.site.life < 2 ^ 32 → IsNode catalogue node
-        → IsKept catalogue node (state_after new true 0) → Restarts catalogue host (host_with parts.id parts.port new (Some node))
-    parts_go_up node starts lives is_node kept =
-        subst (λ h. Restarts catalogue h (host_with parts.id parts.port new (Some node))) same (goes_up catalogue parts new node rests one asked starts (known is) lives is_node kept)
+  -- the site takes the turn as a node with the log that its host has
+  module _ (d : Datagram) (site : SiteState) (lends : Lends catalogue site host) (is : IsHost catalogue host) (from : Standing) (up : parts.log ≡ Some from) (node : NodeValue) (is_node : node ≡ record { site = site; at = from })
+      (what : Arrival) (comes : what ≡ arrival catalogue parts.id d) (new : List Change) (asked : asked_of new ≡ asked_of parts.disk) where
+    abbrev Gave : NodeValue → Arrival → NodeValue → Outcome → Type 0
+    Gave node what after outcome =
+        Gives (turn_on catalogue node.site what) after outcome × IsStepOf catalogue node.site what after.site outcome.effects
+        × Steps (Saves (turn_on catalogue node.site what) node.at after.at) (told parts) (state_after new true 0)
 
-    pub parts_stay_down : (life : ℕ) → IsSpent catalogue parts.id life (told parts) → Steps ReadAlike (told parts) (state_after new true 0) → Restarts catalogue host (host_with parts.id parts.port new parts.node)
+    pub parts_take : (after : NodeValue) (outcome : Outcome) (back : SiteState × Standing) → back ≡ (after.site, after.at) → Gave node what after outcome → IsKept catalogue after (state_after new true 0)
+        → Takes catalogue d site host (host_with parts.id parts.port new (Some back.1)) back.0 outcome
+    parts_take after outcome back back_is gave kept =
+        let here = subst (λ (n : NodeValue). Gave n what after outcome) is_node gave in
+        let there : Gave (record { site = site; at = from }) (arrival catalogue site.id d) after outcome = subst (λ (what : Arrival). Gave (record { site = site; at = from }) what after outcome) (parts_arrival site d what lends comes) here in
+        subst (λ (back : SiteState × Standing). Takes catalogue d site host (host_with parts.id parts.port new (Some back.1)) back.0 outcome) (sym back_is)
+        (subst (λ h. Takes catalogue d site h (host_with parts.id parts.port new (Some after.at)) after.site outcome) same
+        (takes catalogue d site parts new from after outcome up (known is) asked there.0 there.1 there.2 kept))
+
+  module _ (one : HalvesAreOneLog) (rests : is_some parts.log ≡ false) (is : IsHost catalogue host) (new : List Change) (asked : asked_of new ≡ asked_of parts.disk) where
+    pub parts_go_up : (node : NodeValue) (apart : SiteState × Standing) → apart ≡ (node.site, node.at) → Starts catalogue parts.id node (told parts) (state_after new true 0) → node.site.life < 2 ^ 32
+        → IsKept catalogue node (state_after new true 0) → Restarts catalogue host (host_with parts.id parts.port new (Some apart.1))
+    parts_go_up node apart is_apart starts lives kept =
+        subst (λ (apart : SiteState × Standing). Restarts catalogue host (host_with parts.id parts.port new (Some apart.1))) (sym is_apart)
+        (subst (λ h. Restarts catalogue h (host_with parts.id parts.port new (Some node.at))) same (goes_up catalogue parts new node rests one asked starts (known is) lives kept))
+
+    pub parts_stay_down : (life : ℕ) → IsSpent catalogue parts.id life (told parts) → Steps ReadAlike (told parts) (state_after new true 0) → Restarts catalogue host (host_with parts.id parts.port new parts.log)
     parts_stay_down life spent alike =
-        subst (λ (n : Option NodeValue). Restarts catalogue host (host_with parts.id parts.port new n)) (sym (is_down parts.node rests))
+        subst (λ (log : Option Standing). Restarts catalogue host (host_with parts.id parts.port new log)) (sym (is_down parts.log rests))
         (subst (λ h. Restarts catalogue h (host_with parts.id parts.port new None)) same (stays_down catalogue parts new life rests one asked spent alike (known is)))

@@ -1,27 +1,31 @@
--- A host: a node in memory, with the disk that keeps its log.
-use Rattle.std.specs.Prelude.{◌≡◌, ◌≢◌, ℕ, ◌-◌, ◌^◌, Bool, true, List, [], Option, Some, None, IfSome, IfNone, option_map}
+-- A host: a site's port and disk, and the log that it keeps while the site is up.
+use Rattle.std.specs.Prelude.{◌≡◌, ◌≢◌, ℕ, ◌-◌, ◌^◌, Bool, true, List, [], Option, Some, None, IfSome, IfNone, is_some}
 use Rattle.vp_model.specs.Types.{LogRecord}
 use Rattle.vp_model.specs.Words.{value_at}
 use Rattle.vp_model.specs.Catalogue.{Catalogue}
 use Rattle.vp_model.specs.Site.{SiteState}
+use Rattle.vp_model.specs.Step.{durable_of}
+use Rattle.vp_catalog.specs.Document.{IsCatalogue}
+use Rattle.vp_laws.specs.Shapes.{IsShaped}
 use Rattle.vp_outside.specs.Disk.{Halves, DiskState}
 use Rattle.vp_disks.specs.Changes.{asked_of, changes_of, content_of, state_after}
 use Rattle.vp_disks.specs.declared.changes.Change.{Change}
 use Rattle.vp_outside.specs.declared.datagram.Datagram.{Datagram}
-use Rattle.vp_stable.specs.Halves.{StandsAt, HaveBatches}
+use Rattle.vp_stable.specs.Halves.{Standing, StandsAt, HaveBatches, AreKept}
 use Rattle.vp_stable.specs.Stops.{with_batch}
 use Rattle.vp_runs.specs.Arrivals.{arrival}
 use Rattle.vp_runs.specs.Keeping.{durable_in}
 use Rattle.vp_runs.specs.Runs.{NodeState, start_node, after_turn}
 use Rattle.vp_runs.specs.Turns.{Turn, turn_on}
-use Rattle.vp_node.specs.Nodes.{NodeValue, IsNode, IsKept}
+use Rattle.vp_turns.specs.Taking.{IsStepOf}
+use Rattle.vp_turns.specs.declared.turned.Outcome.{Outcome}
 
--- what contracts see of a host: its site with its port, what was done to its disk, and its node where the site is up
+-- what contracts see of a host: its site with its port, what was done to its disk, and where its log stands while the site is up
 pub record HostValue : Type 0 where
   pub id : ℕ
   pub port : ℕ
   pub disk : List Change
-  pub node : Option NodeValue
+  pub log : Option Standing
 
 -- what its disk tells
 abbrev pub told : HostValue → DiskState
@@ -43,16 +47,25 @@ site_log host = (host.id, (log_in host).0, (log_in host).1)
 abbrev pub address_of : HostValue → ℕ × ℕ
 address_of host = (host.id, host.port)
 
--- It is a host over this catalogue: its port is its site's, and where the site is up it is at its node, whose log the disk keeps.
+-- It is a host over this catalogue: its port is its site's, and the disk keeps the log that it has while the site is up.
 pub record IsHost (catalogue : Catalogue) (host : HostValue) : Type 0 where
   pub port_is : value_at host.id catalogue.sites ≡ Some host.port
-  pub node_is : IfSome host.node (λ node. (node.site.id ≡ host.id) × IsNode catalogue node × IsKept catalogue node (told host))
+  pub kept : IfSome host.log (λ at. AreKept at (told host))
 
--- Its log has these batches, and its site is up at this state or down.
+-- Its log has these batches, and its site is up, or down where none is given.
 pub record IsAt (batches : List (List LogRecord)) (up : Option SiteState) (host : HostValue) : Type 0 where
   pub has : HaveBatches batches (log_in host)
-  pub site_is : option_map (λ (node : NodeValue). node.site) host.node ≡ up
-  pub stands : IfSome host.node (λ node. StandsAt node.at batches (log_in host))
+  pub is_up : is_some host.log ≡ is_some up
+  pub stands : IfSome host.log (λ at. StandsAt at batches (log_in host))
+
+-- The site can be lent to the host: it is up there, and the batches of the log fold to what it has to keep.
+pub record Lends (catalogue : Catalogue) (site : SiteState) (host : HostValue) : Type 0 where
+  pub catalogue_is : IsCatalogue catalogue
+  pub site_is : IsShaped catalogue site
+  pub same_id : site.id ≡ host.id
+  pub batches : List (List LogRecord)
+  pub at : IsAt batches (Some site) host
+  pub folds : durable_in catalogue site.id batches ≡ durable_of site
 
 -- ---- what is done with a host
 
@@ -69,18 +82,19 @@ node_at site batches = record { site = site; batches = batches }
 abbrev pub turn_at : Catalogue → SiteState → Datagram → Turn
 turn_at catalogue site d = turn_on catalogue site (arrival catalogue site.id d)
 
--- A datagram comes to it: where its site is up that takes the turn, and gives these datagrams.
-pub record Takes (catalogue : Catalogue) (d : Datagram) (old new : HostValue) (given : List Datagram) : Type 0 where
+-- A datagram comes to it, and its site is lent for that: the site takes the turn and is given back, with what the turn gives.
+pub record Takes (catalogue : Catalogue) (d : Datagram) (site : SiteState) (old new : HostValue) (after : SiteState) (outcome : Outcome) : Type 0 where
   pub stays : Stays catalogue old new
-  pub up : (batches : List (List LogRecord)) (site : SiteState) → IsAt batches (Some site) old
-      → IsAt (after_turn (node_at site batches) (turn_at catalogue site d)).batches (Some (turn_at catalogue site d).site) new × (given ≡ (turn_at catalogue site d).datagrams)
-  pub down : (batches : List (List LogRecord)) → IsAt batches None old → IsAt batches None new × (given ≡ [])
+  pub site_is : after ≡ (turn_at catalogue site d).site
+  pub datagrams_are : outcome.datagrams ≡ (turn_at catalogue site d).datagrams
+  pub stepped : IsStepOf catalogue site (arrival catalogue site.id d) after outcome.effects
+  pub up : (batches : List (List LogRecord)) → IsAt batches (Some site) old → IsAt (after_turn (node_at site batches) (turn_at catalogue site d)).batches (Some (turn_at catalogue site d).site) new
 
 -- A datagram comes to it, and its site stops within the append of the turn's batch: it is down then, and the log has the batch or not, as is
--- answered. Nothing is answered where it was down, or the turn has no batch.
-pub record Stops (catalogue : Catalogue) (d : Datagram) (old new : HostValue) (kept : Option Bool) : Type 0 where
+-- answered. Nothing is answered where the turn has no batch.
+pub record Stops (catalogue : Catalogue) (d : Datagram) (site : SiteState) (old new : HostValue) (kept : Option Bool) : Type 0 where
   pub stays : Stays catalogue old new
-  pub up : (batches : List (List LogRecord)) (site : SiteState) → IsAt batches (Some site) old → IfNone kept ((turn_at catalogue site d).batch ≡ [])
+  pub up : (batches : List (List LogRecord)) → IsAt batches (Some site) old → IfNone kept ((turn_at catalogue site d).batch ≡ [])
       × IfSome kept (λ k. ((turn_at catalogue site d).batch ≢ []) × IsAt (with_batch k (turn_at catalogue site d).batch batches) None new)
 
 -- Its site goes down, and the log stays.

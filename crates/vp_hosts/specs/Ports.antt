@@ -3,7 +3,8 @@ use Rattle.std.specs.Prelude.{◌≡◌, ◌≢◌, ℕ, ◌==◌, List, map, fi
 use Rattle.std.specs.List.{AllByRecursion}
 use Rattle.vp_model.specs.Words.{value_at}
 use Rattle.vp_model.specs.Catalogue.{Catalogue}
-use Rattle.vp_hosts.specs.Hosts.{HostValue, address_of, IsHost, Begins}
+use Rattle.vp_model.specs.Site.{SiteState}
+use Rattle.vp_hosts.specs.Hosts.{HostValue, address_of, IsHost, Lends, Begins}
 
 -- There is a host for each site of the catalogue, in its order.
 pub record AreHosts (catalogue : Catalogue) (hosts : List HostValue) : Type 0 where
@@ -18,6 +19,10 @@ pub record AreBegun (catalogue : Catalogue) (hosts : List HostValue) : Type 0 wh
 -- the host at this port
 abbrev pub host_at : ℕ → List HostValue → Option HostValue
 host_at port hosts = find (λ (host : HostValue). host.port == port) hosts
+
+-- the site can be lent to the host at this port
+abbrev pub LendsAt : Catalogue → SiteState → ℕ → List HostValue → Type 0
+LendsAt catalogue site port hosts = (host : HostValue) × (host_at port hosts ≡ Some host) × Lends catalogue site host
 
 -- The host at this port changes so, and the others stay.
 pub record ChangesAt (port : ℕ) (does : HostValue → HostValue → Type 0) (old new : List HostValue) : Type 0 where

@@ -1,7 +1,7 @@
-//! A host: a node in memory, with the disk that keeps its log.
+//! A host: the port of a site, and the disk that keeps its log.
 
 ghost use Rattle.std.specs.Prelude.{◌≡◌, OnErr, OnOk, IfOk, IfSome, Some};
-ghost use Rattle.vp_hosts.specs.Hosts.{IsHost, Begins, Takes, Crashes, Restarts, Stops, log_in, site_log, address_of};
+ghost use Rattle.vp_hosts.specs.Hosts.{IsHost, Lends, Begins, Takes, Crashes, Restarts, Stops, log_in, site_log, address_of};
 ghost use Rattle.vp_hosts.specs.Letters.{as_received};
 ghost use Rattle.vp_hosts.specs.Stops.{is_kept};
 ghost use Rattle.vp_model.specs.Words.{value_at};
@@ -15,9 +15,9 @@ use vp_base::{NoMemory, Seq, SiteId, Word};
 use vp_catalog::Catalog;
 use vp_disks::SureDisk;
 use vp_node::{Node, NodeEnd};
-use vp_outside::Datagrams;
-use vp_stable::halves_are_one_log;
-use vp_turns::{arrival, take};
+use vp_site::Site;
+use vp_stable::{Log, halves_are_one_log};
+use vp_turns::{Outcome, arrival, take};
 
 /// A site with both halves of its log.
 pub type SiteLog = (SiteId, Word, Word);
@@ -25,12 +25,12 @@ pub type SiteLog = (SiteId, Word, Word);
 /// The logs of sites.
 pub type Logs = Seq<SiteLog>;
 
-/// A site with its port: its node while it is up, and the disk that keeps its log.
+/// The port of a site, the disk that keeps its log, and that log while the site is up. The site itself is lent for each of its turns.
 pub struct Host {
     id: SiteId,
     port: u16,
     disk: SureDisk,
-    node: Option<Node>,
+    log: Option<Log>,
 }
 
 impl Drop for Host {
@@ -39,7 +39,7 @@ impl Drop for Host {
             id: _,
             port: _,
             disk: _,
-            node: _,
+            log: _,
         } = self;
     }
 }
@@ -49,11 +49,11 @@ impl Model for Host {
 
     ghost Value = { HostValue };
 
-    ghost view = { λ h. record { id = h.id; port = h.port; disk = h.disk; node = h.node } };
+    ghost view = { λ h. record { id = h.id; port = h.port; disk = h.disk; log = h.log } };
 }
 
 impl Host {
-    /// The site in its first life, on an empty disk.
+    /// The host of the site in its first life, on an empty disk.
     pub fn begin(catalog: &Catalog, id: SiteId, port: u16) -> Result<Host, NoMemory>
         requires listed { value_at id catalog.now.sites ≡ Some port }
         ensures { IfOk result (Begins catalog.now id port) }
@@ -64,11 +64,12 @@ impl Host {
         let Ok(node) = Node::start(catalog, id, &mut disk) else {
             return Err(NoMemory);
         };
+        let (_, log) = node.into_parts();
         Ok(Host {
             id,
             port,
             disk,
-            node: Some(node),
+            log: Some(log),
         })
     }
 
@@ -91,25 +92,33 @@ impl Host {
         Ok(Word::from_vec(self.disk.half(half).to_vec(alloc)?))
     }
 
-    /// The letter comes: where the site is up its node takes it, and the datagrams that this gives are answered. Without memory the site
-    /// is down.
-    pub fn take(&mut self, catalog: &Catalog, letter: &Letter) -> Result<Datagrams, NoMemory>
+    /// The letter comes, and the site is lent for it: that takes its turn, and is given back with what the turn gives. Without memory the
+    /// site is gone, as in a crash.
+    pub fn take(
+        &mut self,
+        catalog: &Catalog,
+        site: Site,
+        letter: &Letter,
+    ) -> Result<(Site, Outcome), NoMemory>
         requires host { IsHost catalog.now self.old }
-        ensures takes { IfOk result (Takes catalog.now (as_received letter.now) self.old self.new) }
+        requires lent { Lends catalog.now site self.old }
+        ensures takes { IfOk result (λ it. Takes catalog.now (as_received letter.now) site self.old self.new it.0 it.1) }
         ensures host { IsHost catalog.now self.new }
         ensures place { address_of self.new ≡ address_of self.old }
     {
-        let Some(node) = self.node.take() else {
-            return Ok(Datagrams::new(catalog.sites().allocator()));
+        let Some(log) = self.log.take() else {
+            unreachable!()
         };
         let alloc = catalog.sites().allocator();
         let what = arrival(alloc, catalog, self.id, letter.from, &letter.bytes)?;
+        let node = Node::from_parts(site, log);
         // this disk fails for want of memory alone
         let Ok((node, outcome)) = node.take(catalog, &mut self.disk, what) else {
             return Err(NoMemory);
         };
-        self.node = Some(node);
-        Ok(outcome.datagrams)
+        let (site, log) = node.into_parts();
+        self.log = Some(log);
+        Ok((site, outcome))
     }
 
     /// The site goes down.
@@ -117,30 +126,32 @@ impl Host {
         requires host { IsHost catalog.now self.old }
         ensures { Crashes catalog.now self.old self.new }
     {
-        self.node = None;
+        self.log = None;
     }
 
-    /// The letter comes, and its site stops within the append that this asks for: it is down then, and its log is as that leaves it. Answers whether
-    /// the batch is there; none where the site was down, or the letter asks for none.
+    /// The letter comes, and the site, which is lent for it, stops within the append that this asks for: it is down then, and its log is as that
+    /// leaves it. Answers whether the batch is there; none where the letter asks for none.
     pub fn stop(
         &mut self,
         catalog: &Catalog,
+        site: Site,
         letter: &Letter,
         stop: &Stop,
     ) -> Result<Option<bool>, NoMemory>
         requires host { IsHost catalog.now self.old }
-        ensures stops { IfOk result (Stops catalog.now (as_received letter.now) self.old self.new) }
+        requires lent { Lends catalog.now site self.old }
+        ensures stops { IfOk result (Stops catalog.now (as_received letter.now) site self.old self.new) }
         ensures kept { IfOk result (λ kept. IfSome kept (λ k. k ≡ is_kept stop.now)) }
         ensures host { IsHost catalog.now self.new }
         ensures place { address_of self.new ≡ address_of self.old }
     {
-        let Some(node) = self.node.take() else {
-            return Ok(None);
+        let Some(log) = self.log.take() else {
+            unreachable!()
         };
         let alloc = catalog.sites().allocator();
         let what = arrival(alloc, catalog, self.id, letter.from, &letter.bytes)?;
-        let (site, log) = node.into_parts();
-        let (_, batch, _) = take(site, catalog, what)?;
+        let (_, outcome) = take(site, catalog, what)?;
+        let batch = outcome.effects.records;
         if batch.as_slice().is_empty() {
             return Ok(None);
         }
@@ -149,20 +160,21 @@ impl Host {
         Ok(Some(stop.keeps_batch()))
     }
 
-    /// The site starts from its log, where it is down and a life is left. Without memory it stays down.
+    /// The log gets the start of the site's next life, where that is down and a life is left. Without memory the site stays down.
     pub fn restart(&mut self, catalog: &Catalog) -> Result<(), NoMemory>
         requires host { IsHost catalog.now self.old }
         ensures restarts { OnOk result (Restarts catalog.now self.old self.new) }
         ensures host { IsHost catalog.now self.new }
         ensures place { address_of self.new ≡ address_of self.old }
     {
-        if self.node.is_some() {
+        if self.log.is_some() {
             return Ok(());
         }
         halves_are_one_log();
         match Node::start(catalog, self.id, &mut self.disk) {
             Ok(node) => {
-                self.node = Some(node);
+                let (_, log) = node.into_parts();
+                self.log = Some(log);
                 Ok(())
             }
             Err(NodeEnd::LivesSpent { .. }) => Ok(()),

@@ -5,7 +5,7 @@ ghost use Rattle.std.specs.List.{position};
 ghost use Rattle.vp_hosts.specs.Hosts.{Takes, Crashes, Restarts, Stops, site_log};
 ghost use Rattle.vp_hosts.specs.Letters.{as_received};
 ghost use Rattle.vp_hosts.specs.Stops.{is_kept};
-ghost use Rattle.vp_hosts.specs.Ports.{AreBegun, AreHosts, ChangesAt, ChangesOf};
+ghost use Rattle.vp_hosts.specs.Ports.{AreBegun, AreHosts, LendsAt, ChangesAt, ChangesOf};
 
 use crate::host::{Host, SiteLog};
 use crate::letter::Letter;
@@ -13,7 +13,8 @@ use crate::stopping::Stop;
 use std::alloc::Global;
 use vp_base::{NoMemory, SiteId};
 use vp_catalog::Catalog;
-use vp_outside::Datagrams;
+use vp_site::Site;
+use vp_turns::Outcome;
 
 /// A host for each site of the catalogue, in its first life.
 pub fn begin_all(catalog: &Catalog) -> Result<Vec<Host>, NoMemory>
@@ -44,38 +45,42 @@ pub fn logs_of(alloc: Global, hosts: &[Host]) -> Result<Vec<SiteLog>, NoMemory>
     Ok(logs)
 }
 
-/// The letter comes to the host at its port, which takes it.
+/// The letter comes to the host at its port, and the site, which is lent for it, takes it there.
 pub fn take_at(
     hosts: &mut [Host],
     catalog: &Catalog,
+    site: Site,
     letter: &Letter,
-) -> Result<Datagrams, NoMemory>
-    requires { AreHosts catalog.now hosts.old }
-    ensures takes { IfOk result (λ given. ChangesAt letter.now.to (λ host after. Takes catalog.now (as_received letter.now) host after given) hosts.old hosts.new) }
+) -> Result<(Site, Outcome), NoMemory>
+    requires hosts { AreHosts catalog.now hosts.old }
+    requires lent { LendsAt catalog.now site letter.now.to hosts.old }
+    ensures takes { IfOk result (λ it. ChangesAt letter.now.to (λ host after. Takes catalog.now (as_received letter.now) site host after it.0 it.1) hosts.old hosts.new) }
     ensures hosts { AreHosts catalog.now hosts.new }
 {
-    match index_of(hosts, letter.to) {
-        None => Ok(Datagrams::new(catalog.sites().allocator())),
-        Some(i) => hosts[i].take(catalog, letter),
-    }
+    let Some(i) = index_of(hosts, letter.to) else {
+        unreachable!()
+    };
+    hosts[i].take(catalog, site, letter)
 }
 
-/// The letter comes to the host at its port, whose site stops within the append that this asks for.
+/// The letter comes to the host at its port, and the site, which is lent for it, stops there within the append that this asks for.
 pub fn stop_at(
     hosts: &mut [Host],
     catalog: &Catalog,
+    site: Site,
     letter: &Letter,
     stop: &Stop,
 ) -> Result<Option<bool>, NoMemory>
-    requires { AreHosts catalog.now hosts.old }
-    ensures stops { IfOk result (λ kept. ChangesAt letter.now.to (λ host after. Stops catalog.now (as_received letter.now) host after kept) hosts.old hosts.new) }
+    requires hosts { AreHosts catalog.now hosts.old }
+    requires lent { LendsAt catalog.now site letter.now.to hosts.old }
+    ensures stops { IfOk result (λ kept. ChangesAt letter.now.to (λ host after. Stops catalog.now (as_received letter.now) site host after kept) hosts.old hosts.new) }
     ensures kept { IfOk result (λ kept. IfSome kept (λ k. k ≡ is_kept stop.now)) }
     ensures hosts { AreHosts catalog.now hosts.new }
 {
-    match index_of(hosts, letter.to) {
-        None => Ok(None),
-        Some(i) => hosts[i].stop(catalog, letter, stop),
-    }
+    let Some(i) = index_of(hosts, letter.to) else {
+        unreachable!()
+    };
+    hosts[i].stop(catalog, site, letter, stop)
 }
 
 /// The host of the site crashes.

@@ -1,4 +1,5 @@
-//! The hosts of a cluster in one process: each is a node with its log on a disk in memory, which takes the datagrams that come to its port.
+//! The hosts of a cluster in one process: each has the log of its site on a disk in memory. The datagrams that come to its port are taken there by
+//! the site, which is lent for that.
 #![tactic(auto)]
 
 mod host;

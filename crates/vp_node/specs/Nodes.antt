@@ -73,7 +73,7 @@ turn_of catalogue node d = turn_on catalogue node.site (what_comes catalogue nod
 pub record Gives (turn : Turn) (after : NodeValue) (outcome : Outcome) : Type 0 where
   pub site : after.site ≡ turn.site
   pub datagrams : outcome.datagrams ≡ turn.datagrams
-  pub commits : outcome.commits ≡ turn.commits
+  pub commits : outcome.effects.commits ≡ turn.commits
   pub stop : outcome.stop ≡ turn.stop
 
 -- The site took the turn, and this is what it recorded, committed and has to hand over.

@@ -11,6 +11,7 @@ ghost use Rattle.vp_runs.specs.Arrivals.{IsArrival};
 ghost use Rattle.vp_runs.specs.Turns.{turn_on};
 ghost use Rattle.vp_node.specs.Causes.{HasNodeCause, EndsInTurn};
 ghost use Rattle.vp_node.specs.declared.end.NodeEnd.TheVariants as ends;
+ghost use Rattle.vp_turns.specs.Taking.{IsStepOf};
 
 use crate::end::NodeEnd;
 use crate::keeping::keep;
@@ -81,6 +82,13 @@ impl Node {
         self.site.life()
     }
 
+    /// The node of a site that is up, and of its log.
+    pub fn from_parts(site: Site, log: Log) -> Node
+        ensures { result ≡ record { site = site; at = log } }
+    {
+        Node { site, log }
+    }
+
     /// The site and its log, apart.
     pub fn into_parts(self) -> (Site, Log)
         ensures { result ≡ (self.site, self.at) }
@@ -102,6 +110,7 @@ impl Node {
         requires what { IsArrival what }
 
         ensures took { IfOk result (λ it. Gives (turn_on catalog.now self.site what) it.0 it.1) }
+        ensures stepped { IfOk result (λ it. IsStepOf catalog.now self.site what it.0.site it.1.effects) }
         ensures saved { IfOk result (λ it. Steps (Saves (turn_on catalog.now self.site what) self.at it.0.at)
             (D.state disk.old) (D.state disk.new)) }
         ensures node { IfOk result (λ it. IsNode catalog.now it.0) }
@@ -118,9 +127,9 @@ impl Node {
         ensures others { LeavesOthers (D.state disk.old) (D.state disk.new) }
         ensures cause { HasNodeCause (D.state disk.old).faults (D.state disk.new).faults result }
     {
-        let (site, records, outcome) = take(self.site, catalog, what)?;
+        let (site, outcome) = take(self.site, catalog, what)?;
         let mut log = self.log;
-        keep(&mut log, disk, &site, &records)?;
+        keep(&mut log, disk, &site, &outcome.effects.records)?;
         Ok((Node { site, log }, outcome))
     }
 

@@ -26,7 +26,7 @@ module _ (catalogue : Catalogue) (id : ℕ) (frames : GivenAreFrames) (is : IsCa
 -- what is sent and committed of a step is its turn
 pub does : (catalogue : Catalogue) (id : ℕ) (o : Stepped) (datagrams : List Datagram)
     → datagrams ≡ flat_map (message_datagram catalogue) o.effects.messages ++ map (reply_datagram id) o.effects.replies
-    → Does (step_turn catalogue id o) o.site o.effects.records (record { datagrams = datagrams; commits = o.effects.commits; stop = false })
+    → Does (step_turn catalogue id o) o.site (record { effects = o.effects; datagrams = datagrams; stop = false })
 unfolding datagrams_of
 does catalogue id o datagrams sent = record { site_is = refl; records_are = refl; datagrams_are = sent; commits_are = refl; stop_is = refl }
 

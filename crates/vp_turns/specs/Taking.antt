@@ -1,14 +1,22 @@
 -- What a site does of what comes.
-use Rattle.std.specs.Prelude.{◌≡◌, List}
-use Rattle.vp_model.specs.Types.{LogRecord}
+use Rattle.std.specs.Prelude.{◌≡◌}
+use Rattle.vp_model.specs.Types.{Input, Effects}
+use Rattle.vp_model.specs.Catalogue.{Catalogue}
 use Rattle.vp_model.specs.Site.{SiteState}
+use Rattle.vp_model.specs.Step.{step}
+use Rattle.vp_runs.specs.declared.arrival.Arrival.{Arrival}
+use Rattle.vp_runs.specs.declared.arrival.Arrival.TheVariants.{Gives}
 use Rattle.vp_runs.specs.Turns.{Turn}
 use Rattle.vp_turns.specs.declared.turned.Outcome.{Outcome}
 
--- The site took the turn, forces its records, and gives its outcome.
-pub record Does (turn : Turn) (site : SiteState) (records : List LogRecord) (outcome : Outcome) : Type 0 where
+-- The site took the turn, and gives its outcome.
+pub record Does (turn : Turn) (site : SiteState) (outcome : Outcome) : Type 0 where
   pub site_is : site ≡ turn.site
-  pub records_are : records ≡ turn.batch
+  pub records_are : outcome.effects.records ≡ turn.batch
   pub datagrams_are : outcome.datagrams ≡ turn.datagrams
-  pub commits_are : outcome.commits ≡ turn.commits
+  pub commits_are : outcome.effects.commits ≡ turn.commits
   pub stop_is : outcome.stop ≡ turn.stop
+
+-- Where an input came, the site did its step, and gives the effects of that.
+abbrev pub IsStepOf : Catalogue → SiteState → Arrival → SiteState → Effects → Type 0
+IsStepOf catalogue site what after effects = (given : Input) → what ≡ Gives given → record { site = after; effects = effects } ≡ step catalogue site given

@@ -11,8 +11,8 @@ start-requires-clause-id c = parts_listed c.args.catalog.now _ c.args.self.now c
 pub returns-in-Ok-clause-restarts : goal.returns-in-Ok-clause-restarts
 returns-in-Ok-clause-restarts c =
     let h = c.in-Ok.ensures in
-    let rests : is_some c.self.inside.node ≡ false = cc in
-    parts_go_up c.args.catalog.now _ c.args.self.now c.self.view_is c.halves_are_one_log.ensures.batches rests c.requires.host c.start.new.disk h.others.stays.same_name c.in-Ok.node h.started h.lives h.node h.kept
+    let rests : is_some c.self.inside.log ≡ false = cc in
+    parts_go_up c.args.catalog.now _ c.args.self.now c.self.view_is c.halves_are_one_log.ensures.batches rests c.requires.host c.start.new.disk h.others.stays.same_name c.in-Ok.node c.into_parts-log.result c.into_parts-log.ensures h.started h.lives h.kept
 
 pub returns-in-Ok-clause-host : goal.returns-in-Ok-clause-host
 returns-in-Ok-clause-host c = (returns-in-Ok-clause-restarts c).stays.host
@@ -20,7 +20,7 @@ returns-in-Ok-clause-host c = (returns-in-Ok-clause-restarts c).stays.host
 pub returns-in-Err-LivesSpent-clause-restarts : goal.returns-in-Err-LivesSpent-clause-restarts
 returns-in-Err-LivesSpent-clause-restarts c =
     let spent = c.in-Err-LivesSpent in
-    let rests : is_some c.self.inside.node ≡ false = cc in
+    let rests : is_some c.self.inside.log ≡ false = cc in
     let failed : NodeEnd → Result NodeValue NodeEnd = λ e. Err e in
     let is = ap failed spent.field-0-is in
     parts_stay_down c.args.catalog.now _ c.args.self.now c.self.view_is c.halves_are_one_log.ensures.batches rests c.requires.host c.start.new.disk spent.ensures.others.stays.same_name spent.field-0-0
