@@ -1,18 +1,25 @@
 -- What whoever does the steps has done of a run, and is ready for.
-use Rattle.std.proofs.Common.{◌≡◌, ◌∙◌, ap, sym, subst, ℕ, suc, ◌+◌, ◌<◌, List, [], ◌∷◌, ◌++◌, refl, arith, length, drop, append_assoc}
+use Rattle.std.proofs.Common.{◌≡◌, ◌∙◌, ap, sym, subst, ℕ, suc, ◌+◌, ◌<◌, Bool, false, List, [], ◌∷◌, ◌++◌, refl, arith, length, drop, append_assoc}
 use Rattle.std.specs.Prelude.{⊤, Ok, Option, Some, None, IfSome, get_or}
+use Rattle.std.specs.List.{list_any}
 use Rattle.vp_model.specs.Types.{Event, Input, Line}
 use Rattle.vp_model.specs.Types.event
 use Rattle.vp_model.specs.Catalogue.{Catalogue}
 use Rattle.vp_model.specs.Site.{SiteState}
+use Rattle.vp_model.specs.Limits.{world_limits, is_over}
 use Rattle.vp_model.specs.World.{WorldState, Moment, Run, Schedule, flowing, one_step, flow, one_event, run_from, run_of, start_run, start_world, moments_of}
 use Rattle.vp_world.specs.Known.{Known}
-use Rattle.vp_world.specs.Steps.{step_of, DidLine, IsReady}
+use Rattle.vp_world.specs.Steps.{step_of, DoesEvent, IsReady}
 use Rattle.vp_playing.specs.Played.{run_in, lines_in, Sees, SeesAll, StepsAll, IsReadyFor}
 use Rattle.vp_playing.proofs.Seen.{sees_append}
 use Rattle.vp_playing.proofs.Turns.{behind, event_behind, run_grows, next_first, all_dropped, Flowing, flow_starts, flow_stops, flow_is_over, flow_turns, whole_moments}
 
 -- ---- parts of a run
+
+one_step_of : (catalogue : Catalogue) (n : ℕ) (e : Event) (run : Run) → ((count : ℕ) → e ≡ event.Flow count → ⊥) → one_event catalogue n e run ≡ one_step catalogue n e run
+unfolding one_event
+one_step_of catalogue n (event.Flow count) run none = absurd (none count refl)
+one_step_of catalogue n e run none = refl
 
 module _ {S : Type 0} (hears : Event → Type 0) (heard : Event → S → S → Type 0) (did : SiteState → Input → S → S → Type 0) (may : SiteState → Input → S → Type 0) where
   -- who is ready for some moments is so for those in their midst, once those before are done
@@ -25,6 +32,22 @@ module _ {S : Type 0} (hears : Event → Type 0) (heard : Event → S → S → 
   pub step_is_ready : (catalogue : Catalogue) (n : ℕ) (e : Event) (w : WorldState) (s : S) → IsReadyFor hears heard did may (one_step catalogue n e (run_in w)).moments s → hears e × IsReady heard may e w s
   unfolding one_step
   step_is_ready catalogue n e w s ready = ready [] [] _ s refl refl
+
+-- who may be told all and asked for all is ready for any moments
+pub always_ready : {S : Type 0} (heard : Event → S → S → Type 0) (did : SiteState → Input → S → S → Type 0) (moments : List Moment) (s : S) → IsReadyFor (λ _. ⊤) heard did (λ _ _ _. ⊤) moments s
+always_ready heard did moments s before rest m now is done = (tt, λ told heard. any_step (step_of m.line.event m.before))
+  where
+    any_step : (o : Option (SiteState × Input)) → IfSome o (λ _. ⊤)
+    any_step None = tt
+    any_step (Some it) = tt
+
+  pub flow_is_ready : (catalogue : Catalogue) (n count : ℕ) (e : Event) (w : WorldState) (s : S) → e ≡ event.Flow count → IsReadyFor hears heard did may (one_event catalogue n e (run_in w)).moments s → IsReadyFor hears heard did may (flow catalogue n count (run_in w)).moments s
+  unfolding one_event
+  flow_is_ready catalogue n count e w s is ready = subst (λ (x : Event). IsReadyFor hears heard did may (one_event catalogue n x (run_in w)).moments s) is ready
+
+  pub other_is_ready : (catalogue : Catalogue) (n : ℕ) (e : Event) (w : WorldState) (s : S) → ((count : ℕ) → e ≡ event.Flow count → ⊥) → IsReadyFor hears heard did may (one_event catalogue n e (run_in w)).moments s → hears e × IsReady heard may e w s
+  other_is_ready catalogue n e w s none ready =
+      step_is_ready catalogue n e w s (subst (λ (run : Run). IsReadyFor hears heard did may run.moments s) (one_step_of catalogue n e (run_in w) none) ready)
 
 -- who may be told all and asked for all is ready for any moments
 pub always_ready : {S : Type 0} (heard : Event → S → S → Type 0) (did : SiteState → Input → S → S → Type 0) (moments : List Moment) (s : S) → IsReadyFor (λ _. ⊤) heard did (λ _ _ _. ⊤) moments s

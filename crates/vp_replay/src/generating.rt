@@ -11,6 +11,7 @@ use crate::drawing::Draws;
 use crate::generated_catalogue::generated_catalogue;
 use std::alloc::Global;
 use vp_base::{Events, NoMemory, Replies};
+use vp_places::ByThemselves;
 use vp_playing::play_event;
 use vp_schedule::{Schedule, print};
 use vp_status::{Defined, Status, print_limit};
@@ -46,7 +47,7 @@ impl Made {
         for _ in 0..count {
             number += 1;
             let event = draws.event(alloc, &world)?;
-            world = play_event(number, &event, world, &mut self.replies)?;
+            world = play_event(number, &event, world, &mut ByThemselves, &mut self.replies)?;
             self.events.push(event)?;
         }
         Ok(world)

@@ -8,6 +8,7 @@ use Rattle.vp_world.specs.declared.end.WorldEnd.{WorldEnd}
 use Rattle.vp_world.specs.declared.end.WorldEnd.TheVariants as end
 use Rattle.vp_playing.specs.Played.{Sees, lines_in, run_in}
 use Rattle.vp_playing.proofs.Seen.{some_first}
+use Rattle.vp_playing.proofs.Stepping.{flow_is_ready, other_is_ready}
 use Rattle.vp_playing.proofs.playing.play_event.Goals as goal
 
 pub returns-in_err-show_own_line-clause-seen : goal.returns-in_err-show_own_line-clause-seen
@@ -18,3 +19,12 @@ returns-in_err-show_own_line-clause-seen g c =
     subst (λ (r : Result Known WorldEnd). Sees g.O.Observer.sees g.O.Observer.begins c.args.world.catalogue own run r c.args.observer.now c.show_own_line.new.observer)
     (sym is)
     (some_first (g.O.Observer.sees c.args.world.catalogue) (g.O.Observer.begins c.args.world.catalogue) own (lines_in (before_first (is_over world_limits) run.moments)) c.args.observer.now c.show_own_line.new.observer (search rules))
+
+pub play_flow-requires : goal.play_flow-requires
+play_flow-requires g c =
+    flow_is_ready g.S.Stepper.hears g.S.Stepper.heard g.S.Stepper.did (g.S.Stepper.may c.args.world.catalogue) c.args.world.catalogue c.args.number c.in-Flow.count c.args.event.now c.args.world.world c.args.stepper.now c.in-Flow.is c.requires.ready
+
+pub play_step-requires : goal.play_step-requires
+play_step-requires g c =
+    let is_ready = other_is_ready g.S.Stepper.hears g.S.Stepper.heard g.S.Stepper.did (g.S.Stepper.may c.args.world.catalogue) c.args.world.catalogue c.args.number c.args.event.now c.args.world.world c.args.stepper.now c.in_default.not-Flow c.requires.ready in
+    record { allowed = c.requires.allowed; hears = is_ready.0; ready = is_ready.1 }

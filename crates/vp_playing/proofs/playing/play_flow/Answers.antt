@@ -25,13 +25,13 @@ returns-in-None-clause-stepped g c =
     let h = c.loop.invariant in
     flow_stopped g.S.Stepper.hears g.S.Stepper.heard g.S.Stepper.did c.args.world.catalogue c.args.number c.args.count c.args.world.world c.loop.counter c.loop.world c.args.stepper.now c.loop.stepper h.catalogue h.stepped (search rules) (search rules)
 
-pub play_step-requires-in-Some-clause-hears : goal.play_step-requires-in-Some-clause-hears
-play_step-requires-in-Some-clause-hears g c =
+pub play_step-requires-clause-hears : goal.play_step-requires-clause-hears
+play_step-requires-clause-hears g c =
     let h = c.loop.invariant in
     (delivery_is_ready g.S.Stepper.hears g.S.Stepper.heard g.S.Stepper.did c.args.world.catalogue c.args.number c.args.count c.args.world.world c.loop.counter c.loop.world c.args.stepper.now c.loop.stepper h.catalogue h.stepped c.in-Some.k (search rules) (search rules) g.S.Stepper.may c.requires).0
 
-pub play_step-requires-in-Some-clause-ready : goal.play_step-requires-in-Some-clause-ready
-play_step-requires-in-Some-clause-ready g c =
+pub play_step-requires-clause-ready : goal.play_step-requires-clause-ready
+play_step-requires-clause-ready g c =
     let h = c.loop.invariant in
     (delivery_is_ready g.S.Stepper.hears g.S.Stepper.heard g.S.Stepper.did c.args.world.catalogue c.args.number c.args.count c.args.world.world c.loop.counter c.loop.world c.args.stepper.now c.loop.stepper h.catalogue h.stepped c.in-Some.k (search rules) (search rules) g.S.Stepper.may c.requires).1
 

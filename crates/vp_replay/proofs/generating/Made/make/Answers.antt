@@ -7,6 +7,7 @@ use Rattle.vp_world.specs.declared.end.WorldEnd.{WorldEnd}
 use Rattle.vp_replay.specs.Generated.{Makes}
 use Rattle.vp_replay.specs.declared.generating.Made.{Made}
 use Rattle.vp_replay.proofs.Making.{IsMaking, making_starts, making_goes_on, making_is_ended, making_is_over}
+use Rattle.vp_playing.proofs.Stepping.{always_ready}
 use Rattle.vp_replay.proofs.Shaped.{numbers_fit}
 use Rattle.vp_replay.proofs.generating.Made.make.Goals as goal
 
@@ -23,6 +24,9 @@ loop-init c =
 
 pub event-requires-clause-numbers : goal.event-requires-clause-numbers
 event-requires-clause-numbers c = numbers_fit c.args.seed c.loop.counter c.loop.world.world c.loop.invariant.making.world
+
+pub play_event-requires-clause-ready : goal.play_event-requires-clause-ready
+play_event-requires-clause-ready c = always_ready _ _ _ _
 
 pub returns-in_err-world-2 : goal.returns-in_err-world-2
 returns-in_err-world-2 c =
