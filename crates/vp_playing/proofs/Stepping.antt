@@ -33,14 +33,6 @@ module _ {S : Type 0} (hears : Event → Type 0) (heard : Event → S → S → 
   unfolding one_step
   step_is_ready catalogue n e w s ready = ready [] [] _ s refl refl
 
--- who may be told all and asked for all is ready for any moments
-pub always_ready : {S : Type 0} (heard : Event → S → S → Type 0) (did : SiteState → Input → S → S → Type 0) (moments : List Moment) (s : S) → IsReadyFor (λ _. ⊤) heard did (λ _ _ _. ⊤) moments s
-always_ready heard did moments s before rest m now is done = (tt, λ told heard. any_step (step_of m.line.event m.before))
-  where
-    any_step : (o : Option (SiteState × Input)) → IfSome o (λ _. ⊤)
-    any_step None = tt
-    any_step (Some it) = tt
-
   pub flow_is_ready : (catalogue : Catalogue) (n count : ℕ) (e : Event) (w : WorldState) (s : S) → e ≡ event.Flow count → IsReadyFor hears heard did may (one_event catalogue n e (run_in w)).moments s → IsReadyFor hears heard did may (flow catalogue n count (run_in w)).moments s
   unfolding one_event
   flow_is_ready catalogue n count e w s is ready = subst (λ (x : Event). IsReadyFor hears heard did may (one_event catalogue n x (run_in w)).moments s) is ready
