@@ -4,9 +4,12 @@ pub mod EntriesExact
 pub mod Holders
 pub mod Least
 pub mod Majorities
+pub mod Marks
 pub mod Names
 pub mod Newlines
 pub mod Only
+pub mod Printed
 pub mod Sites
 pub mod Spelled
+pub mod Starts
 pub mod Steps

@@ -1,6 +1,6 @@
 //! The catalogue and its look-ups.
 
-ghost use Rattle.std.specs.Prelude.{◌≡◌, ◌≤◌, ◌<◌, ◌++◌, ◌∷◌, [], length, map, slice_get, option_map, option_copied, if◌then◌else◌, is_ok, nat_lt, ◌==◌, ◌&&◌, not, false, filter, find, Some, None, OnOk, IfOk};
+ghost use Rattle.std.specs.Prelude.{◌≡◌, ◌≤◌, ◌<◌, ◌++◌, ◌∷◌, [], length, map, slice_get, option_map, option_copied, if◌then◌else◌, is_ok, nat_lt, false, Some, None, OnOk, IfOk};
 ghost use Rattle.vp_model.specs.Words.{first, keys, value_at, has};
 ghost use Rattle.vp_model.specs.Refresh.{members_in, other_holders_in};
 ghost use Rattle.vp_catalog.specs.Entries.{IsSite, IsRecord, last_site, has_port, has_name};
@@ -10,6 +10,7 @@ ghost use Rattle.vp_model.specs.Catalogue.{sites_of, find_record, weights_of, ho
 
 use crate::entry::Entry;
 use crate::fault::CatalogFault;
+use crate::others::{least_other, others_in};
 use crate::placed::{Placed, has_site};
 use indexmap::IndexSet;
 use std::alloc::Global;
@@ -351,37 +352,6 @@ pub fn members_of<'a>(held: Option<&'a View>, none: &'a Sites) -> &'a Sites
         None => none,
         Some(view) => &view.members,
     }
-}
-
-fn is_other_member(members: &Sites, id: SiteId, site: SiteId) -> bool
-    ensures { result ≡ (has members.now site && not (site == id)) }
-{
-    has_site(members.as_slice(), site) && site != id
-}
-
-fn others_in(
-    alloc: Global,
-    sites: &[SiteId],
-    members: &Sites,
-    id: SiteId,
-) -> Result<Sites, NoMemory>
-    ensures { IfOk result (λ others. others ≡ filter (λ q. has members.now q && not (q == id)) sites.now) }
-{
-    let others = sites
-        .iter()
-        .copied()
-        .filter(|site| is_other_member(members, id, *site))
-        .collect(alloc)?;
-    Ok(Sites::from_vec(others))
-}
-
-fn least_other(sites: &[SiteId], members: &Sites, id: SiteId) -> Option<SiteId>
-    ensures { result ≡ find (λ q. has members.now q && not (q == id)) sites.now }
-{
-    sites
-        .iter()
-        .copied()
-        .find(|site| is_other_member(members, id, *site))
 }
 
 fn copy_records(alloc: Global, records: &[Placed]) -> Result<Vec<Placed>, NoMemory>

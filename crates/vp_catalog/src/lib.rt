@@ -7,6 +7,7 @@ mod document;
 mod entry;
 mod fault;
 mod majority;
+mod others;
 mod placed;
 mod printing;
 mod reading;

@@ -9,7 +9,6 @@ use crate::placed::Placed;
 use vp_base::{NoMemory, SiteId};
 use vp_text::print_number;
 
-#[tactic(auto, using(vp_text::proofs::Printing::printing))]
 fn print_site(out: &mut Vec<u8>, site: &(SiteId, u16)) -> Result<(), NoMemory>
     ensures { Appends result out.old.items (site_line site.now) out.new.items }
 {
@@ -21,7 +20,6 @@ fn print_site(out: &mut Vec<u8>, site: &(SiteId, u16)) -> Result<(), NoMemory>
     Ok(())
 }
 
-#[tactic(auto, using(vp_text::proofs::Printing::printing))]
 fn print_sites(out: &mut Vec<u8>, sites: &[(SiteId, u16)]) -> Result<(), NoMemory>
     ensures { Appends result out.old.items (flat_map site_line sites.now) out.new.items }
 {
@@ -31,7 +29,6 @@ fn print_sites(out: &mut Vec<u8>, sites: &[(SiteId, u16)]) -> Result<(), NoMemor
     Ok(())
 }
 
-#[tactic(auto, using(vp_text::proofs::Printing::printing))]
 fn print_weight(out: &mut Vec<u8>, weight: &(SiteId, u16)) -> Result<(), NoMemory>
     ensures { Appends result out.old.items (weight_text weight.now) out.new.items }
 {
@@ -42,7 +39,6 @@ fn print_weight(out: &mut Vec<u8>, weight: &(SiteId, u16)) -> Result<(), NoMemor
     Ok(())
 }
 
-#[tactic(auto, using(vp_text::proofs::Printing::printing))]
 fn print_weights(out: &mut Vec<u8>, weights: &[(SiteId, u16)]) -> Result<(), NoMemory>
     ensures { Appends result out.old.items (flat_map weight_text weights.now) out.new.items }
 {
@@ -53,7 +49,6 @@ fn print_weights(out: &mut Vec<u8>, weights: &[(SiteId, u16)]) -> Result<(), NoM
 }
 
 /// The value that each copy starts with, the weights of the copies, and the newline.
-#[tactic(auto, using(vp_text::proofs::Printing::printing))]
 fn print_copies(out: &mut Vec<u8>, placed: &Placed) -> Result<(), NoMemory>
     ensures { Appends result out.old.items
         (placed.now.start ++ (flat_map weight_text placed.now.weights ++ 10 ∷ []))
@@ -65,7 +60,6 @@ fn print_copies(out: &mut Vec<u8>, placed: &Placed) -> Result<(), NoMemory>
     Ok(())
 }
 
-#[tactic(auto, using(vp_text::proofs::Printing::printing))]
 fn print_record(out: &mut Vec<u8>, placed: &Placed) -> Result<(), NoMemory>
     ensures { Appends result out.old.items (record_line placed.now) out.new.items }
 {
@@ -76,7 +70,6 @@ fn print_record(out: &mut Vec<u8>, placed: &Placed) -> Result<(), NoMemory>
     Ok(())
 }
 
-#[tactic(auto, using(vp_text::proofs::Printing::printing))]
 fn print_records(out: &mut Vec<u8>, records: &[Placed]) -> Result<(), NoMemory>
     ensures { Appends result out.old.items (flat_map record_line records.now) out.new.items }
 {

@@ -1,12 +1,13 @@
 -- A queue in which messages are marked as delivered: what it shows as they are marked and leave.
-use Rattle.std.proofs.Common.{◌≡◌, ◌≤◌, ◌<◌, ◌+◌, ◌==◌, ℕ, zero, suc, Bool, true, false, if◌then◌else◌, List, [], ◌∷◌, ◌++◌, map, length, get_or, refl, sym, ap, ◌∙◌, subst, Option, Some, None, IfSome, option_to_list, Err, Less, Equal, Greater, ⊎_elim, arith}
-use Rattle.std.specs.List.{slice_set}
+use Rattle.std.proofs.Common.{◌≡◌, ◌≤◌, ◌<◌, ◌+◌, ◌==◌, ℕ, zero, suc, Bool, true, false, if◌then◌else◌, List, [], ◌∷◌, ◌++◌, map, length, get_or, refl, sym, ap, ◌∙◌, subst, Option, Some, None, IfSome, option_to_list, Result, Ok, Err, Less, Equal, Greater, ⊎_elim, arith}
+use Rattle.std.specs.List.{slice_set, slice_index_or}
 use Rattle.std.specs.List.Sorted.{IsBinarySearchResult}
+use Rattle.std.specs.Result.{result_ok}
 use Rattle.std.specs.Ordering.{nat_cmp, ordering_index}
 use Rattle.std.specs.Cmp.{nat_cmp_is}
 use Rattle.std.proofs.lemmas.Bool.{cases_lt}
 use Rattle.std.proofs.lemmas.Bool.Decides.{nat_tests}
-use Rattle.std.proofs.lemmas.List.{append-nil}
+use Rattle.std.proofs.lemmas.List.{append-nil, get_or-map}
 use borrow.Author.Tests.{tests}
 use Rattle.vp_mail.specs.declared.queue.Numbered.{Numbered}
 use Rattle.vp_mail.specs.Queues.{without, undelivered, Rises, AreBelow, IsTrimmed}
@@ -159,15 +160,25 @@ marked_shown n (suc i) (x ∷ xs) m r h at =
 equal : (k x : ℕ) → x ≡ k → nat_cmp x k ≡ Equal
 equal k x e = sym (nat_cmp_is x k Equal e)
 
-pub found : (k x : ℕ) → nat_cmp x k ≡ Equal → x ≡ k
+found : (k x : ℕ) → nat_cmp x k ≡ Equal → x ≡ k
 found k x e = grind (arith, tests, e)
 
 no_less : (k a b : ℕ) → a ≤ b → ordering_index (nat_cmp a k) ≤ ordering_index (nat_cmp b k)
 no_less k a b le = grind (arith, tests)
 
-pub not_found : (k i : ℕ) (xs : List Numbered) → Rises 0 (numbers xs) → IsBinarySearchResult (λ (m : Numbered). nat_cmp m.number k) xs (Err i) → without k (undelivered xs) ≡ undelivered xs
+not_found : (k i : ℕ) (xs : List Numbered) → Rises 0 (numbers xs) → IsBinarySearchResult (λ (m : Numbered). nat_cmp m.number k) xs (Err i) → without k (undelivered xs) ≡ undelivered xs
 not_found k i xs r search =
     let parted = search (λ a b d le l. no_less k (get_or xs a d).number (get_or xs b d).number (numbers_rise 0 a b xs d r le l)) in
     none_at k xs (λ j d l e.
     let same : nat_cmp (get_or xs j d).number k ≡ Equal = equal k (get_or xs j d).number e in
     ⊎_elim (λ b. let less : nat_cmp (get_or xs j d).number k ≡ Less = parted.0 j d (omega arith) b in cc) (λ b. let more : nat_cmp (get_or xs j d).number k ≡ Greater = parted.1 j d b l in cc) (cases_lt j i))
+
+pub found_at : (k : ℕ) (xs : List Numbered) (r : Result ℕ ℕ) → IsBinarySearchResult (λ (m : Numbered). nat_cmp m.number k) xs r → IfSome (result_ok r) (λ i. i < length xs) → IfSome (result_ok r) (λ i. slice_index_or (map (λ m. m.number) xs) i k ≡ k)
+found_at k xs (Err i) search within = tt
+found_at k xs (Ok i) search within =
+    let d : Numbered = record { number = k; delivered = false } in
+    get_or-map (λ (m : Numbered). m.number) xs i d k within ∙ found k (get_or xs i d).number (search d)
+
+pub absent : (k : ℕ) (xs : List Numbered) (r : Result ℕ ℕ) → Rises 0 (numbers xs) → IsBinarySearchResult (λ (m : Numbered). nat_cmp m.number k) xs r → result_ok r ≡ None → without k (undelivered xs) ≡ undelivered xs
+absent k xs (Ok i) rises search none = cc
+absent k xs (Err i) rises search none = not_found k i xs rises search

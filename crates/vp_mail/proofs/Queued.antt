@@ -1,13 +1,13 @@
 -- The queues are those of their pairs, after one more message is sent or delivered.
-use Rattle.std.proofs.Common.{◌≡◌, ◌≤◌, ◌<◌, ◌+◌, ◌-◌, ◌==◌, ℕ, Bool, true, false, if◌then◌else◌, List, [], ◌∷◌, ◌++◌, length, slice_get, Some, None, Result, Ok, Err, OnOk, OnErr, refl, sym, ap, ◌∙◌, subst, arith}
+use Rattle.std.proofs.Common.{◌≡◌, ◌≤◌, ◌<◌, ◌+◌, ◌-◌, ◌==◌, ℕ, Bool, true, false, if◌then◌else◌, List, [], ◌∷◌, ◌++◌, map, length, slice_get, Option, Some, None, is_none, refl, sym, ap, ◌∙◌, subst, arith}
 use Rattle.std.proofs.Math.ListN.{set}
+use Rattle.std.proofs.Math.Seq.{map-set_same}
 use Rattle.std.specs.List.{slice_set, slice_index_or}
 use Rattle.std.proofs.lemmas.Bool.Decides.{nat_tests}
-use Rattle.std.proofs.lemmas.List.{get_or_read, get_or-set_same, get_or-set_other, set-get_or, length-set, append-nil, length-append}
+use Rattle.std.proofs.lemmas.List.{get_or_read, get_or-map, get_or-set_same, get_or-set_other, length-set, map-set, append-nil, length-append}
 use Rattle.std.proofs.lemmas.Option.{slice_get_within}
-use Rattle.vp_base.specs.declared.memory.NoMemory.{NoMemory}
 use Rattle.vp_model.specs.Types.{Sent}
-use Rattle.vp_model.specs.Words.{has}
+use Rattle.vp_model.specs.Words.{has, first}
 use Rattle.vp_mail.specs.Posted.{message_in}
 use Rattle.vp_mail.specs.Queues.{pair_of, waiting, without, AreBelow, AreSites, AreSited, IsQueued}
 use Rattle.vp_mail.proofs.Waiting.{waiting_below, has_other, sent_push, delivered_without, delivered_other}
@@ -15,6 +15,10 @@ use Rattle.vp_mail.proofs.Waiting.{waiting_below, has_other, sent_push, delivere
 sited_push : (sent : List Sent) (s : Sent) → AreSited sent → AreSites s.from s.to → AreSited (sent ++ s ∷ [])
 sited_push [] s h at = (at, tt)
 sited_push (x ∷ xs) s h at = (h.0, sited_push xs s h.1 at)
+
+-- the first of a queue that changes is written
+pub first_set : (queues : List (List ℕ)) (firsts : List (Option ℕ)) (place : ℕ) (q : List ℕ) (o : Option ℕ) → firsts ≡ map first queues → o ≡ first q → slice_set firsts place o ≡ map first (slice_set queues place q)
+first_set queues firsts place q o are is = rw (are, is) (sym (map-set first queues place q))
 
 module _ (queues : List (List ℕ)) (sent : List Sent) (delivered : List ℕ) (inv : IsQueued queues sent delivered) (s : Sent) (place : ℕ) (is : place ≡ pair_of s.from s.to) (within : place < 256) (q : List ℕ) (read : q ≡ slice_index_or queues place q) where
   -- what is read
@@ -52,7 +56,7 @@ module _ (queues : List (List ℕ)) (sent : List Sent) (delivered : List ℕ) (i
         ∙ inv.each pair l
         ∙ sym (rw (sent_push pair delivered 1 sent s, test) (append-nil (waiting pair delivered 1 sent)))
 
-    pub sent_queued : IsQueued (slice_set queues place (q ++ (length sent + 1) ∷ [])) (sent ++ s ∷ []) delivered
+    sent_queued : IsQueued (slice_set queues place (q ++ (length sent + 1) ∷ [])) (sent ++ s ∷ []) delivered
     sent_queued =
         let longer : length (sent ++ s ∷ []) ≡ length sent + 1 = length-append sent (s ∷ []) in
         record {
@@ -63,12 +67,19 @@ module _ (queues : List (List ℕ)) (sent : List Sent) (delivered : List ℕ) (i
           sited = sited_push sent s inv.sited sites;
         }
 
-    -- it is sent, or all is as it was
-    pub post_queued : (r : Result (Unit {0}) NoMemory) (now : List Sent) (x : List ℕ) → OnOk r (now ≡ sent ++ s ∷ []) → OnOk r (x ≡ q ++ (length sent + 1) ∷ []) → OnErr r ((now ≡ sent) × (x ≡ q)) → IsQueued (slice_set queues place x) now delivered
-    post_queued (Ok u) now x n e f = rw (n, e) sent_queued
-    post_queued (Err u) now x n e f =
-        let back : slice_set queues place q ≡ queues = subst (λ (y : List ℕ). slice_set queues place y ≡ queues) (sym read) (set-get_or queues place q) in
-        rw (f.0, f.1, back) inv
+    pub post_queued : (now : List Sent) (x : List ℕ) → now ≡ sent ++ s ∷ [] → x ≡ q ++ (length sent + 1) ∷ [] → IsQueued (slice_set queues place x) now delivered
+    post_queued now x n e = rw (n, e) sent_queued
+
+  -- a number that joins leaves the first one, where there is one
+  pub first_stays : (firsts : List (Option ℕ)) (o : Option ℕ) (n : ℕ) (x : List ℕ) → firsts ≡ map first queues → o ≡ slice_index_or firsts place o → is_none o ≡ false → x ≡ q ++ n ∷ [] → firsts ≡ map first (slice_set queues place x)
+  first_stays firsts o n x are at some more =
+      let first_is : o ≡ first q = at ∙ rw are (get_or-map first queues place q o (rw inv.count within)) ∙ ap first (sym read) in
+      let same : first (q ++ n ∷ []) ≡ first q = joined q (subst (λ (f : Option ℕ). is_none f ≡ false) first_is some) in
+      rw (are, more) (sym (map-set_same first queues place (q ++ n ∷ []) q (same ∙ ap first read)))
+    where
+      joined : (q : List ℕ) → is_none (first q) ≡ false → first (q ++ n ∷ []) ≡ first q
+      joined [] h = cc
+      joined (k ∷ q) h = refl
 
   module _ (k : ℕ) (at : message_in k sent ≡ Some s) where
     abbrev IsAt : Bool → Type 0

@@ -1,6 +1,6 @@
 //! The messages between the sites.
 
-ghost use Rattle.std.specs.Prelude.{◌≡◌, ◌≤◌, ◌<◌, ◌+◌, ◌++◌, ◌∷◌, ℕ, [], OnOk, OnErr, IfOk, Err, Some, slice_index_or, nat_lt, length, if◌then◌else◌, option_copied};
+ghost use Rattle.std.specs.Prelude.{◌≡◌, ◌≤◌, ◌<◌, ◌+◌, ◌++◌, ◌∷◌, ℕ, [], OnOk, OnErr, IfOk, Err, Some, slice_index_or, nat_lt, map, length, if◌then◌else◌, option_copied};
 ghost use Rattle.vp_model.specs.Words.{first};
 ghost use Rattle.vp_mail.specs.declared.fault.SendFault.TheVariants as fault;
 ghost use Rattle.vp_mail.specs.Queues.{pair_of, waiting, AreBelow, AreSites, AreSited};
@@ -19,15 +19,19 @@ pub const SITES: usize = LAST_SITE as usize;
 pub const PAIRS: usize = SITES * SITES;
 
 /// All messages that were sent, numbered from 1, and the numbers of those that were delivered. For each pair of a sender and a
-/// receiver there is a queue of its messages that were never delivered.
+/// receiver there is a queue of its messages that were never delivered. The first ones of all queues stand side by side, where a walk
+/// over the pairs reads them.
 #[derive(Drop)]
 pub struct Mail {
     sent: Vec<Sent>,
     delivered: Vec<u32>,
     queues: Vec<Queue>,
+    firsts: Vec<Option<u32>>,
 }
 
 impl Model for Mail {
+    ghost use Rattle.std.specs.Prelude.{◌≡◌, map};
+    ghost use Rattle.vp_model.specs.Words.{first};
     ghost use Rattle.vp_mail.specs.Posted.{Posted};
     ghost use Rattle.vp_mail.specs.Queues.{IsQueued};
 
@@ -35,7 +39,7 @@ impl Model for Mail {
 
     ghost view = { λ m. record { sent = m.sent.items; delivered = m.delivered.items } };
 
-    ghost invariant = { λ m. IsQueued m.queues.items m.sent.items m.delivered.items };
+    ghost invariant = { λ m. IsQueued m.queues.items m.sent.items m.delivered.items × (m.firsts.items ≡ map first m.queues.items) };
 }
 
 /// The place of the pair's queue.
@@ -56,6 +60,17 @@ fn empty_queues(alloc: Global) -> Result<Vec<Queue>, NoMemory>
         queues.push(Queue::none(alloc))?;
     }
     Ok(queues)
+}
+
+/// The first message of each queue.
+fn firsts_of(alloc: Global, queues: &[Queue]) -> Result<Vec<Option<u32>>, NoMemory>
+    ensures { IfOk result (λ firsts. firsts.items ≡ map first queues.now) }
+{
+    let mut firsts = Vec::new(alloc);
+    for queue in queues {
+        firsts.push(queue.first())?;
+    }
+    Ok(firsts)
 }
 
 /// The message gets the next number, which joins the queue. Without memory both stay as they are.
@@ -80,10 +95,13 @@ impl Mail {
     pub fn none(alloc: Global) -> Result<Mail, NoMemory>
         ensures { IfOk result (λ mail. mail ≡ record { sent = []; delivered = [] }) }
     {
+        let queues = empty_queues(alloc)?;
+        let firsts = firsts_of(alloc, &queues)?;
         Ok(Mail {
             sent: Vec::new(alloc),
             delivered: Vec::new(alloc),
-            queues: empty_queues(alloc)?,
+            queues,
+            firsts,
         })
     }
 
@@ -101,8 +119,7 @@ impl Mail {
         ensures first { result ≡ first (waiting pair self.now.delivered 1 self.now.sent) }
         ensures sited { AreSited self.now.sent }
     {
-        let queue = &self.queues[pair];
-        queue.first()
+        self.firsts[pair]
     }
 
     /// The message of this number.
@@ -123,8 +140,10 @@ impl Mail {
         ensures err { OnErr result (self.new ≡ self.old) }
     {
         self.delivered.push(k)?;
-        let queue = &mut self.queues[pair_of(sent.from, sent.to)];
+        let pair = pair_of(sent.from, sent.to);
+        let queue = &mut self.queues[pair];
         queue.take(k);
+        self.firsts[pair] = queue.first();
         Ok(())
     }
 
@@ -154,13 +173,17 @@ impl Mail {
         Ok(())
     }
 
-    fn post(&mut self, sent: Sent) -> Result<(), NoMemory>
+    fn post(&mut self, message: Sent) -> Result<(), NoMemory>
         requires { length self.old.sent < 2000000 }
-        ensures { OnOk result (self.new ≡ posted (sent ∷ []) self.old) }
+        ensures { OnOk result (self.new ≡ posted (message ∷ []) self.old) }
     {
-        let pair = pair_of(sent.from, sent.to);
+        let pair = pair_of(message.from, message.to);
         let queue = &mut self.queues[pair];
-        post(&mut self.sent, queue, sent)
+        post(&mut self.sent, queue, message)?;
+        if self.firsts[pair].is_none() {
+            self.firsts[pair] = queue.first();
+        }
+        Ok(())
     }
 }
 

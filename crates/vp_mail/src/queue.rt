@@ -1,6 +1,6 @@
 //! The messages of a pair of sites that were never delivered.
 
-ghost use Rattle.std.specs.Prelude.{◌≡◌, ◌++◌, ◌∷◌, [], OnOk, OnErr, map};
+ghost use Rattle.std.specs.Prelude.{◌≡◌, ◌<◌, ◌++◌, ◌∷◌, [], None, IfSome, OnOk, OnErr, map, length, slice_index_or};
 ghost use Rattle.vp_model.specs.Words.{first};
 ghost use Rattle.vp_mail.specs.Queues.{without, undelivered, Rises, AreBelow, IsTrimmed};
 
@@ -67,11 +67,24 @@ impl Queue {
     pub fn take(&mut self, number: u32)
         ensures { self.new ≡ without number self.old }
     {
-        if let Ok(place) = self.messages.binary_search_by_key(&number, |m| m.number) {
+        if let Some(place) = place_of(&self.messages, number) {
             self.messages[place].delivered = true;
             trim(&mut self.messages);
         }
     }
+}
+
+/// The place of the message, where it stands in the queue. Mostly the first one is asked for, since flows deliver in order.
+fn place_of(messages: &VecDeque<Numbered>, number: u32) -> Option<usize>
+    requires { Rises 0 (map (λ m. m.number) messages.now.items) }
+    ensures within { IfSome result (λ place. place < length messages.now.items) }
+    ensures numbered { IfSome result (λ place. slice_index_or (map (λ m. m.number) messages.now.items) place number ≡ number) }
+    ensures absent { result ≡ None → without number (undelivered messages.now.items) ≡ undelivered messages.now.items }
+{
+    if messages.front().is_some_and(|m| m.number == number) {
+        return Some(0);
+    }
+    messages.binary_search_by_key(&number, |m| m.number).ok()
 }
 
 /// Those that were delivered leave, up to the first and from the last one that was not.
