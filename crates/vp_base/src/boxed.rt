@@ -20,6 +20,7 @@ impl<T> Model for Boxed<T> {
 }
 
 impl<T: Drop> Boxed<T> {
+    /// An error is want of memory. The value is dropped then.
     pub fn new(alloc: Global, value: T) -> Result<Boxed<T>, NoMemory>
         ensures { IfOk result (λ boxed. boxed ≡ value) }
     {
@@ -28,6 +29,7 @@ impl<T: Drop> Boxed<T> {
         })
     }
 
+    /// The value in the box, in its place.
     pub fn as_ref(&self) -> &T
         ensures { result.now ≡ self.now }
     {
