@@ -160,18 +160,15 @@ impl Stepper for Nodes {
     }
 
     /// The letter comes to the host of the site, whose node takes it. What its step sends are letters from then on.
-    fn step(
-        &mut self,
-        _: &Catalog,
-        site: Site,
-        _: &Input,
-    ) -> Result<(Site, Effects), NoMemory> {
+    fn step(&mut self, _: &Catalog, site: Site, _: &Input) -> Result<(Site, Effects), NoMemory> {
         let Some(letter) = self.coming.take() else {
             unreachable!();
         };
         let (site, outcome) = take_at(&mut self.hosts, &self.catalog, site, &letter)?;
         let Outcome {
-            effects, datagrams, ..
+            effects,
+            datagrams,
+            ..
         } = outcome;
         let count = effects.messages.as_slice().len();
         put_letters(letter.to, count, datagrams, &mut self.letters)?;

@@ -96,11 +96,12 @@ impl Place {
         }
     }
 
-    /// The site goes down.
-    pub fn crash(&mut self)
-        ensures { self.new ≡ crashed_place self.old }
+    /// The site goes down, and is handed out.
+    pub fn take_site(&mut self) -> Option<Site>
+        ensures site { result ≡ self.old.up }
+        ensures place { self.new ≡ crashed_place self.old }
     {
-        self.up = None;
+        self.up.take()
     }
 
     /// The site starts with its durable part. Without memory the place may only be dropped.

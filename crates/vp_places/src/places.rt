@@ -16,6 +16,7 @@ use std::alloc::Global;
 use std::marker::Model;
 use vp_base::{Input, Newest, NoMemory, Shown, SiteId};
 use vp_catalog::Catalog;
+use vp_site::Site;
 
 /// The sites of the world, in the order of the catalogue.
 #[derive(Drop)]
@@ -76,13 +77,15 @@ fn step_at<S: Stepper>(
     }
 }
 
-/// The site goes down.
+/// The site goes down, and is handed out.
 #[tactic(auto, using(vp_lists::proofs::Found::first_changes, vp_lists::proofs::Found::first_places))]
-fn crash_at(places: &mut [Place], id: SiteId)
-    ensures { places.new ≡ change_place id crashed_place places.old }
+fn take_at(places: &mut [Place], id: SiteId) -> Option<Site>
+    ensures site { result ≡ site_in id places.old }
+    ensures places { places.new ≡ change_place id crashed_place places.old }
 {
-    if let Some(i) = place_at(places, id) {
-        places[i].crash();
+    match place_at(places, id) {
+        None => None,
+        Some(i) => places[i].take_site(),
     }
 }
 
@@ -143,11 +146,12 @@ impl Places {
         step_at(&mut self.items, catalog, id, input, stepper)
     }
 
-    /// The site goes down.
-    pub fn crash(&mut self, id: SiteId)
-        ensures { self.new ≡ change_place id crashed_place self.old }
+    /// The site goes down, where it is up, and is handed out.
+    pub fn take_site(&mut self, id: SiteId) -> Option<Site>
+        ensures site { result ≡ site_in id self.old }
+        ensures places { self.new ≡ change_place id crashed_place self.old }
     {
-        crash_at(&mut self.items, id);
+        take_at(&mut self.items, id)
     }
 
     /// The site starts again, where it is down and a life is left. Without memory the places may only be dropped.

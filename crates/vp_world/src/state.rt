@@ -26,6 +26,7 @@ use vp_base::{
 use vp_catalog::Catalog;
 use vp_mail::{Cuts, Mail, PAIRS, SITES};
 use vp_places::{Places, Stepper, Taken};
+use vp_site::Site;
 
 /// The opening view.
 const OPENING: ViewId = ViewId { number: 0, site: 0 };
@@ -345,12 +346,19 @@ impl State {
         }
     }
 
+    /// The site is handed out, where it is up, and the state may only be dropped then.
+    pub fn take_site(&mut self, id: SiteId) -> Option<Site>
+        ensures { result ≡ site_of self.old id }
+    {
+        self.places.take_site(id)
+    }
+
     fn crash(&mut self, id: SiteId) -> Shown
         ensures shown { shows self.new result ≡ crash id self.old }
         ensures sent { self.new.sent ≡ self.old.sent }
     {
         if self.places.is_up(id) {
-            self.places.crash(id);
+            self.places.take_site(id);
             Shown::Nothing
         } else {
             Shown::Down { site: id }

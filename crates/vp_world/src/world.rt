@@ -13,6 +13,7 @@ use std::marker::Model;
 use vp_base::{Commits, CopyOf, Event, Line, Newest, NoMemory, SiteId};
 use vp_catalog::Catalog;
 use vp_places::{ByThemselves, Stepper};
+use vp_site::Site;
 
 /// The sites of a catalogue, with their messages. The state stands in a box, so that little is moved where a world goes from call to call.
 #[derive(Drop)]
@@ -117,6 +118,17 @@ impl World {
         ensures { result ≡ is_cut self.now.world a b }
     {
         self.state.is_cut(a, b)
+    }
+
+    /// The site, where it is up: all else is dropped.
+    pub fn into_site(self, site: SiteId) -> Option<Site>
+        ensures { result ≡ site_of self.world site }
+    {
+        let World {
+            catalog: _,
+            mut state,
+        } = self;
+        state.take_site(site)
     }
 
     /// How many messages were sent.
