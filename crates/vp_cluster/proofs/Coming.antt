@@ -1,8 +1,9 @@
 -- A letter that comes changes the nodes as it changes their hosts.
-use Rattle.std.proofs.Common.{◌≡◌, sym, subst, ℕ, Bool, List, ◌++◌, take, map}
+use Rattle.std.proofs.Common.{◌≡◌, sym, subst, Bool, List, ◌++◌, length, take, map}
 use Rattle.std.specs.Prelude.{Option}
 use Rattle.vp_model.specs.Catalogue.{Catalogue}
-use Rattle.vp_outside.specs.declared.datagram.Datagram.{Datagram}
+use Rattle.vp_model.specs.Site.{SiteState}
+use Rattle.vp_turns.specs.declared.turned.Outcome.{Outcome}
 use Rattle.vp_hosts.specs.declared.letter.Letter.{Letter}
 use Rattle.vp_hosts.specs.Hosts.{HostValue, Stops, Takes}
 use Rattle.vp_hosts.specs.Letters.{as_received}
@@ -10,13 +11,15 @@ use Rattle.vp_cluster.specs.Letters.{sent_from}
 use Rattle.vp_hosts.specs.Ports.{ChangesAt}
 use Rattle.vp_cluster.specs.Nodes.{NodesValue, Comes, StopsWith}
 
-pub letter_came : (letter : Letter) (count : ℕ) (catalogue : Catalogue) (hosts after : List HostValue) (letters more : List Letter) (given : List Datagram) (old : NodesValue) → record { catalogue = catalogue; hosts = hosts; letters = letters } ≡ old
-    → ChangesAt letter.to (λ host after. Takes catalogue (as_received letter) host after given) hosts after → more ≡ letters ++ map (sent_from letter.to) (take count given)
-    → Comes letter count old (record { catalogue = catalogue; hosts = after; letters = more })
-letter_came letter count catalogue hosts after letters more given old is changes put = subst (λ (old : NodesValue). Comes letter count old (record { catalogue = catalogue; hosts = after; letters = more })) is (given, changes, put)
+pub letter_came : (letter : Letter) (site after : SiteState) (outcome : Outcome) (catalogue : Catalogue) (hosts next : List HostValue) (letters more : List Letter) (coming : Option Letter) (old : NodesValue)
+    → record { catalogue = catalogue; hosts = hosts; letters = letters; coming = coming } ≡ old
+    → ChangesAt letter.to (λ host next. Takes catalogue (as_received letter) site host next after outcome) hosts next → more ≡ letters ++ map (sent_from letter.to) (take (length outcome.effects.messages) outcome.datagrams)
+    → Comes letter site old (record { catalogue = catalogue; hosts = next; letters = more; coming = coming })
+letter_came letter site after outcome catalogue hosts next letters more coming old is changes put =
+    subst (λ (old : NodesValue). Comes letter site old (record { catalogue = catalogue; hosts = next; letters = more; coming = coming })) is (after, outcome, changes, put)
 
-pub letter_stops : (letter : Letter) (catalogue : Catalogue) (hosts after : List HostValue) (letters : List Letter) (kept : Option Bool) (old new : NodesValue) → record { catalogue = catalogue; hosts = hosts; letters = letters } ≡ old
-    → new.hosts ≡ after → ChangesAt letter.to (λ host after. Stops catalogue (as_received letter) host after kept) hosts after → StopsWith letter kept old new
-letter_stops letter catalogue hosts after letters kept old new is same changes =
-    subst (λ (old : NodesValue). StopsWith letter kept old new) is
-    (subst (λ (after : List HostValue). ChangesAt letter.to (λ host after. Stops catalogue (as_received letter) host after kept) hosts after) (sym same) changes)
+pub letter_stops : (letter : Letter) (site : SiteState) (catalogue : Catalogue) (hosts next : List HostValue) (letters : List Letter) (coming : Option Letter) (kept : Option Bool) (old new : NodesValue)
+    → record { catalogue = catalogue; hosts = hosts; letters = letters; coming = coming } ≡ old → new.hosts ≡ next → ChangesAt letter.to (λ host next. Stops catalogue (as_received letter) site host next kept) hosts next → StopsWith letter site kept old new
+letter_stops letter site catalogue hosts next letters coming kept old new is same changes =
+    subst (λ (old : NodesValue). StopsWith letter site kept old new) is
+    (subst (λ (next : List HostValue). ChangesAt letter.to (λ host next. Stops catalogue (as_received letter) site host next kept) hosts next) (sym same) changes)

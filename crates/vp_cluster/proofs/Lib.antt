@@ -2,8 +2,8 @@ pub mod Acting
 mod Calls
 mod Coming
 mod Found
+mod Lent
 pub mod Running
 pub mod Tied
 mod TiedLetters
-pub mod TiedLines
 mod TiedMoments

@@ -18,26 +18,18 @@ use Rattle.vp_world.specs.Known.{Known}
 use Rattle.vp_world.specs.declared.end.WorldEnd.{WorldEnd}
 use Rattle.vp_world.specs.declared.end.WorldEnd.TheVariants as end
 use Rattle.vp_model.specs.World.{Schedule, run_of, moments_of}
-use Rattle.vp_playing.specs.Played.{SeesAll, SeesSome, Plays}
+use Rattle.vp_playing.specs.Played.{SeesAll, SeesSome, StepsAll, IsReadyFor, Plays}
 use Rattle.vp_playing.proofs.Seen.{sees_appended}
 use Rattle.vp_stable.specs.Halves.{HaveBatches}
 use Rattle.vp_kept.specs.Kept.{kept, kept_in}
 use Rattle.vp_hosts.specs.Hosts.{HostValue, address_of, site_log, log_in, IsHost}
 use Rattle.vp_hosts.specs.Ports.{AreHosts, host_at}
-use Rattle.vp_cluster.specs.Nodes.{NodesValue, Begin, Follows}
+use Rattle.vp_cluster.specs.Nodes.{NodesValue, Begin, Hears, MayStep, Posts}
 use Rattle.vp_cluster.specs.Clusters.{AreTied}
 use Rattle.vp_cluster.specs.Ran.{AreLogs, Runs}
 use Rattle.vp_cluster.specs.declared.cluster.Ran.{Ran}
-use Rattle.vp_cluster.specs.declared.cluster.Cluster.{Cluster}
-use Rattle.vp_cluster.proofs.TiedLines.{FollowAll}
-use Rattle.vp_cluster.proofs.Tied.{traces_tie}
+use Rattle.vp_cluster.proofs.Tied.{nodes_are_ready, nodes_are_tied}
 use Rattle.vp_cluster.proofs.Found.{hosts_differ, each_found}
-
--- two that see the same lines
-pub sees_both : {A B S : Type 0} (f : S → A) (g : S → B) (one : ℕ × Line → A → A → Type 0) (two : ℕ × Line → B → B → Type 0) (lines : List (ℕ × Line)) (old new : S)
-    → SeesAll (λ line old new. one line (f old) (f new) × two line (g old) (g new)) lines old new → SeesAll one lines (f old) (f new) × SeesAll two lines (g old) (g new)
-sees_both f g one two [] old new e = (ap f e, ap g e)
-sees_both f g one two (line ∷ lines) old new (mid, h, rest) = let both = sees_both f g one two lines mid new rest in ((f mid, h.0, both.0), (g mid, h.1, both.1))
 
 module _ (s : Schedule) (k : IsCatalogue s.catalogue) (nodes : NodesValue) (are : AreHosts s.catalogue nodes.hosts) (tied : AreTied s.catalogue (moments_of s) (run_of s).world nodes) where
   -- the log of each host
@@ -81,54 +73,55 @@ events_formed sites (e ∷ events) h = (event_formed sites e h.0, events_formed 
     event_formed sites (event.Crash site) h = tt
     event_formed sites (event.Restart site) h = tt
 
--- what the nodes and the trace make of a line
-abbrev pub SeesLine : Catalogue → ℕ × Line → Cluster → Cluster → Type 0
-SeesLine catalogue line old new = Follows line.1 old.nodes new.nodes × (new.trace ≡ old.trace ++ line_text catalogue line)
+-- what the trace makes of a line
+abbrev pub SeesLine : Catalogue → ℕ × Line → List ℕ → List ℕ → Type 0
+SeesLine catalogue line old new = new ≡ old ++ line_text catalogue line
 
--- what they may have made of it without memory
-abbrev pub BeginsLine : Catalogue → ℕ × Line → Cluster → Cluster → Type 0
-BeginsLine catalogue line old new = is_begun old.trace (line_text catalogue line) new.trace ≡ true
+-- what it may have made of it without memory
+abbrev pub BeginsLine : Catalogue → ℕ × Line → List ℕ → List ℕ → Type 0
+BeginsLine catalogue line old new = is_begun old (line_text catalogue line) new ≡ true
 
 -- some of the lines leave a beginning of their text
-some_begun : (catalogue : Catalogue) (lines : List (ℕ × Line)) (old new : Cluster) → SeesSome (SeesLine catalogue) (BeginsLine catalogue) lines old new → is_begun old.trace (flat_map (line_text catalogue) lines) new.trace ≡ true
-some_begun catalogue [] old new e = begun_none old.trace [] new.trace (ap (λ (c : Cluster). c.trace) e)
-some_begun catalogue (line ∷ lines) old new (inl e) = begun_none old.trace (flat_map (line_text catalogue) (line ∷ lines)) new.trace (ap (λ (c : Cluster). c.trace) e)
-some_begun catalogue (line ∷ lines) old new (inr (inl b)) = begun_first old.trace (line_text catalogue line) (flat_map (line_text catalogue) lines) new.trace b
+some_begun : (catalogue : Catalogue) (lines : List (ℕ × Line)) (old new : List ℕ) → SeesSome (SeesLine catalogue) (BeginsLine catalogue) lines old new → is_begun old (flat_map (line_text catalogue) lines) new ≡ true
+some_begun catalogue [] old new e = begun_none old [] new e
+some_begun catalogue (line ∷ lines) old new (inl e) = begun_none old (flat_map (line_text catalogue) (line ∷ lines)) new e
+some_begun catalogue (line ∷ lines) old new (inr (inl b)) = begun_first old (line_text catalogue line) (flat_map (line_text catalogue) lines) new b
 some_begun catalogue (line ∷ lines) old new (inr (inr (mid, h, rest))) =
-    begun_then old.trace (line_text catalogue line) (flat_map (line_text catalogue) lines) new.trace
-    (subst (λ (front : List ℕ). is_begun front (flat_map (line_text catalogue) lines) new.trace ≡ true) h.1 (some_begun catalogue lines mid new rest))
+    begun_then old (line_text catalogue line) (flat_map (line_text catalogue) lines) new
+    (subst (λ (front : List ℕ). is_begun front (flat_map (line_text catalogue) lines) new ≡ true) h (some_begun catalogue lines mid new rest))
 
 -- the same of a schedule that is equal
-pub same_plays : (s t : Schedule) (result : Result Known WorldEnd) (old new : Cluster) → s ≡ t → Plays SeesLine BeginsLine s result old new → Plays SeesLine BeginsLine t result old new
+pub same_plays : (s t : Schedule) (result : Result Known WorldEnd) (old new : List ℕ) → s ≡ t → Plays SeesLine BeginsLine s result old new → Plays SeesLine BeginsLine t result old new
 same_plays s t result old new e = subst (λ (s : Schedule). Plays SeesLine BeginsLine s result old new) e
 
 -- nothing is played
 pub runs_nothing : (s : Schedule) (result : Result Ran WorldEnd) (text : List ℕ) → result ≡ Err end.NoMemory → Runs s result text text
 runs_nothing s result text e = rw e (begun_none text (trace_text_within world_limits s) text refl)
 
-module _ (s : Schedule) (is : IsSchedule s) (old new : Cluster) where
-  both : SeesAll (SeesLine s.catalogue) (lines_within world_limits s) old new → FollowAll (lines_within world_limits s) old.nodes new.nodes × (new.trace ≡ old.trace ++ trace_text_within world_limits s)
-  both h =
-      let two = sees_both (λ (c : Cluster). c.nodes) (λ (c : Cluster). c.trace) (λ line old new. Follows line.1 old new) (λ line old new. new ≡ old ++ line_text s.catalogue line) (lines_within world_limits s) old new h in
-      (two.0, sees_appended (line_text s.catalogue) (lines_within world_limits s) old.trace new.trace two.1)
+-- nodes in their first lives are ready for a schedule that was read
+pub run_is_ready : (s : Schedule) → IsSchedule s → (begun : NodesValue) → Begin s.catalogue begun → IsReadyFor IsEvent Hears Posts (MayStep s.catalogue) (moments_of s) begun
+run_is_ready s is begun begins = nodes_are_ready s is.catalogue_is (events_formed (sites_of s.catalogue) s.events is.events_are) begun begins
+
+module _ (s : Schedule) (is : IsSchedule s) (old new : List ℕ) where
+  shown : SeesAll (SeesLine s.catalogue) (lines_within world_limits s) old new → new ≡ old ++ trace_text_within world_limits s
+  shown h = sees_appended (line_text s.catalogue) (lines_within world_limits s) old new h
 
   -- a limit ends it
-  pub run_is_cut : (why : WorldEnd) (result : Result Ran WorldEnd) → Plays SeesLine BeginsLine s (Err why) old new → result ≡ Err why → Runs s result old.trace new.trace
-  run_is_cut (end.Limit what limit) result plays e = rw e (plays.0, plays.1, (both plays.2).1)
+  pub run_is_cut : (why : WorldEnd) (result : Result Ran WorldEnd) → Plays SeesLine BeginsLine s (Err why) old new → result ≡ Err why → Runs s result old new
+  run_is_cut (end.Limit what limit) result plays e = rw e (plays.0, plays.1, shown plays.2)
   run_is_cut end.NoMemory result plays e = rw e (some_begun s.catalogue (lines_within world_limits s) old new plays)
 
   -- it is played, and there is no memory for what it leaves
-  pub run_is_left : (known : Known) (result : Result Ran WorldEnd) → Plays SeesLine BeginsLine s (Ok known) old new → result ≡ Err end.NoMemory → Runs s result old.trace new.trace
-  run_is_left known result plays e = rw e (begun_whole old.trace (trace_text_within world_limits s) new.trace (both plays.2).1)
+  pub run_is_left : (known : Known) (result : Result Ran WorldEnd) → Plays SeesLine BeginsLine s (Ok known) old new → result ≡ Err end.NoMemory → Runs s result old new
+  run_is_left known result plays e = rw e (begun_whole old (trace_text_within world_limits s) new (shown plays.2))
 
   -- it is done
-  pub run_is_done : (known : Known) → Plays SeesLine BeginsLine s (Ok known) old new → Begin s.catalogue old.nodes → AreHosts new.nodes.catalogue new.nodes.hosts
-      → (limit_reached world_limits s ≡ None) × (new.trace ≡ old.trace ++ trace_text s) × (known.world.journal ≡ (run_of s).world.journal) × AreLogs s (map site_log new.nodes.hosts)
-  run_is_done known plays begins are =
-      let two = both plays.2 in
-      let tied = traces_tie s is.catalogue_is (events_formed (sites_of s.catalogue) s.events is.events_are) world_limits plays.0 old.nodes new.nodes begins two.0 in (
+  pub run_is_done : (known : Known) (begun ended : NodesValue) → Plays SeesLine BeginsLine s (Ok known) old new → Begin s.catalogue begun → StepsAll Hears Posts (moments_of s) begun ended → AreHosts ended.catalogue ended.hosts
+      → (limit_reached world_limits s ≡ None) × (new ≡ old ++ trace_text s) × (known.world.journal ≡ (run_of s).world.journal) × AreLogs s (map site_log ended.hosts)
+  run_is_done known begun ended plays begins steps are =
+      let tied = nodes_are_tied s is.catalogue_is (events_formed (sites_of s.catalogue) s.events is.events_are) begun ended begins steps in (
         plays.0,
-        two.1 ∙ ap (λ lines. old.trace ++ flat_map (line_text s.catalogue) lines) (limits_cut_traces.whole world_limits s plays.0),
+        shown plays.2 ∙ ap (λ lines. old ++ flat_map (line_text s.catalogue) lines) (limits_cut_traces.whole world_limits s plays.0),
         ap (λ (k : Known). k.world.journal) plays.1,
-        are_logs s is.catalogue_is new.nodes (subst (λ catalogue. AreHosts catalogue new.nodes.hosts) tied.catalogue_is are) tied,
+        are_logs s is.catalogue_is ended (subst (λ catalogue. AreHosts catalogue ended.hosts) tied.catalogue_is are) tied,
       )

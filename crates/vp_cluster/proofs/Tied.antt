@@ -1,21 +1,19 @@
--- Nodes that follow the lines of a schedule's trace are tied to it.
-use Rattle.std.proofs.Common.{◌≡◌, ◌∙◌, ap, sym, subst, ℕ, List, ◌∷◌, [], ◌++◌, map, append_assoc, append-nil}
+-- Nodes that do the steps of a schedule are tied to it, and may do the next one.
+use Rattle.std.proofs.Common.{◌≡◌, ◌∙◌, ap, sym, subst, ℕ, List, ◌∷◌, [], ◌++◌, append_assoc, append-nil, ⊎_elim}
 use Rattle.std.specs.Prelude.{Some, None}
 use Rattle.std.specs.List.{AllByRecursion}
 use Rattle.vp_catalog.specs.Document.{IsCatalogue}
-use Rattle.vp_model.specs.Types.{Line}
 use Rattle.vp_model.specs.Words.{value_at}
 use Rattle.vp_model.specs.Catalogue.{Catalogue}
-use Rattle.vp_model.specs.World.{Place, WorldState, Moment, Schedule, start_place, start_world, run_of, moments_of, numbered_lines}
-use Rattle.vp_model.specs.Limits.{Limits, limit_reached, lines_within}
+use Rattle.vp_model.specs.World.{Place, WorldState, Moment, Schedule, start_place, start_world, moment, next, run_of, moments_of}
 use Rattle.vp_laws.specs.ShapeLaws.{IsEvent}
-use Rattle.vp_laws.proofs.Lists.Members.{Has, has_first, has_left, has_more}
+use Rattle.vp_laws.proofs.Lists.Members.{Has, contains, has_cons, has_first, has_left, has_more, has_none, has_right}
 use Rattle.vp_laws.proofs.Worlds.Events.{in_each}
 use Rattle.vp_laws.proofs.Worlds.Sites.{With}
 use Rattle.vp_laws.proofs.Invariant.Views.{InvViews}
 use Rattle.vp_laws.proofs.Invariant.Known.{Known}
 use Rattle.vp_laws.proofs.Keeping.Views.{views_last}
-use Rattle.vp_laws.proofs.Words.CutTraces.{limits_cut_traces}
+use Rattle.vp_laws.proofs.Shapes.Worlds.{each_world}
 use Rattle.vp_routes.proofs.InvRoutes.{InvRoutes, routes_last}
 use Rattle.vp_kept.proofs.Happened.{Effect, effect}
 use Rattle.vp_kept.proofs.Through.{Follow, moments_follow, starts_at}
@@ -23,12 +21,12 @@ use Rattle.vp_kept.proofs.Steps.{events_are}
 use Rattle.vp_kept.proofs.Nodes.{sent_are}
 use Rattle.vp_kept.proofs.Folds.{folds_first}
 use Rattle.vp_kept.proofs.Coming.{has_port}
-use Rattle.vp_cluster.specs.Nodes.{NodesValue, Begin}
+use Rattle.vp_playing.specs.Played.{StepsAll, IsReadyFor}
+use Rattle.vp_cluster.specs.Nodes.{NodesValue, Begin, Hears, MayStep, Posts}
 use Rattle.vp_cluster.specs.Clusters.{HasSite, AreTied}
 use Rattle.vp_cluster.proofs.TiedLetters.{has_site}
-use Rattle.vp_cluster.proofs.Acting.{Facts}
-use Rattle.vp_cluster.proofs.TiedMoments.{Folds, folds_now, tied_on}
-use Rattle.vp_cluster.proofs.TiedLines.{FollowAll, follow_moments}
+use Rattle.vp_cluster.proofs.Acting.{Facts, Folds, site_shaped, ready_on}
+use Rattle.vp_cluster.proofs.TiedMoments.{folds_now, tied_on}
 
 module _ (catalogue : Catalogue) (k : IsCatalogue catalogue) where
   -- ---- the first world
@@ -49,23 +47,43 @@ module _ (catalogue : Catalogue) (k : IsCatalogue catalogue) where
 
   -- ---- moment by moment
 
-  goes_on : (moments rest : List Moment) (w v : WorldState) (old new : NodesValue) → ((m : Moment) → Has rest m → Facts catalogue m) → AreTied catalogue moments w old → Folds catalogue moments w
-      → Follow catalogue w rest v → FollowAll (map (λ (m : Moment). (m.number, m.line)) rest) old new → AreTied catalogue (moments ++ rest) v new
-  goes_on moments [] w v old new facts tied folds f e =
-      subst (λ (ms : List Moment). AreTied catalogue ms v new) (sym (append-nil moments))
-      (subst (λ (w : WorldState). AreTied catalogue moments w new) f (subst (AreTied catalogue moments w) (sym e) tied))
-  goes_on moments (m ∷ rest) w v old new facts tied folds f h =
+  abbrev Kept : List Moment → WorldState → NodesValue → Type 0
+  Kept moments w nodes = AreTied catalogue moments w nodes × Folds catalogue moments w
+
+  goes_on : (moments rest : List Moment) (w v : WorldState) (old new : NodesValue) → ((m : Moment) → Has rest m → Facts catalogue m) → Kept moments w old → Follow catalogue w rest v → StepsAll Hears Posts rest old new → Kept (moments ++ rest) v new
+  goes_on moments [] w v old new facts kept f e =
+      subst (λ (ms : List Moment). Kept ms v new) (sym (append-nil moments))
+      (subst (λ (w : WorldState). Kept moments w new) f (subst (Kept moments w) (sym e) kept))
+  goes_on moments (m ∷ rest) w v old new facts kept f h =
       let before : w ≡ m.before = ap (λ (m : Moment). m.before) (sym f.0) in
       let e : Effect catalogue m = subst (Effect catalogue) (sym f.0) (effect catalogue m.number m.line.event w) in
-      let tied_before = subst (λ (w : WorldState). AreTied catalogue moments w old) before tied in
-      let folds_before = subst (λ (w : WorldState). Folds catalogue moments w) before folds in
+      let (tied, folds) = subst (λ (w : WorldState). Kept moments w old) before kept in
       let fact = facts m (has_first m rest) in
-      let tied_after = tied_on catalogue k m moments old h.0 fact tied_before folds_before h.1 e in
+      let tied_after = tied_on catalogue k m moments old h.0 fact tied folds h.1 e in
       let folds_after : Folds catalogue (moments ++ m ∷ []) m.after = λ id place at listed. (
       let port = has_port catalogue.sites id listed in
-      folds_now catalogue m moments old h.0 e id port.0 (tied_before.sites id port.0 port.1) listed folds_before place at) in
-      subst (λ (ms : List Moment). AreTied catalogue ms v new) (append_assoc moments (m ∷ []) rest)
-      (goes_on (moments ++ m ∷ []) rest m.after v h.0 new (λ n has. facts n (has_more m rest n has)) tied_after folds_after f.1 h.2)
+      folds_now catalogue m moments old h.0 e id port.0 (tied.sites id port.0 port.1) listed folds place at) in
+      subst (λ (ms : List Moment). Kept ms v new) (append_assoc moments (m ∷ []) rest)
+      (goes_on (moments ++ m ∷ []) rest m.after v h.0 new (λ n has. facts n (has_more m rest n has)) (tied_after, folds_after) f.1 h.2)
+
+-- ---- a moment among others
+
+abbrev IsNext : Catalogue → Moment → WorldState → Type 0
+IsNext catalogue m w = m ≡ moment m.number w m.line.event (next catalogue m.line.event w)
+
+-- where moments follow each other, each begins where those before it end
+follow_front : (catalogue : Catalogue) (before rest : List Moment) (m : Moment) (w v : WorldState) → Follow catalogue w (before ++ m ∷ rest) v → Follow catalogue w before m.before × IsNext catalogue m m.before
+follow_front catalogue [] rest m w v f = let is : w ≡ m.before = ap (λ (m : Moment). m.before) (sym f.0) in (is, subst (IsNext catalogue m) is f.0)
+follow_front catalogue (x ∷ before) rest m w v f = let more = follow_front catalogue before rest m x.after v f.1 in ((f.0, more.0), more.1)
+
+-- each moment among these is found with those before and behind it
+split_at : (ms : List Moment) (m : Moment) → Has ms m → (before rest : List Moment) × (ms ≡ before ++ m ∷ rest)
+split_at [] m h = absurd (has_none m h)
+split_at (x ∷ ms) m h =
+    ⊎_elim
+    (λ (same : x ≡ m). ([], ms, ap (λ (x : Moment). x ∷ ms) same))
+    (λ (more : Has ms m). let it = split_at ms m more in (x ∷ it.0, it.1, ap (λ (rest : List Moment). x ∷ rest) it.2))
+    (has_cons x ms m h)
 
 -- ---- a schedule
 
@@ -73,22 +91,36 @@ module _ (s : Schedule) (k : IsCatalogue s.catalogue) (i : AllByRecursion IsEven
   pub facts : (m : Moment) → Has (moments_of s) m → Facts s.catalogue m
   facts m has = record {
     event_is = events_are s.catalogue s.events i m has;
+    next_is =
+        let (before, rest, is) = split_at (moments_of s) m has in
+        (follow_front s.catalogue before rest m (start_world s.catalogue) (run_of s).world (subst (λ (ms : List Moment). Follow s.catalogue (start_world s.catalogue) ms (run_of s).world) is (moments_follow s.catalogue s.events))).1;
     views = (in_each s.catalogue (InvViews s.catalogue) (views_last s.catalogue) s.events m has).0;
+    shaped = λ id x up. site_shaped s.catalogue m.before id x (each_world s m k i (contains (moments_of s) m has)).0 up;
     sent = sent_are s k i m has;
     routed = λ sent h. ((in_each s.catalogue (With (Known s.catalogue) (InvRoutes s.catalogue k)) (routes_last s.catalogue k) s.events m has).1.more.sent sent h).1;
   }
 
-  pub nodes_are_tied : (begun ended : NodesValue) → Begin s.catalogue begun → FollowAll (numbered_lines s) begun ended → AreTied s.catalogue (moments_of s) (run_of s).world ended
-  nodes_are_tied begun ended begin h =
-      goes_on s.catalogue k [] (moments_of s) (start_world s.catalogue) (run_of s).world begun ended facts (first_tied s.catalogue k begun begin) (first_folds s.catalogue k) (moments_follow s.catalogue s.events) h
+  -- nodes that have done the first moments are tied to these
+  front_kept : (ms more : List Moment) → moments_of s ≡ ms ++ more → (w : WorldState) (begun now : NodesValue) → Begin s.catalogue begun → Follow s.catalogue (start_world s.catalogue) ms w → StepsAll Hears Posts ms begun now
+      → AreTied s.catalogue ms w now × Folds s.catalogue ms w
+  front_kept ms more are w begun now begin along h =
+      goes_on s.catalogue k [] ms (start_world s.catalogue) w begun now (λ m has. facts m (subst (λ all. Has all m) (sym are) (has_left ms more m has))) (first_tied s.catalogue k begun begin, first_folds s.catalogue k) along h
 
-  -- nodes that have followed the first moments are tied to these
-  pub front_tied : (ms more : List Moment) → moments_of s ≡ ms ++ more → (w : WorldState) (begun now : NodesValue) → Begin s.catalogue begun → Follow s.catalogue (start_world s.catalogue) ms w
-      → FollowAll (map (λ (m : Moment). (m.number, m.line)) ms) begun now → AreTied s.catalogue ms w now
-  front_tied ms more are w begun now begin along h =
-      goes_on s.catalogue k [] ms (start_world s.catalogue) w begun now (λ m has. facts m (subst (λ all. Has all m) (sym are) (has_left ms more m has))) (first_tied s.catalogue k begun begin) (first_folds s.catalogue k) along h
+  pub front_tied : (ms more : List Moment) → moments_of s ≡ ms ++ more → (w : WorldState) (begun now : NodesValue) → Begin s.catalogue begun → Follow s.catalogue (start_world s.catalogue) ms w → StepsAll Hears Posts ms begun now → AreTied s.catalogue ms w now
+  front_tied ms more are w begun now begin along h = (front_kept ms more are w begun now begin along h).0
 
-  -- where no limit is reached, nodes that follow the lines of the trace are tied to the whole schedule
-  pub traces_tie : (limits : Limits) → limit_reached limits s ≡ None → (begun ended : NodesValue) → Begin s.catalogue begun → FollowAll (lines_within limits s) begun ended → AreTied s.catalogue (moments_of s) (run_of s).world ended
-  traces_tie limits none begun ended begin h =
-      nodes_are_tied begun ended begin (follow_moments s begun ended (subst (λ (lines : List (ℕ × Line)). FollowAll lines begun ended) (limits_cut_traces.whole limits s none) h))
+  pub front_folds : (ms more : List Moment) → moments_of s ≡ ms ++ more → (w : WorldState) (begun now : NodesValue) → Begin s.catalogue begun → Follow s.catalogue (start_world s.catalogue) ms w → StepsAll Hears Posts ms begun now → Folds s.catalogue ms w
+  front_folds ms more are w begun now begin along h = (front_kept ms more are w begun now begin along h).1
+
+  -- nodes that have done all moments are tied to the schedule
+  pub nodes_are_tied : (begun ended : NodesValue) → Begin s.catalogue begun → StepsAll Hears Posts (moments_of s) begun ended → AreTied s.catalogue (moments_of s) (run_of s).world ended
+  nodes_are_tied begun ended begin h = front_tied (moments_of s) [] (sym (append-nil (moments_of s))) (run_of s).world begun ended begin (moments_follow s.catalogue s.events) h
+
+  -- in their first lives the nodes are ready for the schedule
+  pub nodes_are_ready : (begun : NodesValue) → Begin s.catalogue begun → IsReadyFor IsEvent Hears Posts (MayStep s.catalogue) (moments_of s) begun
+  nodes_are_ready begun begin before rest m now are done =
+      let has : Has (moments_of s) m = subst (λ (all : List Moment). Has all m) (sym are) (has_right before (m ∷ rest) m (has_first m rest)) in
+      let fact = facts m has in
+      let along = follow_front s.catalogue before rest m (start_world s.catalogue) (run_of s).world (subst (λ (ms : List Moment). Follow s.catalogue (start_world s.catalogue) ms (run_of s).world) are (moments_follow s.catalogue s.events)) in
+      let (tied, folds) = front_kept before (m ∷ rest) are m.before begun now begin along.0 done in
+      (fact.event_is, ready_on s.catalogue k m before now fact tied folds (subst (Effect s.catalogue) (sym fact.next_is) (effect s.catalogue m.number m.line.event m.before)))

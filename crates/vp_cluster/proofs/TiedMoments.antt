@@ -1,16 +1,15 @@
--- Nodes that follow the line of one moment stay tied to it.
+-- Nodes that do what one moment brings stay tied to it.
 use Rattle.std.proofs.Common.{◌≡◌, ◌≢◌, ◌∙◌, ap, sym, subst, ℕ, ◌+◌, false, List, ◌∷◌, [], ◌++◌, length, map, refl, ⊎_elim}
 use Rattle.std.specs.Prelude.{Option, Some, None, take}
 use Rattle.std.proofs.lemmas.List.{map-append}
 use Rattle.std.proofs.lemmas.List.Sums.{fold-append}
 use Rattle.vp_catalog.specs.Document.{IsCatalogue}
-use Rattle.vp_model.specs.Types.{LogRecord, Event, Sent, Shown, Effects}
+use Rattle.vp_model.specs.Types.{LogRecord, Event, Input, Sent, Effects}
 use Rattle.vp_model.specs.Types.event
-use Rattle.vp_model.specs.Types.shown
 use Rattle.vp_model.specs.Words.{value_at}
 use Rattle.vp_model.specs.Catalogue.{Catalogue, sites_of}
 use Rattle.vp_model.specs.Durable.{DurableState, apply_all}
-use Rattle.vp_model.specs.Site.{SiteState}
+use Rattle.vp_model.specs.Site.{SiteState, Stepped}
 use Rattle.vp_model.specs.Step.{step, start, durable_of}
 use Rattle.vp_model.specs.Told.{is_step}
 use Rattle.vp_model.specs.World.{Place, WorldState, Moment, place_of, after_step, restart_place}
@@ -24,22 +23,22 @@ use Rattle.vp_runs.specs.Keeping.{durable_in, kept_with}
 use Rattle.vp_runs.specs.Runs.{start_node, after_turn}
 use Rattle.vp_runs.specs.Turns.{Turn, step_turn, datagrams_of, reply_datagram}
 use Rattle.vp_kept.specs.Kept.{with_life, kept_after, kept_in as batches_in}
-use Rattle.vp_kept.proofs.Happened.{Leaves, LeavesIt, LeavesOthers, Acts, put_down, RestartEffect, IsPlain, Effect, named, happened}
+use Rattle.vp_kept.proofs.Happened.{Leaves, LeavesIt, LeavesOthers, Acts, put_down, RestartEffect, IsPlain, Effect, happened}
 use Rattle.vp_kept.proofs.Folds.{folds_on}
+use Rattle.vp_turns.specs.declared.turned.Outcome.{Outcome}
+use Rattle.vp_places.specs.Places.{Did}
+use Rattle.vp_world.specs.Steps.{step_of, DoesEvent}
 use Rattle.vp_hosts.specs.declared.letter.Letter.{Letter}
 use Rattle.vp_hosts.specs.Letters.{as_received}
 use Rattle.vp_cluster.specs.Letters.{sent_from, letter_of, letter_for}
 use Rattle.vp_hosts.specs.Hosts.{HostValue, IsAt, node_at, Takes, Crashes, Restarts}
 use Rattle.vp_hosts.specs.Ports.{host_at, ChangesOf}
-use Rattle.vp_cluster.specs.Nodes.{NodesValue, Comes, Steps, Does, Follows}
+use Rattle.vp_cluster.specs.Nodes.{NodesValue, HostsHear, Hears, Comes, Posts}
 use Rattle.vp_cluster.specs.Clusters.{HasSite, AreTied}
 use Rattle.vp_cluster.proofs.TiedLetters.{ports_differ, Brings, posted}
-use Rattle.vp_cluster.proofs.Acting.{Facts}
+use Rattle.vp_cluster.proofs.Lent.{none_lent}
+use Rattle.vp_cluster.proofs.Acting.{Facts, Folds, hosts_stay}
 use Rattle.vp_cluster.proofs.Acting as acting
-
--- what each site has to keep is what its log folds to
-abbrev pub Folds : Catalogue → List Moment → WorldState → Type 0
-Folds catalogue moments w = (id : ℕ) (place : Place) → place_of id w.places ≡ Some place → Has (sites_of catalogue) id → durable_in catalogue id (batches_in catalogue id moments) ≡ place.durable
 
 module _ (catalogue : Catalogue) (m : Moment) (moments : List Moment) (old new : NodesValue) where
   abbrev pub Before : ℕ → ℕ → Type 0
@@ -102,18 +101,8 @@ module _ (catalogue : Catalogue) (m : Moment) (moments : List Moment) (old new :
         (λ (n : id ≢ s). stays id port (tied id port at) (others id n) (others_stay id port at n))
         (same_site id s)
 
--- an event that is neither a crash nor a restart
-plain_steps : (e : Event) (what : Shown) (old new : NodesValue) → IsPlain e → Does e what old new → Steps e what old new
-plain_steps (event.Crash s) what old new plain h = absurd plain
-plain_steps (event.Restart s) what old new plain h = absurd plain
-plain_steps e what old new plain h = h
-
--- what shows no step
-none_steps : (e : Event) (what : Shown) (old new : NodesValue) → is_step what ≡ false → Steps e what old new → new ≡ old
-none_steps e (shown.Step commits first messages replies) old new none h = absurd cc
-none_steps e what old new none h = h
-
-module _ (catalogue : Catalogue) (k : IsCatalogue catalogue) (m : Moment) (moments : List Moment) (old new : NodesValue) (facts : Facts catalogue m) (tied : AreTied catalogue moments m.before old) (folds : Folds catalogue moments m.before) (follows : Follows m.line old new) where
+module _ (catalogue : Catalogue) (k : IsCatalogue catalogue) (m : Moment) (moments : List Moment) (old new : NodesValue) (facts : Facts catalogue m) (tied : AreTied catalogue moments m.before old) (folds : Folds catalogue moments m.before)
+    (does : DoesEvent Hears Posts m.line.event m.before old new) where
   abbrev Tied : Type 0
   Tied = AreTied catalogue (moments ++ m ∷ []) m.after new
 
@@ -126,11 +115,29 @@ module _ (catalogue : Catalogue) (k : IsCatalogue catalogue) (m : Moment) (momen
   listed : (id port : ℕ) → value_at id catalogue.sites ≡ Some port → Has (sites_of catalogue) id
   listed id port at = facts.views.known id (tied.sites id port at).place (tied.sites id port at).place_is
 
+  -- the nodes that have heard of the event
+  abbrev told : NodesValue
+  told = does.0
+
+  heard : Hears m.line.event old told
+  heard = does.1
+
+  abbrev Done : Option (SiteState × Input) → Type 0
+  Done o = Did (λ (it : SiteState × Input). Posts it.0 it.1) o told new
+
+  -- where nothing is lent, no more is done
+  no_more : step_of m.line.event m.before ≡ None → new ≡ told
+  no_more none = subst Done none does.2
+
   letters_stay : m.after.sent ≡ m.before.sent → new.letters ≡ old.letters → new.letters ≡ map (letter_for catalogue) m.after.sent
   letters_stay sent same = same ∙ tied.letters ∙ ap (map (letter_for catalogue)) (sym sent)
 
-  tied_so : ((id port : ℕ) → value_at id catalogue.sites ≡ Some port → HasSite catalogue (moments ++ m ∷ []) m.after new id port) → new.letters ≡ map (letter_for catalogue) m.after.sent → Tied
-  tied_so sites letters = record { catalogue_is = follows.same_catalogue ∙ tied.catalogue_is; sites = sites; letters = letters }
+  tied_so : new.catalogue ≡ told.catalogue → ((id port : ℕ) → value_at id catalogue.sites ≡ Some port → HasSite catalogue (moments ++ m ∷ []) m.after new id port) → new.letters ≡ map (letter_for catalogue) m.after.sent → Tied
+  tied_so same sites letters = record { catalogue_is = same ∙ heard.same_catalogue ∙ tied.catalogue_is; sites = sites; letters = letters }
+
+  -- the same where no more is done
+  tied_still : new ≡ told → ((id port : ℕ) → value_at id catalogue.sites ≡ Some port → HasSite catalogue (moments ++ m ∷ []) m.after new id port) → m.after.sent ≡ m.before.sent → Tied
+  tied_still same sites sent = tied_so (ap (λ (nodes : NodesValue). nodes.catalogue) same) sites (letters_stay sent (ap (λ (nodes : NodesValue). nodes.letters) same ∙ heard.letters_stay))
 
   -- ---- a step
 
@@ -144,11 +151,16 @@ module _ (catalogue : Catalogue) (k : IsCatalogue catalogue) (m : Moment) (momen
     abbrev letter : (letter : Letter) × (letter_of catalogue old.letters m.line.event ≡ Some letter) × Brings catalogue k s a.given letter
     letter = acting.letter catalogue k m moments old facts tied s a
 
-    comes : Comes letter.0 (length effects.messages) old new
+    posts : Posts a.x a.given told new
+    posts = subst Done (acting.lent catalogue k m moments old facts tied s a) does.2
+
+    comes : Comes letter.0 a.x told new
     comes =
-        let plain = (named m.line.event m.before s a.given a.gives).0 in
-        let steps = subst (λ (what : Shown). Steps m.line.event what old new) a.shown_is (plain_steps m.line.event m.line.shown old new plain follows.does) in
-        steps letter.0 (ap (λ (c : Catalogue). letter_of c old.letters m.line.event) tied.catalogue_is ∙ letter.1)
+        let same : posts.letter ≡ letter.0 = (let z = sym posts.coming_is ∙ heard.coming_is ∙ ap (λ (c : Catalogue). letter_of c old.letters m.line.event) tied.catalogue_is ∙ letter.1 in cc) in
+        subst (λ (letter : Letter). Comes letter a.x told new) same posts.comes
+
+    abbrev outcome : Outcome
+    outcome = comes.1
 
     abbrev own : HasSite catalogue moments m.before old s letter.0.to
     own = acting.own catalogue k m moments old facts tied s a
@@ -156,14 +168,27 @@ module _ (catalogue : Catalogue) (k : IsCatalogue catalogue) (m : Moment) (momen
     is_id : a.x.id ≡ s
     is_id = acting.is_id catalogue k m moments old facts tied s a
 
-    host_now : (after : HostValue) × (host_at letter.0.to new.hosts ≡ Some after) × Takes old.catalogue (as_received letter.0) own.host after comes.0
-    host_now = comes.1.there own.host own.host_is
+    hosts_same : told.hosts ≡ old.hosts
+    hosts_same = hosts_stay m.line.event old.catalogue old.hosts told.hosts (acting.plain catalogue k m moments old facts tied s a) heard.hosts
 
-    done : IsAt (after_turn (node_at a.x (log s)) taken).batches (Some taken.site) host_now.0 × (comes.0 ≡ taken.datagrams)
+    host_now : (after : HostValue) × (host_at letter.0.to new.hosts ≡ Some after) × Takes told.catalogue (as_received letter.0) a.x own.host after comes.0 outcome
+    host_now = comes.2.there own.host (ap (host_at letter.0.to) hosts_same ∙ own.host_is)
+
+    turn_is : turn_at told.catalogue a.x (as_received letter.0) ≡ taken
+    turn_is = ap (λ (c : Catalogue). turn_at c a.x (as_received letter.0)) heard.same_catalogue ∙ acting.turn_is catalogue k m moments old facts tied s a
+
+    done : IsAt (after_turn (node_at a.x (log s)) taken).batches (Some taken.site) host_now.0
     done =
         let was = subst (λ (up : Option SiteState). IsAt (log s) up own.host) (acting.up_is catalogue k m moments old facts tied s a) own.at in
-        subst (λ (turn : Turn). IsAt (after_turn (node_at a.x (log s)) turn).batches (Some turn.site) host_now.0 × (comes.0 ≡ turn.datagrams)) (acting.turn_is catalogue k m moments old facts tied s a)
-        (host_now.2.up (log s) a.x was)
+        subst (λ (turn : Turn). IsAt (after_turn (node_at a.x (log s)) turn).batches (Some turn.site) host_now.0) turn_is (host_now.2.up (log s) was)
+
+    datagrams_are : outcome.datagrams ≡ taken.datagrams
+    datagrams_are = host_now.2.datagrams_are ∙ ap (λ (turn : Turn). turn.datagrams) turn_is
+
+    as_many : length outcome.effects.messages ≡ length effects.messages
+    as_many =
+        let stepped = host_now.2.stepped a.given (acting.comes catalogue k m moments old facts tied s a told heard.same_catalogue) in
+        ap (λ (o : Stepped). length o.effects.messages) stepped ∙ ap (λ (c : Catalogue). length (step c a.x a.given).effects.messages) (heard.same_catalogue ∙ tied.catalogue_is)
 
     left : (after_step (step catalogue a.x a.given) own.place).durable ≡ durable_of (step catalogue a.x a.given).site
     left = ap (apply_all effects.records) (acting.durable_is catalogue k m moments old facts tied s a) ∙ step-folds catalogue a.x a.given
@@ -172,7 +197,7 @@ module _ (catalogue : Catalogue) (k : IsCatalogue catalogue) (m : Moment) (momen
     own_now =
         let place = after_step (step catalogue a.x a.given) own.place in
         turns catalogue m moments old new s letter.0.to place (kept_with place.durable effects.records) (a.here own.place own.place_is) host_now.0 host_now.1 (host_now.2.stays.same_id ∙ own.id_is)
-        (subst (λ (d : DurableState). IsAt (kept_with d effects.records (log s)) place.up host_now.0) (sym left) done.0)
+        (subst (λ (d : DurableState). IsAt (kept_with d effects.records (log s)) place.up host_now.0) (sym left) done)
 
     site_now : (id port : ℕ) → value_at id catalogue.sites ≡ Some port → HasSite catalogue (moments ++ m ∷ []) m.after new id port
     site_now id port at =
@@ -181,7 +206,7 @@ module _ (catalogue : Catalogue) (k : IsCatalogue catalogue) (m : Moment) (momen
         let there : value_at s catalogue.sites ≡ Some port = ap (λ (id : ℕ). value_at id catalogue.sites) (sym same) ∙ at in
         let to : letter.0.to ≡ port = (let z = sym letter.2.to_is ∙ there in cc) in
         subst (λ (id : ℕ). HasSite catalogue (moments ++ m ∷ []) m.after new id port) (sym same) (subst (HasSite catalogue (moments ++ m ∷ []) m.after new s) to own_now))
-        (λ (n : id ≢ s). stays catalogue m moments old new id port (tied.sites id port at) (others id n) (comes.1.others port (ports_differ catalogue k id s port letter.0.to at letter.2.to_is n)))
+        (λ (n : id ≢ s). stays catalogue m moments old new id port (tied.sites id port at) (others id n) (comes.2.others port (ports_differ catalogue k id s port letter.0.to at letter.2.to_is n) ∙ ap (host_at port) hosts_same))
         (same_site id s)
 
     -- each message is from this site to one of the catalogue
@@ -190,32 +215,33 @@ module _ (catalogue : Catalogue) (k : IsCatalogue catalogue) (m : Moment) (momen
         let local = local-step catalogue a.x a.given (facts.views.site s a.x a.up).tidy in
         ((local.sent sent h).0 ∙ is_id, facts.routed sent (subst (λ (all : List Sent). Has all sent) (sym a.sent_is) (has_right m.before.sent effects.messages sent h)))
 
-    letters_more : map (sent_from letter.0.to) (take (length effects.messages) comes.0) ≡ map (letter_for catalogue) effects.messages
+    letters_more : map (sent_from letter.0.to) (take (length outcome.effects.messages) outcome.datagrams) ≡ map (letter_for catalogue) effects.messages
     unfolding datagrams_of
     letters_more =
-        ap (λ (given : List Datagram). map (sent_from letter.0.to) (take (length effects.messages) given)) done.1
+        ap (λ (count : ℕ). map (sent_from letter.0.to) (take count outcome.datagrams)) as_many
+        ∙ ap (λ (given : List Datagram). map (sent_from letter.0.to) (take (length effects.messages) given)) datagrams_are
         ∙ posted catalogue k s letter.0.to letter.2.to_is effects.messages from_here (map (reply_datagram a.x.id) effects.replies)
 
     letters_now : new.letters ≡ map (letter_for catalogue) m.after.sent
     letters_now =
-        comes.2 ∙ ap (λ (letters : List Letter). old.letters ++ letters) letters_more
-        ∙ ap (λ (letters : List Letter). letters ++ map (letter_for catalogue) effects.messages) tied.letters
+        comes.3 ∙ ap (λ (letters : List Letter). told.letters ++ letters) letters_more
+        ∙ ap (λ (letters : List Letter). letters ++ map (letter_for catalogue) effects.messages) (heard.letters_stay ∙ tied.letters)
         ∙ sym (map-append (letter_for catalogue) m.before.sent effects.messages)
         ∙ ap (map (letter_for catalogue)) (sym a.sent_is)
 
     acted : Tied
-    acted = tied_so site_now letters_now
+    acted = tied_so posts.same_catalogue site_now letters_now
 
   -- ---- a crash
 
   crashed : (s : ℕ) → m.line.event ≡ event.Crash s → m.after.sent ≡ m.before.sent → ((place : Place) → place_of s m.before.places ≡ Some place → Leaves catalogue m s (Some (put_down place)) (λ b. b)) → LeavesOthers catalogue m s → Tied
   crashed s is sent own others =
-      let does : ChangesOf old.catalogue s (Crashes old.catalogue) old.hosts new.hosts × (new.letters ≡ old.letters) = subst (λ (e : Event). Does e m.line.shown old new) is follows.does in
-      let changes = at_catalogue (λ c. ChangesOf c s (Crashes c) old.hosts new.hosts) does.0 in
-      tied_so
+      let same : new ≡ told = no_more (ap (λ (e : Event). step_of e m.before) is) in
+      let changes = at_catalogue (λ c. ChangesOf c s (Crashes c) old.hosts new.hosts) (subst (ChangesOf old.catalogue s (Crashes old.catalogue) old.hosts) (ap (λ (nodes : NodesValue). nodes.hosts) (sym same)) (subst (λ (e : Event). HostsHear e old.catalogue old.hosts told.hosts) is heard.hosts)) in
+      tied_still same
       (changed catalogue m moments old new k s (Crashes catalogue) changes others tied.sites
       (λ port h host there crashes. turns catalogue m moments old new s port (put_down h.place) (λ b. b) (own h.place h.place_is) host there (crashes.stays.same_id ∙ h.id_is) (crashes.down (log s) h.place.up h.at)))
-      (letters_stay sent does.1)
+      sent
 
   -- ---- a restart
 
@@ -245,18 +271,19 @@ module _ (catalogue : Catalogue) (k : IsCatalogue catalogue) (m : Moment) (momen
 
   restarted : (s : ℕ) → m.line.event ≡ event.Restart s → m.after.sent ≡ m.before.sent → ((place : Place) → place_of s m.before.places ≡ Some place → RestartEffect catalogue m s place) → LeavesOthers catalogue m s → Tied
   restarted s is sent own others =
-      let does : ChangesOf old.catalogue s (Restarts old.catalogue) old.hosts new.hosts × (new.letters ≡ old.letters) = subst (λ (e : Event). Does e m.line.shown old new) is follows.does in
-      let changes = at_catalogue (λ c. ChangesOf c s (Restarts c) old.hosts new.hosts) does.0 in
-      tied_so
+      let same : new ≡ told = no_more (ap (λ (e : Event). step_of e m.before) is) in
+      let changes = at_catalogue (λ c. ChangesOf c s (Restarts c) old.hosts new.hosts) (subst (ChangesOf old.catalogue s (Restarts old.catalogue) old.hosts) (ap (λ (nodes : NodesValue). nodes.hosts) (sym same)) (subst (λ (e : Event). HostsHear e old.catalogue old.hosts told.hosts) is heard.hosts)) in
+      tied_still same
       (changed catalogue m moments old new k s (Restarts catalogue) changes others tied.sites (λ port h host there restarts. restarted_so s port h host there restarts (own h.place h.place_is)))
-      (letters_stay sent does.1)
+      sent
 
   -- ---- any moment
 
   quiet : IsPlain m.line.event → is_step m.line.shown ≡ false → m.after.sent ≡ m.before.sent → ((id : ℕ) → LeavesIt catalogue m id) → Tied
   quiet plain none sent all =
-      let same : new ≡ old = none_steps m.line.event m.line.shown old new none (plain_steps m.line.event m.line.shown old new plain follows.does) in
-      tied_so (λ id port at. stays catalogue m moments old new id port (tied.sites id port at) (all id) (ap (λ (nodes : NodesValue). host_at port nodes.hosts) same)) (letters_stay sent (ap (λ (nodes : NodesValue). nodes.letters) same))
+      let same : new ≡ told = no_more (none_lent catalogue m.before m.line.event plain (ap (λ (n : Moment). is_step n.line.shown) (sym facts.next_is) ∙ none)) in
+      let hosts : new.hosts ≡ old.hosts = ap (λ (nodes : NodesValue). nodes.hosts) same ∙ hosts_stay m.line.event old.catalogue old.hosts told.hosts plain heard.hosts in
+      tied_still same (λ id port at. stays catalogue m moments old new id port (tied.sites id port at) (all id) (ap (host_at port) hosts)) sent
 
   pub tied_on : Effect catalogue m → Tied
   tied_on (Effect.acts s a others) = acted s a others

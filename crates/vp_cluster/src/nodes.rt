@@ -4,8 +4,11 @@ ghost use Rattle.std.specs.Prelude.{◌≡◌, OnOk, IfOk, IfSome, Some, None, l
 ghost use Rattle.vp_laws.specs.ShapeLaws.{IsEvent};
 ghost use Rattle.vp_hosts.specs.Hosts.{Crashes, Restarts, site_log};
 ghost use Rattle.vp_cluster.specs.Letters.{letter_of, in_order};
-ghost use Rattle.vp_hosts.specs.Ports.{ChangesOf};
-ghost use Rattle.vp_cluster.specs.Nodes.{Begin, Comes, Does, Follows, StopsWith};
+ghost use Rattle.vp_hosts.specs.Ports.{ChangesOf, LendsAt};
+ghost use Rattle.vp_cluster.specs.Nodes.{Begin, Comes, HostsHear, StopsWith};
+ghost use Rattle.vp_runs.specs.Arrivals.{arrival};
+ghost use Rattle.vp_turns.specs.Taking.{IsStepOf};
+ghost use Rattle.vp_hosts.specs.Letters.{as_received};
 ghost use Rattle.vp_hosts.specs.Stops.{is_kept};
 ghost use Rattle.vp_hosts.specs.declared.letter.Letter.{Letter};
 
@@ -94,28 +97,54 @@ impl Nodes {
         }
     }
 
-    /// The letter comes, and its site stops within the append that this asks for.
-    fn stop_by(&mut self, letter: &Letter, stop: &Stop) -> Result<Option<bool>, NoMemory>
-        ensures stops { IfOk result (λ kept. StopsWith letter.now kept self.old self.new) }
-        ensures kept { IfOk result (λ kept. IfSome kept (λ k. k ≡ is_kept stop.now)) }
-        ensures letters { self.new.letters ≡ self.old.letters }
-        ensures same { self.new.catalogue ≡ self.old.catalogue }
+    /// The letter comes to the host at its port, and the site, which is lent to it, takes its turn there. What its step sends are letters from
+    /// then on.
+    fn take(&mut self, site: Site, letter: &Letter) -> Result<(Site, Effects), NoMemory>
+        requires { LendsAt self.old.catalogue site letter.now.to self.old.hosts }
+        ensures comes { OnOk result (Comes letter.now site self.old self.new) }
+        ensures stepped { IfOk result (λ it. IsStepOf self.old.catalogue site (arrival self.old.catalogue site.id (as_received letter.now)) it.0 it.1) }
+        ensures same { OnOk result (self.new.catalogue ≡ self.old.catalogue) }
     {
-        stop_at(&mut self.hosts, &self.catalog, letter, stop)
+        let (site, outcome) = take_at(&mut self.hosts, &self.catalog, site, letter)?;
+        let Outcome {
+            effects, datagrams, ..
+        } = outcome;
+        let count = effects.messages.as_slice().len();
+        put_letters(letter.to, count, datagrams, &mut self.letters)?;
+        Ok((site, effects))
     }
 
-    /// A step of a site, which stops within the append of its batch. Answers whether the batch is in the log; none where there is none.
-    pub fn stop(&mut self, event: &Event, stop: &Stop) -> Result<Option<bool>, NoMemory>
-        requires { IsEvent event.now }
-        ensures stops { IfOk result (λ kept. (letter : Letter) → letter_of self.old.catalogue self.old.letters event.now ≡ Some letter → StopsWith letter kept self.old self.new) }
-        ensures nothing { letter_of self.old.catalogue self.old.letters event.now ≡ None → IfOk result (λ kept. (kept ≡ None) × (self.new ≡ self.old)) }
+    /// The letter comes, and the site, which is lent for it, stops within the append that this asks for.
+    fn stop_by(
+        &mut self,
+        site: Site,
+        letter: &Letter,
+        stop: &Stop,
+    ) -> Result<Option<bool>, NoMemory>
+        requires { LendsAt self.old.catalogue site letter.now.to self.old.hosts }
+        ensures stops { IfOk result (λ kept. StopsWith letter.now site kept self.old self.new) }
         ensures kept { IfOk result (λ kept. IfSome kept (λ k. k ≡ is_kept stop.now)) }
-        ensures letters { self.new.letters ≡ self.old.letters }
-        ensures same { self.new.catalogue ≡ self.old.catalogue }
+    {
+        stop_at(&mut self.hosts, &self.catalog, site, letter, stop)
+    }
+
+    /// The event's step of the site, which is lent for it and stops within the append of its batch. Answers whether the batch is in the log; none
+    /// where there is none.
+    pub fn stop(
+        &mut self,
+        event: &Event,
+        site: Site,
+        stop: &Stop,
+    ) -> Result<Option<bool>, NoMemory>
+        requires event { IsEvent event.now }
+        requires lent { (letter : Letter) → letter_of self.old.catalogue self.old.letters event.now ≡ Some letter → LendsAt self.old.catalogue site letter.to self.old.hosts }
+        ensures stops { IfOk result (λ kept. (letter : Letter) → letter_of self.old.catalogue self.old.letters event.now ≡ Some letter → StopsWith letter site kept self.old self.new) }
+        ensures nothing { letter_of self.old.catalogue self.old.letters event.now ≡ None → IfOk result (λ kept. kept ≡ None) }
+        ensures kept { IfOk result (λ kept. IfSome kept (λ k. k ≡ is_kept stop.now)) }
     {
         match self.letter(event)? {
             None => Ok(None),
-            Some(letter) => self.stop_by(&letter, stop),
+            Some(letter) => self.stop_by(site, &letter, stop),
         }
     }
 
@@ -134,6 +163,22 @@ impl Nodes {
     {
         restart_at(&mut self.hosts, &self.catalog, site)
     }
+
+    /// A crash or a restart is done.
+    fn change(&mut self, event: &Event) -> Result<(), NoMemory>
+        ensures hosts { OnOk result (HostsHear event.now self.old.catalogue self.old.hosts self.new.hosts) }
+        ensures letters { OnOk result (self.new.letters ≡ self.old.letters) }
+        ensures same { OnOk result (self.new.catalogue ≡ self.old.catalogue) }
+    {
+        match event {
+            Event::Crash { site } => {
+                self.crash(*site);
+                Ok(())
+            }
+            Event::Restart { site } => self.restart(*site),
+            _ => Ok(()),
+        }
+    }
 }
 
 impl Stepper for Nodes {
@@ -150,28 +195,16 @@ impl Stepper for Nodes {
 
     /// A crash and a restart are done at once; the letter of another event waits for the step that takes it.
     fn hear(&mut self, event: &Event) -> Result<(), NoMemory> {
-        match event {
-            Event::Crash { site } => self.crash(*site),
-            Event::Restart { site } => self.restart(*site)?,
-            _ => {}
-        }
+        self.change(event)?;
         self.coming = self.letter(event)?;
         Ok(())
     }
 
-    /// The letter comes to the host of the site, whose node takes it. What its step sends are letters from then on.
+    /// The letter that waits comes, with the site.
     fn step(&mut self, _: &Catalog, site: Site, _: &Input) -> Result<(Site, Effects), NoMemory> {
-        let Some(letter) = self.coming.take() else {
-            unreachable!();
-        };
-        let (site, outcome) = take_at(&mut self.hosts, &self.catalog, site, &letter)?;
-        let Outcome {
-            effects,
-            datagrams,
-            ..
-        } = outcome;
-        let count = effects.messages.as_slice().len();
-        put_letters(letter.to, count, datagrams, &mut self.letters)?;
-        Ok((site, effects))
+        match self.coming.take() {
+            None => unreachable!(),
+            Some(letter) => self.take(site, &letter),
+        }
     }
 }
