@@ -107,7 +107,9 @@ impl Nodes {
     {
         let (site, outcome) = take_at(&mut self.hosts, &self.catalog, site, letter)?;
         let Outcome {
-            effects, datagrams, ..
+            effects,
+            datagrams,
+            ..
         } = outcome;
         let count = effects.messages.as_slice().len();
         put_letters(letter.to, count, datagrams, &mut self.letters)?;
@@ -130,12 +132,7 @@ impl Nodes {
 
     /// The event's step of the site, which is lent for it and stops within the append of its batch. Answers whether the batch is in the log; none
     /// where there is none.
-    pub fn stop(
-        &mut self,
-        event: &Event,
-        site: Site,
-        stop: &Stop,
-    ) -> Result<Option<bool>, NoMemory>
+    pub fn stop(&mut self, event: &Event, site: Site, stop: &Stop) -> Result<Option<bool>, NoMemory>
         requires event { IsEvent event.now }
         requires lent { (letter : Letter) → letter_of self.old.catalogue self.old.letters event.now ≡ Some letter → LendsAt self.old.catalogue site letter.to self.old.hosts }
         ensures stops { IfOk result (λ kept. (letter : Letter) → letter_of self.old.catalogue self.old.letters event.now ≡ Some letter → StopsWith letter site kept self.old self.new) }

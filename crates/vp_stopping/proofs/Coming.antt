@@ -2,13 +2,14 @@
 use Rattle.std.proofs.Common.{◌≡◌, ◌∙◌, ap, sym, subst, ℕ, zero, suc, ◌+◌, ◌-◌, ◌≤◌, ◌<◌, Bool, true, false, cond, List, [], ◌∷◌, ◌++◌, length, take, refl, arith, append_assoc}
 use Rattle.std.specs.Prelude.{Option, Some, None, Result, Err, ◌==◌, slice_get}
 use Rattle.std.specs.Option.{option_or}
+use Rattle.std.specs.List.{AllByRecursion}
 use Rattle.std.proofs.lemmas.Bool.Decides.{nat_tests}
 use Rattle.std.proofs.lemmas.List.{map-append, length-append}
 use Rattle.std.proofs.lemmas.Option.{slice_get_past}
 use Rattle.vp_model.specs.Types.{Event, Counted}
 use Rattle.vp_model.specs.Catalogue.{sites_of}
 use Rattle.vp_model.specs.Limits.{world_limits, exceeded, limit_in, refused}
-use Rattle.vp_model.specs.World.{WorldState, Run, Moment, Schedule, next, moment, moments_of, run_of, start_world}
+use Rattle.vp_model.specs.World.{WorldState, Run, Moment, Schedule, site_of, next, moment, moments_of, run_of, start_world}
 use Rattle.vp_laws.specs.ShapeLaws.{IsEvent}
 use Rattle.vp_laws.proofs.Lists.Members.{Has, has_first, has_left, has_right}
 use Rattle.vp_kept.proofs.Steps.{events_are}
@@ -18,18 +19,21 @@ use Rattle.vp_world.specs.Limits.{Ends}
 use Rattle.vp_world.specs.declared.end.WorldEnd.{WorldEnd}
 use Rattle.vp_world.specs.declared.end.WorldEnd.TheVariants as end
 use Rattle.vp_schedule.specs.Document.{IsSchedule}
-use Rattle.vp_playing.specs.Played.{lines_in}
-use Rattle.vp_playing.proofs.Seen.{sees_steps}
+use Rattle.vp_world.specs.Steps.{taker, DoesEvent, IsReady}
+use Rattle.vp_playing.specs.Played.{StepsAll}
+use Rattle.vp_playing.proofs.Seen.{sees_append}
 use Rattle.vp_stopping.specs.declared.stopped.Steps.{Steps}
 use Rattle.vp_stopping.specs.declared.stopped.Front.{Front}
 use Rattle.vp_stopping.specs.Left.{next_single, left_then}
-use Rattle.vp_cluster.specs.Nodes.{NodesValue, Begin, Follows}
+use Rattle.vp_cluster.specs.Nodes.{NodesValue, Begin, Hears, MayStep, Posts}
+use Rattle.vp_cluster.specs.Letters.{letter_of}
 use Rattle.vp_cluster.specs.Clusters.{AreTied}
+use Rattle.vp_hosts.specs.Ports.{LendsAt}
 use Rattle.vp_stopping.specs.Singles.{HaveDone, IsBegun, IsBefore, ComesTo}
 use Rattle.vp_cluster.proofs.Running.{events_formed}
 use Rattle.vp_stopping.proofs.SingleLimits.{limit_append, limit_one}
-use Rattle.vp_cluster.proofs.Tied.{front_tied}
-use Rattle.vp_cluster.proofs.TiedLines.{FollowAll, follows_line}
+use Rattle.vp_cluster.proofs.Tied.{facts, front_tied, front_folds, nodes_are_ready}
+use Rattle.vp_stopping.proofs.TiedStops.{lent_now}
 use Rattle.vp_stopping.proofs.Walking.{goes_grows, goes_over}
 use Rattle.vp_stopping.proofs.Front.{Came, Next, came_first, came_goes, came_next}
 
@@ -43,7 +47,7 @@ pub record Comes (s : Schedule) (j : ℕ) (steps : Steps) (nodes : NodesValue) (
   pub none : limit_in world_limits ms ≡ None
   pub begun : NodesValue
   pub begins : Begin s.catalogue begun
-  pub nodes_are : FollowAll (lines_in ms) begun nodes
+  pub nodes_are : StepsAll Hears Posts ms begun nodes
 
 pub comes_first : (s : Schedule) (front : Front) → IsBegun s front → Comes s 0 front.steps front.nodes front.left
 comes_first s front h = record {
@@ -117,16 +121,29 @@ module _ (s : Schedule) (is : IsSchedule s) (j : ℕ) (steps : Steps) (nodes : N
     grows : (more : List Moment) × (moments_of s ≡ (h.ms ++ m ∷ []) ++ more)
     grows = goes_grows s.catalogue (run_of s) (h.ms ++ m ∷ []) v (left_then h.w left) (came_goes s (h.ms ++ m ∷ []) v (left_then h.w left) it.came)
 
+    formed : AllByRecursion IsEvent s.events
+    formed = events_formed (sites_of s.catalogue) s.events is.events_are
+
+    has_it : Has (moments_of s) m
+    has_it = subst (λ ms. Has ms m) (sym grows.1) (has_left (h.ms ++ m ∷ []) grows.0 m (has_right h.ms (m ∷ []) m (has_first m [])))
+
+    moments_are : moments_of s ≡ h.ms ++ m ∷ grows.0
+    moments_are = grows.1 ∙ append_assoc h.ms (m ∷ []) grows.0
+
     pub comes_formed : IsEvent e
-    comes_formed =
-        let has : Has (moments_of s) m = subst (λ ms. Has ms m) (sym grows.1) (has_left (h.ms ++ m ∷ []) grows.0 m (has_right h.ms (m ∷ []) m (has_first m []))) in
-        events_are s.catalogue s.events (events_formed (sites_of s.catalogue) s.events is.events_are) m has
+    comes_formed = events_are s.catalogue s.events formed m has_it
+
+    -- the nodes may do it
+    pub comes_ready : IsReady Hears (MayStep steps.world.catalogue) e steps.world.world nodes
+    comes_ready =
+        subst (λ (k : Known). IsReady Hears (MayStep k.catalogue) e k.world nodes) (sym known)
+        (nodes_are_ready s is.catalogue_is formed h.begun h.begins h.ms grows.0 m nodes moments_are h.nodes_are).1
 
     -- it is done
     pub comes_on : (after : Steps) (now : NodesValue) (behind : List Event)
         → HaveDone steps.world.catalogue (steps.done ++ e ∷ []) (next steps.world.catalogue e steps.world.world).world after → exceeded world_limits (next steps.world.catalogue e steps.world.world).world ≡ None
-        → Follows (record { event = e; shown = (next steps.world.catalogue e steps.world.world).shown }) nodes now → behind ≡ left_then steps.world.world left → Comes s (j + 1) after now behind
-    comes_on after now behind done none follows left_is =
+        → DoesEvent Hears Posts e steps.world.world nodes now → behind ≡ left_then steps.world.world left → Comes s (j + 1) after now behind
+    comes_on after now behind done none does left_is =
         let k = known in
         let none_here : exceeded world_limits v ≡ None = subst (λ (k : Known). exceeded world_limits (next k.catalogue e k.world).world ≡ None) k none in
         record {
@@ -142,8 +159,8 @@ module _ (s : Schedule) (is : IsSchedule s) (j : ℕ) (steps : Steps) (nodes : N
           begun = h.begun;
           begins = h.begins;
           nodes_are =
-              sees_steps follows_line h.ms (m ∷ []) h.begun nodes now h.nodes_are
-              (now, subst (λ (k : Known). Follows (record { event = e; shown = (next k.catalogue e k.world).shown }) nodes now) k follows, refl);
+              sees_append (λ (m : Moment). DoesEvent Hears Posts m.line.event m.before) h.ms (m ∷ []) h.begun nodes now h.nodes_are
+              (now, subst (λ (k : Known). DoesEvent Hears Posts e k.world nodes now) k does, refl);
         }
 
     -- a limit ends it
@@ -166,11 +183,12 @@ module _ (s : Schedule) (is : IsSchedule s) (j : ℕ) (steps : Steps) (nodes : N
         let len = h.length_is in
         let some : (step == 0) ≡ false = grind (arith, nat_tests, step_is) in
         let less : step - 1 ≡ length h.ms = omega (arith, step_is, len) in
-        let front_is : take (step - 1) (moments_of s) ≡ h.ms = ap (take (step - 1)) (grows.1 ∙ append_assoc h.ms (m ∷ []) grows.0) ∙ front_of h.ms (m ∷ [] ++ grows.0) (step - 1) less in
+        let front_is : take (step - 1) (moments_of s) ≡ h.ms = ap (take (step - 1)) moments_are ∙ front_of h.ms (m ∷ [] ++ grows.0) (step - 1) less in
         let longer : length (h.ms ++ m ∷ []) ≡ j + 1 = length-append h.ms (m ∷ []) ∙ ap (λ n. n + 1) h.length_is in
         let up_to : take step (moments_of s) ≡ h.ms ++ m ∷ [] = ap (take step) grows.1 ∙ front_of (h.ms ++ m ∷ []) grows.0 step (step_is ∙ sym longer) in
         let at_it : moment_of step (moments_of s) ≡ Some m = ap (λ b. cond b None (slice_get (moments_of s) (step - 1))) some ∙ ap (λ ms. slice_get ms (step - 1)) grows.1 ∙ within h.ms m grows.0 (step - 1) less in
         let behind : left_then steps.world.world left ≡ left_then h.w left = ap (λ (k : Known). left_then k.world left) known in
+        let tied_here = front_tied s is.catalogue_is formed h.ms (m ∷ grows.0) moments_are h.w h.begun nodes h.begins h.came.along h.nodes_are in
         record {
           before = record {
             m = m;
@@ -184,5 +202,13 @@ module _ (s : Schedule) (is : IsSchedule s) (j : ℕ) (steps : Steps) (nodes : N
           tied =
               subst (λ (n : NodesValue). AreTied s.catalogue (take (step - 1) (moments_of s)) h.w n) (sym nodes_are)
               (subst (λ ms. AreTied s.catalogue ms h.w nodes) (sym front_is)
-              (front_tied s is.catalogue_is (events_formed (sites_of s.catalogue) s.events is.events_are) h.ms (m ∷ [] ++ grows.0) (grows.1 ∙ append_assoc h.ms (m ∷ []) grows.0) h.w h.begun nodes h.begins h.came.along h.nodes_are));
+              tied_here);
+          may_stop = λ id site takes up letter at.
+              subst (λ (n : NodesValue). LendsAt n.catalogue site letter.to n.hosts) (sym nodes_are)
+              (lent_now s.catalogue is.catalogue_is m h.ms nodes (facts s is.catalogue_is formed m has_it) tied_here
+              (front_folds s is.catalogue_is formed h.ms (m ∷ grows.0) moments_are h.w h.begun nodes h.begins h.came.along h.nodes_are)
+              id site
+              (sym (ap (λ (steps : Steps). taker steps.world.catalogue e steps.world.world) steps_are ∙ ap (λ (k : Known). taker k.catalogue e k.world) known) ∙ takes)
+              (sym (ap (λ (steps : Steps). site_of steps.world.world id) steps_are ∙ ap (λ (k : Known). site_of k.world id) known) ∙ up)
+              letter (sym (ap (λ (n : NodesValue). letter_of n.catalogue n.letters e) nodes_are) ∙ at));
         }

@@ -2,7 +2,7 @@
 use Rattle.std.proofs.Common.{◌≡◌, ◌∙◌, ap, sym, subst, ℕ, ◌+◌, ◌-◌, ◌≤◌, Bool, true, false, List, [], ◌∷◌, ◌++◌, length, arith, append_assoc}
 use Rattle.std.specs.Prelude.{Option, Some, None, IfSome, IsSome, Result, Err, option_to_list}
 use Rattle.std.specs.List.{range_with_len}
-use Rattle.vp_model.specs.Types.{Event, Line, Counted}
+use Rattle.vp_model.specs.Types.{Event, Counted}
 use Rattle.vp_model.specs.Types.event
 use Rattle.vp_model.specs.Catalogue.{Catalogue}
 use Rattle.vp_model.specs.World.{WorldState, message_at, next}
@@ -55,16 +55,12 @@ module _ (self : Steps) (site : ℕ) (e : Event) (takes : taker self.world.catal
   lost_done true after lost_is h = cc
   lost_done false after lost_is h = subst (λ v. HaveDone c (self.done ++ crash_event ∷ []) v after) (sym (place_world c false site e w single)) h
 
-  pub lost_none : (kept : Bool) → kept ≡ false → refused world_limits c crash_event w ≡ None → limit kept ≡ None
-  lost_none true lost_is none = cc
-  lost_none false lost_is none = lost_limit c site e w single ∙ none
-
-  pub lost_ends : {B : Type 0} (kept : Bool) (why : WorldEnd) (r : Result B WorldEnd) → kept ≡ false → Ends {A = Steps × Line} (refused world_limits c crash_event w) (Err why) → r ≡ Err why → Ends (limit kept) r
-  lost_ends true why r lost_is h is = cc
-  lost_ends false why r lost_is h is = ends_same (Steps × Line) (refused world_limits c crash_event w) (limit false) why r (sym (lost_limit c site e w single)) h is
+  pub lost_ends : (kept : Bool) (r : Result Steps WorldEnd) → kept ≡ false → Ends (refused world_limits c crash_event w) r → Ends (limit kept) r
+  lost_ends true r lost_is h = cc
+  lost_ends false r lost_is h = subst (λ (o : Option Counted). Ends o r) (sym (lost_limit c site e w single)) h
 
   -- a limit ends the step
-  pub kept_ends_first : {B : Type 0} (kept : Bool) (why : WorldEnd) (r : Result B WorldEnd) → kept ≡ true → Ends {A = Steps × Line} (refused world_limits c e w) (Err why) → r ≡ Err why → Ends (limit kept) r
+  pub kept_ends_first : {B : Type 0} (kept : Bool) (why : WorldEnd) (r : Result B WorldEnd) → kept ≡ true → Ends {A = Steps} (refused world_limits c e w) (Err why) → r ≡ Err why → Ends (limit kept) r
   kept_ends_first false why r kept_is h is = cc
   kept_ends_first true (end.Limit what much) r kept_is h is = rw is (kept_limit_first c site e w single what h.0, h.1)
   kept_ends_first true end.NoMemory r kept_is h is = rw is tt
@@ -79,11 +75,8 @@ module _ (self : Steps) (site : ℕ) (e : Event) (takes : taker self.world.catal
         ap (λ (k : Known). refused world_limits k.catalogue crash_event k.world) did.0
         ∙ sym (kept_limit_then c site e w single none) ∙ ap limit (sym kept_is)
 
-    pub kept_none : refused_then ≡ None → limit kept ≡ None
-    kept_none h = sym then_is ∙ h
-
-    pub kept_ends : {B : Type 0} (why : WorldEnd) (r : Result B WorldEnd) → Ends {A = Steps × Line} refused_then (Err why) → r ≡ Err why → Ends (limit kept) r
-    kept_ends why r h is = ends_same (Steps × Line) refused_then (limit kept) why r then_is h is
+    pub kept_ends : (r : Result Steps WorldEnd) → Ends refused_then r → Ends (limit kept) r
+    kept_ends r h = subst (λ (o : Option Counted). Ends o r) then_is h
 
     pub kept_done : (after : Steps) → HaveDone first.world.catalogue (first.done ++ crash_event ∷ []) (next first.world.catalogue crash_event first.world.world).world after → Crashed kept after
     kept_done after h =

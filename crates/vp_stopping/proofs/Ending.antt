@@ -9,7 +9,8 @@ use Rattle.vp_model.specs.Types.{Event, Counted}
 use Rattle.vp_model.specs.Types.event
 use Rattle.vp_model.specs.Catalogue.{sites_of}
 use Rattle.vp_model.specs.Limits.{world_limits, exceeded, limit_in, limit_reached, refused}
-use Rattle.vp_model.specs.World.{Moment, Schedule, next, moments_of}
+use Rattle.vp_model.specs.Site.{SiteState}
+use Rattle.vp_model.specs.World.{Moment, Schedule, site_of, next, moments_of}
 use Rattle.vp_laws.proofs.Lists.Members.{Has, has_first, has_left, has_right}
 use Rattle.vp_schedule.specs.Document.{IsSchedule}
 use Rattle.vp_schedule.specs.Events.{IsEvent as IsReadable}
@@ -24,13 +25,13 @@ use Rattle.vp_stopping.specs.declared.stopped.Steps.{Steps}
 use Rattle.vp_stopping.specs.declared.stopped.Stopped.{Stopped}
 use Rattle.vp_stopping.specs.declared.stopped.StoppedSite.{StoppedSite}
 use Rattle.vp_stopping.specs.Left.{CanRise}
-use Rattle.vp_stopping.specs.Singles.{AreBefore, ComesTo, IsBefore, GoesOn, StopsIn}
+use Rattle.vp_stopping.specs.Singles.{ComesTo, IsBefore, GoesOn, StopsIn, StopsOf}
 use Rattle.vp_stopping.specs.RanStopped.{RunsStopped}
 use Rattle.vp_cluster.proofs.Acting.{Facts}
 use Rattle.vp_cluster.proofs.Running.{events_formed}
 use Rattle.vp_cluster.proofs.Tied.{facts}
-use Rattle.vp_stopping.proofs.TiedStops.{StopsFor, nothing_appended, batch_appended}
-use Rattle.vp_stopping.proofs.Rejoined.{stopped_none, stopped_nobody, none_stopped, none_up_to, ended_before, moment_is, up_to_it, limit_of_it}
+use Rattle.vp_stopping.proofs.TiedStops.{nothing_appended, batch_appended}
+use Rattle.vp_stopping.proofs.Rejoined.{stopped_none, stopped_nobody, none_stopped, none_up_to, ended_before, up_to_it, limit_of_it}
 
 -- ---- there is nothing to stop in
 
@@ -47,6 +48,15 @@ ended_first s step kept what limit h = (h.0, ended_before s step kept what h.1)
 pub came_ends : (s : Schedule) (step : ℕ) (kept : Bool) (why : WorldEnd) (r : Result (Option Stopped) WorldEnd) → ComesTo s step (Err why) → r ≡ Err why → RunsStopped s step kept r
 came_ends s step kept (end.Limit what much) r ended is = rw is (ended_first s step kept what much ended)
 came_ends s step kept end.NoMemory r ended is = rw is tt
+
+-- ---- the run went on behind the stop
+
+pub all_done : (s : Schedule) (step : ℕ) (kept : Bool) (it : Stopped) → GoesOn s step kept (Ok it) → RunsStopped s step kept (Ok (Some it))
+all_done s step kept it goes = (goes.0, ap (λ o. option_map_or (limit_reached world_limits) o (limit_in world_limits (take step (moments_of s)))) goes.0 ∙ goes.1, goes.2)
+
+pub rest_ends : (s : Schedule) (step : ℕ) (kept : Bool) (why : WorldEnd) (r : Result (Option Stopped) WorldEnd) → GoesOn s step kept (Err why) → r ≡ Err why → RunsStopped s step kept r
+rest_ends s step kept (end.Limit what much) r goes is = rw is (goes.0, ap (λ o. option_map_or (limit_reached world_limits) o (limit_in world_limits (take step (moments_of s)))) goes.1.1 ∙ goes.1.2)
+rest_ends s step kept end.NoMemory r goes is = rw is tt
 
 -- ---- at the step
 
@@ -77,61 +87,44 @@ module _ (s : Schedule) (is : IsSchedule s) (step : ℕ) (front : Front) (e : Ev
       ∙ ap (λ e. exceeded world_limits (next s.catalogue e m.before).world) (sym h.before.event_is)
       ∙ sym (limit_of_it s step m h.before.is h.before.none)
 
-  module _ (after : Front) where
-    nobody : StopsIn e front after None → appender s.catalogue m ≡ None
-    nobody stops =
-        nothing_appended s.catalogue is.catalogue_is m (take (step - 1) (moments_of s)) front.nodes after.nodes its_facts h.tied (moment_is s step m h.before.is)
-        (λ site takes. subst (λ e. StopsFor e front.nodes after.nodes None) (sym h.before.event_is) (stops site (taker_is site takes)))
+  site_is : (id : ℕ) (site : SiteState) → site_of m.before id ≡ Some site → site_of front.steps.world.world id ≡ Some site
+  site_is id site up = ap (λ (k : Known). site_of k.world id) h.before.done.0 ∙ up
 
-    nothing_to_stop : StopsIn e front after None → exceeded world_limits (next front.steps.world.catalogue e front.steps.world.world).world ≡ None → (kept : Bool) → RunsStopped s step kept (Ok None)
-    nothing_to_stop stops none kept any =
-        let nothing = stopped_nobody s step any m h.before.is (nobody stops) in
+  -- ---- what a stop of the nodes tells
+
+  pub nobody : StopsIn e front None → appender s.catalogue m ≡ None
+  nobody stops =
+      nothing_appended s.catalogue is.catalogue_is m (take (step - 1) (moments_of s)) front.nodes its_facts h.tied
+      (λ id site takes up. subst (λ e. StopsOf e site None front.nodes) (sym h.before.event_is) (stops id site (taker_is id takes) (site_is id site up)))
+
+  pub somebody : (at : StoppedSite) → StopsIn e front (Some at) → appender s.catalogue m ≡ Some at.site
+  somebody at stops =
+      (batch_appended s.catalogue is.catalogue_is m (take (step - 1) (moments_of s)) front.nodes its_facts h.tied at.site at.kept (taker_there at.site stops.0)
+      (λ site up. subst (λ e. StopsOf e site (Some at.kept) front.nodes) (sym h.before.event_is) (stops.1 site (site_is at.site site up)))).0
+
+  -- ---- the run has come to the step once more
+
+  module _ (again : Front) (f : Event) (g : IsBefore s step again f) where
+    same_moment : m ≡ g.before.m
+    same_moment = let z = sym h.before.is ∙ g.before.is in cc
+
+    pub same_appender : (o : Option ℕ) → appender s.catalogue m ≡ o → appender s.catalogue g.before.m ≡ o
+    same_appender o = subst (λ (m : Moment). appender s.catalogue m ≡ o) same_moment
+
+    same_taker : (site : ℕ) → taker s.catalogue m.line.event m.before ≡ Some site → taker s.catalogue g.before.m.line.event g.before.m.before ≡ Some site
+    same_taker site = subst (λ (m : Moment). taker s.catalogue m.line.event m.before ≡ Some site) same_moment
+
+  -- ---- nobody appends
+
+  module _ (nobody : appender s.catalogue m ≡ None) where
+    pub nothing_done : refused world_limits front.steps.world.catalogue e front.steps.world.world ≡ None → (kept : Bool) → RunsStopped s step kept (Ok None)
+    nothing_done none kept any =
+        let nothing = stopped_nobody s step any m h.before.is nobody in
         (nothing, none_stopped s step any nothing ∙ sym limit_here ∙ none)
 
-    nothing_ended : StopsIn e front after None → (kept : Bool) (what : Counted) (limit : ℕ) → (exceeded world_limits (next front.steps.world.catalogue e front.steps.world.world).world ≡ Some what) × (limit ≡ limit_of what) → RunsStopped s step kept (Err (end.Limit what limit))
-    nothing_ended stops kept what limit some = (some.1, none_stopped s step kept (stopped_nobody s step kept m h.before.is (nobody stops)) ∙ sym limit_here ∙ some.0)
-
-    module _ (at : StoppedSite) (stops : StopsIn e front after (Some at)) where
-      pub appender_is : appender s.catalogue m ≡ Some at.site
-      appender_is =
-          (batch_appended s.catalogue is.catalogue_is m (take (step - 1) (moments_of s)) front.nodes after.nodes its_facts h.tied (moment_is s step m h.before.is) at.site at.kept (taker_there at.site stops.0)
-          (subst (λ e. StopsFor e front.nodes after.nodes (Some at.kept)) (sym h.before.event_is) stops.1)).0
-
-      pub all_done : (it : Stopped) → GoesOn s step at.kept (Ok it) → RunsStopped s step at.kept (Ok (Some it))
-      all_done it goes = (goes.0, ap (λ o. option_map_or (limit_reached world_limits) o (limit_in world_limits (take step (moments_of s)))) goes.0 ∙ goes.1, goes.2)
-
-      all_ended : (what : Counted) (limit : ℕ) → GoesOn s step at.kept (Err (end.Limit what limit)) → RunsStopped s step at.kept (Err (end.Limit what limit))
-      all_ended what limit goes = (goes.0, ap (λ o. option_map_or (limit_reached world_limits) o (limit_in world_limits (take step (moments_of s)))) goes.1.1 ∙ goes.1.2)
-
-  -- ---- the front behind the stop is where it was
-
-  module _ (after : Front) (same_steps : after.steps ≡ front.steps) (same_left : after.left ≡ front.left) where
-    abbrev pub before_after : AreBefore s step e after.steps after.left
-    before_after = record {
-      m = m;
-      is = h.before.is;
-      event_is = h.before.event_is;
-      done = (ap (λ (steps : Steps). steps.world) same_steps ∙ h.before.done.0, ap (λ (steps : Steps). steps.done) same_steps ∙ h.before.done.1);
-      left_is = same_left ∙ h.before.left_is;
-      none = h.before.none;
-    }
-
-    pub taker_after : (site : ℕ) → taker front.steps.world.catalogue e front.steps.world.world ≡ Some site → taker after.steps.world.catalogue e after.steps.world.world ≡ Some site
-    taker_after site takes = ap (λ (steps : Steps). taker steps.world.catalogue e steps.world.world) same_steps ∙ takes
-
-    refused_after : refused world_limits after.steps.world.catalogue e after.steps.world.world ≡ refused world_limits front.steps.world.catalogue e front.steps.world.world
-    refused_after = ap (λ (steps : Steps). refused world_limits steps.world.catalogue e steps.world.world) same_steps
-
-    pub nothing_done : StopsIn e front after None → refused world_limits after.steps.world.catalogue e after.steps.world.world ≡ None → (kept : Bool) → RunsStopped s step kept (Ok None)
-    nothing_done stops none = nothing_to_stop after stops (sym refused_after ∙ none)
-
-    pub nothing_ends : StopsIn e front after None → (kept : Bool) (why : WorldEnd) (r : Result (Option Stopped) WorldEnd) → Ends {A = Front} (refused world_limits after.steps.world.catalogue e after.steps.world.world) (Err why) → r ≡ Err why → RunsStopped s step kept r
-    nothing_ends stops kept (end.Limit what much) r ended is = rw is (nothing_ended after stops kept what much (sym refused_after ∙ ended.0, ended.1))
-    nothing_ends stops kept end.NoMemory r ended is = rw is tt
-
-    pub rest_ends : (at : StoppedSite) → StopsIn e front after (Some at) → (why : WorldEnd) (r : Result (Option Stopped) WorldEnd) → GoesOn s step at.kept (Err why) → r ≡ Err why → RunsStopped s step at.kept r
-    rest_ends at stops (end.Limit what much) r ended is = rw is (all_ended after at stops what much ended)
-    rest_ends at stops end.NoMemory r ended is = rw is tt
+    pub nothing_ends : (kept : Bool) (why : WorldEnd) (r : Result (Option Stopped) WorldEnd) → Ends {A = Steps} (refused world_limits front.steps.world.catalogue e front.steps.world.world) (Err why) → r ≡ Err why → RunsStopped s step kept r
+    nothing_ends kept (end.Limit what much) r ended is = rw is (ended.1, none_stopped s step kept (stopped_nobody s step kept m h.before.is nobody) ∙ sym limit_here ∙ ended.0)
+    nothing_ends kept end.NoMemory r ended is = rw is tt
 
   -- ---- numbers that may rise
 
@@ -164,7 +157,12 @@ module _ (s : Schedule) (is : IsSchedule s) (step : ℕ) (front : Front) (e : Ev
   line_rise done (Some (event.Crash site)) = tt
   line_rise done (Some (event.Restart site)) = tt
 
-  pub all_rise : (left : List Event) → left ≡ front.left → AllByRecursion CanRise left
-  all_rise left same =
-      subst (λ (left : List Event). AllByRecursion CanRise left) (sym (same ∙ h.before.left_is))
+  pub all_rise : AllByRecursion CanRise front.left
+  all_rise =
+      subst (λ (left : List Event). AllByRecursion CanRise left) (sym h.before.left_is)
       (all_append CanRise (option_map_or (left_of_line _) (slice_get s.events (m.number - 1)) []) (drop m.number s.events) (line_rise _ (slice_get s.events (m.number - 1))) (behind_rise (sites_of s.catalogue) m.number s.events is.events_are))
+
+-- the site that stopped in the step takes it, where the run has come there once more
+pub taker_again : (s : Schedule) (is : IsSchedule s) (step : ℕ) (front : Front) (e : Event) (h : IsBefore s step front e) (again : Front) (f : Event) (g : IsBefore s step again f) (site : ℕ)
+    → taker front.steps.world.catalogue e front.steps.world.world ≡ Some site → taker again.steps.world.catalogue f again.steps.world.world ≡ Some site
+taker_again s is step front e h again f g site takes = taker_is s is step again f g site (same_taker s is step front e h again f g site (taker_there s is step front e h site takes))

@@ -3,7 +3,7 @@ use Rattle.std.proofs.Common.{◌≡◌, ◌∙◌, ap, sym, subst, ℕ, zero, s
 use Rattle.std.specs.Prelude.{Option, Some, None, Result, Ok, Err}
 use Rattle.std.specs.Option.{option_map_or, option_or}
 use Rattle.std.proofs.lemmas.List.{map-append}
-use Rattle.vp_model.specs.Types.{Event, Line, Counted}
+use Rattle.vp_model.specs.Types.{Event, Counted}
 use Rattle.vp_model.specs.Types.event
 use Rattle.vp_model.specs.Catalogue.{Catalogue}
 use Rattle.vp_model.specs.Limits.{world_limits, exceeded, limit_in, limit_reached, refused}
@@ -93,7 +93,7 @@ module _ (catalogue : Catalogue) (whole : Run) (before : List Event) (steps : St
         let more = goes_grows catalogue whole (h.ms ++ m ∷ []) v (left_then h.w left) then_ in
         ap (limit_in world_limits) more.1 ∙ limit_append (h.ms ++ m ∷ []) more.0 ∙ ap (λ o. option_or o (limit_in world_limits more.0)) (limit_then ∙ some)
 
-    pub going_ends : {B : Type 0} (why : WorldEnd) (r : Result B WorldEnd) → Ends {A = Steps × Line} (refused world_limits steps.world.catalogue e steps.world.world) (Err why) → r ≡ Err why → Ends (limit_in world_limits whole.moments) r
+    pub going_ends : {B : Type 0} (why : WorldEnd) (r : Result B WorldEnd) → Ends {A = Steps} (refused world_limits steps.world.catalogue e steps.world.world) (Err why) → r ≡ Err why → Ends (limit_in world_limits whole.moments) r
     going_ends (end.Limit what much) r h is = rw is (going_ended what h.0, h.1)
     going_ends end.NoMemory r h is = rw is tt
 

@@ -10,7 +10,7 @@ use Rattle.vp_model.specs.Site.{SiteState}
 use Rattle.vp_model.specs.Step.{step}
 use Rattle.vp_model.specs.Told.{is_step}
 use Rattle.vp_model.specs.Justified.{site_named}
-use Rattle.vp_model.specs.World.{Moment, next, moment}
+use Rattle.vp_model.specs.World.{Moment, site_of, next}
 use Rattle.vp_laws.proofs.Lists.Numbers.{eq_self}
 use Rattle.vp_outside.specs.Disk.{Halves}
 use Rattle.vp_stable.specs.Halves.{HaveBatches}
@@ -24,14 +24,12 @@ use Rattle.vp_hosts.specs.Letters.{as_received}
 use Rattle.vp_cluster.specs.Letters.{letter_of}
 use Rattle.vp_stable.specs.Stops.{with_batch}
 use Rattle.vp_hosts.specs.Hosts.{HostValue, IsAt, Stops, turn_at, log_in}
-use Rattle.vp_cluster.specs.Nodes.{NodesValue, StopsWith}
+use Rattle.vp_hosts.specs.Ports.{LendsAt}
+use Rattle.vp_cluster.specs.Nodes.{NodesValue}
 use Rattle.vp_cluster.specs.Clusters.{AreTied}
-use Rattle.vp_cluster.proofs.Acting.{Facts}
+use Rattle.vp_cluster.proofs.Acting.{Facts, Folds}
 use Rattle.vp_cluster.proofs.Acting as acting
-
--- what a stop of the nodes says, for a site and for none
-abbrev pub StopsFor : Event → NodesValue → NodesValue → Option Bool → Type 0
-StopsFor e old new kept = (letter : Letter) → letter_of old.catalogue old.letters e ≡ Some letter → StopsWith letter kept old new
+use Rattle.vp_stopping.specs.Singles.{StopsOf}
 
 -- where a site is named, it may be this one
 appender_by : (catalogue : Catalogue) (m : Moment) (o : Option ℕ) → site_named m.before m.line.event ≡ o → appender catalogue m ≡ option_and_then (λ site. if appends catalogue m site then Some site else None) o
@@ -74,8 +72,7 @@ is_there : (records : List LogRecord) → records ≢ [] → not (is_empty recor
 is_there [] some = absurd (some refl)
 is_there (r ∷ rest) some = refl
 
-module _ (catalogue : Catalogue) (k : IsCatalogue catalogue) (m : Moment) (moments : List Moment) (old new : NodesValue) (facts : Facts catalogue m) (tied : AreTied catalogue moments m.before old)
-    (is : m ≡ moment m.number m.before m.line.event (next catalogue m.line.event m.before)) where
+module _ (catalogue : Catalogue) (k : IsCatalogue catalogue) (m : Moment) (moments : List Moment) (old : NodesValue) (facts : Facts catalogue m) (tied : AreTied catalogue moments m.before old) where
   abbrev e : Event
   e = m.line.event
 
@@ -87,10 +84,10 @@ module _ (catalogue : Catalogue) (k : IsCatalogue catalogue) (m : Moment) (momen
     comes : letter_of old.catalogue old.letters e ≡ Some letter
     comes = ap (λ (c : Catalogue). letter_of c old.letters e) tied.catalogue_is ∙ (acting.letter catalogue k m moments old facts tied s a).1
 
-    stops : (kept : Option Bool) → StopsFor e old new kept → (host : HostValue) × Stops old.catalogue (as_received letter) (acting.own catalogue k m moments old facts tied s a).host host kept
+    stops : (kept : Option Bool) → StopsOf e a.x kept old → (host : HostValue) × Stops old.catalogue (as_received letter) a.x (acting.own catalogue k m moments old facts tied s a).host host kept
     stops kept h =
         let own = acting.own catalogue k m moments old facts tied s a in
-        let there = (h letter comes).there own.host own.host_is in
+        let there = (h.1 letter comes).there own.host own.host_is in
         (there.0, there.2)
 
     turn_batch : (turn_at old.catalogue a.x (as_received letter)).batch ≡ records catalogue m s a
@@ -101,29 +98,29 @@ module _ (catalogue : Catalogue) (k : IsCatalogue catalogue) (m : Moment) (momen
         let own = acting.own catalogue k m moments old facts tied s a in
         subst (λ (up : Option SiteState). IsAt (batches_in catalogue s moments) up own.host) (acting.up_is catalogue k m moments old facts tied s a) own.at
 
-    none_acts : StopsFor e old new None → appender catalogue m ≡ None
+    none_acts : StopsOf e a.x None old → appender catalogue m ≡ None
     none_acts h =
         let (host, stop) = stops None h in
-        let none = (stop.up (batches_in catalogue s moments) a.x at).0 in
+        let none = (stop.up (batches_in catalogue s moments) at).0 in
         appender_is catalogue m s a ∙ ap (λ r. if not (is_empty r) then Some s else None) (sym turn_batch ∙ none)
 
     abbrev Left : Bool → Type 0
     Left kept = (appender catalogue m ≡ Some s) × ((log : Halves) × HaveBatches (with_batch kept (forced_at catalogue s m) (batches_in catalogue s moments)) log)
 
-    some_acts : (kept : Bool) → StopsFor e old new (Some kept) → Left kept
+    some_acts : (kept : Bool) → StopsOf e a.x (Some kept) old → Left kept
     some_acts kept h =
         let (host, stop) = stops (Some kept) h in
-        let some = (stop.up (batches_in catalogue s moments) a.x at).1 in
+        let some = (stop.up (batches_in catalogue s moments) at).1 in
         let batch = turn_batch ∙ sym (forced_is catalogue m s a) in (
           appender_is catalogue m s a ∙ ap (λ (b : Bool). if b then Some s else None) (is_there (records catalogue m s a) (λ none. some.0 (turn_batch ∙ none))),
           (log_in host, subst (λ r. HaveBatches (with_batch kept r (batches_in catalogue s moments)) (log_in host)) batch some.1.has),
         )
 
   what : Effect catalogue m
-  what = subst (Effect catalogue) (sym is) (effect catalogue m.number e m.before)
+  what = subst (Effect catalogue) (sym facts.next_is) (effect catalogue m.number e m.before)
 
   shows : is_step (next catalogue e m.before).shown ≡ is_step m.line.shown
-  shows = ap (λ (n : Moment). is_step n.line.shown) (sym is)
+  shows = ap (λ (n : Moment). is_step n.line.shown) (sym facts.next_is)
 
   taker_by : (o : Option ℕ) → site_named m.before e ≡ o → taker catalogue e m.before ≡ option_and_then (λ site. if is_step m.line.shown then Some site else None) o
   taker_by o named = ap (option_and_then (λ site. if is_step (next catalogue e m.before).shown then Some site else None)) named ∙ ap (λ b. option_and_then (λ site. if b then Some site else None) o) shows
@@ -142,23 +139,40 @@ module _ (catalogue : Catalogue) (k : IsCatalogue catalogue) (m : Moment) (momen
       go None named = taker_by None named
       go (Some site) named = taker_by (Some site) named ∙ ap (λ b. if b then Some site else None) none
 
-  pub nothing_appended : ((site : ℕ) → taker catalogue e m.before ≡ Some site → StopsFor e old new None) → appender catalogue m ≡ None
+  pub nothing_appended : ((id : ℕ) (site : SiteState) → taker catalogue e m.before ≡ Some id → site_of m.before id ≡ Some site → StopsOf e site None old) → appender catalogue m ≡ None
   nothing_appended h = by what
     where
       by : Effect catalogue m → appender catalogue m ≡ None
-      by (Effect.acts s a others) = none_acts s a (h s (taker_acts s a))
+      by (Effect.acts s a others) = none_acts s a (h s a.x (taker_acts s a) a.up)
       by (Effect.crashes s is sent own others) = (unnamed (ap (site_named m.before) is)).1
       by (Effect.restarts s is sent own others) = (unnamed (ap (site_named m.before) is)).1
       by (Effect.stands plain none sent all) = nobody_steps catalogue m none
 
-  pub batch_appended : (site : ℕ) (kept : Bool) → taker catalogue e m.before ≡ Some site → StopsFor e old new (Some kept)
-      → (appender catalogue m ≡ Some site) × ((log : Halves) × HaveBatches (with_batch kept (forced_at catalogue site m) (batches_in catalogue site moments)) log)
-  batch_appended site kept takes h = by what
+  pub batch_appended : (id : ℕ) (kept : Bool) → taker catalogue e m.before ≡ Some id → ((site : SiteState) → site_of m.before id ≡ Some site → StopsOf e site (Some kept) old)
+      → (appender catalogue m ≡ Some id) × ((log : Halves) × HaveBatches (with_batch kept (forced_at catalogue id m) (batches_in catalogue id moments)) log)
+  batch_appended id kept takes h = by what
     where
-      by : Effect catalogue m → (appender catalogue m ≡ Some site) × ((log : Halves) × HaveBatches (with_batch kept (forced_at catalogue site m) (batches_in catalogue site moments)) log)
+      by : Effect catalogue m → (appender catalogue m ≡ Some id) × ((log : Halves) × HaveBatches (with_batch kept (forced_at catalogue id m) (batches_in catalogue id moments)) log)
       by (Effect.acts s a others) =
-          let same : s ≡ site = (let z = sym (taker_acts s a) ∙ takes in cc) in
-          subst (λ s. (appender catalogue m ≡ Some s) × ((log : Halves) × HaveBatches (with_batch kept (forced_at catalogue s m) (batches_in catalogue s moments)) log)) same (some_acts s a kept h)
+          let same : s ≡ id = (let z = sym (taker_acts s a) ∙ takes in cc) in
+          subst (λ s. (appender catalogue m ≡ Some s) × ((log : Halves) × HaveBatches (with_batch kept (forced_at catalogue s m) (batches_in catalogue s moments)) log)) same
+          (some_acts s a kept (h a.x (subst (λ id. site_of m.before id ≡ Some a.x) same a.up)))
+      by (Effect.crashes s is sent own others) = absurd (let z = sym (unnamed (ap (site_named m.before) is)).0 ∙ takes in cc)
+      by (Effect.restarts s is sent own others) = absurd (let z = sym (unnamed (ap (site_named m.before) is)).0 ∙ takes in cc)
+      by (Effect.stands plain none sent all) = absurd (let z = sym (idle none) ∙ takes in cc)
+
+  -- the site whose step it is can be lent to the host that the letter comes to
+  pub lent_now : Folds catalogue moments m.before → (id : ℕ) (site : SiteState) → taker catalogue e m.before ≡ Some id → site_of m.before id ≡ Some site
+      → (letter : Letter) → letter_of old.catalogue old.letters e ≡ Some letter → LendsAt old.catalogue site letter.to old.hosts
+  lent_now folds id site takes up letter at = by what
+    where
+      by : Effect catalogue m → LendsAt old.catalogue site letter.to old.hosts
+      by (Effect.acts s a others) =
+          let same : s ≡ id = (let z = sym (taker_acts s a) ∙ takes in cc) in
+          let it : a.x ≡ site = (let z = sym a.up ∙ ap (site_of m.before) same ∙ up in cc) in
+          let own : (acting.letter catalogue k m moments old facts tied s a).0 ≡ letter = (let z = sym (comes s a) ∙ at in cc) in
+          subst (λ (l : Letter). LendsAt old.catalogue site l.to old.hosts) own
+          (subst (λ (x : SiteState). LendsAt old.catalogue x (acting.letter catalogue k m moments old facts tied s a).0.to old.hosts) it (acting.lends_at catalogue k m moments old facts tied s a folds old refl refl))
       by (Effect.crashes s is sent own others) = absurd (let z = sym (unnamed (ap (site_named m.before) is)).0 ∙ takes in cc)
       by (Effect.restarts s is sent own others) = absurd (let z = sym (unnamed (ap (site_named m.before) is)).0 ∙ takes in cc)
       by (Effect.stands plain none sent all) = absurd (let z = sym (idle none) ∙ takes in cc)

@@ -3,7 +3,8 @@ use Rattle.std.specs.Prelude.{◌≡◌, ℕ, ◌-◌, Bool, List, [], take, Opt
 use Rattle.vp_model.specs.Types.{Event}
 use Rattle.vp_model.specs.Catalogue.{Catalogue}
 use Rattle.vp_model.specs.Limits.{world_limits, limit_in, limit_reached}
-use Rattle.vp_model.specs.World.{WorldState, Run, start_world, Moment, Schedule, moment, next, run_from, moments_of, journal_of}
+use Rattle.vp_model.specs.Site.{SiteState}
+use Rattle.vp_model.specs.World.{WorldState, Run, start_world, Moment, Schedule, site_of, moment, next, run_from, moments_of, journal_of}
 use Rattle.vp_laws.specs.ShapeLaws.{IsEvent}
 use Rattle.vp_stops.specs.Stopped.{moment_of, stop_at, run_in, follow, singles, stopped}
 use Rattle.vp_world.specs.Steps.{taker}
@@ -11,12 +12,13 @@ use Rattle.vp_world.specs.Limits.{limit_of}
 use Rattle.vp_world.specs.declared.end.WorldEnd.{WorldEnd}
 use Rattle.vp_world.specs.declared.end.WorldEnd.TheVariants as end
 use Rattle.vp_hosts.specs.declared.letter.Letter.{Letter}
+use Rattle.vp_hosts.specs.Ports.{LendsAt}
 use Rattle.vp_stopping.specs.declared.stopped.Steps.{Steps}
 use Rattle.vp_stopping.specs.declared.stopped.Front.{Front}
 use Rattle.vp_stopping.specs.declared.stopped.Stopped.{Stopped}
 use Rattle.vp_stopping.specs.declared.stopped.StoppedSite.{StoppedSite}
 use Rattle.vp_cluster.specs.Letters.{letter_of}
-use Rattle.vp_cluster.specs.Nodes.{Begin, StopsWith}
+use Rattle.vp_cluster.specs.Nodes.{NodesValue, Begin, StopsWith}
 use Rattle.vp_cluster.specs.Clusters.{AreTied}
 
 -- This was done, and the world is this one.
@@ -46,11 +48,17 @@ pub record AreBefore (s : Schedule) (step : ℕ) (e : Event) (steps : Steps) (le
   pub left_is : left ≡ follow s.events (take step (moments_of s)) m
   pub none : limit_in world_limits (take (step - 1) (moments_of s)) ≡ None
 
+-- The site whose step the event is can be lent to the host that the event's letter comes to.
+abbrev pub MayStop : Event → Front → Type 0
+MayStop e front = (id : ℕ) (site : SiteState) → taker front.steps.world.catalogue e front.steps.world.world ≡ Some id → site_of front.steps.world.world id ≡ Some site
+    → (letter : Letter) → letter_of front.nodes.catalogue front.nodes.letters e ≡ Some letter → LendsAt front.nodes.catalogue site letter.to front.nodes.hosts
+
 -- The nodes have come so far too.
 pub record IsBefore (s : Schedule) (step : ℕ) (front : Front) (e : Event) : Type 0 where
   pub before : AreBefore s step e front.steps front.left
   pub formed : IsEvent e
   pub tied : AreTied s.catalogue (take (step - 1) (moments_of s)) before.m.before front.nodes
+  pub may_stop : MayStop e front
 
 -- The run has come to a step, or has none of that number, or a limit ends it before.
 abbrev pub ComesTo : Schedule → ℕ → Result (Option (Front × Event)) WorldEnd → Type 0
@@ -59,12 +67,15 @@ ComesTo s step (Ok None) = (moment_of step (moments_of s) ≡ None) × (limit_in
 ComesTo s step (Err (end.Limit what limit)) = (limit ≡ limit_of what) × (limit_in world_limits (take (step - 1) (moments_of s)) ≡ Some what)
 ComesTo s step (Err end.NoMemory) = Unit {0}
 
+-- The site stops within the append that the event's letter asks for, and leaves the nodes so.
+abbrev pub StopsOf : Event → SiteState → Option Bool → NodesValue → Type 0
+StopsOf e site kept old = (new : NodesValue) × ((letter : Letter) → letter_of old.catalogue old.letters e ≡ Some letter → StopsWith letter site kept old new)
+
 -- What a stop within the event's step answers: of its site, where it is one's, what the nodes say.
-abbrev pub StopsIn : Event → Front → Front → Option StoppedSite → Type 0
-StopsIn e old new None = (site : ℕ) → taker old.steps.world.catalogue e old.steps.world.world ≡ Some site
-    → (letter : Letter) → letter_of old.nodes.catalogue old.nodes.letters e ≡ Some letter → StopsWith letter None old.nodes new.nodes
-StopsIn e old new (Some it) = (taker old.steps.world.catalogue e old.steps.world.world ≡ Some it.site)
-    × ((letter : Letter) → letter_of old.nodes.catalogue old.nodes.letters e ≡ Some letter → StopsWith letter (Some it.kept) old.nodes new.nodes)
+abbrev pub StopsIn : Event → Front → Option StoppedSite → Type 0
+StopsIn e front None = (id : ℕ) (site : SiteState) → taker front.steps.world.catalogue e front.steps.world.world ≡ Some id → site_of front.steps.world.world id ≡ Some site → StopsOf e site None front.nodes
+StopsIn e front (Some it) = (taker front.steps.world.catalogue e front.steps.world.world ≡ Some it.site)
+    × ((site : SiteState) → site_of front.steps.world.world it.site ≡ Some site → StopsOf e site (Some it.kept) front.nodes)
 
 -- The run behind the stop comes to its end, or a limit ends it.
 abbrev pub GoesOn : Schedule → ℕ → Bool → Result Stopped WorldEnd → Type 0

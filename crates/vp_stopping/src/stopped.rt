@@ -8,17 +8,18 @@ ghost use Rattle.vp_model.specs.World.{next, message_at, run_from};
 ghost use Rattle.vp_schedule.specs.Document.{IsSchedule};
 ghost use Rattle.vp_stops.specs.Stopped.{appender, message_taken, pass_over, run_in, singles, stop_at, stopped_world};
 ghost use Rattle.vp_world.specs.Limits.{Ends};
-ghost use Rattle.vp_world.specs.Steps.{taker};
+ghost use Rattle.vp_world.specs.Steps.{taker, DoesEvent, IsReady};
 ghost use Rattle.vp_stopping.specs.Left.{CanRise, left_then, next_single};
-ghost use Rattle.vp_cluster.specs.Nodes.{Follows};
+ghost use Rattle.vp_cluster.specs.Nodes.{Hears, MayStep, Posts};
 ghost use Rattle.vp_hosts.specs.Stops.{is_kept};
 ghost use Rattle.vp_stopping.specs.RanStopped.{RunsStopped};
-ghost use Rattle.vp_stopping.specs.Singles.{AreBefore, ComesTo, GoesOn, HaveDone, IsBegun, StopsIn, moment_in, run_in_place};
+ghost use Rattle.vp_stopping.specs.Singles.{AreBefore, ComesTo, GoesOn, HaveDone, IsBegun, MayStop, StopsIn, moment_in, run_in_place};
 
 use crate::left::Left;
-use vp_base::{Commits, CopyOf, Event, Events, Line, NoMemory, SiteId};
+use vp_base::{Commits, CopyOf, Event, Events, NoMemory, SiteId};
 use vp_cluster::Nodes;
 use vp_hosts::Stop;
+use vp_places::{ByThemselves, Stepper};
 use vp_schedule::Schedule;
 use vp_world::{World, WorldEnd};
 
@@ -54,16 +55,26 @@ struct Steps {
 }
 
 impl Steps {
-    /// Does one step, and answers its line.
-    fn step(self, event: Event) -> Result<(Steps, Line), WorldEnd>
-        ensures done { IfOk result (λ it. HaveDone self.world.catalogue (self.done ++ event ∷ []) (next self.world.catalogue event self.world.world).world it.0) }
-        ensures line { IfOk result (λ it. it.1 ≡ record { event = event; shown = (next self.world.catalogue event self.world.world).shown }) }
+    /// Does one step.
+    fn step(self, event: Event) -> Result<Steps, WorldEnd>
+        ensures done { IfOk result (HaveDone self.world.catalogue (self.done ++ event ∷ []) (next self.world.catalogue event self.world.world).world) }
         ensures end { Ends (refused world_limits self.world.catalogue event self.world.world) result }
     {
+        self.step_by(event, &mut ByThemselves)
+    }
+
+    /// Does one step, whose site is lent to the stepper.
+    fn step_by<S: Stepper>(self, event: Event, stepper: &mut S) -> Result<Steps, WorldEnd>
+        requires hears { S.hears event }
+        requires ready { IsReady S.heard (S.may self.world.catalogue) event self.world.world stepper.old }
+        ensures done { IfOk result (HaveDone self.world.catalogue (self.done ++ event ∷ []) (next self.world.catalogue event self.world.world).world) }
+        ensures end { Ends (refused world_limits self.world.catalogue event self.world.world) result }
+        ensures did { OnOk result (DoesEvent S.heard S.did event self.world.world stepper.old stepper.new) }
+    {
         let Steps { world, mut done } = self;
-        let (world, line) = world.next(&event)?;
+        let (world, _) = world.next_by(&event, stepper)?;
         done.push(event)?;
-        Ok((Steps { world, done }, line))
+        Ok(Steps { world, done })
     }
 
     /// The message counts as delivered.
@@ -97,12 +108,10 @@ impl Steps {
         ensures end { Ends (limit_in world_limits (run_in_place self.world.catalogue kept site event self.world.world).moments) result }
     {
         if !kept {
-            let (steps, _) = self.step(Event::Crash { site })?;
-            return Ok(steps);
+            return self.step(Event::Crash { site });
         }
-        let (steps, _) = self.step(event)?;
-        let (steps, _) = steps.step(Event::Crash { site })?;
-        Ok(steps)
+        let steps = self.step(event)?;
+        steps.step(Event::Crash { site })
     }
 
     /// The site stops in the step of the event, with its batch in the log or not, and is down. The messages of that step are handed to
@@ -130,7 +139,7 @@ impl Steps {
         let mut left = left;
         let mut steps = self;
         while let Some(event) = left.next(&steps.world)? {
-            (steps, _) = steps.step(event)?;
+            steps = steps.step(event)?;
         }
         Ok(steps)
     }
@@ -160,13 +169,14 @@ impl Front {
         })
     }
 
-    /// Does the step, and so do the nodes.
+    /// Does the step, in which the nodes do that of its site.
     fn step(self, event: Event) -> Result<Front, WorldEnd>
-        requires { IsEvent event }
+        requires hears { IsEvent event }
+        requires ready { IsReady Hears (MayStep self.steps.world.catalogue) event self.steps.world.world self.nodes }
         ensures done { IfOk result (λ new. HaveDone self.steps.world.catalogue (self.steps.done ++ event ∷ [])
             (next self.steps.world.catalogue event self.steps.world.world).world new.steps) }
         ensures left { IfOk result (λ new. new.left ≡ self.left) }
-        ensures nodes { IfOk result (λ new. Follows (record { event = event; shown = (next self.steps.world.catalogue event self.steps.world.world).shown }) self.nodes new.nodes) }
+        ensures nodes { IfOk result (λ new. DoesEvent Hears Posts event self.steps.world.world self.nodes new.nodes) }
         ensures end { Ends (refused world_limits self.steps.world.catalogue event self.steps.world.world) result }
     {
         let Front {
@@ -174,25 +184,31 @@ impl Front {
             steps,
             left,
         } = self;
-        let (steps, line) = steps.step(event)?;
-        nodes.follow(&line)?;
+        let steps = steps.step_by(event, &mut nodes)?;
         Ok(Front { nodes, steps, left })
     }
 
-    /// Stops the site that takes the event within that step; none where it appends no batch.
-    fn stop(&mut self, event: &Event, stop: &Stop) -> Result<Option<StoppedSite>, NoMemory>
-        requires { IsEvent event.now }
-        ensures stops { IfOk result (StopsIn event.now self.old self.new) }
+    /// Stops the site that takes the event within that step; none where it appends no batch. All else is dropped.
+    fn stop(self, event: &Event, stop: &Stop) -> Result<Option<StoppedSite>, NoMemory>
+        requires hears { IsEvent event.now }
+        requires lent { MayStop event.now self }
+        ensures stops { IfOk result (StopsIn event.now self) }
         ensures kept { IfOk result (λ at. IfSome at (λ it. it.kept ≡ is_kept stop.now)) }
-        ensures steps { OnOk result (self.new.steps ≡ self.old.steps) }
-        ensures left { OnOk result (self.new.left ≡ self.old.left) }
     {
-        match self.steps.world.taker(event)? {
+        let Front {
+            mut nodes,
+            steps,
+            left: _,
+        } = self;
+        let Some(id) = steps.world.taker(event)? else {
+            return Ok(None);
+        };
+        let Some(site) = steps.world.into_site(id) else {
+            return Ok(None);
+        };
+        match nodes.stop(event, site, stop)? {
             None => Ok(None),
-            Some(site) => match self.nodes.stop(event, stop)? {
-                None => Ok(None),
-                Some(kept) => Ok(Some(StoppedSite { site, kept })),
-            },
+            Some(kept) => Ok(Some(StoppedSite { site: id, kept })),
         }
     }
 }
@@ -255,12 +271,17 @@ pub fn run_stopped(schedule: &Schedule, stop: &Stop) -> Result<Option<Stopped>, 
     if stop.step == 0 {
         return Ok(None);
     }
-    let Some((mut front, event)) = come_to(schedule, stop.step)? else {
+    let Some((front, event)) = come_to(schedule, stop.step)? else {
         return Ok(None);
     };
-    match front.stop(&event, stop)? {
+    let stopped = front.stop(&event, stop)?;
+    // the site went with that; the steps before are done once more
+    let Some((front, event)) = come_to(schedule, stop.step)? else {
+        return Ok(None);
+    };
+    match stopped {
         None => {
-            front.step(event)?;
+            front.steps.step(event)?;
             Ok(None)
         }
         Some(at) => Ok(Some(go_on(schedule, front, event, at)?)),
