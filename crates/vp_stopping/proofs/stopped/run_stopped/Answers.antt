@@ -34,3 +34,108 @@ stop-stopped-requires-clause-lent c =
     let came : c.in_ok-front.field-0 ≡ Some (c.in-Some.front, c.in-Some.event) = cc in
     let h : IsBefore c.args.schedule.now c.args.stop.now.step c.in-Some.front c.in-Some.event = subst (λ (o : Option (Front × Event)). ComesTo c.args.schedule.now c.args.stop.now.step (Ok o)) came c.in_ok-front.ensures in
     h.may_stop
+
+pub returns-in_err-front-2 : goal.returns-in_err-front-2
+returns-in_err-front-2 c =
+    came_ends c.args.schedule.now c.args.stop.now.step (is_kept c.args.stop.now) c.in_err-front-2.field-0.0 c.from_residual-in_err-front-2.result c.in_err-front-2.ensures
+    (gave_err c.from_residual-in_err-front-2.result c.in_err-front-2.field-0.0 c.from_residual-in_err-front-2.ensures.1)
+
+pub returns-in_default-2 : goal.returns-in_default-2
+returns-in_default-2 c =
+    nothing_there c.args.schedule.now c.args.stop.now.step (is_kept c.args.stop.now)
+    (subst (λ (o : Option (Front × Event)). ComesTo c.args.schedule.now c.args.stop.now.step (Ok o)) c.in_default-2.is c.in_ok-front-2.ensures)
+
+pub returns-in_err-step-in-None : goal.returns-in_err-step-in-None
+returns-in_err-step-in-None c =
+    let s = c.args.schedule.now in
+    let step = c.args.stop.now.step in
+    let front = c.in-Some.front in
+    let e = c.in-Some.event in
+    let again = c.in-Some-2.front in
+    let f = c.in-Some-2.event in
+    let came : c.in_ok-front.field-0 ≡ Some (front, e) = cc in
+    let came_again : c.in_ok-front-2.field-0 ≡ Some (again, f) = cc in
+    let h : IsBefore s step front e = subst (λ (o : Option (Front × Event)). ComesTo s step (Ok o)) came c.in_ok-front.ensures in
+    let g : IsBefore s step again f = subst (λ (o : Option (Front × Event)). ComesTo s step (Ok o)) came_again c.in_ok-front-2.ensures in
+    let stops = subst (λ (o : Option StoppedSite). StopsIn e front o) c.in-None.is c.in_ok-stopped.ensures.stops in
+    nothing_ends s c.requires.schedule step again f g (same_appender s c.requires.schedule step front e h again f g None (nobody s c.requires.schedule step front e h stops)) (is_kept c.args.stop.now)
+    c.in_err-step-in-None.field-0.0 c.from_residual-in_err-step-in-None.result c.in_err-step-in-None.ensures.end
+    (gave_err c.from_residual-in_err-step-in-None.result c.in_err-step-in-None.field-0.0 c.from_residual-in_err-step-in-None.ensures.1)
+
+pub returns-in_ok-step-in-None : goal.returns-in_ok-step-in-None
+returns-in_ok-step-in-None c =
+    let s = c.args.schedule.now in
+    let step = c.args.stop.now.step in
+    let front = c.in-Some.front in
+    let e = c.in-Some.event in
+    let again = c.in-Some-2.front in
+    let f = c.in-Some-2.event in
+    let came : c.in_ok-front.field-0 ≡ Some (front, e) = cc in
+    let came_again : c.in_ok-front-2.field-0 ≡ Some (again, f) = cc in
+    let h : IsBefore s step front e = subst (λ (o : Option (Front × Event)). ComesTo s step (Ok o)) came c.in_ok-front.ensures in
+    let g : IsBefore s step again f = subst (λ (o : Option (Front × Event)). ComesTo s step (Ok o)) came_again c.in_ok-front-2.ensures in
+    let stops = subst (λ (o : Option StoppedSite). StopsIn e front o) c.in-None.is c.in_ok-stopped.ensures.stops in
+    nothing_done s c.requires.schedule step again f g (same_appender s c.requires.schedule step front e h again f g None (nobody s c.requires.schedule step front e h stops)) c.in_ok-step-in-None.ensures.end (is_kept c.args.stop.now)
+
+pub go_on-requires-clause-taken : goal.go_on-requires-clause-taken
+go_on-requires-clause-taken c =
+    let s = c.args.schedule.now in
+    let step = c.args.stop.now.step in
+    let front = c.in-Some.front in
+    let e = c.in-Some.event in
+    let again = c.in-Some-2.front in
+    let f = c.in-Some-2.event in
+    let at = c.in-Some-3.at in
+    let came : c.in_ok-front.field-0 ≡ Some (front, e) = cc in
+    let came_again : c.in_ok-front-2.field-0 ≡ Some (again, f) = cc in
+    let h : IsBefore s step front e = subst (λ (o : Option (Front × Event)). ComesTo s step (Ok o)) came c.in_ok-front.ensures in
+    let g : IsBefore s step again f = subst (λ (o : Option (Front × Event)). ComesTo s step (Ok o)) came_again c.in_ok-front-2.ensures in
+    let stopped : c.in_ok-stopped.stopped ≡ Some at = cc in
+    let stops = subst (λ (o : Option StoppedSite). StopsIn e front o) stopped c.in_ok-stopped.ensures.stops in
+    taker_again s c.requires.schedule step front e h again f g at.site stops.0
+
+pub go_on-requires-clause-rise : goal.go_on-requires-clause-rise
+go_on-requires-clause-rise c =
+    let came : c.in_ok-front-2.field-0 ≡ Some (c.in-Some-2.front, c.in-Some-2.event) = cc in
+    let g : IsBefore c.args.schedule.now c.args.stop.now.step c.in-Some-2.front c.in-Some-2.event = subst (λ (o : Option (Front × Event)). ComesTo c.args.schedule.now c.args.stop.now.step (Ok o)) came c.in_ok-front-2.ensures in
+    all_rise c.args.schedule.now c.requires.schedule c.args.stop.now.step c.in-Some-2.front c.in-Some-2.event g
+
+pub returns-in_err-go_on-in-Some-3 : goal.returns-in_err-go_on-in-Some-3
+returns-in_err-go_on-in-Some-3 c =
+    let s = c.args.schedule.now in
+    let step = c.args.stop.now.step in
+    let front = c.in-Some.front in
+    let e = c.in-Some.event in
+    let again = c.in-Some-2.front in
+    let f = c.in-Some-2.event in
+    let at = c.in-Some-3.at in
+    let came : c.in_ok-front.field-0 ≡ Some (front, e) = cc in
+    let came_again : c.in_ok-front-2.field-0 ≡ Some (again, f) = cc in
+    let h : IsBefore s step front e = subst (λ (o : Option (Front × Event)). ComesTo s step (Ok o)) came c.in_ok-front.ensures in
+    let g : IsBefore s step again f = subst (λ (o : Option (Front × Event)). ComesTo s step (Ok o)) came_again c.in_ok-front-2.ensures in
+    let stopped : c.in_ok-stopped.stopped ≡ Some at = cc in
+    let stops = subst (λ (o : Option StoppedSite). StopsIn e front o) stopped c.in_ok-stopped.ensures.stops in
+    let kept : at.kept ≡ is_kept c.args.stop.now = subst (λ (o : Option StoppedSite). IfSome o (λ it. it.kept ≡ is_kept c.args.stop.now)) stopped c.in_ok-stopped.ensures.kept in
+    let goes = c.in_err-go_on-in-Some-3.ensures step g.before (same_appender s c.requires.schedule step front e h again f g (Some at.site) (somebody s c.requires.schedule step front e h at stops)) in
+    subst (λ kept. RunsStopped s step kept c.from_residual-in_err-go_on-in-Some-3.result) kept
+    (rest_ends s step at.kept c.in_err-go_on-in-Some-3.field-0.0 c.from_residual-in_err-go_on-in-Some-3.result goes
+    (gave_err c.from_residual-in_err-go_on-in-Some-3.result c.in_err-go_on-in-Some-3.field-0.0 c.from_residual-in_err-go_on-in-Some-3.ensures.1))
+
+pub returns-in_ok-go_on-in-Some-3 : goal.returns-in_ok-go_on-in-Some-3
+returns-in_ok-go_on-in-Some-3 c =
+    let s = c.args.schedule.now in
+    let step = c.args.stop.now.step in
+    let front = c.in-Some.front in
+    let e = c.in-Some.event in
+    let again = c.in-Some-2.front in
+    let f = c.in-Some-2.event in
+    let at = c.in-Some-3.at in
+    let came : c.in_ok-front.field-0 ≡ Some (front, e) = cc in
+    let came_again : c.in_ok-front-2.field-0 ≡ Some (again, f) = cc in
+    let h : IsBefore s step front e = subst (λ (o : Option (Front × Event)). ComesTo s step (Ok o)) came c.in_ok-front.ensures in
+    let g : IsBefore s step again f = subst (λ (o : Option (Front × Event)). ComesTo s step (Ok o)) came_again c.in_ok-front-2.ensures in
+    let stopped : c.in_ok-stopped.stopped ≡ Some at = cc in
+    let stops = subst (λ (o : Option StoppedSite). StopsIn e front o) stopped c.in_ok-stopped.ensures.stops in
+    let kept : at.kept ≡ is_kept c.args.stop.now = subst (λ (o : Option StoppedSite). IfSome o (λ it. it.kept ≡ is_kept c.args.stop.now)) stopped c.in_ok-stopped.ensures.kept in
+    let goes = c.in_ok-go_on-in-Some-3.ensures step g.before (same_appender s c.requires.schedule step front e h again f g (Some at.site) (somebody s c.requires.schedule step front e h at stops)) in
+    subst (λ kept. RunsStopped s step kept (Ok (Some c.in_ok-go_on-in-Some-3.field-0))) kept (all_done s step at.kept c.in_ok-go_on-in-Some-3.field-0 goes)
