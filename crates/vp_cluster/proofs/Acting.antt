@@ -139,7 +139,7 @@ IfLent catalogue told o = IfSome o (λ it. MayStep catalogue it.0 it.1 told)
 pub ready_on : (catalogue : Catalogue) (k : IsCatalogue catalogue) (m : Moment) (moments : List Moment) (old : NodesValue) → Facts catalogue m → AreTied catalogue moments m.before old → Folds catalogue moments m.before → Effect catalogue m
     → IsReady Hears (MayStep catalogue) m.line.event m.before old
 ready_on catalogue k m moments old facts tied folds (Effect.acts s a others) = λ told heard. subst (IfLent catalogue told) (sym (lent catalogue k m moments old facts tied s a)) (may_step catalogue k m moments old facts tied s a folds told heard)
-ready_on catalogue k m moments old facts tied folds (Effect.crashes s is sent own others) = λ told heard. subst (IfLent catalogue told) (ap (λ (e : Event). step_of e m.before) (sym is)) tt
-ready_on catalogue k m moments old facts tied folds (Effect.restarts s is sent own others) = λ told heard. subst (IfLent catalogue told) (ap (λ (e : Event). step_of e m.before) (sym is)) tt
+ready_on catalogue k m moments old facts tied folds (Effect.crashes s is sent here others) = λ told heard. subst (IfLent catalogue told) (ap (λ (e : Event). step_of e m.before) (sym is)) tt
+ready_on catalogue k m moments old facts tied folds (Effect.restarts s is sent here others) = λ told heard. subst (IfLent catalogue told) (ap (λ (e : Event). step_of e m.before) (sym is)) tt
 ready_on catalogue k m moments old facts tied folds (Effect.stands plain none sent all) =
     λ told heard. subst (IfLent catalogue told) (sym (none_lent catalogue m.before m.line.event plain (ap (λ (n : Moment). is_step n.line.shown) (sym facts.next_is) ∙ none))) tt

@@ -31,7 +31,7 @@ use Rattle.vp_world.specs.Steps.{step_of, DoesEvent}
 use Rattle.vp_hosts.specs.declared.letter.Letter.{Letter}
 use Rattle.vp_hosts.specs.Letters.{as_received}
 use Rattle.vp_cluster.specs.Letters.{sent_from, letter_of, letter_for}
-use Rattle.vp_hosts.specs.Hosts.{HostValue, IsAt, node_at, Takes, Crashes, Restarts}
+use Rattle.vp_hosts.specs.Hosts.{HostValue, IsAt, node_at, turn_at, Takes, Crashes, Restarts}
 use Rattle.vp_hosts.specs.Ports.{host_at, ChangesOf}
 use Rattle.vp_cluster.specs.Nodes.{NodesValue, HostsHear, Hears, Comes, Posts}
 use Rattle.vp_cluster.specs.Clusters.{HasSite, AreTied}
