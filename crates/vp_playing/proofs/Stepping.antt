@@ -1,5 +1,5 @@
 -- What whoever does the steps has done of a run, and is ready for.
-use Rattle.std.proofs.Common.{◌≡◌, ◌∙◌, ap, sym, subst, ℕ, suc, ◌+◌, ◌<◌, Bool, false, List, [], ◌∷◌, ◌++◌, refl, arith, length, drop, append_assoc}
+use Rattle.std.proofs.Common.{◌≡◌, ◌∙◌, ap, sym, subst, ℕ, suc, ◌+◌, ◌<◌, false, List, [], ◌∷◌, ◌++◌, refl, arith, length, drop, append_assoc}
 use Rattle.std.specs.Prelude.{⊤, Ok, Option, Some, None, IfSome, get_or}
 use Rattle.std.specs.List.{list_any}
 use Rattle.vp_model.specs.Types.{Event, Input, Line}
