@@ -1,5 +1,5 @@
 -- What whoever does the steps has done of a run, and is ready for.
-use Rattle.std.proofs.Common.{◌≡◌, ◌∙◌, ap, sym, subst, ℕ, suc, ◌+◌, ◌<◌, Bool, false, List, [], ◌∷◌, ◌++◌, refl, arith, length, drop, append_assoc}
+use Rattle.std.proofs.Common.{◌≡◌, ◌∙◌, ap, sym, subst, ℕ, suc, ◌+◌, ◌<◌, false, List, [], ◌∷◌, ◌++◌, refl, arith, length, drop, append_assoc}
 use Rattle.std.specs.Prelude.{⊤, Ok, Option, Some, None, IfSome, get_or}
 use Rattle.std.specs.List.{list_any}
 use Rattle.vp_model.specs.Types.{Event, Input, Line}
@@ -12,7 +12,7 @@ use Rattle.vp_world.specs.Known.{Known}
 use Rattle.vp_world.specs.Steps.{step_of, DoesEvent, IsReady}
 use Rattle.vp_playing.specs.Played.{run_in, lines_in, Sees, SeesAll, StepsAll, IsReadyFor}
 use Rattle.vp_playing.proofs.Seen.{sees_append}
-use Rattle.vp_playing.proofs.Turns.{behind, event_behind, run_grows, next_first, all_dropped, Flowing, flow_starts, flow_stops, flow_is_over, flow_turns, whole_moments}
+use Rattle.vp_playing.proofs.Turns.{behind, event_behind, run_grows, next_first, all_dropped, Flowing, flow_starts, flow_starts_run, flow_stops, flow_is_over, flow_turns, flow_turns_run, whole_moments}
 
 -- ---- parts of a run
 
@@ -71,8 +71,10 @@ pub record Delivering {S : Type 0} (heard : Event → S → S → Type 0) (did :
   pub done : StepsAll heard did at.run.moments old new
 
 pub delivering_starts : {S : Type 0} (heard : Event → S → S → Type 0) (did : SiteState → Input → S → S → Type 0) (catalogue : Catalogue) (n count : ℕ) (w : WorldState) (old : S) → Delivering heard did catalogue n count w 0 w old old
-unfolding flow_starts
-delivering_starts heard did catalogue n count w old = record { at = flow_starts unseen catalogue n count w tt; done = refl }
+delivering_starts heard did catalogue n count w old = record {
+  at = flow_starts unseen catalogue n count w tt;
+  done = subst (λ (run : Run). StepsAll heard did run.moments old old) (sym (flow_starts_run unseen catalogue n count w tt)) refl;
+}
 
 module _ {S : Type 0} (hears : Event → Type 0) (heard : Event → S → S → Type 0) (did : SiteState → Input → S → S → Type 0) (catalogue : Catalogue) (n count : ℕ) (w : WorldState) (i : ℕ) (known : Known) (old new : S) (same : known.catalogue ≡ catalogue) (so_far : Delivering heard did catalogue n count w i known.world old new) where
   pub flow_did : flow catalogue n count (run_in w) ≡ so_far.at.run → StepsAll heard did (flow catalogue n count (run_in w)).moments old new
@@ -98,11 +100,14 @@ module _ {S : Type 0} (hears : Event → Type 0) (heard : Event → S → S → 
         (part_is_ready hears heard did (may catalogue) so_far.at.run.moments delivered.moments whole.0 (flow catalogue n count (run_in w)).moments old new whole.1 so_far.done ready))
 
     delivered_once : list_any (is_over world_limits) delivered.moments ≡ false → (now : S) → StepsAll heard did delivered.moments new now → Delivering heard did catalogue n count w (suc i) delivered.world old now
-    unfolding flow_turns
-    delivered_once none now done = record {
-      at = flow_turns unseen catalogue n count w i known.world tt tt so_far.at k lt some tt none (all_unseen catalogue (lines_in delivered.moments));
-      done = sees_append (λ (m : Moment). DoesEvent heard did m.line.event m.before) so_far.at.run.moments delivered.moments old new now so_far.done done;
-    }
+    delivered_once none now done =
+        let shown = all_unseen catalogue (lines_in delivered.moments) in
+        record {
+          at = flow_turns unseen catalogue n count w i known.world tt tt so_far.at k lt some tt none shown;
+          done =
+              subst (λ (run : Run). StepsAll heard did run.moments old now) (sym (flow_turns_run unseen catalogue n count w i known.world tt tt so_far.at k lt some tt none shown))
+              (sees_append (λ (m : Moment). DoesEvent heard did m.line.event m.before) so_far.at.run.moments delivered.moments old new now so_far.done done);
+        }
 
     pub delivery_did : {T : Type 0} (sees begins : Catalogue → ℕ × Line → T → T → Type 0) (own : List (ℕ × Line)) (after : Known) (before seen : T) (now : S) → Sees sees begins known.catalogue own (one_step known.catalogue n (event.Deliver k) (run_in known.world)) (Ok after) before seen
         → StepsAll heard did (one_step known.catalogue n (event.Deliver k) (run_in known.world)).moments new now → Delivering heard did catalogue n count w (i + 1) after.world old now

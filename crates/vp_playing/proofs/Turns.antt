@@ -225,6 +225,10 @@ flow_starts sees catalogue n count w old = record { run = run_in w; world = refl
     all_left : (count : ℕ) → count - 0 ≡ count
     all_left count = omega arith
 
+pub flow_starts_run : {S : Type 0} (sees : Catalogue → ℕ × Line → S → S → Type 0) (catalogue : Catalogue) (n count : ℕ) (w : WorldState) (old : S) → (flow_starts sees catalogue n count w old).run ≡ run_in w
+unfolding flow_starts
+flow_starts_run sees catalogue n count w old = refl
+
 one_less : (count i : ℕ) → i < count → count - i ≡ suc (count - suc i)
 one_less count i lt = omega (arith, lt)
 
@@ -258,6 +262,10 @@ module _ {S : Type 0} (sees : Catalogue → ℕ × Line → S → S → Type 0) 
       within = both_false so_far.run.moments delivered.moments so_far.within none;
       seen = sees_steps (sees catalogue) so_far.run.moments delivered.moments old new after so_far.seen more;
     }
+
+    pub flow_turns_run : (after : S) (none : list_any over delivered.moments ≡ false) (more : SeesAll (sees catalogue) (lines_in delivered.moments) new after) → (flow_turns after none more).run ≡ behind so_far.run.moments delivered
+    unfolding flow_turns
+    flow_turns_run after none more = refl
 
     -- the moments of the whole flow are those so far, this delivery's, and more
     pub whole_moments : (rest : List Moment) × ((flow catalogue n count (run_in w)).moments ≡ (so_far.run.moments ++ delivered.moments) ++ rest)
