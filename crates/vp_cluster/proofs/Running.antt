@@ -1,6 +1,6 @@
 -- What the run of a schedule comes to.
 use Rattle.std.proofs.Common.{◌≡◌, ◌∙◌, inl, inr, ap, sym, subst, ℕ, true, List, [], ◌∷◌, ◌++◌, map, Some, None, refl}
-use Rattle.std.specs.Prelude.{⊤, Result, Ok, Err}
+use Rattle.std.specs.Prelude.{Result, Ok, Err}
 use Rattle.std.specs.List.{AllByRecursion, flat_map}
 use Rattle.vp_text.specs.Printing.{is_begun}
 use Rattle.vp_text.proofs.Printing.{begun_none, begun_first, begun_then, begun_whole}
@@ -72,11 +72,6 @@ events_formed sites (e ∷ events) h = (event_formed sites e h.0, events_formed 
     event_formed sites (event.Heal a b) h = tt
     event_formed sites (event.Crash site) h = tt
     event_formed sites (event.Restart site) h = tt
-
--- a trace shows each event
-pub all_allowed : (events : List Event) → AllByRecursion (λ _. ⊤) events
-all_allowed [] = tt
-all_allowed (e ∷ events) = (tt, all_allowed events)
 
 -- what the trace makes of a line
 abbrev pub SeesLine : Catalogue → ℕ × Line → List ℕ → List ℕ → Type 0

@@ -1,21 +1,16 @@
 //! Who is shown the lines of a run, step by step.
 
-ghost use Rattle.std.specs.Prelude.{◌≡◌, ◌++◌, ℕ, ⊤, OnErr, OnOk, length, take, true};
-ghost use Rattle.vp_base.specs.declared.event.Event.TheVariants as event;
+ghost use Rattle.std.specs.Prelude.{◌≡◌, ◌++◌, ℕ, OnErr, OnOk, length, take, true};
 
 use std::marker::Model;
 use vp_base::{CopyOf, Line, NoMemory, Replies, Shown};
 use vp_catalog::Catalog;
 use vp_trace::print_line;
 
-/// What is done with each line of a run. A delivery and a flow may be shown to every observer.
+/// What is done with each line of a run.
 pub trait Observer {
-    ghost use Rattle.vp_base.specs.declared.event.Event.{Event};
     ghost use Rattle.vp_base.specs.declared.event.Line.{Line};
     ghost use Rattle.vp_model.specs.Catalogue.{Catalogue};
-
-    /// The events whose lines it may be shown.
-    ghost allows: { Event → Type 0 };
 
     /// What it makes of a line, under the number of its event: the observer before and after.
     ghost sees: { Catalogue → ℕ × Line → Self → Self → Type 0 };
@@ -25,15 +20,8 @@ pub trait Observer {
 
     /// Shows it the next line.
     fn see(&mut self, number: u32, line: &Line, catalog: &Catalog) -> Result<(), NoMemory>
-        requires { allows line.now.event }
         ensures seen { OnOk result (sees catalog.now (number, line.now) self.old self.new) }
         ensures begun { OnErr result (begins catalog.now (number, line.now) self.old self.new) };
-
-    /// It may be shown each delivery of a flow.
-    ghost deliveries: { (k : ℕ) → allows (event.Deliver k) };
-
-    /// It may be shown the line of a flow itself.
-    ghost flows: { (count : ℕ) → allows (event.Flow count) };
 }
 
 /// The text of a trace.
@@ -54,15 +42,9 @@ impl Observer for TraceText {
     ghost use Rattle.vp_model.specs.Texts.Trace.{line_text};
     ghost use Rattle.vp_text.specs.Printing.{is_begun};
 
-    ghost allows = { λ _. ⊤ };
-
     ghost sees = { λ catalogue line old new. new ≡ old ++ line_text catalogue line };
 
     ghost begins = { λ catalogue line old new. is_begun old (line_text catalogue line) new ≡ true };
-
-    ghost deliveries = { λ _. tt };
-
-    ghost flows = { λ _. tt };
 
     fn see(&mut self, number: u32, line: &Line, catalog: &Catalog) -> Result<(), NoMemory> {
         print_line(number, line, catalog, &mut self.bytes)
@@ -72,15 +54,9 @@ impl Observer for TraceText {
 impl Observer for Replies {
     ghost use Rattle.vp_model.specs.Told.{replies_in};
 
-    ghost allows = { λ _. ⊤ };
-
     ghost sees = { λ catalogue line old new. new ≡ old ++ replies_in line.1.shown };
 
     ghost begins = { λ catalogue line old new. (count : ℕ) × (new ≡ old ++ take count (replies_in line.1.shown)) };
-
-    ghost deliveries = { λ _. tt };
-
-    ghost flows = { λ _. tt };
 
     fn see(&mut self, _: u32, line: &Line, _: &Catalog) -> Result<(), NoMemory> {
         let Shown::Step { replies, .. } = &line.shown else {

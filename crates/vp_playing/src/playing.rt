@@ -1,7 +1,6 @@
 //! Playing the events of a schedule in a world, before an observer.
 
 ghost use Rattle.std.specs.Prelude.{◌≤◌, [], OnErr, OnOk, length};
-ghost use Rattle.std.specs.List.{AllByRecursion};
 ghost use Rattle.vp_model.specs.World.{one_step, flow, one_event, moments_of};
 ghost use Rattle.vp_model.specs.Texts.Trace.{own_line};
 ghost use Rattle.vp_playing.specs.Played.{SeesAll, SeesSome, Sees, Plays, StepsAll, IsReadyFor, run_in, schedule_of};
@@ -21,7 +20,6 @@ fn play_step<S: Stepper, O: Observer>(
     stepper: &mut S,
     observer: &mut O,
 ) -> Result<World, WorldEnd>
-    requires allowed { O.allows event.now }
     requires hears { S.hears event.now }
     requires ready { IsReady S.heard (S.may world.catalogue) event.now world.world stepper.old }
     ensures seen { Sees O.sees O.begins world.catalogue [] (one_step world.catalogue number event.now (run_in world.world)) result observer.old observer.new }
@@ -87,7 +85,6 @@ pub fn play_event<S: Stepper, O: Observer>(
     stepper: &mut S,
     observer: &mut O,
 ) -> Result<World, WorldEnd>
-    requires allowed { O.allows event.now }
     requires ready { IsReadyFor S.hears S.heard S.did (S.may world.catalogue) (one_event world.catalogue number event.now (run_in world.world)).moments stepper.old }
     ensures stepped { OnOk result (StepsAll S.heard S.did (one_event world.catalogue number event.now (run_in world.world)).moments stepper.old stepper.new) }
     ensures seen { Sees O.sees O.begins world.catalogue (own_line number event.now) (one_event world.catalogue number event.now (run_in world.world)) result
@@ -109,7 +106,6 @@ pub fn play<S: Stepper, O: Observer>(
     observer: &mut O,
 ) -> Result<World, WorldEnd>
     requires few { length events.now ≤ 100000 }
-    requires allowed { AllByRecursion O.allows events.now }
     requires ready { IsReadyFor S.hears S.heard S.did (S.may catalog) (moments_of (schedule_of catalog events.now)) stepper.old }
     ensures stepped { OnOk result (StepsAll S.heard S.did (moments_of (schedule_of catalog events.now)) stepper.old stepper.new) }
     ensures played { Plays O.sees O.begins (schedule_of catalog events.now) result observer.old observer.new }

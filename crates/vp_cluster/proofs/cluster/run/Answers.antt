@@ -7,7 +7,7 @@ use Rattle.vp_hosts.specs.Ports.{AreHosts}
 use Rattle.vp_cluster.specs.Nodes.{NodesValue, Begin, Hears, MayStep, Posts}
 use Rattle.vp_cluster.specs.Ran.{AreLogs, Runs}
 use Rattle.vp_node.proofs.Faults.{gave_err}
-use Rattle.vp_cluster.proofs.Running.{all_allowed, runs_nothing, run_is_ready, run_is_cut, run_is_left, run_is_done, same_plays}
+use Rattle.vp_cluster.proofs.Running.{runs_nothing, run_is_ready, run_is_cut, run_is_left, run_is_done, same_plays}
 use Rattle.vp_cluster.proofs.cluster.run.Goals as goal
 
 pub returns-in_err-world : goal.returns-in_err-world
@@ -42,9 +42,6 @@ returns-in_err-copy_of c = runs_nothing c.args.schedule.now _ c.args.out.now.ite
 
 pub returns-in_err-begin : goal.returns-in_err-begin
 returns-in_err-begin c = runs_nothing c.args.schedule.now _ c.args.out.now.items (search rules)
-
-pub play-played-requires-clause-allowed : goal.play-played-requires-clause-allowed
-play-played-requires-clause-allowed c = all_allowed c.as_slice.result.now
 
 pub play-played-requires-clause-ready : goal.play-played-requires-clause-ready
 play-played-requires-clause-ready c =

@@ -30,10 +30,12 @@ returns-in_err-world-2-clause-played g c =
     (sym is)
     (play_is_ended g.O.Observer.sees g.O.Observer.begins s c.loop-event.event-index c.loop-event.number c.loop-event.world c.args.observer.now c.loop-event.observer h.catalogue h.count h.so_far c.event-item.result (search rules) (search rules) why c.play_event.new.observer (search rules))
 
-pub play_event-requires-clause-ready : goal.play_event-requires-clause-ready
-play_event-requires-clause-ready g c =
+pub play_event-requires : goal.play_event-requires
+play_event-requires g c =
     let h = c.loop-event.invariant in
-    event_is_ready g.S.Stepper.hears g.S.Stepper.heard g.S.Stepper.did (schedule_of c.args.catalog c.args.events.now) c.loop-event.event-index c.loop-event.number c.loop-event.world c.args.stepper.now c.loop-event.stepper h.catalogue h.count h.stepped c.event-item.result (search rules) (search rules) g.S.Stepper.may c.requires.ready
+    record {
+      ready = event_is_ready g.S.Stepper.hears g.S.Stepper.heard g.S.Stepper.did (schedule_of c.args.catalog c.args.events.now) c.loop-event.event-index c.loop-event.number c.loop-event.world c.args.stepper.now c.loop-event.stepper h.catalogue h.count h.stepped c.event-item.result (search rules) (search rules) g.S.Stepper.may c.requires.ready;
+    }
 
 pub loop-event-preserved : goal.loop-event-preserved
 loop-event-preserved g c =

@@ -27,4 +27,4 @@ play_flow-requires g c =
 pub play_step-requires : goal.play_step-requires
 play_step-requires g c =
     let is_ready = other_is_ready g.S.Stepper.hears g.S.Stepper.heard g.S.Stepper.did (g.S.Stepper.may c.args.world.catalogue) c.args.world.catalogue c.args.number c.args.event.now c.args.world.world c.args.stepper.now c.in_default.not-Flow c.requires.ready in
-    record { allowed = c.requires.allowed; hears = is_ready.0; ready = is_ready.1 }
+    record { hears = is_ready.0; ready = is_ready.1 }

@@ -25,8 +25,8 @@ loop-init c =
 pub event-requires-clause-numbers : goal.event-requires-clause-numbers
 event-requires-clause-numbers c = numbers_fit c.args.seed c.loop.counter c.loop.world.world c.loop.invariant.making.world
 
-pub play_event-requires-clause-ready : goal.play_event-requires-clause-ready
-play_event-requires-clause-ready c = always_ready _ _ _ _
+pub play_event-requires : goal.play_event-requires
+play_event-requires c = record { ready = always_ready _ _ _ _ }
 
 pub returns-in_err-world-2 : goal.returns-in_err-world-2
 returns-in_err-world-2 c =
