@@ -26,11 +26,11 @@ pub fn run(schedule: &Schedule, out: &mut Vec<u8>) -> Result<Ran, WorldEnd>
     ensures { Runs schedule.now result out.old.items out.new.items }
 {
     let alloc = *out.allocator();
+    let catalog = schedule.catalog.copy_of()?;
     let mut nodes = Nodes::begin(schedule.catalog.copy_of()?)?;
     let mut trace = TraceText {
         bytes: replace(out, Vec::new(alloc)),
     };
-    let catalog = schedule.catalog.copy_of()?;
     let played = play(catalog, schedule.events.as_slice(), &mut nodes, &mut trace);
     *out = trace.bytes;
     let world = played?;

@@ -22,8 +22,8 @@ returns-in_err-world c =
 pub returns : goal.returns
 returns c =
     let same : schedule_of c.in_ok-catalog.catalog c.as_slice.result.now ≡ c.args.schedule.now = ap (λ x. schedule_of x c.as_slice.result.now) c.in_ok-catalog.ensures ∙ ap (schedule_of c.schedule.inside.catalog) c.as_slice.ensures ∙ c.schedule.view_is in
-    let begun = c.in_ok-begin.field-0 in
-    let begins = subst (λ catalogue. Begin catalogue begun) (c.in_ok-copy_of.ensures ∙ ap (λ (s : Schedule). s.catalogue) c.schedule.view_is) c.in_ok-begin.ensures in
+    let begun = c.in_ok-nodes.nodes in
+    let begins = subst (λ catalogue. Begin catalogue begun) (c.in_ok-copy_of.ensures ∙ ap (λ (s : Schedule). s.catalogue) c.schedule.view_is) c.in_ok-nodes.ensures in
     let hosts = subst (λ (nodes : NodesValue). AreHosts nodes.catalogue nodes.hosts) c.nodes.view_is c.nodes.invariant in
     let steps = subst (λ (s : Schedule). StepsAll Hears Posts (moments_of s) begun c.play-played.new.stepper) same c.in_ok-world.ensures.stepped in
     let plays = same_plays _ c.args.schedule.now (Ok c.in_ok-world.world) c.replace.result.items c.play-played.new.observer same c.in_ok-world.ensures.played in
@@ -40,14 +40,14 @@ returns-in_err-catalog c = runs_nothing c.args.schedule.now c.from_residual.resu
 pub returns-in_err-copy_of : goal.returns-in_err-copy_of
 returns-in_err-copy_of c = runs_nothing c.args.schedule.now _ c.args.out.now.items (search rules)
 
-pub returns-in_err-begin : goal.returns-in_err-begin
-returns-in_err-begin c = runs_nothing c.args.schedule.now _ c.args.out.now.items (search rules)
+pub returns-in_err-nodes : goal.returns-in_err-nodes
+returns-in_err-nodes c = runs_nothing c.args.schedule.now _ c.args.out.now.items (search rules)
 
 pub play-played-requires-clause-ready : goal.play-played-requires-clause-ready
 play-played-requires-clause-ready c =
     let same : schedule_of c.in_ok-catalog.catalog c.as_slice.result.now ≡ c.args.schedule.now = ap (λ x. schedule_of x c.as_slice.result.now) c.in_ok-catalog.ensures ∙ ap (schedule_of c.schedule.inside.catalog) c.as_slice.ensures ∙ c.schedule.view_is in
-    let begun = c.in_ok-begin.field-0 in
-    let begins = subst (λ catalogue. Begin catalogue begun) (c.in_ok-copy_of.ensures ∙ ap (λ (s : Schedule). s.catalogue) c.schedule.view_is) c.in_ok-begin.ensures in
+    let begun = c.in_ok-nodes.nodes in
+    let begins = subst (λ catalogue. Begin catalogue begun) (c.in_ok-copy_of.ensures ∙ ap (λ (s : Schedule). s.catalogue) c.schedule.view_is) c.in_ok-nodes.ensures in
     subst (λ (s : Schedule). IsReadyFor IsEvent Hears Posts (MayStep s.catalogue) (moments_of s) begun) (sym same) (run_is_ready c.args.schedule.now c.requires begun begins)
 
 pub returns-in_err-copy_of-2 : goal.returns-in_err-copy_of-2

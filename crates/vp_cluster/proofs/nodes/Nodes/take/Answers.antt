@@ -1,0 +1,21 @@
+use Rattle.std.proofs.Common.{◌≡◌, ◌∙◌, ◌++◌, ap, sym, subst, length, map, take, drop, arith}
+use Rattle.std.proofs.Math.Seq.{take-append_seam}
+use Rattle.std.specs.Vec.{with_items}
+use Rattle.vp_hosts.specs.Hosts.{Takes}
+use Rattle.vp_hosts.specs.Letters.{as_received}
+use Rattle.vp_hosts.specs.Ports.{ChangesAt}
+use Rattle.vp_cluster.specs.Letters.{sent_from}
+use Rattle.vp_cluster.specs.Nodes.{Comes}
+use Rattle.vp_cluster.proofs.Coming.{letter_came}
+use Rattle.vp_cluster.proofs.nodes.Nodes.take.Goals as goal
+
+pub returns-clause-comes : goal.returns-clause-comes
+returns-clause-comes c =
+    let letter = c.args.letter.now in
+    let outcome = c.in_ok-site.outcome in
+    let came = subst (λ hosts. ChangesAt letter.to (λ host next. Takes c.self.inside.catalog (as_received letter) c.args.site host next c.in_ok-site.site outcome) hosts c.take_at.new.hosts) c.deref_mut.ensures.value c.in_ok-site.ensures.takes in
+    let long : c.self.inside.hosts.len ≡ length c.take_at.new.hosts = omega (arith, c.take_at.auto.hosts, c.deref_mut.ensures.len) in
+    let items : (with_items c.self.inside.hosts c.take_at.new.hosts).items ≡ c.take_at.new.hosts = ap (λ n. take n (c.take_at.new.hosts ++ drop (length c.take_at.new.hosts) c.self.inside.hosts.items)) long ∙ take-append_seam c.take_at.new.hosts (drop (length c.take_at.new.hosts) c.self.inside.hosts.items) in
+    let put = c.in_ok-put_letters.ensures ∙ ap (λ messages. c.self.inside.letters.items ++ map (sent_from letter.to) (take (length messages) outcome.datagrams)) c.as_slice-count.ensures in
+    subst (λ hosts. Comes letter c.args.site c.args.self.now (record { catalogue = c.self.inside.catalog; hosts = hosts; letters = c.put_letters.new.letters.items; coming = c.self.inside.coming })) (sym items)
+    (letter_came letter c.args.site c.in_ok-site.site outcome c.self.inside.catalog c.self.inside.hosts.items c.take_at.new.hosts c.self.inside.letters.items c.put_letters.new.letters.items c.self.inside.coming c.args.self.now c.self.view_is came put)
