@@ -1,5 +1,5 @@
 -- What a stop makes of a host.
-use Rattle.std.proofs.Common.{◌≡◌, ◌≢◌, ◌∙◌, ap, sym, subst, ℕ, Bool, true, false, List, ◌∷◌, [], length, refl, arith}
+use Rattle.std.proofs.Common.{◌≡◌, ◌≢◌, ◌∙◌, ap, sym, subst, Bool, true, false, List, ◌∷◌, [], length, refl, arith}
 use Rattle.std.specs.Prelude.{Option, Some, None, IfSome, IfNone, ◌==◌}
 use Rattle.std.proofs.lemmas.Bool.Decides.{nat_tests}
 use Rattle.vp_model.specs.Types.{LogRecord}

@@ -151,11 +151,11 @@ impl Host {
         let alloc = catalog.sites().allocator();
         let what = arrival(alloc, catalog, self.id, letter.from, &letter.bytes)?;
         let (_, outcome) = take(site, catalog, what)?;
-        let batch = outcome.effects.records;
+        let batch = &outcome.effects.records;
         if batch.as_slice().is_empty() {
             return Ok(None);
         }
-        let left = append_stopped(alloc, log, &batch, &self.disk, stop)?;
+        let left = append_stopped(alloc, log, batch, &self.disk, stop)?;
         self.disk = left;
         Ok(Some(stop.keeps_batch()))
     }
