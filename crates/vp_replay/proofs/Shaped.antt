@@ -16,11 +16,11 @@ use Rattle.vp_model.specs.Types.op
 use Rattle.vp_model.specs.Catalogue.{Catalogue, RecordEntry, accessible, start_values, weights_in, weight_inside}
 use Rattle.vp_model.specs.OneCopy.{order}
 use Rattle.vp_model.specs.Site.{SiteState}
-use Rattle.vp_model.specs.World.{Place, WorldState, Run, Schedule, site_of, place_of, is_cut, run_of, journal_of}
+use Rattle.vp_model.specs.World.{WorldState, Run, Schedule, site_of, is_cut, run_of, journal_of}
 use Rattle.vp_model.specs.Generated.{newest, newest_of, Choice, Generating, generated_catalogue, generated_call, generated_work, generated_cut, generated_event, generated_name, decimal_of, next_draw, drawn, rounds}
 use Rattle.vp_onecopy.specs.Playing.{op_record, CommitsWithin}
-use Rattle.vp_laws.specs.Shapes.{IsShaped, IsLive}
-use Rattle.vp_laws.specs.ShapeLaws.{IsEvent, IsPlace, IsWorld}
+use Rattle.vp_laws.specs.Shapes.{IsLive}
+use Rattle.vp_laws.specs.ShapeLaws.{IsEvent, IsWorld}
 use Rattle.vp_laws.specs.Entries.{record_in}
 use Rattle.vp_laws.proofs.Shapes.Worlds.{last_world}
 use Rattle.vp_laws.proofs.Words.Entries.{entered}
@@ -28,6 +28,7 @@ use Rattle.vp_laws.proofs.Journal.Order.{order_has}
 use Rattle.vp_laws.proofs.Lists.Members.{contains, has_of}
 use Rattle.std.proofs.lemmas.Option.{slice_get_within}
 use Rattle.std.proofs.lemmas.List.{length-map, get_or_default}
+use Rattle.vp_cluster.proofs.Acting.{site_shaped}
 use Rattle.vp_replay.proofs.GeneratedCatalogue.{generated_is, name_is, number_is_value}
 use Rattle.vp_replay.proofs.Making.{after_rounds, choice_of, one_more, round_events, run_is}
 
@@ -44,22 +45,6 @@ newest_next : (live : List Live) (t : Newest) → AllByRecursion IsLive live →
 newest_next [] t h e = cc
 newest_next (x ∷ []) t h e = let same : newest_of x ≡ t = cc in subst IsNext same (live_next x h.0)
 newest_next (x ∷ y ∷ live) t h e = newest_next (y ∷ live) t h.1 e
-
--- a place that is found is one of the places
-found_place : (catalogue : Catalogue) (id : ℕ) (places : List Place) (p : Place) → AllByRecursion (IsPlace catalogue) places → place_of id places ≡ Some p → IsPlace catalogue p
-found_place catalogue id [] p h e = cc
-found_place catalogue id (q ∷ places) p h e = go (q.id == id) e (found_place catalogue id places p h.1)
-  where
-    go : (b : Bool) → cond b (Some q) (place_of id places) ≡ Some p → (place_of id places ≡ Some p → IsPlace catalogue p) → IsPlace catalogue p
-    go true e rest = let same : q ≡ p = cc in subst (IsPlace catalogue) same h.0
-    go false e rest = rest e
-
-site_shaped : (catalogue : Catalogue) (w : WorldState) (id : ℕ) (x : SiteState) → IsWorld catalogue w → site_of w id ≡ Some x → IsShaped catalogue x
-site_shaped catalogue w id x h e = go (place_of id w.places) refl e
-  where
-    go : (o : Option Place) → place_of id w.places ≡ o → option_and_then (λ (place : Place). place.up) o ≡ Some x → IsShaped catalogue x
-    go None is q = cc
-    go (Some p) is q = (subst (λ (up : Option SiteState). IfSome up (λ site. (site.id ≡ p.id) × IsShaped catalogue site)) q (found_place catalogue id w.places p h.places_are is).up_is).1
 
 site_next : (catalogue : Catalogue) (w : WorldState) (id : ℕ) (t : Newest) → IsWorld catalogue w → option_and_then (λ (site : SiteState). newest site.live) (site_of w id) ≡ Some t → IsNext t
 site_next catalogue w id t h e = go (site_of w id) refl e
