@@ -8,6 +8,7 @@ pub mod Marks
 pub mod Names
 pub mod Newlines
 pub mod Only
+pub mod Onward
 pub mod Printed
 pub mod Sites
 pub mod Spelled

@@ -11,7 +11,7 @@ ghost use Rattle.vp_model.specs.Catalogue.{sites_of, find_record, weights_of, ho
 use crate::entry::Entry;
 use crate::fault::CatalogFault;
 use crate::others::{least_other, others_in};
-use crate::placed::{Placed, has_site};
+use crate::placed::{Placed, has_site, number_of};
 use indexmap::IndexSet;
 use std::alloc::Global;
 use std::marker::Model;
@@ -55,10 +55,11 @@ impl Model for Catalog {
 
 impl CopyOf for Catalog {
     fn copy_of(&self) -> Result<Catalog, NoMemory> {
+        let alloc = self.sites.allocator();
         Ok(Catalog {
             sites: self.sites.copy_of()?,
-            ports: Vec::from_slice(*self.ports.allocator(), &self.ports)?,
-            records: copy_records(*self.records.allocator(), &self.records)?,
+            ports: Vec::from_slice(alloc, &self.ports)?,
+            records: copy_records(alloc, &self.records)?,
             names: self.names.clone()?,
         })
     }
@@ -183,10 +184,7 @@ impl Catalog {
     pub fn port(&self, site: SiteId) -> Option<u16>
         ensures { result ≡ value_at site self.now.sites }
     {
-        self.ports
-            .iter()
-            .find(|entry| entry.0 == site)
-            .map(|entry| entry.1)
+        number_of(&self.ports, site)
     }
 
     /// How many records there are, 256 at most.

@@ -30,10 +30,12 @@ pub(crate) fn others_in(
 pub(crate) fn least_other(sites: &[SiteId], members: &Sites, id: SiteId) -> Option<SiteId>
     ensures { result ≡ find (λ q. has members.now q && not (q == id)) sites.now }
 {
-    sites
-        .iter()
-        .copied()
-        .find(|site| is_other_member(members, id, *site))
+    for site in sites {
+        if is_other_member(members, id, *site) {
+            return Some(*site);
+        }
+    }
+    None
 }
 
 fn is_other_member(members: &Sites, id: SiteId, site: SiteId) -> bool

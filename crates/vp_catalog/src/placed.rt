@@ -100,8 +100,8 @@ impl Placed {
     pub fn weight(&self, site: SiteId) -> u32
         ensures { result ≡ option_map_or (λ w. w) (value_at site self.now.weights) 0 }
     {
-        match self.weights.iter().find(|w| w.0 == site) {
-            Some(found) => u32::from(found.1),
+        match number_of(&self.weights, site) {
+            Some(weight) => u32::from(weight),
             None => 0,
         }
     }
@@ -134,6 +134,18 @@ fn holders_of(alloc: Global, weights: &[(SiteId, u16)]) -> Result<Vec<SiteId>, N
     Ok(holders)
 }
 
+/// The number beside the site in the list; none where the site is not in it.
+pub(crate) fn number_of(numbers: &[(SiteId, u16)], site: SiteId) -> Option<u16>
+    ensures { result ≡ value_at site numbers.now }
+{
+    for entry in numbers {
+        if entry.0 == site {
+            return Some(entry.1);
+        }
+    }
+    None
+}
+
 /// Whether the site stands in the list.
 pub fn has_site(sites: &[SiteId], site: SiteId) -> bool
     ensures { result ≡ has sites.now site }
@@ -145,16 +157,22 @@ fn weight_at(weights: &[(SiteId, u16)], members: &[SiteId]) -> u32
     requires { length weights.now ≤ 16 }
     ensures { result ≡ weight_inside members.now weights.now }
 {
-    weights
-        .iter()
-        .filter(|w| has_site(members, w.0))
-        .map(|w| u32::from(w.1))
-        .sum()
+    let mut inside = 0;
+    for weight in weights {
+        if has_site(members, weight.0) {
+            inside += u32::from(weight.1);
+        }
+    }
+    inside
 }
 
 fn weight_of(weights: &[(SiteId, u16)]) -> u32
     requires { length weights.now ≤ 16 }
     ensures { result ≡ sum_by (λ w. w.1) weights.now }
 {
-    weights.iter().map(|w| u32::from(w.1)).sum()
+    let mut total = 0;
+    for weight in weights {
+        total += u32::from(weight.1);
+    }
+    total
 }

@@ -42,7 +42,12 @@ fn take_weight(
 fn has_above(sites: &[SiteId], above: u8) -> bool
     ensures { result ≡ some_above sites.now above }
 {
-    sites.iter().any(|site| above < site.get())
+    for site in sites {
+        if above < site.get() {
+            return true;
+        }
+    }
+    false
 }
 
 /// The next holder, or None for the end of the line.
