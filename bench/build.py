@@ -23,7 +23,7 @@ BELOW = {
     "answer_logs": "vp_stable vp_disks vp_records vp_outside vp_base",
     "time_logs": "vp_stable vp_disks vp_records vp_outside vp_base",
     "answer_stops": "vp_stopping vp_hosts vp_schedule vp_onecopy vp_world vp_catalog vp_base",
-    "time_runs": "vp_cluster vp_playing vp_schedule vp_world vp_base",
+    "time_runs": "vp_cluster vp_playing vp_schedule vp_world vp_places vp_base",
 }
 MODULES = {"answer_batches": ["record_text"], "answer_logs": ["record_text"]}
 
