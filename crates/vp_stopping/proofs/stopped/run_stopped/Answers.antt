@@ -23,14 +23,14 @@ returns-in_default c =
     nothing_there c.args.schedule.now c.args.stop.now.step (is_kept c.args.stop.now)
     (subst (λ (o : Option (Front × Event)). ComesTo c.args.schedule.now c.args.stop.now.step (Ok o)) c.in_default.is c.in_ok-front.ensures)
 
-pub stop-stopped-requires-clause-hears : goal.stop-stopped-requires-clause-hears
-stop-stopped-requires-clause-hears c =
+pub stop-requires-clause-hears : goal.stop-requires-clause-hears
+stop-requires-clause-hears c =
     let came : c.in_ok-front.field-0 ≡ Some (c.in-Some.front, c.in-Some.event) = cc in
     let h : IsBefore c.args.schedule.now c.args.stop.now.step c.in-Some.front c.in-Some.event = subst (λ (o : Option (Front × Event)). ComesTo c.args.schedule.now c.args.stop.now.step (Ok o)) came c.in_ok-front.ensures in
     h.formed
 
-pub stop-stopped-requires-clause-lent : goal.stop-stopped-requires-clause-lent
-stop-stopped-requires-clause-lent c =
+pub stop-requires-clause-lent : goal.stop-requires-clause-lent
+stop-requires-clause-lent c =
     let came : c.in_ok-front.field-0 ≡ Some (c.in-Some.front, c.in-Some.event) = cc in
     let h : IsBefore c.args.schedule.now c.args.stop.now.step c.in-Some.front c.in-Some.event = subst (λ (o : Option (Front × Event)). ComesTo c.args.schedule.now c.args.stop.now.step (Ok o)) came c.in_ok-front.ensures in
     h.may_stop
@@ -85,7 +85,7 @@ go_on-requires-clause-taken c =
     let e = c.in-Some.event in
     let again = c.in-Some-2.front in
     let f = c.in-Some-2.event in
-    let at = c.in-Some-3.at in
+    let at = c.in-Some-stopped.at in
     let came : c.in_ok-front.field-0 ≡ Some (front, e) = cc in
     let came_again : c.in_ok-front-2.field-0 ≡ Some (again, f) = cc in
     let h : IsBefore s step front e = subst (λ (o : Option (Front × Event)). ComesTo s step (Ok o)) came c.in_ok-front.ensures in
@@ -100,15 +100,15 @@ go_on-requires-clause-rise c =
     let g : IsBefore c.args.schedule.now c.args.stop.now.step c.in-Some-2.front c.in-Some-2.event = subst (λ (o : Option (Front × Event)). ComesTo c.args.schedule.now c.args.stop.now.step (Ok o)) came c.in_ok-front-2.ensures in
     all_rise c.args.schedule.now c.requires.schedule c.args.stop.now.step c.in-Some-2.front c.in-Some-2.event g
 
-pub returns-in_err-go_on-in-Some-3 : goal.returns-in_err-go_on-in-Some-3
-returns-in_err-go_on-in-Some-3 c =
+pub returns-in_err-go_on-in-Some-stopped : goal.returns-in_err-go_on-in-Some-stopped
+returns-in_err-go_on-in-Some-stopped c =
     let s = c.args.schedule.now in
     let step = c.args.stop.now.step in
     let front = c.in-Some.front in
     let e = c.in-Some.event in
     let again = c.in-Some-2.front in
     let f = c.in-Some-2.event in
-    let at = c.in-Some-3.at in
+    let at = c.in-Some-stopped.at in
     let came : c.in_ok-front.field-0 ≡ Some (front, e) = cc in
     let came_again : c.in_ok-front-2.field-0 ≡ Some (again, f) = cc in
     let h : IsBefore s step front e = subst (λ (o : Option (Front × Event)). ComesTo s step (Ok o)) came c.in_ok-front.ensures in
@@ -116,20 +116,20 @@ returns-in_err-go_on-in-Some-3 c =
     let stopped : c.in_ok-stopped.stopped ≡ Some at = cc in
     let stops = subst (λ (o : Option StoppedSite). StopsIn e front o) stopped c.in_ok-stopped.ensures.stops in
     let kept : at.kept ≡ is_kept c.args.stop.now = subst (λ (o : Option StoppedSite). IfSome o (λ it. it.kept ≡ is_kept c.args.stop.now)) stopped c.in_ok-stopped.ensures.kept in
-    let goes = c.in_err-go_on-in-Some-3.ensures step g.before (same_appender s c.requires.schedule step front e h again f g (Some at.site) (somebody s c.requires.schedule step front e h at stops)) in
-    subst (λ kept. RunsStopped s step kept c.from_residual-in_err-go_on-in-Some-3.result) kept
-    (rest_ends s step at.kept c.in_err-go_on-in-Some-3.field-0.0 c.from_residual-in_err-go_on-in-Some-3.result goes
-    (gave_err c.from_residual-in_err-go_on-in-Some-3.result c.in_err-go_on-in-Some-3.field-0.0 c.from_residual-in_err-go_on-in-Some-3.ensures.1))
+    let goes = c.in_err-go_on-in-Some-stopped.ensures step g.before (same_appender s c.requires.schedule step front e h again f g (Some at.site) (somebody s c.requires.schedule step front e h at stops)) in
+    subst (λ kept. RunsStopped s step kept c.from_residual-in_err-go_on-in-Some-stopped.result) kept
+    (rest_ends s step at.kept c.in_err-go_on-in-Some-stopped.field-0.0 c.from_residual-in_err-go_on-in-Some-stopped.result goes
+    (gave_err c.from_residual-in_err-go_on-in-Some-stopped.result c.in_err-go_on-in-Some-stopped.field-0.0 c.from_residual-in_err-go_on-in-Some-stopped.ensures.1))
 
-pub returns-in_ok-go_on-in-Some-3 : goal.returns-in_ok-go_on-in-Some-3
-returns-in_ok-go_on-in-Some-3 c =
+pub returns-in_ok-go_on-in-Some-stopped : goal.returns-in_ok-go_on-in-Some-stopped
+returns-in_ok-go_on-in-Some-stopped c =
     let s = c.args.schedule.now in
     let step = c.args.stop.now.step in
     let front = c.in-Some.front in
     let e = c.in-Some.event in
     let again = c.in-Some-2.front in
     let f = c.in-Some-2.event in
-    let at = c.in-Some-3.at in
+    let at = c.in-Some-stopped.at in
     let came : c.in_ok-front.field-0 ≡ Some (front, e) = cc in
     let came_again : c.in_ok-front-2.field-0 ≡ Some (again, f) = cc in
     let h : IsBefore s step front e = subst (λ (o : Option (Front × Event)). ComesTo s step (Ok o)) came c.in_ok-front.ensures in
@@ -137,5 +137,5 @@ returns-in_ok-go_on-in-Some-3 c =
     let stopped : c.in_ok-stopped.stopped ≡ Some at = cc in
     let stops = subst (λ (o : Option StoppedSite). StopsIn e front o) stopped c.in_ok-stopped.ensures.stops in
     let kept : at.kept ≡ is_kept c.args.stop.now = subst (λ (o : Option StoppedSite). IfSome o (λ it. it.kept ≡ is_kept c.args.stop.now)) stopped c.in_ok-stopped.ensures.kept in
-    let goes = c.in_ok-go_on-in-Some-3.ensures step g.before (same_appender s c.requires.schedule step front e h again f g (Some at.site) (somebody s c.requires.schedule step front e h at stops)) in
-    subst (λ kept. RunsStopped s step kept (Ok (Some c.in_ok-go_on-in-Some-3.field-0))) kept (all_done s step at.kept c.in_ok-go_on-in-Some-3.field-0 goes)
+    let goes = c.in_ok-go_on-in-Some-stopped.ensures step g.before (same_appender s c.requires.schedule step front e h again f g (Some at.site) (somebody s c.requires.schedule step front e h at stops)) in
+    subst (λ kept. RunsStopped s step kept (Ok (Some c.in_ok-go_on-in-Some-stopped.field-0))) kept (all_done s step at.kept c.in_ok-go_on-in-Some-stopped.field-0 goes)

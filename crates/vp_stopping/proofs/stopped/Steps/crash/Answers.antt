@@ -16,9 +16,9 @@ returns-in_err-steps-clause-end c =
 
 pub returns-clause-done : goal.returns-clause-done
 returns-clause-done c =
-    answered_so c.step-2.result _ _
-    (λ after h. kept_done c.args.self c.args.site c.args.event c.requires.taken c.args.kept (cc) c.in_ok-steps.steps c.in_ok-steps.ensures.done c.in_ok-steps.ensures.end after h) c.step-2.ensures.done
+    answered_so c.step-3.result _ _
+    (λ after h. kept_done c.args.self c.args.site c.args.event c.requires.taken c.args.kept (cc) c.in_ok-steps.steps c.in_ok-steps.ensures.done c.in_ok-steps.ensures.end after h) c.step-3.ensures.done
 
 pub returns-clause-end : goal.returns-clause-end
 returns-clause-end c =
-    kept_ends c.args.self c.args.site c.args.event c.requires.taken c.args.kept (cc) c.in_ok-steps.steps c.in_ok-steps.ensures.done c.in_ok-steps.ensures.end c.step-2.result c.step-2.ensures.end
+    kept_ends c.args.self c.args.site c.args.event c.requires.taken c.args.kept (cc) c.in_ok-steps.steps c.in_ok-steps.ensures.done c.in_ok-steps.ensures.end c.step-3.result c.step-3.ensures.end

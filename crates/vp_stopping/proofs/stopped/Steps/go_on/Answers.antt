@@ -22,7 +22,7 @@ pub loop-steps-preserved : goal.loop-steps-preserved
 loop-steps-preserved c = record {
   going =
       going_on _ _ _ c.loop-steps.steps c.loop-steps.left c.loop-steps.invariant.going c.in-Some.event (sym c.in_ok-event.ensures.next ∙ c.in-Some.is)
-      c.in_ok-steps.field-0 c.next.new.self c.in_ok-steps.ensures.done c.in_ok-steps.ensures.end c.in_ok-event.ensures.left;
+      c.in_ok-steps.steps c.next.new.self c.in_ok-steps.ensures.done c.in_ok-steps.ensures.end c.in_ok-event.ensures.left;
 }
 
 pub returns-clause-done : goal.returns-clause-done
