@@ -1,6 +1,6 @@
 -- The letter that brings a step to its site, and the host that it comes to.
-use Rattle.std.proofs.Common.{◌≡◌, ◌∙◌, ap, sym, subst, ℕ, Bool, false, List}
-use Rattle.std.specs.Prelude.{◌==◌, Option, Some, None, IfSome, option_and_then}
+use Rattle.std.proofs.Common.{◌≡◌, ◌∙◌, ap, sym, subst, ℕ, List}
+use Rattle.std.specs.Prelude.{◌==◌, Option, Some, IfSome, option_and_then}
 use Rattle.vp_catalog.specs.Document.{IsCatalogue}
 use Rattle.vp_wire.specs.Grammar.{IsFrame}
 use Rattle.vp_model.specs.Types.{Event, Input, Sent, Effects}
@@ -17,7 +17,6 @@ use Rattle.vp_laws.proofs.Lists.Members.{Has, find_has}
 use Rattle.vp_laws.proofs.Shapes.Moves.{some_at}
 use Rattle.vp_laws.proofs.Worlds.Scenes.{scene_of, kept_in, up-place}
 use Rattle.vp_laws.proofs.Invariant.Views.{InvViews}
-use Rattle.vp_runs.specs.declared.arrival.Arrival.{Arrival}
 use Rattle.vp_runs.specs.declared.arrival.Arrival.TheVariants as arrives
 use Rattle.vp_runs.specs.Arrivals.{arrival}
 use Rattle.vp_runs.specs.Keeping.{durable_in}

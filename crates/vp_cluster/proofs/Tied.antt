@@ -1,6 +1,6 @@
 -- Nodes that do the steps of a schedule are tied to it, and may do the next one.
 use Rattle.std.proofs.Common.{◌≡◌, ◌∙◌, ap, sym, subst, ℕ, List, ◌∷◌, [], ◌++◌, append_assoc, append-nil, ⊎_elim}
-use Rattle.std.specs.Prelude.{Some, None}
+use Rattle.std.specs.Prelude.{Some}
 use Rattle.std.specs.List.{AllByRecursion}
 use Rattle.vp_catalog.specs.Document.{IsCatalogue}
 use Rattle.vp_model.specs.Words.{value_at}

@@ -12,7 +12,7 @@ use Rattle.vp_model.specs.Durable.{DurableState, apply_all}
 use Rattle.vp_model.specs.Site.{SiteState, Stepped}
 use Rattle.vp_model.specs.Step.{step, start, durable_of}
 use Rattle.vp_model.specs.Told.{is_step}
-use Rattle.vp_model.specs.World.{Place, WorldState, Moment, place_of, after_step, restart_place}
+use Rattle.vp_model.specs.World.{Place, Moment, place_of, after_step, restart_place}
 use Rattle.vp_laws.proofs.Lists.Members.{Has, has_right}
 use Rattle.vp_laws.proofs.Lists.Views.{same_site}
 use Rattle.vp_laws.proofs.Worlds.Scenes.{place-id}

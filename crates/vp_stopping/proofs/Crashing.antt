@@ -16,7 +16,7 @@ use Rattle.vp_world.specs.declared.end.WorldEnd.{WorldEnd}
 use Rattle.vp_world.specs.declared.end.WorldEnd.TheVariants as end
 use Rattle.vp_stopping.specs.declared.stopped.Steps.{Steps}
 use Rattle.vp_stopping.specs.Singles.{HaveDone, moment_in, run_in_place}
-use Rattle.vp_stopping.proofs.InPlace.{ends_same, kept_limit_first, kept_limit_then, lose_more, lost_limit, place_grows, place_sends, place_stopped, place_world, still_there, taken_single, taken_there}
+use Rattle.vp_stopping.proofs.InPlace.{kept_limit_first, kept_limit_then, lose_more, lost_limit, place_grows, place_sends, place_stopped, place_world, still_there, taken_single, taken_there}
 
 -- ---- messages that nobody gets
 

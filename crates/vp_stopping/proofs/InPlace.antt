@@ -1,6 +1,6 @@
 -- What is done in the place of a step that is stopped.
 use Rattle.std.proofs.Common.{◌≡◌, ◌∙◌, ap, sym, subst, ℕ, zero, suc, ◌+◌, ◌-◌, ◌≤◌, ◌<◌, Bool, true, false, cond, List, [], ◌∷◌, ◌++◌, length, refl, arith, append_assoc, append-nil}
-use Rattle.std.specs.Prelude.{Option, Some, None, IsSome, ◌==◌, slice_get, option_map, option_and_then, if◌then◌else◌, Result, Err}
+use Rattle.std.specs.Prelude.{Option, Some, None, IsSome, ◌==◌, slice_get, option_map, option_and_then, if◌then◌else◌}
 use Rattle.std.specs.Option.{option_map_or, option_or}
 use Rattle.std.specs.List.{AllByRecursion, range_with_len}
 use Rattle.std.proofs.lemmas.Bool.Decides.{nat_tests}
@@ -19,9 +19,6 @@ use Rattle.vp_kept.proofs.Happened.{Effect, effect}
 use Rattle.vp_world.specs.Steps.{taker, passed_over}
 use Rattle.vp_stopping.specs.Singles.{moment_in, run_in_place}
 use Rattle.vp_stopping.proofs.SingleLimits.{limit_at, limit_run, or_none}
-use Rattle.vp_world.specs.Limits.{Ends}
-use Rattle.vp_world.specs.declared.end.WorldEnd.{WorldEnd}
-use Rattle.vp_world.specs.declared.end.WorldEnd.TheVariants as end
 
 -- ---- messages that are passed over
 
@@ -192,8 +189,3 @@ module _ (catalogue : Catalogue) (site : ℕ) (e : Event) (w : WorldState) (sing
   kept_limit_then none =
       place_limit catalogue true site e w single ∙ ap (λ o. option_or o (limit_at catalogue (crash_event ∷ []) (next catalogue e w).world)) none
       ∙ or_none (exceeded world_limits (next catalogue crash_event (next catalogue e w).world).world)
-
--- an end that is the same limit's
-pub ends_same : (A : Type 0) {B : Type 0} (x y : Option Counted) (why : WorldEnd) (r : Result B WorldEnd) → x ≡ y → Ends {A = A} x (Err why) → r ≡ Err why → Ends y r
-ends_same A x y (end.Limit what limit) r same h is = rw is (sym same ∙ h.0, h.1)
-ends_same A x y end.NoMemory r same h is = rw is tt

@@ -1,4 +1,4 @@
-use Rattle.std.proofs.Common.{rules, ◌≡◌, ◌∙◌, ◌++◌, List, ap, sym, subst, Ok, Err}
+use Rattle.std.proofs.Common.{rules, ◌≡◌, ◌∙◌, ◌++◌, ap, sym, subst, Ok, Err}
 use Rattle.vp_model.specs.World.{Schedule, moments_of}
 use Rattle.vp_laws.specs.ShapeLaws.{IsEvent}
 use Rattle.vp_model.specs.Texts.Trace.{trace_text}

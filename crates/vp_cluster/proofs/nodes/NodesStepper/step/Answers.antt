@@ -1,4 +1,4 @@
-use Rattle.std.proofs.Common.{◌≡◌, ◌∙◌, sym, Some}
+use Rattle.std.proofs.Common.{◌∙◌, sym}
 use Rattle.vp_cluster.proofs.Coming.{letter_posts}
 use Rattle.vp_cluster.proofs.nodes.NodesStepper.step.Goals as goal
 
