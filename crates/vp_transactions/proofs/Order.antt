@@ -222,6 +222,30 @@ module _ (txn : TxnId) (live : List Live) (place : ℕ) (p : IsPlace txn.seq (nu
   pub nowhere : AreRising (numbers live) → slice_get live place ≡ None → None ≡ position (λ u. same_txn u.txn txn) live
   nowhere r e = sym (missing_at r (λ t f. let both : Some t ≡ None = sym f ∙ e in absurd (cc)))
 
+-- the place of a transaction is the place of its number
+pub place_of_one : (live : List Live) → AreRising (numbers live) → (place : ℕ) (t : Live) → slice_get live place ≡ Some t → IsPlace t.txn.seq (numbers live) place
+place_of_one live r place t e =
+    let within : place < length (numbers live) = omega (arith, slice_get_within live place t e, length-map live (λ (u : Live). u.txn.seq)) in
+    let here : get_or (numbers live) place 0 ≡ t.txn.seq = sym (number_is live place) ∙ ap (λ o. option_map_or (λ (u : Live). u.txn.seq) o 0) e in
+    record {
+      within = omega (arith, within);
+      below = λ k l. omega (arith, here, rises (numbers live) r k place l within);
+      above = λ k l w. elim (cases_lt place k) [
+        | inl behind ↦ omega (arith, here, rises (numbers live) r place k behind w)
+        | inr before ↦ let same : k ≡ place = omega arith in rw (same, here) (omega arith)
+      ];
+    }
+
+-- a transaction of the name is the only one
+pub only_at : (txn : TxnId) (live : List Live) → AreRising (numbers live) → (place : ℕ) → option_map_or (λ (t : Live). same_txn t.txn txn) (slice_get live place) false ≡ true → Some place ≡ position (λ u. same_txn u.txn txn) live
+only_at txn live r place h = at_place (slice_get live place) refl h
+  where
+    at_place : (o : Option Live) → slice_get live place ≡ o → option_map_or (λ (t : Live). same_txn t.txn txn) o false ≡ true → Some place ≡ position (λ u. same_txn u.txn txn) live
+    at_place None e h = absurd (cc)
+    at_place (Some t) e h =
+        let p = subst (λ n. IsPlace n (numbers live) place) (same_seq t.txn txn h) (place_of_one live r place t e) in
+        sym (found_at txn live place p t e h)
+
 -- a name that has a place is there
 pub there : (test : Live → Bool) (live : List Live) (place : Option ℕ) → place ≡ position test live → is_some place ≡ list_any test live
 there test live None e = sym (any_is_found test live ∙ ap is_some (find_none test live (sym e)))

@@ -1,6 +1,6 @@
 //! The live transactions of a site.
 
-ghost use Rattle.std.specs.Prelude.{◌≡◌, ◌++◌, ◌∷◌, [], true, OnOk, OnErr, IfOk, IfSome, if◌then◌else◌, filter, map, drop, length, slice_get, slice_index_or};
+ghost use Rattle.std.specs.Prelude.{◌≡◌, ◌++◌, ◌∷◌, [], true, false, OnOk, OnErr, IfOk, IfSome, if◌then◌else◌, filter, map, drop, length, slice_get, slice_index_or};
 ghost use Rattle.std.specs.List.{position};
 ghost use Rattle.std.specs.Option.{option_map_or};
 ghost use Rattle.vp_model.specs.Words.{opening, same_txn, change_first, without_first};
@@ -20,14 +20,15 @@ use vp_lists::is_same_txn;
 use vp_slots::Slots;
 
 /// The live transactions, in the order in which they began: their numbers rise, so that one is found by halving. A call of theirs that is
-/// not answered yet waits for some site.
+/// not answered yet waits for some site. Where one was found last is where the next one is looked for first.
 pub struct LiveTxns {
     items: Slots<Live>,
+    last: usize,
 }
 
 impl Drop for LiveTxns {
     fn drop(self) {
-        let LiveTxns { items: _ } = self;
+        let LiveTxns { items: _, last: _ } = self;
     }
 }
 
@@ -49,6 +50,7 @@ impl LiveTxns {
     {
         LiveTxns {
             items: Slots::new(alloc),
+            last: 0,
         }
     }
 
@@ -65,7 +67,7 @@ impl LiveTxns {
     pub fn has(&self, txn: &TxnId) -> bool
         ensures { result ≡ is_live txn.now self.now }
     {
-        is_there(&self.items, txn)
+        is_there(&self.items, self.last, txn)
     }
 
     /// The transaction begins: its number is above those of the live ones. Without memory nothing changes.
@@ -85,7 +87,7 @@ impl LiveTxns {
         ensures waiting { IfSome result (λ t. waits t ≡ true) }
         ensures emptied { self.new ≡ change_first (λ u. same_txn u.txn txn.now) (λ u. begun txn.now opening) self.old }
     {
-        lift(&mut self.items, txn)
+        lift(&mut self.items, &mut self.last, txn)
     }
 
     /// The transaction goes back into its place.
@@ -93,13 +95,13 @@ impl LiveTxns {
         requires { waits t ≡ true }
         ensures { self.new ≡ change_first (λ u. same_txn u.txn t.txn) (λ u. t) self.old }
     {
-        lay_down(&mut self.items, t)
+        lay_down(&mut self.items, &mut self.last, t)
     }
 
     pub fn remove(&mut self, txn: &TxnId)
         ensures { self.new ≡ without_first (λ u. same_txn u.txn txn.now) self.old }
     {
-        drop_txn(&mut self.items, txn)
+        drop_txn(&mut self.items, self.last, txn)
     }
 
     /// Takes the first transaction out.
@@ -161,8 +163,8 @@ fn place_for(live: &Slots<Live>, number: u32) -> usize
     low
 }
 
-/// The place of the transaction. Its number leads there, and then its whole name has to be the same.
-fn place_of(live: &Slots<Live>, txn: &TxnId) -> Option<usize>
+/// The place to which the transaction's number leads, where its whole name is the same there.
+fn place_by_number(live: &Slots<Live>, txn: &TxnId) -> Option<usize>
     requires { AreRising (numbers live.now) }
     ensures { result ≡ position (λ t. same_txn t.txn txn.now) live.now }
 {
@@ -173,23 +175,48 @@ fn place_of(live: &Slots<Live>, txn: &TxnId) -> Option<usize>
     }
 }
 
-fn is_there(live: &Slots<Live>, txn: &TxnId) -> bool
+/// Whether the transaction stands at the place.
+fn stands_at(live: &Slots<Live>, place: usize, txn: &TxnId) -> bool
+    ensures { result ≡ option_map_or (λ t. same_txn t.txn txn.now) (slice_get live.now place) false }
+{
+    match live.get(place) {
+        None => false,
+        Some(t) => is_same_txn(&t.txn, txn),
+    }
+}
+
+/// The place of the transaction, which may be the likely one.
+fn place_of(live: &Slots<Live>, likely: usize, txn: &TxnId) -> Option<usize>
+    requires { AreRising (numbers live.now) }
+    ensures { result ≡ position (λ t. same_txn t.txn txn.now) live.now }
+{
+    if stands_at(live, likely, txn) {
+        Some(likely)
+    } else {
+        place_by_number(live, txn)
+    }
+}
+
+fn is_there(live: &Slots<Live>, likely: usize, txn: &TxnId) -> bool
     requires { AreLive live.now }
     ensures { result ≡ is_live txn.now live.now }
 {
-    place_of(live, txn).is_some()
+    place_of(live, likely, txn).is_some()
 }
 
-/// The transaction goes where the one of this name is, which is given back; nowhere, where there is none.
-fn replace(live: &mut Slots<Live>, name: &TxnId, t: Live) -> Option<Live>
+/// The transaction goes where the one of this name is, which is given back; nowhere, where there is none. The place is kept in `last`.
+fn replace(live: &mut Slots<Live>, last: &mut usize, name: &TxnId, t: Live) -> Option<Live>
     requires { AreLive live.old }
     ensures taken { result ≡ live_of name.now live.old }
     ensures named { IfSome result (λ t. t.txn ≡ name.now) }
     ensures rest { live.new ≡ change_first (λ u. same_txn u.txn name.now) (λ u. t) live.old }
 {
-    match place_of(live, name) {
+    match place_of(live, *last, name) {
         None => None,
-        Some(place) => Some(mem::replace(live.item_mut(place), t)),
+        Some(place) => {
+            *last = place;
+            Some(mem::replace(live.item_mut(place), t))
+        }
     }
 }
 
@@ -208,7 +235,7 @@ pub fn new_live(alloc: Global, txn: &TxnId, view: ViewId) -> Live
     }
 }
 
-fn lift(live: &mut Slots<Live>, txn: &TxnId) -> Option<Live>
+fn lift(live: &mut Slots<Live>, last: &mut usize, txn: &TxnId) -> Option<Live>
     requires { AreLive live.old }
     ensures lifted { result ≡ live_of txn.now live.old }
     ensures back { option_map_or (λ t. change_first (λ u. same_txn u.txn t.txn) (λ u. t) live.new) result live.new ≡ live.old }
@@ -217,25 +244,25 @@ fn lift(live: &mut Slots<Live>, txn: &TxnId) -> Option<Live>
     ensures emptied { live.new ≡ change_first (λ u. same_txn u.txn txn.now) (λ u. begun txn.now opening) live.old }
 {
     let empty = new_live(live.allocator(), txn, ViewId { number: 0, site: 0 });
-    replace(live, txn, empty)
+    replace(live, last, txn, empty)
 }
 
-fn lay_down(live: &mut Slots<Live>, t: Live)
+fn lay_down(live: &mut Slots<Live>, last: &mut usize, t: Live)
     requires all { AreLive live.old }
     requires item { waits t ≡ true }
     ensures placed { live.new ≡ change_first (λ u. same_txn u.txn t.txn) (λ u. t) live.old }
     ensures rest { AreLive live.new }
 {
     let txn = t.txn;
-    let _ = replace(live, &txn, t);
+    let _ = replace(live, last, &txn, t);
 }
 
-fn drop_txn(live: &mut Slots<Live>, txn: &TxnId)
+fn drop_txn(live: &mut Slots<Live>, likely: usize, txn: &TxnId)
     requires { AreLive live.old }
     ensures dropped { live.new ≡ without_first (λ u. same_txn u.txn txn.now) live.old }
     ensures rest { AreLive live.new }
 {
-    if let Some(place) = place_of(live, txn) {
+    if let Some(place) = place_of(live, likely, txn) {
         let _ = live.remove(place);
     }
 }
