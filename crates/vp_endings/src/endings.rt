@@ -26,7 +26,7 @@ impl Lent {
         requires { waits handled.old.live ≡ true }
         ensures { self.new ≡ in_place handled.old.live self.old }
     {
-        self.coordinator.put_live(handled.take_live())
+        self.coordinator.put_live(&mut handled.live)
     }
 
     /// The call gets this answer, which is not kept.
@@ -96,7 +96,7 @@ impl Lent {
     {
         handled.pending.missing = sites;
         handled.attach_call();
-        self.coordinator.put_live(handled.take_live())
+        self.coordinator.put_live(&mut handled.live)
     }
 
     /// The transaction ends without a commit. Its answers go to the ends that are kept.

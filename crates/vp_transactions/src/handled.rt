@@ -1,9 +1,8 @@
 //! A live transaction in the hands of a row.
 
 ghost use Rattle.std.specs.Prelude.{◌≡◌};
-ghost use Rattle.vp_model.specs.Calls.{begun, handling};
+ghost use Rattle.vp_model.specs.Calls.{handling};
 
-use crate::live::new_live;
 use std::mem;
 use vp_base::{Call, CallNo, Live, Pending, Sites, TxnId};
 
@@ -25,17 +24,6 @@ impl Handled {
         ensures { result ≡ self.now.pending.number }
     {
         self.pending.number
-    }
-
-    /// Takes the transaction out; an empty one is left.
-    pub fn take_live(&mut self) -> Live
-        ensures taken { result ≡ self.old.live }
-        ensures pending { self.new.pending ≡ self.old.pending }
-        ensures emptied { self.new.live ≡ begun self.old.live.txn self.old.live.view }
-    {
-        let alloc = self.live.ops.allocator();
-        let empty = new_live(alloc, &self.live.txn, self.live.view);
-        mem::replace(&mut self.live, empty)
     }
 
     /// The call becomes the pending one of the transaction; an empty one is left.

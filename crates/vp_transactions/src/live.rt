@@ -90,12 +90,12 @@ impl LiveTxns {
         lift(&mut self.items, &mut self.last, txn)
     }
 
-    /// The transaction goes back into its place.
-    pub fn put(&mut self, t: Live)
-        requires { waits t ≡ true }
-        ensures { self.new ≡ change_first (λ u. same_txn u.txn t.txn) (λ u. t) self.old }
+    /// The transaction goes back into its place. What stood there is left in its hands.
+    pub fn put(&mut self, t: &mut Live)
+        requires { waits t.old ≡ true }
+        ensures { self.new ≡ change_first (λ u. same_txn u.txn t.old.txn) (λ u. t.old) self.old }
     {
-        lay_down(&mut self.items, &mut self.last, t)
+        lay_down(&mut self.items, self.last, t)
     }
 
     pub fn remove(&mut self, txn: &TxnId)
@@ -221,7 +221,7 @@ fn replace(live: &mut Slots<Live>, last: &mut usize, name: &TxnId, t: Live) -> O
 }
 
 /// A transaction without operations.
-pub fn new_live(alloc: Global, txn: &TxnId, view: ViewId) -> Live
+fn new_live(alloc: Global, txn: &TxnId, view: ViewId) -> Live
     ensures { result ≡ begun txn.now view }
 {
     Live {
@@ -247,14 +247,23 @@ fn lift(live: &mut Slots<Live>, last: &mut usize, txn: &TxnId) -> Option<Live>
     replace(live, last, txn, empty)
 }
 
-fn lay_down(live: &mut Slots<Live>, last: &mut usize, t: Live)
+/// The transaction and the one of its name, where there is one, change places.
+fn exchange(live: &mut Slots<Live>, likely: usize, t: &mut Live)
+    requires { AreLive live.old }
+    ensures { live.new ≡ change_first (λ u. same_txn u.txn t.old.txn) (λ u. t.old) live.old }
+{
+    if let Some(place) = place_of(live, likely, &t.txn) {
+        mem::swap(live.item_mut(place), t);
+    }
+}
+
+fn lay_down(live: &mut Slots<Live>, likely: usize, t: &mut Live)
     requires all { AreLive live.old }
-    requires item { waits t ≡ true }
-    ensures placed { live.new ≡ change_first (λ u. same_txn u.txn t.txn) (λ u. t) live.old }
+    requires item { waits t.old ≡ true }
+    ensures placed { live.new ≡ change_first (λ u. same_txn u.txn t.old.txn) (λ u. t.old) live.old }
     ensures rest { AreLive live.new }
 {
-    let txn = t.txn;
-    let _ = replace(live, last, &txn, t);
+    exchange(live, likely, t);
 }
 
 fn drop_txn(live: &mut Slots<Live>, likely: usize, txn: &TxnId)

@@ -157,9 +157,9 @@ impl Transactions {
     {
         match self.take_up(txn) {
             None => Ok(None),
-            Some(live) => match pending_for(&live, from)? {
+            Some(mut live) => match pending_for(&live, from)? {
                 None => {
-                    self.put_live(live);
+                    self.put_live(&mut live);
                     Ok(None)
                 }
                 Some(pending) => Ok(Some(Handled { live, pending })),
@@ -196,10 +196,10 @@ impl Transactions {
         find_txn(self.decisions.as_slice(), txn).is_some()
     }
 
-    /// The transaction goes back into its place.
-    pub fn put_live(&mut self, t: Live)
-        requires { waits t ≡ true }
-        ensures { self.new ≡ put_live t self.old }
+    /// The transaction goes back into its place. What stood there is left in its hands.
+    pub fn put_live(&mut self, t: &mut Live)
+        requires { waits t.old ≡ true }
+        ensures { self.new ≡ put_live t.old self.old }
     {
         self.live.put(t)
     }
