@@ -121,8 +121,7 @@ fn count_read(
     if missing.as_slice().is_empty() {
         lent.answer_read(handled, rec, value)
     } else {
-        lent.wait_for(handled, missing);
-        Ok(())
+        lent.wait_for(handled, missing)
     }
 }
 
@@ -169,8 +168,7 @@ fn count_write(
     if missing.as_slice().is_empty() {
         lent.answer_write(handled, rec, &value)
     } else {
-        lent.wait_for(handled, missing);
-        Ok(())
+        lent.wait_for(handled, missing)
     }
 }
 
@@ -233,8 +231,7 @@ fn count_vote(
     if missing_votes.as_slice().is_empty() {
         lent.decide(at, &mut handled.live)
     } else {
-        lent.wait_for(handled, missing_votes);
-        Ok(())
+        lent.wait_for(handled, missing_votes)
     }
 }
 

@@ -1,13 +1,14 @@
 //! A value in a box: a contract sees it as the value.
 
 ghost use Rattle.std.specs.Prelude.{◌≡◌, IfOk};
+ghost use Rattle.std.specs.Borrow.{Lends, sem};
 
 use crate::memory::NoMemory;
 use crate::seq::CopyOf;
 use std::alloc::Global;
 use std::marker::Model;
 
-/// A value of its own on the heap: for a field that would make all variants of an enum as large as it is.
+/// A value of its own on the heap: for a field that would make its struct, or all variants of its enum, large.
 #[derive(Drop)]
 pub struct Boxed<T> {
     kept: Box<T>,
@@ -20,6 +21,8 @@ impl<T> Model for Boxed<T> {
 }
 
 impl<T: Drop> Boxed<T> {
+    ghost use Rattle.vp_base.specs.contracts.boxed.Boxed.{the_row};
+
     pub fn new(alloc: Global, value: T) -> Result<Boxed<T>, NoMemory>
         ensures { IfOk result (λ boxed. boxed ≡ value) }
     {
@@ -32,6 +35,14 @@ impl<T: Drop> Boxed<T> {
         ensures { result.now ≡ self.now }
     {
         self.kept.as_ref()
+    }
+
+    /// The value, for writing.
+    pub fn as_mut(&mut self) -> &mut T
+        ensures* writes_back { sem 𝓛 (Lends (the_row T.row) T.row self.entry result (λ value. value)) }
+        ensures value { result.now ≡ self.old }
+    {
+        self.kept.as_mut()
     }
 }
 

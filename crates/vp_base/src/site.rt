@@ -1,6 +1,7 @@
 //! What the lists of a site's plain state hold.
 
 use crate::answer::Answer;
+use crate::boxed::Boxed;
 use crate::entry::{Owner, Stored};
 use crate::event::Call;
 use crate::ids::{CallNo, RecId, SiteId, TxnId, ViewId};
@@ -65,7 +66,7 @@ pub struct Live {
     pub remote: Seq<(SiteId, RecId)>,
     pub parts: Sites,
     pub answers: Seq<Answer>,
-    pub pending: Option<Pending>,
+    pub pending: Option<Boxed<Pending>>,
 }
 
 impl Drop for Live {

@@ -113,7 +113,7 @@ fn new_call(
         Call::Write { name, value, .. } => write_named(lent, at, handled, name, value),
         Call::Commit { .. } => commit(lent, at, handled),
         Call::Abort { .. } => {
-            handled.attach_call();
+            handled.attach_call()?;
             lent.close(at.id, &mut handled.live, Ending::Aborted)
         },
         Call::Begin | Call::Regroup => {

@@ -19,7 +19,7 @@ fn waits_at(t: &Live) -> Option<SiteId>
 {
     match &t.pending {
         None => None,
-        Some(pending) => first_of(pending.missing.as_slice()),
+        Some(pending) => first_of(pending.as_ref().missing.as_slice()),
     }
 }
 

@@ -90,13 +90,14 @@ impl Lent {
     }
 
     /// The call waits for these sites.
-    pub fn wait_for(&mut self, handled: &mut Handled, sites: Sites)
+    pub fn wait_for(&mut self, handled: &mut Handled, sites: Sites) -> Result<(), NoMemory>
         requires { is_empty sites ≡ false }
-        ensures { self.new ≡ wait_for handled.old.live handled.old.pending sites self.old }
+        ensures { OnOk result (self.new ≡ wait_for handled.old.live handled.old.pending sites self.old) }
     {
         handled.pending.missing = sites;
-        handled.attach_call();
-        self.coordinator.put_live(&mut handled.live)
+        handled.attach_call()?;
+        self.coordinator.put_live(&mut handled.live);
+        Ok(())
     }
 
     /// The transaction ends without a commit. Its answers go to the ends that are kept.
@@ -125,7 +126,7 @@ impl Lent {
             at: id,
             owner: holder,
         };
-        handled.attach_call();
+        handled.attach_call()?;
         self.close(id, &mut handled.live, why)
     }
 

@@ -22,8 +22,7 @@ fn prepare_parts(lent: &mut Lent, at: &Around<'_>, handled: &mut Handled) -> Res
     ensures { OnOk result (lent.new ≡ prepare_parts at.now.catalog.now at.now.id handled.old.live handled.old.pending (in_place handled.old.live lent.old)) }
 {
     let asked = ask_parts(at, handled, &mut lent.effects)?;
-    lent.wait_for(handled, asked);
-    Ok(())
+    lent.wait_for(handled, asked)
 }
 
 /// Where the transaction has no part elsewhere, it commits; else its parts are asked.
@@ -32,7 +31,7 @@ pub fn commit(lent: &mut Lent, at: &Around<'_>, handled: &mut Handled) -> Result
     ensures { OnOk result (lent.new ≡ commit at.now.catalog.now at.now.id handled.old.live handled.old.pending (in_place handled.old.live lent.old)) }
 {
     if handled.live.parts.as_slice().is_empty() {
-        handled.attach_call();
+        handled.attach_call()?;
         lent.decide(at, &mut handled.live)
     } else {
         prepare_parts(lent, at, handled)

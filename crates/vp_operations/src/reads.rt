@@ -33,7 +33,7 @@ fn read_at(
         number: handled.number(),
         rec,
     };
-    lent.wait_for(handled, asked);
+    lent.wait_for(handled, asked)?;
     lent.effects.send(id, site, request)
 }
 

@@ -29,8 +29,7 @@ fn write_at(
 {
     ask_to_write(id, handled, rec, sites.as_slice(), &mut lent.effects)?;
     put_all(&mut handled.live.parts, sites.as_slice())?;
-    lent.wait_for(handled, sites);
-    Ok(())
+    lent.wait_for(handled, sites)
 }
 
 #[tactic(auto, unfolding(vp_model::specs::Calls::write_elsewhere))]

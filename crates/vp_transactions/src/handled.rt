@@ -1,10 +1,10 @@
 //! A live transaction in the hands of a row.
 
-ghost use Rattle.std.specs.Prelude.{◌≡◌};
+ghost use Rattle.std.specs.Prelude.{◌≡◌, OnOk};
 ghost use Rattle.vp_model.specs.Calls.{handling};
 
 use std::mem;
-use vp_base::{Call, CallNo, Live, Pending, Sites, TxnId};
+use vp_base::{Boxed, Call, CallNo, Live, NoMemory, Pending, Sites, TxnId};
 
 /// A live transaction that a row has in its hands, with the call that it does. An empty one of its name keeps its place.
 #[derive(Drop)]
@@ -27,16 +27,19 @@ impl Handled {
     }
 
     /// The call becomes the pending one of the transaction; an empty one is left.
-    pub fn attach_call(&mut self)
-        ensures { self.new.live ≡ handling self.old.live self.old.pending }
+    pub fn attach_call(&mut self) -> Result<(), NoMemory>
+        ensures { OnOk result (self.new.live ≡ handling self.old.live self.old.pending) }
     {
+        let alloc = self.live.ops.allocator();
         let empty = Pending {
             number: self.pending.number,
             port: self.pending.port,
             call: Call::Begin,
-            missing: Sites::new(self.live.ops.allocator()),
+            missing: Sites::new(alloc),
             marked: false,
         };
-        self.live.pending = Some(mem::replace(&mut self.pending, empty));
+        let call = mem::replace(&mut self.pending, empty);
+        self.live.pending = Some(Boxed::new(alloc, call)?);
+        Ok(())
     }
 }

@@ -15,7 +15,7 @@ ghost use Rattle.vp_transactions.specs.Waiting.{waits, all_wait};
 use std::alloc::Global;
 use std::marker::Model;
 use std::mem;
-use vp_base::{CopyOf, Live, Newest, NoMemory, Ops, Pending, Seq, Sites, TxnId, ViewId};
+use vp_base::{Boxed, CopyOf, Live, Newest, NoMemory, Ops, Pending, Seq, Sites, TxnId, ViewId};
 use vp_lists::is_same_txn;
 use vp_slots::Slots;
 
@@ -291,11 +291,11 @@ fn is_late(t: &Live) -> bool
 {
     match &t.pending {
         None => false,
-        Some(pending) => pending.marked,
+        Some(pending) => pending.as_ref().marked,
     }
 }
 
-fn copy_of_pending(pending: &Option<Pending>) -> Result<Option<Pending>, NoMemory>
+fn copy_of_pending(pending: &Option<Boxed<Pending>>) -> Result<Option<Boxed<Pending>>, NoMemory>
     ensures { IfOk result (λ copy. copy ≡ pending.now) }
 {
     match pending {
@@ -344,7 +344,7 @@ fn mark_one(t: &mut Live)
     ensures { t.new ≡ mark t.old }
 {
     if let Some(pending) = &mut t.pending {
-        pending.marked = true;
+        pending.as_mut().marked = true;
     }
 }
 

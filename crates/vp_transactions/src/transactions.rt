@@ -85,8 +85,8 @@ fn answer_pending(t: &mut Live, why: &Ending, effects: &mut Effects) -> Result<(
     ensures effects { OnOk result (effects.new ≡ with_pending_reply t.old.txn why.now t.old.pending effects.old) }
 {
     if let Some(pending) = &t.pending {
-        let number = pending.number;
-        let to = pending.port;
+        let number = pending.as_ref().number;
+        let to = pending.as_ref().port;
         effects.reply(to, answer_to(&t.txn, number, why)?)?;
         t.answers.push(answer_to(&t.txn, number, why)?)?;
     }
@@ -315,7 +315,7 @@ fn pending_for(t: &Live, from: SiteId) -> Result<Option<Pending>, NoMemory>
 {
     match &t.pending {
         None => Ok(None),
-        Some(p) => copy_if_missing(p, from),
+        Some(p) => copy_if_missing(p.as_ref(), from),
     }
 }
 
