@@ -2,7 +2,7 @@
 
 ghost use Rattle.std.specs.Prelude.{◌≡◌, ◌++◌, ◌∷◌, [], true, false, OnOk, OnErr, IfOk, IfSome, if◌then◌else◌, filter, map, drop, length, slice_get, slice_index_or};
 ghost use Rattle.std.specs.List.{position};
-ghost use Rattle.std.specs.Option.{option_map_or};
+ghost use Rattle.std.specs.Option.{option_map_or, unwrap_or};
 ghost use Rattle.vp_model.specs.Words.{opening, same_txn, change_first, without_first};
 ghost use Rattle.vp_model.specs.Transactions.{live_of};
 ghost use Rattle.vp_model.specs.Calls.{begun};
@@ -93,7 +93,8 @@ impl LiveTxns {
     /// The transaction goes back into its place. What stood there is left in its hands.
     pub fn put(&mut self, t: &mut Live)
         requires { waits t.old ≡ true }
-        ensures { self.new ≡ change_first (λ u. same_txn u.txn t.old.txn) (λ u. t.old) self.old }
+        ensures placed { self.new ≡ change_first (λ u. same_txn u.txn t.old.txn) (λ u. t.old) self.old }
+        ensures left { t.new ≡ unwrap_or (live_of t.old.txn self.old) t.old }
     {
         lay_down(&mut self.items, self.last, t)
     }
@@ -250,7 +251,8 @@ fn lift(live: &mut Slots<Live>, last: &mut usize, txn: &TxnId) -> Option<Live>
 /// The transaction and the one of its name, where there is one, change places.
 fn exchange(live: &mut Slots<Live>, likely: usize, t: &mut Live)
     requires { AreLive live.old }
-    ensures { live.new ≡ change_first (λ u. same_txn u.txn t.old.txn) (λ u. t.old) live.old }
+    ensures placed { live.new ≡ change_first (λ u. same_txn u.txn t.old.txn) (λ u. t.old) live.old }
+    ensures left { t.new ≡ unwrap_or (live_of t.old.txn live.old) t.old }
 {
     if let Some(place) = place_of(live, likely, &t.txn) {
         mem::swap(live.item_mut(place), t);
@@ -261,6 +263,7 @@ fn lay_down(live: &mut Slots<Live>, likely: usize, t: &mut Live)
     requires all { AreLive live.old }
     requires item { waits t.old ≡ true }
     ensures placed { live.new ≡ change_first (λ u. same_txn u.txn t.old.txn) (λ u. t.old) live.old }
+    ensures left { t.new ≡ unwrap_or (live_of t.old.txn live.old) t.old }
     ensures rest { AreLive live.new }
 {
     exchange(live, likely, t);

@@ -1,7 +1,7 @@
 //! The transactions that a site began, and how they end.
 
 ghost use Rattle.std.specs.Prelude.{◌≡◌, ◌&&◌, ◌<◌, ◌-◌, ◌^◌, ◌++◌, ◌∷◌, ◌+◌, [], OnOk, OnErr, IfOk, IfSome, true, filter, Some, None, nat_le, if◌then◌else◌, length, option_copied};
-ghost use Rattle.std.specs.Option.{option_map_or};
+ghost use Rattle.std.specs.Option.{option_map_or, unwrap_or};
 ghost use Rattle.vp_base.specs.declared.answer.Answer.TheVariants as answer;
 ghost use Rattle.vp_model.specs.Words.{opening, same_txn, has, at_most};
 ghost use Rattle.vp_base.specs.declared.message.Message.TheVariants as message;
@@ -199,7 +199,8 @@ impl Transactions {
     /// The transaction goes back into its place. What stood there is left in its hands.
     pub fn put_live(&mut self, t: &mut Live)
         requires { waits t.old ≡ true }
-        ensures { self.new ≡ put_live t.old self.old }
+        ensures placed { self.new ≡ put_live t.old self.old }
+        ensures left { t.new ≡ unwrap_or (live_of t.old.txn self.old.live) t.old }
     {
         self.live.put(t)
     }
