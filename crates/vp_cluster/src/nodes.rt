@@ -126,6 +126,8 @@ impl Nodes {
         requires { LendsAt self.old.catalogue site letter.now.to self.old.hosts }
         ensures stops { IfOk result (λ kept. StopsWith letter.now site kept self.old self.new) }
         ensures kept { IfOk result (λ kept. IfSome kept (λ k. k ≡ is_kept stop.now)) }
+        ensures letters { self.new.letters ≡ self.old.letters }
+        ensures same { self.new.catalogue ≡ self.old.catalogue }
     {
         stop_at(&mut self.hosts, &self.catalog, site, letter, stop)
     }
@@ -136,8 +138,10 @@ impl Nodes {
         requires event { IsEvent event.now }
         requires lent { (letter : Letter) → letter_of self.old.catalogue self.old.letters event.now ≡ Some letter → LendsAt self.old.catalogue site letter.to self.old.hosts }
         ensures stops { IfOk result (λ kept. (letter : Letter) → letter_of self.old.catalogue self.old.letters event.now ≡ Some letter → StopsWith letter site kept self.old self.new) }
-        ensures nothing { letter_of self.old.catalogue self.old.letters event.now ≡ None → IfOk result (λ kept. kept ≡ None) }
+        ensures nothing { letter_of self.old.catalogue self.old.letters event.now ≡ None → IfOk result (λ kept. (kept ≡ None) × (self.new ≡ self.old)) }
         ensures kept { IfOk result (λ kept. IfSome kept (λ k. k ≡ is_kept stop.now)) }
+        ensures letters { self.new.letters ≡ self.old.letters }
+        ensures same { self.new.catalogue ≡ self.old.catalogue }
     {
         match self.letter(event)? {
             None => Ok(None),

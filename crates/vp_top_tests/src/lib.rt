@@ -1,8 +1,17 @@
 //! The tests of the program as one call, outside the crate that has it: a crate with tests is proved twice.
 #![tactic(auto)]
 
+#[cfg(test)]
+mod generated;
+#[cfg(test)]
+mod logs;
+#[cfg(test)]
+mod processes;
+#[cfg(test)]
 mod running;
 #[cfg(test)]
 mod runs;
-
-pub use running::{answers, is_printed, run_alone, words};
+#[cfg(test)]
+mod transactions;
+#[cfg(test)]
+mod views;
