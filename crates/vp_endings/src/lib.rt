@@ -10,7 +10,7 @@ mod here;
 mod lent;
 mod writes;
 
-pub use around::{Around, first_of};
+pub use around::Around;
 pub use copies::SiteCopies;
 pub use here::Here;
 pub use lent::Lent;
