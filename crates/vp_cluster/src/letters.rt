@@ -3,9 +3,10 @@
 ghost use Rattle.std.specs.Prelude.{◌≡◌, ◌++◌, ℕ, IfOk, OnOk, map, take};
 ghost use Rattle.vp_bytes.specs.Fields.{IsSite};
 ghost use Rattle.vp_cluster.specs.Letters.{letter_to, sent_from};
-ghost use Rattle.vp_wire.specs.Grammar.{IsFrame, frame_of};
+ghost use Rattle.vp_wire.specs.Grammar.{IsFrame, frame_bytes, frame_of};
 
-use bytes::BytesMut;
+use bytes::{Bytes, BytesMut};
+use std::alloc::Global;
 use vp_base::{NoMemory, SiteId};
 use vp_catalog::Catalog;
 use vp_hosts::Letter;
@@ -29,13 +30,21 @@ pub fn to_site(catalog: &Catalog, site: SiteId, body: Body) -> Result<Option<Let
         to: site.get(),
         body,
     };
-    let mut bytes = BytesMut::with_capacity(catalog.sites().allocator(), ROOM)?;
-    encode(&frame, &mut bytes)?;
     Ok(Some(Letter {
         from: 0,
         to: port,
-        bytes: bytes.freeze()?,
+        bytes: bytes_of(catalog.sites().allocator(), &frame)?,
     }))
+}
+
+/// The one spelling of the frame.
+fn bytes_of(alloc: Global, frame: &Frame) -> Result<Bytes, NoMemory>
+    requires { IsFrame frame.now }
+    ensures { IfOk result (λ bytes. bytes ≡ frame_bytes frame.now) }
+{
+    let mut bytes = BytesMut::with_capacity(alloc, ROOM)?;
+    encode(frame, &mut bytes)?;
+    Ok(bytes.freeze()?)
 }
 
 /// Puts the first of the datagrams, which were sent from this port, behind the other letters.

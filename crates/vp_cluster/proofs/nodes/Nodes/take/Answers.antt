@@ -2,10 +2,12 @@ use Rattle.std.proofs.Common.{◌≡◌, ◌∙◌, ◌++◌, ap, sym, subst, le
 use Rattle.std.proofs.Math.Seq.{take-append_seam}
 use Rattle.std.specs.Vec.{with_items}
 use Rattle.vp_hosts.specs.Hosts.{Takes}
+use Rattle.vp_runs.specs.Arrivals.{arrival}
+use Rattle.vp_turns.specs.Taking.{IsStepOf}
 use Rattle.vp_hosts.specs.Letters.{as_received}
-use Rattle.vp_hosts.specs.Ports.{ChangesAt}
+use Rattle.vp_hosts.specs.Ports.{ChangesAt, LendsAt}
 use Rattle.vp_cluster.specs.Letters.{sent_from}
-use Rattle.vp_cluster.specs.Nodes.{Comes}
+use Rattle.vp_cluster.specs.Nodes.{Comes, NodesValue}
 use Rattle.vp_cluster.proofs.Coming.{letter_came}
 use Rattle.vp_cluster.proofs.nodes.Nodes.take.Goals as goal
 
@@ -19,3 +21,15 @@ returns-clause-comes c =
     let put = c.in_ok-put_letters.ensures ∙ ap (λ messages. c.self.inside.letters.items ++ map (sent_from letter.to) (take (length messages) outcome.datagrams)) c.as_slice-count.ensures in
     subst (λ hosts. Comes letter c.args.site c.args.self.now (record { catalogue = c.self.inside.catalog; hosts = hosts; letters = c.put_letters.new.letters.items; coming = c.self.inside.coming })) (sym items)
     (letter_came letter c.args.site c.in_ok-site.site outcome c.self.inside.catalog c.self.inside.hosts.items c.take_at.new.hosts c.self.inside.letters.items c.put_letters.new.letters.items c.self.inside.coming c.args.self.now c.self.view_is came put)
+
+pub returns-clause-stepped : goal.returns-clause-stepped
+returns-clause-stepped c =
+    let letter = c.args.letter.now in
+    let lent : LendsAt c.self.inside.catalog c.args.site letter.to c.self.inside.hosts.items = subst (λ (old : NodesValue). LendsAt old.catalogue c.args.site letter.to old.hosts) (sym c.self.view_is) c.requires in
+    let came = subst (λ hosts. ChangesAt letter.to (λ host next. Takes c.self.inside.catalog (as_received letter) c.args.site host next c.in_ok-site.site c.in_ok-site.outcome) hosts c.take_at.new.hosts) c.deref_mut.ensures.value c.in_ok-site.ensures.takes in
+    let (host, at, _) = lent in
+    let (_, _, taken) = came.there host at in
+    subst (λ (old : NodesValue). IsStepOf old.catalogue c.args.site (arrival old.catalogue c.args.site.id (as_received letter)) c.in_ok-site.site c.in_ok-site.outcome.effects) c.self.view_is taken.stepped
+
+pub returns-clause-same : goal.returns-clause-same
+returns-clause-same c = ap (λ (old : NodesValue). old.catalogue) c.self.view_is
