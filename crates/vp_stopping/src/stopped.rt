@@ -17,6 +17,7 @@ ghost use Rattle.vp_stopping.specs.Singles.{AreBefore, ComesTo, GoesOn, HaveDone
 
 use crate::left::Left;
 use vp_base::{Commits, CopyOf, Event, Events, NoMemory, SiteId};
+use vp_catalog::Catalog;
 use vp_cluster::Nodes;
 use vp_hosts::Stop;
 use vp_places::{ByThemselves, Stepper};
@@ -145,6 +146,22 @@ impl Steps {
     }
 }
 
+impl Steps {
+    /// What the run has come to.
+    fn stopped(self, catalog: &Catalog) -> Result<Stopped, NoMemory>
+        ensures { IfOk result (λ it. it ≡ record { schedule = record { catalogue = catalog.now; events = self.done }; commits = self.world.world.journal }) }
+    {
+        let Steps { world, done } = self;
+        Ok(Stopped {
+            schedule: Schedule {
+                catalog: catalog.copy_of()?,
+                events: done,
+            },
+            commits: world.journal().copy_of()?,
+        })
+    }
+}
+
 /// A run through nodes that has come up to some step.
 #[derive(Drop)]
 struct Front {
@@ -251,14 +268,8 @@ fn go_on(
     let before = steps.world.messages() as u32;
     let steps = steps.stop(at.site, event, at.kept)?;
     left.raise(before + 1, steps.world.messages() as u32 - before)?;
-    let Steps { world, done } = steps.go_on(left)?;
-    Ok(Stopped {
-        schedule: Schedule {
-            catalog: schedule.catalog.copy_of()?,
-            events: done,
-        },
-        commits: world.journal().copy_of()?,
-    })
+    let ended = steps.go_on(left)?;
+    Ok(ended.stopped(&schedule.catalog)?)
 }
 
 /// Runs the schedule through nodes up to a step, and stops the site that takes it within the append of its batch. The site is down then, and

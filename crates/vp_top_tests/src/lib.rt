@@ -2,16 +2,9 @@
 #![tactic(auto)]
 
 #[cfg(test)]
-mod generated;
-#[cfg(test)]
-mod logs;
-#[cfg(test)]
 mod processes;
-#[cfg(test)]
 mod running;
 #[cfg(test)]
 mod runs;
-#[cfg(test)]
-mod transactions;
-#[cfg(test)]
-mod views;
+
+pub use running::{answers, is_printed, run_alone, words};

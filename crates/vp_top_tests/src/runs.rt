@@ -1,6 +1,6 @@
 //! Runs of the program over sources and sinks in memory.
 
-use crate::running::{answers, is_printed, run_alone, words};
+use crate::{answers, is_printed, run_alone, words};
 use std::alloc::{AllocError, Global};
 use vp_outside::{Sink, SureSink, SureSource, TextSink, TextSource};
 use vp_status::Status;

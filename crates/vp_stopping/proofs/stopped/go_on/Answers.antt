@@ -1,6 +1,7 @@
-use Rattle.std.proofs.Common.{◌∙◌, ◌≤◌, ap, length, arith, refl}
+use Rattle.std.proofs.Common.{◌∙◌, ◌≤◌, ap, length, arith}
 use Rattle.vp_model.specs.World.{Schedule}
 use Rattle.vp_node.proofs.Faults.{gave_err}
+use Rattle.vp_stopping.specs.declared.stopped.Stopped.{Stopped}
 use Rattle.vp_stopping.proofs.Going.{raised_so, rest_done, rest_ends, stop_ends, stop_grows}
 use Rattle.vp_stopping.proofs.stopped.go_on.Goals as goal
 
@@ -15,18 +16,18 @@ overflow_sub-messages c =
     stop_grows c.args.front.steps c.in_ok-steps.steps c.args.at.site c.args.event c.args.at.kept _ c.requires.taken c.in_ok-steps.ensures.done in
     omega (arith, grows, c.messages-before.ensures.count, c.messages.ensures.count)
 
-pub returns-in_err-world : goal.returns-in_err-world
-returns-in_err-world c = λ step h by.
+pub returns-in_err-ended : goal.returns-in_err-ended
+returns-in_err-ended c = λ step h by.
     rest_ends c.args.schedule.now step c.args.event c.args.front.steps c.args.front.left h c.args.at.site c.args.at.kept by c.requires.taken
     c.in_ok-steps.steps c.raise.new.self c.in_ok-steps.ensures.end c.in_ok-steps.ensures.done
     (raised_so c.args.front.steps c.in_ok-steps.steps c.args.front.left c.raise.new.self c.messages-before.result c.messages.result c.messages-before.ensures.count c.messages.ensures.count c.in_ok-raise.ensures)
-    c.in_err-world.field-0.0 c.from_residual-in_err-world.result c.in_err-world.ensures.end
-    (gave_err c.from_residual-in_err-world.result c.in_err-world.field-0.0 c.from_residual-in_err-world.ensures.1)
+    c.in_err-ended.field-0.0 c.from_residual-in_err-ended.result c.in_err-ended.ensures.end
+    (gave_err c.from_residual-in_err-ended.result c.in_err-ended.field-0.0 c.from_residual-in_err-ended.ensures.1)
 
 pub returns : goal.returns
 returns c = λ step h by.
     rest_done c.args.schedule.now step c.args.event c.args.front.steps c.args.front.left h c.args.at.site c.args.at.kept by c.requires.taken
     c.in_ok-steps.steps c.raise.new.self c.in_ok-steps.ensures.end c.in_ok-steps.ensures.done
     (raised_so c.args.front.steps c.in_ok-steps.steps c.args.front.left c.raise.new.self c.messages-before.result c.messages.result c.messages-before.ensures.count c.messages.ensures.count c.in_ok-raise.ensures)
-    (record { world = c.in_ok-world.field-0.world; done = c.in_ok-world.field-0.done }) c.in_ok-world.ensures.done c.in_ok-world.ensures.end _
-    (c.in_ok-copy_of.ensures ∙ ap (λ (s : Schedule). s.catalogue) c.schedule.view_is) refl (c.in_ok-copy_of-2.ensures ∙ c.journal.ensures)
+    c.in_ok-ended.ended c.in_ok-ended.ensures.done c.in_ok-ended.ensures.end _
+    (ap (λ (it : Stopped). it.schedule.catalogue) c.in_ok-stopped.ensures ∙ ap (λ (s : Schedule). s.catalogue) c.schedule.view_is) (ap (λ (it : Stopped). it.schedule.events) c.in_ok-stopped.ensures) (ap (λ (it : Stopped). it.commits) c.in_ok-stopped.ensures)

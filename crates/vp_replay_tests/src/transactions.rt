@@ -1,6 +1,6 @@
 //! Worked schedules of transactions over several sites, byte for byte.
 
-use crate::running::is_printed;
+use vp_top_tests::is_printed;
 
 const A_HELD_LOCK_IS_NAMED: &str = "\
 site 1 7001

@@ -5,7 +5,7 @@ use vp_base::Word;
 use vp_outside::{SureSink, SureSource};
 use vp_replay::generate;
 use vp_status::Status;
-use crate::running::run_alone;
+use vp_top_tests::run_alone;
 
 /// What the program prints for the words, where it is done.
 fn printed(alloc: Global, command: &str, seed: &str, count: &str) -> Result<SureSink, AllocError> {

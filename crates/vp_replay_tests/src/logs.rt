@@ -2,7 +2,7 @@
 
 use vp_outside::{SureSink, SureSource};
 use vp_status::Status;
-use crate::running::{answers, run_alone, words};
+use vp_top_tests::{answers, run_alone, words};
 
 const HEAD: &str = "site 1 7001\nrecord x 10 1:1\nevents\n";
 

@@ -1,6 +1,6 @@
 //! Worked schedules of several sites that change their views, byte for byte.
 
-use crate::running::is_printed;
+use vp_top_tests::is_printed;
 
 const TWO_OF_THREE_SITES_GO_ON: &str = "\
 site 1 7001
