@@ -138,13 +138,11 @@ fn live(catalog: &Catalog, id: SiteId, durable: Durable) -> Result<Box<SiteState
     ensures { IfOk result (λ kept. kept.value ≡ start catalog.now id durable) }
 {
     let alloc = catalog.sites().allocator();
-    let views = views_at_start(catalog, id, &durable)?;
     let coordinator = Coordinator::restore(alloc, id, durable.life() + 1, &durable)?;
     let mut locks = Locks::new(alloc);
-    let participant = Participant::restore(alloc, &durable, &mut locks)?;
     let state = SiteState {
-        views,
-        participant,
+        participant: Participant::restore(alloc, &durable, &mut locks)?,
+        views: views_at_start(catalog, id, &durable)?,
         refresh: Refresh::none(alloc),
         coordinator,
         here: Here {
