@@ -6,7 +6,7 @@ ghost use Rattle.vp_base.specs.declared.event.Input.TheVariants as input;
 ghost use Rattle.vp_base.specs.declared.event.Shown.TheVariants as shown;
 ghost use Rattle.vp_model.specs.World.{start_world, flowing, message_at, shows, at_site, deliver, crash, cut, heal, restart, happens, next};
 ghost use Rattle.vp_model.specs.Limits.{world_limits, refused};
-ghost use Rattle.vp_world.specs.Limits.{Ends, Does, too_many_steps};
+ghost use Rattle.vp_world.specs.Limits.{Ends, Does, too_many, too_many_steps};
 ghost use Rattle.vp_mail.specs.Queues.{AreSited};
 ghost use Rattle.vp_world.specs.Known.{IsWithinLimits};
 ghost use Rattle.vp_world.specs.Steps.{takes_in, if_up, receiver, taker_now, passed_over, step_at, step_by, step_of};
@@ -184,14 +184,24 @@ impl State {
         Ok(())
     }
 
+    /// The messages and the commits of a step are kept, and the view that is agreed from here on. It answers the number of the first
+    /// message. Where the messages are too many, or without memory, the state may only be dropped.
+    fn keep(&mut self, effects: &Effects, agreed: Option<View>) -> Result<u32, WorldEnd>
+        ensures kept { IfOk result (λ first. shows self.new (shown.Step effects.now.commits first effects.now.messages effects.now.replies) ≡ takes_in (record { effects = effects.now; agreed = agreed }) self.old) }
+        ensures end { Ends (too_many (self.old.sent ++ effects.now.messages)) result }
+    {
+        put_view(&mut self.agreed, agreed)?;
+        let first = self.mail.send_all(effects.messages.as_slice())?;
+        put_commits(&mut self.journal, effects.commits.as_slice())?;
+        Ok(first)
+    }
+
     /// What a step of a site gives. Where the messages are too many, or without memory, the state may only be dropped.
     fn take_in(&mut self, taken: Taken) -> Result<Shown, WorldEnd>
         ensures { Does (takes_in taken self.old) self.new result }
     {
         let Taken { effects, agreed } = taken;
-        let first = self.mail.send_all(effects.messages.as_slice())?;
-        put_view(&mut self.agreed, agreed)?;
-        put_commits(&mut self.journal, effects.commits.as_slice())?;
+        let first = self.keep(&effects, agreed)?;
         Ok(step_line(effects, first))
     }
 
