@@ -1,35 +1,12 @@
 //! What a client's call does.
 
 ghost use Rattle.std.specs.Prelude.{◌≡◌, OnOk};
-ghost use Rattle.vp_model.specs.Site.{by_coordinator};
-ghost use Rattle.vp_model.specs.Calls.{own_call, on_regroup, on_call};
+ghost use Rattle.vp_model.specs.Calls.{on_regroup, on_call};
 
 use crate::views::invite;
 use vp_base::{Answer, Call, NoMemory};
 use vp_catalog::Catalog;
 use vp_stepped::{SiteState, Stepped};
-
-/// A call that the coordinator does.
-fn own_call(
-    stepped: &mut Stepped,
-    catalog: &Catalog,
-    port: u16,
-    call: &Call,
-) -> Result<(), NoMemory>
-    ensures { OnOk result (stepped.new ≡ by_coordinator (own_call catalog.now port call.now) stepped.old) }
-{
-    let site: &mut SiteState = &mut stepped.site;
-    let promise = site.views.promise();
-    site.coordinator.call(
-        catalog,
-        site.views.held(),
-        promise,
-        &mut site.here,
-        port,
-        call,
-        &mut stepped.effects,
-    )
-}
 
 /// A new view is invited to, unless the numbers of views are spent.
 #[tactic(auto, unfolding(vp_model::specs::Calls::on_regroup))]
@@ -61,6 +38,18 @@ pub fn on_call(
 {
     match call {
         Call::Regroup => on_regroup(stepped, catalog, port),
-        _ => own_call(stepped, catalog, port, call),
+        _ => {
+            let site: &mut SiteState = &mut stepped.site;
+            let promise = site.views.promise();
+            site.coordinator.call(
+                catalog,
+                site.views.held(),
+                promise,
+                &mut site.here,
+                port,
+                call,
+                &mut stepped.effects,
+            )
+        }
     }
 }

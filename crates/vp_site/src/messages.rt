@@ -6,8 +6,8 @@ ghost use Rattle.vp_model.specs.Step.{on_input};
 
 use crate::calls::on_call;
 use crate::tick::{on_probe, on_tick};
-use crate::views::{on_accept, on_invite, on_probe_message, on_stale, on_view_commit};
-use vp_base::{CopyOf, Input, Message, NoMemory, SiteId, View};
+use crate::views::{on_invite, on_view_commit};
+use vp_base::{Input, Message, NoMemory, SiteId};
 use vp_catalog::Catalog;
 use vp_stepped::{Prepare, RefreshAnswer, Request, SiteState, Stepped};
 
@@ -25,7 +25,7 @@ fn answered(
 }
 
 /// What no row lists does nothing.
-#[tactic(auto, unfolding(vp_model::specs::Messages::on_message))]
+#[tactic(auto, unfolding(vp_model::specs::Messages::on_message, vp_model::specs::Messages::on_accept, vp_model::specs::Messages::on_stale, vp_model::specs::Messages::on_probe_message))]
 pub fn on_message(
     stepped: &mut Stepped,
     catalog: &Catalog,
@@ -36,18 +36,12 @@ pub fn on_message(
 {
     match message {
         Message::Invite { id } => on_invite(stepped, from, *id),
-        Message::Accept { id } => on_accept(stepped, from, *id),
+        Message::Accept { id } => stepped.site.views.on_accept(from, *id),
         Message::Stale { promise, .. } => {
-            on_stale(stepped, *promise);
+            stepped.site.views.on_stale(*promise);
             Ok(())
         }
-        Message::ViewCommit { id, members } => {
-            let view = View {
-                id: *id,
-                members: members.copy_of()?,
-            };
-            on_view_commit(stepped, catalog, &view)
-        }
+        Message::ViewCommit { id, members } => on_view_commit(stepped, catalog, *id, members),
         Message::ReadRequest {
             txn,
             view,
@@ -86,7 +80,7 @@ pub fn on_message(
             };
             stepped.on_refresh_answer(catalog, from, &answer)
         }
-        Message::Probe { .. } => on_probe_message(stepped, from),
+        Message::Probe { .. } => stepped.site.views.heard(from),
         Message::ReadAnswer { .. }
         | Message::WriteAnswer { .. }
         | Message::Refuse { .. }

@@ -4,6 +4,7 @@ ghost use Rattle.std.specs.Prelude.{◌≡◌, ◌<◌, ◌-◌, ◌^◌, IfOk, 
 ghost use Rattle.vp_model.specs.Generated.{newest};
 ghost use Rattle.vp_model.specs.Step.{start, step, durable_of};
 ghost use Rattle.vp_site.specs.Starting.{Starts};
+ghost use Rattle.vp_site.specs.Lifted.{viewing};
 
 use crate::fault::StartFault;
 use crate::messages::on_input;
@@ -120,6 +121,16 @@ impl Site {
     }
 }
 
+/// What a site knows of views as it begins its next life: its first one begins in the opening view, where it has promised no other.
+#[tactic(auto, unfolding(vp_model::specs::Step::start))]
+fn views_at_start(catalog: &Catalog, id: SiteId, durable: &Durable) -> Result<Views, NoMemory>
+    ensures { IfOk result (λ views. views ≡ viewing (start catalog.now id durable.now)) }
+{
+    let promise = durable.promise();
+    let is_opening = durable.life() == 0 && promise == OPENING;
+    Views::start(catalog, id, promise, is_opening)
+}
+
 /// What a site keeps as it begins its next life.
 #[tactic(auto, unfolding(vp_model::specs::Step::start))]
 fn live(catalog: &Catalog, id: SiteId, durable: Durable) -> Result<Box<SiteState>, NoMemory>
@@ -127,13 +138,13 @@ fn live(catalog: &Catalog, id: SiteId, durable: Durable) -> Result<Box<SiteState
     ensures { IfOk result (λ kept. kept.value ≡ start catalog.now id durable) }
 {
     let alloc = catalog.sites().allocator();
-    let is_opening = durable.life() == 0 && durable.promise() == OPENING;
+    let coordinator = Coordinator::restore(alloc, id, durable.life() + 1, &durable)?;
     let mut locks = Locks::new(alloc);
     let state = SiteState {
-        views: Views::start(catalog, id, durable.promise(), is_opening)?,
         participant: Participant::restore(alloc, &durable, &mut locks)?,
+        views: views_at_start(catalog, id, &durable)?,
         refresh: Refresh::none(alloc),
-        coordinator: Coordinator::restore(alloc, id, durable.life() + 1, &durable)?,
+        coordinator,
         here: Here {
             locks,
             copies: SiteCopies::new(durable.into_copies()),

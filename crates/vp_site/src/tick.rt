@@ -2,12 +2,11 @@
 
 ghost use Rattle.std.specs.Prelude.{◌≡◌, OnOk};
 ghost use Rattle.std.specs.Option.{option_map_or};
-ghost use Rattle.vp_model.specs.Site.{by_coordinator};
 ghost use Rattle.vp_site.specs.Lifted.{in_step};
-ghost use Rattle.vp_model.specs.Step.{fix_view, time_out_calls, ask_again, ask_again_all, time_out, tick_view, resend_decisions, inquire, inquire_all, on_tick, on_probe};
+ghost use Rattle.vp_model.specs.Step.{fix_view, ask_again, ask_again_all, time_out, tick_view, inquire_all, on_tick, on_probe};
 
 use crate::views::invite;
-use vp_base::{Effects, Message, NoMemory, TxnId, View, ViewId};
+use vp_base::{Effects, Message, NoMemory, View, ViewId};
 use vp_catalog::Catalog;
 use vp_refresh::Asked;
 use vp_stepped::{SiteState, Stepped};
@@ -26,20 +25,14 @@ fn fix_view(stepped: &mut Stepped, catalog: &Catalog) -> Result<(), NoMemory>
     }
 }
 
-/// Calls that were pending at the tick before are closed, and other pending calls are marked.
-fn time_out_calls(stepped: &mut Stepped) -> Result<(), NoMemory>
-    ensures { OnOk result (stepped.new ≡ by_coordinator (λ at. time_out_calls at.id) stepped.old) }
-{
-    let site: &mut SiteState = &mut stepped.site;
-    site.coordinator.tick(&mut site.here, &mut stepped.effects)
-}
-
+/// Calls that were pending at the tick before are closed, other pending calls are marked, and copies are asked for again.
 #[tactic(auto, unfolding(vp_model::specs::Step::time_out))]
 fn time_out(stepped: &mut Stepped, catalog: &Catalog, view: &View) -> Result<(), NoMemory>
     ensures { OnOk result (stepped.new ≡ time_out catalog.now view.now stepped.old) }
 {
-    time_out_calls(stepped)?;
-    ask_again_all(&stepped.site, catalog, view.id, &mut stepped.effects)
+    let site: &mut SiteState = &mut stepped.site;
+    site.coordinator.tick(&mut site.here, &mut stepped.effects)?;
+    ask_again_all(site, catalog, view.id, &mut stepped.effects)
 }
 
 /// The part of a tick that depends on where the site stands among views.
@@ -60,37 +53,25 @@ fn tick_view(stepped: &mut Stepped, catalog: &Catalog) -> Result<(), NoMemory>
     }
 }
 
-/// Each decision goes again to the sites that have not acknowledged it.
-fn resend_decisions(stepped: &mut Stepped) -> Result<(), NoMemory>
-    ensures { OnOk result (stepped.new ≡ resend_decisions stepped.old) }
-{
-    stepped.site.coordinator.resend(&mut stepped.effects)
-}
-
 /// The coordinators of the transactions with a part here or in doubt here are asked how they ended.
+#[tactic(auto, unfolding(vp_model::specs::Step::inquire))]
 fn inquire_all(stepped: &mut Stepped) -> Result<(), NoMemory>
     ensures { OnOk result (stepped.new ≡ inquire_all stepped.old) }
 {
     let txns = stepped.site.participant.known()?;
-    inquire(stepped, txns.as_slice())
-}
-
-#[tactic(auto, unfolding(vp_model::specs::Step::inquire))]
-fn inquire(stepped: &mut Stepped, txns: &[TxnId]) -> Result<(), NoMemory>
-    ensures { OnOk result (stepped.new ≡ inquire txns.now stepped.old) }
-{
-    for txn in txns {
+    for txn in txns.as_slice() {
         stepped.send(txn.site, Message::Inquire { txn: *txn })?;
     }
     Ok(())
 }
 
+/// Behind what the view asks for, each decision goes again to the sites that have not acknowledged it.
 #[tactic(auto, unfolding(vp_model::specs::Step::on_tick))]
 pub fn on_tick(stepped: &mut Stepped, catalog: &Catalog) -> Result<(), NoMemory>
     ensures { OnOk result (stepped.new ≡ on_tick catalog.now stepped.old) }
 {
     tick_view(stepped, catalog)?;
-    resend_decisions(stepped)?;
+    stepped.site.coordinator.resend(&mut stepped.effects)?;
     inquire_all(stepped)
 }
 

@@ -1,15 +1,12 @@
 //! What the world keeps, and what an event does to it.
 
-ghost use Rattle.std.specs.Prelude.{◌≡◌, ◌≤◌, ◌<◌, ◌+◌, ◌++◌, ◌∷◌, [], OnOk, OnErr, IfOk, IfSome, IsSome, Some, None, is_some, if◌then◌else◌, length, map, option_to_list, option_and_then};
+ghost use Rattle.std.specs.Prelude.{◌≡◌, ◌≤◌, ◌<◌, ◌+◌, ◌++◌, ◌∷◌, OnOk, OnErr, IfOk, IfSome, IsSome, Some, None, if◌then◌else◌, length, option_to_list};
 ghost use Rattle.vp_base.specs.declared.event.Event.TheVariants as event;
 ghost use Rattle.vp_base.specs.declared.event.Input.TheVariants as input;
 ghost use Rattle.vp_base.specs.declared.event.Shown.TheVariants as shown;
-ghost use Rattle.vp_model.specs.Catalogue.{Catalogue};
-ghost use Rattle.vp_model.specs.Generated.{newest};
-ghost use Rattle.vp_model.specs.World.{start_world, site_of, flowing, message_at, is_cut, shows, at_site, deliver, crash, cut, heal, restart, happens, next};
+ghost use Rattle.vp_model.specs.World.{start_world, flowing, message_at, shows, at_site, deliver, crash, cut, heal, restart, happens, next};
 ghost use Rattle.vp_model.specs.Limits.{world_limits, refused};
 ghost use Rattle.vp_world.specs.Limits.{Ends, Does, too_many, too_many_steps};
-ghost use Rattle.vp_mail.specs.Posted.{message_in, posted, are_too_many, Refuses};
 ghost use Rattle.vp_mail.specs.Queues.{AreSited};
 ghost use Rattle.vp_world.specs.Known.{IsWithinLimits};
 ghost use Rattle.vp_world.specs.Steps.{takes_in, if_up, receiver, taker_now, passed_over, step_at, step_by, step_of};
@@ -20,24 +17,23 @@ use crate::end::WorldEnd;
 use std::alloc::Global;
 use std::marker::Model;
 use vp_base::{
-    Call, Commit, Commits, CopyOf, Counted, Effects, Event, Input, MOST_STEPS, Newest, NoMemory,
-    Sent, Shown, SiteId, View, ViewId,
+    Call, Commit, Commits, CopyOf, Counted, Effects, Event, Input, MOST_STEPS, NoMemory, Sent,
+    Shown, SiteId, View, ViewId,
 };
 use vp_catalog::Catalog;
 use vp_mail::{Cuts, Mail, PAIRS, SITES};
 use vp_places::{Places, Stepper, Taken};
-use vp_site::Site;
 
 /// The opening view.
 const OPENING: ViewId = ViewId { number: 0, site: 0 };
 
 /// The sites with their messages, and what they have agreed on and committed.
 pub struct State {
-    places: Places,
+    pub places: Places,
     agreed: Vec<View>,
-    mail: Mail,
-    cuts: Cuts,
-    journal: Commits,
+    pub mail: Mail,
+    pub cuts: Cuts,
+    pub journal: Commits,
     steps: u32,
 }
 
@@ -138,37 +134,6 @@ impl State {
         })
     }
 
-    pub fn journal(&self) -> &Commits
-        ensures { result.now ≡ self.now.journal }
-    {
-        &self.journal
-    }
-
-    /// The newest live transaction of the site, where it is up and has one.
-    pub fn newest(&self, site: SiteId) -> Option<Newest>
-        ensures { result ≡ option_and_then (λ site. newest site.live) (site_of self.now site) }
-    {
-        self.places.newest(site)
-    }
-
-    pub fn is_up(&self, site: SiteId) -> bool
-        ensures { result ≡ is_some (site_of self.now site) }
-    {
-        self.places.is_up(site)
-    }
-
-    pub fn is_cut(&self, a: SiteId, b: SiteId) -> bool
-        ensures { result ≡ is_cut self.now a b }
-    {
-        self.cuts.has(a, b)
-    }
-
-    pub fn messages(&self) -> usize
-        ensures { result ≡ length self.now.sent }
-    {
-        self.mail.count()
-    }
-
     /// Whether the receiver of the pair is up and the pair is not cut.
     fn is_open(&self, pair: usize) -> bool
         requires { pair < 256 }
@@ -219,14 +184,24 @@ impl State {
         Ok(())
     }
 
+    /// The messages and the commits of a step are kept, and the view that is agreed from here on. It answers the number of the first
+    /// message. Where the messages are too many, or without memory, the state may only be dropped.
+    fn keep(&mut self, effects: &Effects, agreed: Option<View>) -> Result<u32, WorldEnd>
+        ensures kept { IfOk result (λ first. shows self.new (shown.Step effects.now.commits first effects.now.messages effects.now.replies) ≡ takes_in (record { effects = effects.now; agreed = agreed }) self.old) }
+        ensures end { Ends (too_many (self.old.sent ++ effects.now.messages)) result }
+    {
+        put_view(&mut self.agreed, agreed)?;
+        let first = self.mail.send_all(effects.messages.as_slice())?;
+        put_commits(&mut self.journal, effects.commits.as_slice())?;
+        Ok(first)
+    }
+
     /// What a step of a site gives. Where the messages are too many, or without memory, the state may only be dropped.
     fn take_in(&mut self, taken: Taken) -> Result<Shown, WorldEnd>
         ensures { Does (takes_in taken self.old) self.new result }
     {
         let Taken { effects, agreed } = taken;
-        let first = self.mail.send_all(effects.messages.as_slice())?;
-        put_view(&mut self.agreed, agreed)?;
-        put_commits(&mut self.journal, effects.commits.as_slice())?;
+        let first = self.keep(&effects, agreed)?;
         Ok(step_line(effects, first))
     }
 
@@ -344,13 +319,6 @@ impl State {
             None => Ok(()),
             Some(sent) => self.mail.deliver(k, &sent),
         }
-    }
-
-    /// The site is handed out, where it is up, and the state may only be dropped then.
-    pub fn take_site(&mut self, id: SiteId) -> Option<Site>
-        ensures { result ≡ site_of self.old id }
-    {
-        self.places.take_site(id)
     }
 
     fn crash(&mut self, id: SiteId) -> Shown

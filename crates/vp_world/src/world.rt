@@ -104,20 +104,20 @@ impl World {
     pub fn newest(&self, site: SiteId) -> Option<Newest>
         ensures { result ≡ option_and_then (λ site. newest site.live) (site_of self.now.world site) }
     {
-        self.state.newest(site)
+        self.state.places.newest(site)
     }
 
     pub fn is_up(&self, site: SiteId) -> bool
         ensures { result ≡ is_some (site_of self.now.world site) }
     {
-        self.state.is_up(site)
+        self.state.places.is_up(site)
     }
 
     /// Whether the pair is cut, whichever of the two is named first.
     pub fn is_cut(&self, a: SiteId, b: SiteId) -> bool
         ensures { result ≡ is_cut self.now.world a b }
     {
-        self.state.is_cut(a, b)
+        self.state.cuts.has(a, b)
     }
 
     /// The site, where it is up: all else is dropped.
@@ -128,7 +128,7 @@ impl World {
             catalog: _,
             mut state,
         } = self;
-        state.take_site(site)
+        state.places.take_site(site)
     }
 
     /// How many messages were sent.
@@ -136,14 +136,14 @@ impl World {
         ensures count { result ≡ length self.now.world.sent }
         ensures few { result ≤ 2000000 }
     {
-        self.state.messages()
+        self.state.mail.count()
     }
 
     /// The transactions that were committed, in the order of the steps.
     pub fn journal(&self) -> &Commits
         ensures { result.now ≡ self.now.world.journal }
     {
-        self.state.journal()
+        &self.state.journal
     }
 
     pub fn catalog(&self) -> &Catalog
