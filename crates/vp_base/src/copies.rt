@@ -190,14 +190,14 @@ impl CopyOf for Finished {
 
 impl CopyOf for Op {
     fn copy_of(&self) -> Result<Op, NoMemory> {
-        Ok(match self {
-            Op::Read { rec, value } => Op::Read {
-                rec: *rec,
-                value: value.copy_of()?,
+        Ok(match *self {
+            Op::Read { rec, ref value } => Op::Read {
+                rec,
+                value: value.duplicate(),
             },
-            Op::Write { rec, value } => Op::Write {
-                rec: *rec,
-                value: value.copy_of()?,
+            Op::Write { rec, ref value } => Op::Write {
+                rec,
+                value: value.duplicate(),
             },
         })
     }
@@ -205,48 +205,46 @@ impl CopyOf for Op {
 
 impl CopyOf for LogRecord {
     fn copy_of(&self) -> Result<LogRecord, NoMemory> {
-        Ok(match self {
-            LogRecord::Start { life } => LogRecord::Start { life: *life },
-            LogRecord::Promise { view } => LogRecord::Promise { view: *view },
-            LogRecord::Yes { txn, view, writes } => LogRecord::Yes {
-                txn: *txn,
-                view: *view,
+        Ok(match *self {
+            LogRecord::Start { life } => LogRecord::Start { life },
+            LogRecord::Promise { view } => LogRecord::Promise { view },
+            LogRecord::Yes {
+                txn,
+                view,
+                ref writes,
+            } => LogRecord::Yes {
+                txn,
+                view,
                 writes: writes.copy_of()?,
             },
-            LogRecord::Outcome { txn, commit } => LogRecord::Outcome {
-                txn: *txn,
-                commit: *commit,
-            },
+            LogRecord::Outcome { txn, commit } => LogRecord::Outcome { txn, commit },
             LogRecord::Commit {
                 txn,
                 view,
-                writes,
-                waiting,
+                ref writes,
+                ref waiting,
             } => LogRecord::Commit {
-                txn: *txn,
-                view: *view,
+                txn,
+                view,
                 writes: writes.copy_of()?,
                 waiting: waiting.copy_of()?,
             },
-            LogRecord::Copy { rec, stored } => LogRecord::Copy {
-                rec: *rec,
-                stored: stored.copy_of()?,
+            LogRecord::Copy { rec, ref stored } => LogRecord::Copy {
+                rec,
+                stored: stored.duplicate(),
             },
-            LogRecord::Acked { txn, site } => LogRecord::Acked {
-                txn: *txn,
-                site: *site,
-            },
+            LogRecord::Acked { txn, site } => LogRecord::Acked { txn, site },
             LogRecord::Checkpoint {
                 generation,
                 life,
                 promise,
-                copies,
-                doubts,
-                decisions,
+                ref copies,
+                ref doubts,
+                ref decisions,
             } => LogRecord::Checkpoint {
-                generation: *generation,
-                life: *life,
-                promise: *promise,
+                generation,
+                life,
+                promise,
                 copies: copies.copy_of()?,
                 doubts: doubts.copy_of()?,
                 decisions: decisions.copy_of()?,
@@ -257,24 +255,21 @@ impl CopyOf for LogRecord {
 
 impl CopyOf for Obstacle {
     fn copy_of(&self) -> Result<Obstacle, NoMemory> {
-        Ok(match self {
-            Obstacle::Held { owner } => Obstacle::Held { owner: *owner },
-            Obstacle::OtherView { now } => Obstacle::OtherView { now: *now },
+        Ok(match *self {
+            Obstacle::Held { owner } => Obstacle::Held { owner },
+            Obstacle::OtherView { now } => Obstacle::OtherView { now },
         })
     }
 }
 
 impl CopyOf for Message {
     fn copy_of(&self) -> Result<Message, NoMemory> {
-        Ok(match self {
-            Message::Invite { id } => Message::Invite { id: *id },
-            Message::Accept { id } => Message::Accept { id: *id },
-            Message::Stale { id, promise } => Message::Stale {
-                id: *id,
-                promise: *promise,
-            },
-            Message::ViewCommit { id, members } => Message::ViewCommit {
-                id: *id,
+        Ok(match *self {
+            Message::Invite { id } => Message::Invite { id },
+            Message::Accept { id } => Message::Accept { id },
+            Message::Stale { id, promise } => Message::Stale { id, promise },
+            Message::ViewCommit { id, ref members } => Message::ViewCommit {
+                id,
                 members: members.copy_of()?,
             },
             Message::ReadRequest {
@@ -283,14 +278,18 @@ impl CopyOf for Message {
                 number,
                 rec,
             } => Message::ReadRequest {
-                txn: *txn,
-                view: *view,
-                number: *number,
-                rec: *rec,
+                txn,
+                view,
+                number,
+                rec,
             },
-            Message::ReadAnswer { txn, number, value } => Message::ReadAnswer {
-                txn: *txn,
-                number: *number,
+            Message::ReadAnswer {
+                txn,
+                number,
+                ref value,
+            } => Message::ReadAnswer {
+                txn,
+                number,
                 value: value.copy_of()?,
             },
             Message::WriteRequest {
@@ -299,122 +298,101 @@ impl CopyOf for Message {
                 number,
                 rec,
             } => Message::WriteRequest {
-                txn: *txn,
-                view: *view,
-                number: *number,
-                rec: *rec,
+                txn,
+                view,
+                number,
+                rec,
             },
-            Message::WriteAnswer { txn, number } => Message::WriteAnswer {
-                txn: *txn,
-                number: *number,
-            },
-            Message::Refuse { txn, number, why } => Message::Refuse {
-                txn: *txn,
-                number: *number,
+            Message::WriteAnswer { txn, number } => Message::WriteAnswer { txn, number },
+            Message::Refuse {
+                txn,
+                number,
+                ref why,
+            } => Message::Refuse {
+                txn,
+                number,
                 why: why.copy_of()?,
             },
             Message::Prepare {
                 txn,
                 view,
                 number,
-                reads,
-                writes,
+                ref reads,
+                ref writes,
             } => Message::Prepare {
-                txn: *txn,
-                view: *view,
-                number: *number,
+                txn,
+                view,
+                number,
                 reads: reads.copy_of()?,
                 writes: writes.copy_of()?,
             },
-            Message::Vote { txn } => Message::Vote { txn: *txn },
-            Message::Outcome { txn, commit } => Message::Outcome {
-                txn: *txn,
-                commit: *commit,
-            },
-            Message::Ack { txn } => Message::Ack { txn: *txn },
-            Message::Inquire { txn } => Message::Inquire { txn: *txn },
-            Message::RefreshRequest { view, rec } => Message::RefreshRequest {
-                view: *view,
-                rec: *rec,
-            },
-            Message::RefreshAnswer { view, rec, stored } => Message::RefreshAnswer {
-                view: *view,
-                rec: *rec,
+            Message::Vote { txn } => Message::Vote { txn },
+            Message::Outcome { txn, commit } => Message::Outcome { txn, commit },
+            Message::Ack { txn } => Message::Ack { txn },
+            Message::Inquire { txn } => Message::Inquire { txn },
+            Message::RefreshRequest { view, rec } => Message::RefreshRequest { view, rec },
+            Message::RefreshAnswer {
+                view,
+                rec,
+                ref stored,
+            } => Message::RefreshAnswer {
+                view,
+                rec,
                 stored: stored.copy_of()?,
             },
-            Message::Probe { view } => Message::Probe { view: *view },
+            Message::Probe { view } => Message::Probe { view },
         })
     }
 }
 
 impl CopyOf for Answer {
     fn copy_of(&self) -> Result<Answer, NoMemory> {
-        Ok(match self {
-            Answer::Begun { txn, view } => Answer::Begun {
-                txn: *txn,
-                view: *view,
+        Ok(match *self {
+            Answer::Begun { txn, view } => Answer::Begun { txn, view },
+            Answer::Value {
+                txn,
+                number,
+                ref value,
+            } => Answer::Value {
+                txn,
+                number,
+                value: value.duplicate(),
             },
-            Answer::Value { txn, number, value } => Answer::Value {
-                txn: *txn,
-                number: *number,
-                value: value.copy_of()?,
-            },
-            Answer::Written { txn, number } => Answer::Written {
-                txn: *txn,
-                number: *number,
-            },
-            Answer::Committed { txn, number } => Answer::Committed {
-                txn: *txn,
-                number: *number,
-            },
-            Answer::Aborted { txn, number } => Answer::Aborted {
-                txn: *txn,
-                number: *number,
-            },
-            Answer::Inviting { view } => Answer::Inviting { view: *view },
-            Answer::NoView { promise } => Answer::NoView { promise: *promise },
-            Answer::Unknown { txn } => Answer::Unknown { txn: *txn },
-            Answer::Skipped { txn, expected } => Answer::Skipped {
-                txn: *txn,
-                expected: *expected,
-            },
-            Answer::Busy { txn, number } => Answer::Busy {
-                txn: *txn,
-                number: *number,
-            },
-            Answer::NoRecord { txn, number } => Answer::NoRecord {
-                txn: *txn,
-                number: *number,
-            },
-            Answer::TooManyOps { txn, number } => Answer::TooManyOps {
-                txn: *txn,
-                number: *number,
-            },
+            Answer::Written { txn, number } => Answer::Written { txn, number },
+            Answer::Committed { txn, number } => Answer::Committed { txn, number },
+            Answer::Aborted { txn, number } => Answer::Aborted { txn, number },
+            Answer::Inviting { view } => Answer::Inviting { view },
+            Answer::NoView { promise } => Answer::NoView { promise },
+            Answer::Unknown { txn } => Answer::Unknown { txn },
+            Answer::Skipped { txn, expected } => Answer::Skipped { txn, expected },
+            Answer::Busy { txn, number } => Answer::Busy { txn, number },
+            Answer::NoRecord { txn, number } => Answer::NoRecord { txn, number },
+            Answer::TooManyOps { txn, number } => Answer::TooManyOps { txn, number },
             Answer::Inaccessible {
                 txn,
                 number,
-                name,
+                ref name,
                 inside,
                 total,
             } => Answer::Inaccessible {
-                txn: *txn,
-                number: *number,
-                name: name.copy_of()?,
-                inside: *inside,
-                total: *total,
+                txn,
+                number,
+                name: name.duplicate(),
+                inside,
+                total,
             },
             Answer::LockHeld {
                 txn,
                 number,
-                name,
+                ref name,
                 at,
                 owner,
             } => Answer::LockHeld {
-                txn: *txn,
-                number: *number,
-                name: name.copy_of()?,
-                at: *at,
-                owner: *owner,
+                txn,
+                number,
+                name: name.duplicate(),
+                at,
+                owner,
             },
             Answer::ViewChanged {
                 txn,
@@ -423,18 +401,14 @@ impl CopyOf for Answer {
                 held,
                 now,
             } => Answer::ViewChanged {
-                txn: *txn,
-                number: *number,
-                at: *at,
-                held: *held,
-                now: *now,
+                txn,
+                number,
+                at,
+                held,
+                now,
             },
-            Answer::TimedOut { txn, number, at } => Answer::TimedOut {
-                txn: *txn,
-                number: *number,
-                at: *at,
-            },
-            Answer::Spent { number } => Answer::Spent { number: *number },
+            Answer::TimedOut { txn, number, at } => Answer::TimedOut { txn, number, at },
+            Answer::Spent { number } => Answer::Spent { number },
             Answer::TooManyLive => Answer::TooManyLive,
         })
     }
@@ -442,46 +416,44 @@ impl CopyOf for Answer {
 
 impl CopyOf for Call {
     fn copy_of(&self) -> Result<Call, NoMemory> {
-        Ok(match self {
+        Ok(match *self {
             Call::Begin => Call::Begin,
             Call::Regroup => Call::Regroup,
-            Call::Read { txn, number, name } => Call::Read {
-                txn: *txn,
-                number: *number,
-                name: name.copy_of()?,
+            Call::Read {
+                txn,
+                number,
+                ref name,
+            } => Call::Read {
+                txn,
+                number,
+                name: name.duplicate(),
             },
             Call::Write {
                 txn,
                 number,
-                name,
-                value,
+                ref name,
+                ref value,
             } => Call::Write {
-                txn: *txn,
-                number: *number,
-                name: name.copy_of()?,
-                value: value.copy_of()?,
+                txn,
+                number,
+                name: name.duplicate(),
+                value: value.duplicate(),
             },
-            Call::Commit { txn, number } => Call::Commit {
-                txn: *txn,
-                number: *number,
-            },
-            Call::Abort { txn, number } => Call::Abort {
-                txn: *txn,
-                number: *number,
-            },
+            Call::Commit { txn, number } => Call::Commit { txn, number },
+            Call::Abort { txn, number } => Call::Abort { txn, number },
         })
     }
 }
 
 impl CopyOf for Input {
     fn copy_of(&self) -> Result<Input, NoMemory> {
-        Ok(match self {
-            Input::Call { from, call } => Input::Call {
-                from: *from,
+        Ok(match *self {
+            Input::Call { from, ref call } => Input::Call {
+                from,
                 call: call.copy_of()?,
             },
-            Input::Message { from, message } => Input::Message {
-                from: *from,
+            Input::Message { from, ref message } => Input::Message {
+                from,
                 message: message.copy_of()?,
             },
             Input::Tick => Input::Tick,
@@ -492,67 +464,64 @@ impl CopyOf for Input {
 
 impl CopyOf for Event {
     fn copy_of(&self) -> Result<Event, NoMemory> {
-        Ok(match self {
-            Event::Call { site, call } => Event::Call {
-                site: *site,
+        Ok(match *self {
+            Event::Call { site, ref call } => Event::Call {
+                site,
                 call: call.copy_of()?,
             },
-            Event::Deliver { k } => Event::Deliver { k: *k },
-            Event::Flow { count } => Event::Flow { count: *count },
-            Event::Tick { site } => Event::Tick { site: *site },
-            Event::Probe { site } => Event::Probe { site: *site },
-            Event::Cut { a, b } => Event::Cut { a: *a, b: *b },
-            Event::Heal { a, b } => Event::Heal { a: *a, b: *b },
-            Event::Crash { site } => Event::Crash { site: *site },
-            Event::Restart { site } => Event::Restart { site: *site },
+            Event::Deliver { k } => Event::Deliver { k },
+            Event::Flow { count } => Event::Flow { count },
+            Event::Tick { site } => Event::Tick { site },
+            Event::Probe { site } => Event::Probe { site },
+            Event::Cut { a, b } => Event::Cut { a, b },
+            Event::Heal { a, b } => Event::Heal { a, b },
+            Event::Crash { site } => Event::Crash { site },
+            Event::Restart { site } => Event::Restart { site },
         })
     }
 }
 
 impl CopyOf for Shown {
     fn copy_of(&self) -> Result<Shown, NoMemory> {
-        Ok(match self {
+        Ok(match *self {
             Shown::Step {
-                commits,
+                ref commits,
                 first,
-                messages,
-                replies,
+                ref messages,
+                ref replies,
             } => Shown::Step {
                 commits: commits.copy_of()?,
-                first: *first,
+                first,
                 messages: messages.copy_of()?,
                 replies: replies.copy_of()?,
             },
             Shown::Nothing => Shown::Nothing,
             Shown::NoMessage => Shown::NoMessage,
-            Shown::Down { site } => Shown::Down { site: *site },
-            Shown::Parted { from, to } => Shown::Parted {
-                from: *from,
-                to: *to,
-            },
-            Shown::Up { site } => Shown::Up { site: *site },
-            Shown::Life { life } => Shown::Life { life: *life },
-            Shown::LivesSpent { life } => Shown::LivesSpent { life: *life },
+            Shown::Down { site } => Shown::Down { site },
+            Shown::Parted { from, to } => Shown::Parted { from, to },
+            Shown::Up { site } => Shown::Up { site },
+            Shown::Life { life } => Shown::Life { life },
+            Shown::LivesSpent { life } => Shown::LivesSpent { life },
         })
     }
 }
 
 impl CopyOf for Ending {
     fn copy_of(&self) -> Result<Ending, NoMemory> {
-        Ok(match self {
+        Ok(match *self {
             Ending::Committed => Ending::Committed,
             Ending::Aborted => Ending::Aborted,
-            Ending::LockHeld { name, at, owner } => Ending::LockHeld {
-                name: name.copy_of()?,
-                at: *at,
-                owner: *owner,
+            Ending::LockHeld {
+                ref name,
+                at,
+                owner,
+            } => Ending::LockHeld {
+                name: name.duplicate(),
+                at,
+                owner,
             },
-            Ending::ViewChanged { at, held, now } => Ending::ViewChanged {
-                at: *at,
-                held: *held,
-                now: *now,
-            },
-            Ending::TimedOut { at } => Ending::TimedOut { at: *at },
+            Ending::ViewChanged { at, held, now } => Ending::ViewChanged { at, held, now },
+            Ending::TimedOut { at } => Ending::TimedOut { at },
         })
     }
 }

@@ -71,10 +71,11 @@ impl<T: Drop> Seq<T> {
 
 impl<T: CopyOf> CopyOf for Seq<T> {
     fn copy_of(&self) -> Result<Seq<T>, NoMemory> {
-        let mut copy = Vec::with_capacity(*self.items.allocator(), self.items.len())?;
+        let room = Vec::with_capacity(self.allocator(), self.items.len())?;
+        let mut copy = Seq::from_vec(room);
         for item in &self.items {
             copy.push(item.copy_of()?)?;
         }
-        Ok(Seq { items: copy })
+        Ok(copy)
     }
 }

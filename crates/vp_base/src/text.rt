@@ -37,14 +37,21 @@ impl Model for Name {
 
 impl CopyOf for Name {
     fn copy_of(&self) -> Result<Name, NoMemory> {
-        Ok(Name {
-            bytes: self.bytes,
-            len: self.len,
-        })
+        Ok(self.duplicate())
     }
 }
 
 impl Name {
+    /// An equal name. It takes no memory.
+    pub(crate) fn duplicate(&self) -> Name
+        ensures { result ≡ self.now }
+    {
+        Name {
+            bytes: self.bytes,
+            len: self.len,
+        }
+    }
+
     /// The word, which is one.
     fn of(word: &[u8]) -> Name
         requires { IsName word.now word.now }

@@ -1,6 +1,6 @@
 //! The text of a transaction, SITE.LIFE.SEQ.
 
-ghost use Rattle.std.specs.Prelude.{◌≡◌, ◌++◌, OnOk, OnErr};
+ghost use Rattle.std.specs.Prelude.{◌≡◌, ◌++◌, ◌∷◌, OnOk, OnErr};
 ghost use Rattle.std.specs.Fmt.{decimal};
 ghost use Rattle.vp_text.specs.Meaning.{Answers};
 ghost use Rattle.vp_text.specs.Printing.{Appends};
@@ -76,10 +76,17 @@ impl TxnId {
         ensures { Appends result out.old.items (txn_text self.now) out.new.items }
     {
         self.site.print(out)?;
-        out.push(b'.')?;
-        print_number(out, u64::from(self.life))?;
-        out.push(b'.')?;
-        print_number(out, u64::from(self.seq))?;
-        Ok(())
+        print_behind(out, b'.', self.life)?;
+        print_behind(out, b'.', self.seq)
     }
+}
+
+/// Appends a mark and the number behind it. Without memory only a beginning of them may stand there.
+#[tactic(auto, using(vp_text::proofs::Printing::printing))]
+pub fn print_behind(out: &mut Vec<u8>, mark: u8, number: u32) -> Result<(), NoMemory>
+    ensures { Appends result out.old.items (mark ∷ decimal number) out.new.items }
+{
+    out.push(mark)?;
+    print_number(out, u64::from(number))?;
+    Ok(())
 }

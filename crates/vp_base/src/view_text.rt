@@ -11,6 +11,7 @@ use crate::fault::BadName;
 use crate::ids::ViewId;
 use crate::limits::LAST_SITE;
 use crate::memory::NoMemory;
+use crate::txn_text::print_behind;
 use vp_text::{Cursor, Unexpected, print_number};
 
 impl ViewId {
@@ -64,9 +65,7 @@ impl ViewId {
         ensures { Appends result out.old.items (view_text self.now) out.new.items }
     {
         print_number(out, self.number)?;
-        out.push(b'@')?;
-        print_number(out, u64::from(self.site))?;
-        Ok(())
+        print_behind(out, b'@', u32::from(self.site))
     }
 }
 

@@ -1,11 +1,11 @@
 -- Bytes that are put down part by part: where a part fails, a beginning of the whole stands there.
-use Rattle.std.proofs.Common.{◌≡◌, ℕ, suc, ◌<◌, true, List, ◌∷◌, ◌++◌, length, get_or, take, drop, Result, Ok, Err, sym, ap, ◌∙◌, subst, append_assoc}
-use Rattle.std.specs.Prelude.{⊤}
+use Rattle.std.proofs.Common.{◌≡◌, ℕ, suc, ◌+◌, ◌<◌, true, List, [], ◌∷◌, ◌++◌, length, get_or, take, drop, Result, Ok, Err, sym, ap, ◌∙◌, subst, append_assoc}
+use Rattle.std.specs.Prelude.{⊤, OnOk, OnErr}
 use Rattle.std.specs.List.{flat_map}
 use Rattle.std.specs.Result.{IsErr}
 use Rattle.std.proofs.lemmas.Bool.{false≢true}
 use Rattle.std.proofs.lemmas.Grind.{flat_map-append}
-use Rattle.std.proofs.lemmas.List.{take-append-drop}
+use Rattle.std.proofs.lemmas.List.{append-nil, take-append-drop, take_more}
 use Rattle.std.proofs.Math.Seq.{drop-cons}
 use Rattle.vp_text.specs.Printing.{Appends, is_begun}
 use Rattle.vp_text.proofs.Printing.{begun_none, begun_whole, begun_first, begun_then, begun_byte}
@@ -18,6 +18,24 @@ appended old text new e = record { whole = e; begun = begun_whole old text new e
 pub begun_err : {E : Type 0} (result : Result ⊤ E) (old text new : List ℕ) → IsErr result → is_begun old text new ≡ true → Appends result old text new
 begun_err (Ok x) old text new err h = absurd (false≢true err)
 begun_err (Err e) old text new err h = record { whole = tt; begun = h }
+
+-- all of a part, or nothing of it
+pub all_or_none : {E : Type 0} (result : Result ⊤ E) (old text new : List ℕ) → OnOk result (new ≡ old ++ text) → OnErr result (new ≡ old) → Appends result old text new
+all_or_none (Ok x) old text new ok err = record { whole = ok; begun = begun_whole old text new ok }
+all_or_none (Err e) old text new ok err = record { whole = tt; begun = begun_none old text new err }
+
+-- the last part, behind the others
+pub behind : {E : Type 0} (result : Result ⊤ E) (old front part text new : List ℕ) → text ≡ front ++ part → Appends result (old ++ front) part new → Appends result old text new
+behind (Ok x) old front part text new e a =
+    let whole : new ≡ old ++ text = a.whole ∙ append_assoc old front part ∙ ap (λ (t : List ℕ). old ++ t) (sym e) in
+    record { whole = whole; begun = begun_whole old text new whole }
+behind (Err x) old front part text new e a =
+    record { whole = tt; begun = subst (λ (t : List ℕ). is_begun old t new ≡ true) (sym e) (begun_then old front part new a.begun) }
+
+-- the first parts alone
+pub begun_front : (old front more text new : List ℕ) → text ≡ front ++ more → new ≡ old ++ front → is_begun old text new ≡ true
+begun_front old front more text new e is =
+    subst (λ (t : List ℕ). is_begun old t new ≡ true) (sym e) (begun_first old front more new (begun_whole old front new is))
 
 -- a beginning of the first part
 pub begun_as : (old part more text new : List ℕ) → text ≡ part ++ more → is_begun old part new ≡ true → is_begun old text new ≡ true
@@ -57,5 +75,27 @@ pub begun_bytes : (old front xs : List ℕ) (i : ℕ) (new : List ℕ) → new �
 begun_bytes old front xs i new e =
     let all : front ++ xs ≡ (front ++ take i xs) ++ drop i xs = ap (λ (t : List ℕ). front ++ t) (sym (take-append-drop i xs)) ∙ sym (append_assoc front (take i xs) (drop i xs)) in
     subst (λ (t : List ℕ). is_begun old t new ≡ true) (sym all) (begun_first old (front ++ take i xs) (drop i xs) new (begun_whole old (front ++ take i xs) new e))
+
+-- ---- loops that put items down behind some bytes, a turn at a time
+
+pub no_turn : (old front new : List ℕ) → new ≡ old ++ front → new ≡ old ++ (front ++ [])
+no_turn old front new e = e ∙ ap (λ (t : List ℕ). old ++ t) (sym (append-nil front))
+
+pub byte_turn : (old front xs : List ℕ) (i byte : ℕ) (before new : List ℕ) → i < length xs → byte ≡ get_or xs i byte → before ≡ old ++ (front ++ take i xs)
+    → new ≡ before ++ byte ∷ [] → new ≡ old ++ (front ++ take (i + 1) xs)
+byte_turn old front xs i byte before new within is so_far e =
+    let more : take (i + 1) xs ≡ take i xs ++ byte ∷ [] = take_more xs i byte within ∙ ap (λ (b : ℕ). take i xs ++ b ∷ []) (sym is) in
+    let parts : (front ++ take i xs) ++ byte ∷ [] ≡ front ++ take (i + 1) xs = append_assoc front (take i xs) (byte ∷ []) ∙ ap (λ (t : List ℕ). front ++ t) (sym more) in
+    e ∙ ap (λ (t : List ℕ). t ++ byte ∷ []) so_far ∙ append_assoc old (front ++ take i xs) (byte ∷ []) ∙ ap (λ (t : List ℕ). old ++ t) parts
+
+pub item_turn : {X : Type 0} (f : X → List ℕ) (old front : List ℕ) (xs : List X) (i : ℕ) (x : X) (before new : List ℕ) → i < length xs → x ≡ get_or xs i x
+    → before ≡ old ++ (front ++ flat_map f (take i xs)) → new ≡ before ++ f x → new ≡ old ++ (front ++ flat_map f (take (i + 1) xs))
+item_turn f old front xs i x before new within is so_far e =
+    let more : take (i + 1) xs ≡ take i xs ++ x ∷ [] = take_more xs i x within ∙ ap (λ (y : _). take i xs ++ y ∷ []) (sym is) in
+    let texts : flat_map f (take (i + 1) xs) ≡ flat_map f (take i xs) ++ f x =
+    ap (flat_map f) more ∙ flat_map-append f (take i xs) (x ∷ []) ∙ ap (λ (t : List ℕ). flat_map f (take i xs) ++ t) (append-nil (f x)) in
+    let parts : (front ++ flat_map f (take i xs)) ++ f x ≡ front ++ flat_map f (take (i + 1) xs) =
+    append_assoc front (flat_map f (take i xs)) (f x) ∙ ap (λ (t : List ℕ). front ++ t) (sym texts) in
+    e ∙ ap (λ (t : List ℕ). t ++ f x) so_far ∙ append_assoc old (front ++ flat_map f (take i xs)) (f x) ∙ ap (λ (t : List ℕ). old ++ t) parts
 
 pub ruleset writing = (append_assoc, begun_none, begun_whole, begun_first, begun_then, begun_byte, begun_head)

@@ -12,7 +12,6 @@ use crate::fields::{put_byte, put_value, put_view};
 use crate::ranges::take_u16_within;
 use crate::reading::{take_byte, take_view};
 use crate::words::take_value;
-use byteorder::{BigEndian, ByteOrder};
 use bytes::BufMut;
 use std::alloc::Global;
 use vp_base::{Copies, LineFault, MOST_RECORDS, NoMemory, RecId, Stored};
@@ -32,7 +31,7 @@ fn take_some_copies(alloc: Global, cursor: &mut Cursor, count: u16) -> Result<Co
     requires { count ≤ 256 }
     ensures { Tries (λ c. c) line_left result cursor.new (run_at (λ copy. copy.0) copy_at count 0 cursor.old) }
 {
-    let mut copies = Vec::new(alloc);
+    let mut copies = Copies::new(alloc);
     let mut left = count;
     let mut least = 0;
     while left > 0 {
@@ -41,7 +40,7 @@ fn take_some_copies(alloc: Global, cursor: &mut Cursor, count: u16) -> Result<Co
         least = u16::from(copy.0.get()) + 1;
         copies.push(copy)?;
     }
-    Ok(Copies::from_vec(copies))
+    Ok(copies)
 }
 
 /// Takes a record from `least` on that so many others can follow, its value, and the date of that.
@@ -81,9 +80,7 @@ fn put_u16<B: BufMut>(out: &mut B, number: u16) -> Result<(), NoMemory>
     ensures ok { OnOk result (B.written out.new ≡ B.written out.old ++ number_bytes 2 number) }
     ensures err { OnErr result (B.written out.new ≡ B.written out.old) }
 {
-    let mut bytes = [0; 2];
-    BigEndian::write_u16(&mut bytes, number);
-    out.put_slice(&bytes)?;
+    out.put_u16(number)?;
     Ok(())
 }
 

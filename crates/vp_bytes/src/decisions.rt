@@ -35,7 +35,7 @@ fn take_some_decisions(
 ) -> Result<Decisions, LineFault>
     ensures { Tries (λ d. d) line_left result cursor.new (run_at (λ decision. rank decision.txn) decision_at count 0 cursor.old) }
 {
-    let mut decisions = Vec::new(alloc);
+    let mut decisions = Decisions::new(alloc);
     let mut left = count;
     let mut last = None;
     while left > 0 {
@@ -44,7 +44,7 @@ fn take_some_decisions(
         last = Some(decision.txn);
         decisions.push(decision)?;
     }
-    Ok(Decisions::from_vec(decisions))
+    Ok(decisions)
 }
 
 /// Takes a decided transaction above the last one, if there is one, that so many others can follow.

@@ -31,7 +31,7 @@ pub fn take_doubts(alloc: Global, cursor: &mut Cursor) -> Result<InDoubt, LineFa
 fn take_some_doubts(alloc: Global, cursor: &mut Cursor, count: u64) -> Result<InDoubt, LineFault>
     ensures { Tries (λ d. d) line_left result cursor.new (run_at (λ doubt. rank doubt.txn) doubt_at count 0 cursor.old) }
 {
-    let mut doubts = Vec::new(alloc);
+    let mut doubts = InDoubt::new(alloc);
     let mut left = count;
     let mut last = None;
     while left > 0 {
@@ -40,7 +40,7 @@ fn take_some_doubts(alloc: Global, cursor: &mut Cursor, count: u64) -> Result<In
         last = Some(doubt.txn);
         doubts.push(doubt)?;
     }
-    Ok(InDoubt::from_vec(doubts))
+    Ok(doubts)
 }
 
 /// Takes a transaction in doubt above the last one, if there is one, that so many others can follow.

@@ -4,7 +4,6 @@ ghost use Rattle.std.specs.Prelude.{◌≡◌, ◌≤◌, ◌++◌, ◌∷◌, [
 ghost use Rattle.vp_text.specs.Printing.{Appends};
 ghost use Rattle.vp_bytes.specs.Fields.{number_bytes, view_bytes, maybe_view_bytes, txn_bytes, owner_bytes, counted_bytes, write_bytes, writes_bytes, numbered_bytes, request_bytes, outcome_byte};
 
-use byteorder::{BigEndian, ByteOrder};
 use bytes::BufMut;
 use vp_base::{CallNo, Name, NoMemory, Owner, RecId, SiteId, TxnId, Value, ViewId};
 
@@ -23,9 +22,7 @@ pub fn put_u32<B: BufMut>(out: &mut B, number: u32) -> Result<(), NoMemory>
     ensures ok { OnOk result (B.written out.new ≡ B.written out.old ++ number_bytes 4 number) }
     ensures err { OnErr result (B.written out.new ≡ B.written out.old) }
 {
-    let mut bytes = [0; 4];
-    BigEndian::write_u32(&mut bytes, number);
-    out.put_slice(&bytes)?;
+    out.put_u32(number)?;
     Ok(())
 }
 
@@ -35,9 +32,7 @@ pub fn put_u64<B: BufMut>(out: &mut B, number: u64) -> Result<(), NoMemory>
     ensures ok { OnOk result (B.written out.new ≡ B.written out.old ++ number_bytes 8 number) }
     ensures err { OnErr result (B.written out.new ≡ B.written out.old) }
 {
-    let mut bytes = [0; 8];
-    BigEndian::write_u64(&mut bytes, number);
-    out.put_slice(&bytes)?;
+    out.put_u64(number)?;
     Ok(())
 }
 

@@ -25,7 +25,7 @@ fn take_some_sites(alloc: Global, cursor: &mut Cursor, count: u8) -> Result<Site
     requires { count ≤ 16 }
     ensures { Tries (λ s. s) line_left result cursor.new (run_at (λ c. c) (ascending_at 16) count 1 cursor.old) }
 {
-    let mut sites = Vec::new(alloc);
+    let mut sites = Sites::new(alloc);
     let mut left = count;
     let mut least = 1;
     while left > 0 {
@@ -34,7 +34,7 @@ fn take_some_sites(alloc: Global, cursor: &mut Cursor, count: u8) -> Result<Site
         sites.push(SiteId::of(site))?;
         least = site + 1;
     }
-    Ok(Sites::from_vec(sites))
+    Ok(sites)
 }
 
 /// Takes up to 64 records, ascending, behind their count.
@@ -51,7 +51,7 @@ fn take_some_recs(alloc: Global, cursor: &mut Cursor, count: u8) -> Result<Recs,
     requires { count ≤ 64 }
     ensures { Tries (λ r. r) line_left result cursor.new (run_at (λ c. c) (ascending_at 255) count 0 cursor.old) }
 {
-    let mut recs = Vec::new(alloc);
+    let mut recs = Recs::new(alloc);
     let mut left = count;
     let mut least = 0;
     while left > 0 {
@@ -60,7 +60,7 @@ fn take_some_recs(alloc: Global, cursor: &mut Cursor, count: u8) -> Result<Recs,
         recs.push(RecId::new(rec))?;
         least = u16::from(rec) + 1;
     }
-    Ok(Recs::from_vec(recs))
+    Ok(recs)
 }
 
 /// Takes a record from `least` on that so many others can follow.
@@ -86,7 +86,7 @@ fn take_some_writes(alloc: Global, cursor: &mut Cursor, count: u8) -> Result<Wri
     requires { count ≤ 64 }
     ensures { Tries (λ w. w) line_left result cursor.new (run_at (λ write. write.0) write_at count 0 cursor.old) }
 {
-    let mut writes = Vec::new(alloc);
+    let mut writes = Writes::new(alloc);
     let mut left = count;
     let mut least = 0;
     while left > 0 {
@@ -95,7 +95,7 @@ fn take_some_writes(alloc: Global, cursor: &mut Cursor, count: u8) -> Result<Wri
         least = u16::from(write.0.get()) + 1;
         writes.push(write)?;
     }
-    Ok(Writes::from_vec(writes))
+    Ok(writes)
 }
 
 /// Takes a record from `least` on that so many others can follow, and its value.

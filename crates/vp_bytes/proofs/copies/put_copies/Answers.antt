@@ -2,8 +2,19 @@ use Rattle.std.proofs.Common.{length, arith}
 use Rattle.std.proofs.lemmas.Grind.{common_steps}
 use Rattle.vp_bytes.specs.Copies.{copy_bytes}
 use Rattle.vp_bytes.specs.Fields.{number_bytes}
-use Rattle.vp_bytes.proofs.Writing.{appended, begun_err, begun_item}
+use Rattle.vp_text.proofs.Printing.{begun_none}
+use Rattle.vp_bytes.proofs.Writing.{appended, begun_err, begun_item, item_turn, no_turn}
 use Rattle.vp_bytes.proofs.copies.put_copies.Goals as goal
+
+pub returns-in_err-put_u16 : goal.returns-in_err-put_u16
+returns-in_err-put_u16 g c = begun_err _ _ _ _ c.from_residual.ensures.0 (begun_none _ _ _ c.in_err-put_u16.ensures.err)
+
+pub loop-copy-init : goal.loop-copy-init
+loop-copy-init g c = no_turn _ _ _ c.in_ok-put_u16.ensures.ok
+
+pub loop-copy-preserved : goal.loop-copy-preserved
+loop-copy-preserved g c =
+    item_turn copy_bytes (g.B.BufMut.written c.args.out.now) (number_bytes 2 (length c.args.copies.now)) c.args.copies.now c.loop-copy.copy-index c.copy-item.result _ _ c.loop-copy-test.true c.copy-item.is c.loop-copy.invariant c.in_ok-put_copy.ensures.whole
 
 pub returns-in_err-put_copy : goal.returns-in_err-put_copy
 returns-in_err-put_copy g c =

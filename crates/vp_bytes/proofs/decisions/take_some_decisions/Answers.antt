@@ -14,23 +14,23 @@ pub loop-left-preserved : goal.loop-left-preserved
 loop-left-preserved c =
     let total = run_at (λ decision. rank decision.txn) decision_at c.args.count 0 c.args.cursor.now in
     let left : c.loop-left.left ≡ suc (c.loop-left.left - 1) = omega (arith, c.loop-left-test.true) in
-    let so_far = subst (λ (n : ℕ). with_front c.loop-left.decisions.items (run_at (λ decision. rank decision.txn) decision_at n (next_rank c.loop-left.last) c.loop-left.cursor) ≡ total) left c.loop-left.invariant.3 in
-    let step = run_goes (λ decision. rank decision.txn) decision_at c.loop-left.decisions.items (c.loop-left.left - 1) (next_rank c.loop-left.last) c.loop-left.cursor c.in_ok-decision.decision c.take_decision.new.cursor total c.in_ok-decision.ensures.read so_far in
-    let items : c.loop-left.decisions.items ++ c.in_ok-decision.decision ∷ [] ≡ c.push.new.self.items = sym c.in_ok-push.ensures.items in
+    let so_far = subst (λ (n : ℕ). with_front c.loop-left.decisions (run_at (λ decision. rank decision.txn) decision_at n (next_rank c.loop-left.last) c.loop-left.cursor) ≡ total) left c.loop-left.invariant.3 in
+    let step = run_goes (λ decision. rank decision.txn) decision_at c.loop-left.decisions (c.loop-left.left - 1) (next_rank c.loop-left.last) c.loop-left.cursor c.in_ok-decision.decision c.take_decision.new.cursor total c.in_ok-decision.ensures.read so_far in
+    let items : c.loop-left.decisions ++ c.in_ok-decision.decision ∷ [] ≡ c.push.new.self = sym c.in_ok-push.ensures.ok in
     (omega (arith, c.loop-left.invariant.0), c.in_ok-decision.ensures.txn, omega (arith, c.in_ok-decision.ensures.range.1), subst (λ (xs : List Decision). with_front xs (run_at (λ decision. rank decision.txn) decision_at (c.loop-left.left - 1) (suc (rank c.in_ok-decision.decision.txn)) c.take_decision.new.cursor) ≡ total) items step)
 
 pub returns : goal.returns
 returns c =
     let none : c.loop-left.left ≡ 0 = omega (arith, c.loop-left-test.false) in
     let total = run_at (λ decision. rank decision.txn) decision_at c.args.count 0 c.args.cursor.now in
-    let so_far = subst (λ (n : ℕ). with_front c.loop-left.decisions.items (run_at (λ decision. rank decision.txn) decision_at n (next_rank c.loop-left.last) c.loop-left.cursor) ≡ total) none c.loop-left.invariant.3 in
-    rw c.from_vec.ensures (run_ends (λ decision. rank decision.txn) decision_at c.loop-left.decisions.items (next_rank c.loop-left.last) c.loop-left.cursor total so_far)
+    let so_far = subst (λ (n : ℕ). with_front c.loop-left.decisions (run_at (λ decision. rank decision.txn) decision_at n (next_rank c.loop-left.last) c.loop-left.cursor) ≡ total) none c.loop-left.invariant.3 in
+    run_ends (λ decision. rank decision.txn) decision_at c.loop-left.decisions (next_rank c.loop-left.last) c.loop-left.cursor total so_far
 
 pub returns-in_err-decision : goal.returns-in_err-decision
 returns-in_err-decision c =
     let total = run_at (λ decision. rank decision.txn) decision_at c.args.count 0 c.args.cursor.now in
     let left : c.loop-left.left ≡ suc (c.loop-left.left - 1) = omega (arith, c.loop-left-test.true) in
-    let so_far = subst (λ (n : ℕ). with_front c.loop-left.decisions.items (run_at (λ decision. rank decision.txn) decision_at n (next_rank c.loop-left.last) c.loop-left.cursor) ≡ total) left c.loop-left.invariant.3 in
-    let fails : (n : ℕ) → decision_at (c.loop-left.left - 1) (next_rank c.loop-left.last) c.loop-left.cursor ≡ Err n → total ≡ Err n = λ n h. run_fails (λ decision. rank decision.txn) decision_at c.loop-left.decisions.items (c.loop-left.left - 1) (next_rank c.loop-left.last) c.loop-left.cursor n total h so_far in
+    let so_far = subst (λ (n : ℕ). with_front c.loop-left.decisions (run_at (λ decision. rank decision.txn) decision_at n (next_rank c.loop-left.last) c.loop-left.cursor) ≡ total) left c.loop-left.invariant.3 in
+    let fails : (n : ℕ) → decision_at (c.loop-left.left - 1) (next_rank c.loop-left.last) c.loop-left.cursor ≡ Err n → total ≡ Err n = λ n h. run_fails (λ decision. rank decision.txn) decision_at c.loop-left.decisions (c.loop-left.left - 1) (next_rank c.loop-left.last) c.loop-left.cursor n total h so_far in
     let p = err_from_is_err_and c.from_residual.result c.from_residual.ensures.1 in
     rw (p.1, p.2) (IfSome_then (line_left c.in_err-decision.field-0.0) c.in_err-decision.ensures.read fails)

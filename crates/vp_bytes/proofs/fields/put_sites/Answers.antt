@@ -1,7 +1,19 @@
 use Rattle.std.proofs.Common.{[], ◌∷◌, length, arith}
 use Rattle.std.proofs.lemmas.Grind.{common_steps}
-use Rattle.vp_bytes.proofs.Writing.{appended, begun_err, begun_bytes}
+use Rattle.vp_text.proofs.Printing.{begun_none}
+use Rattle.vp_bytes.proofs.Writing.{appended, begun_err, begun_bytes, byte_turn}
 use Rattle.vp_bytes.proofs.fields.put_sites.Goals as goal
+
+pub returns-in_err-put_byte : goal.returns-in_err-put_byte
+returns-in_err-put_byte g c = begun_err _ _ _ _ c.from_residual.ensures.0 (begun_none _ _ _ c.in_err-put_byte.ensures.err)
+
+pub loop-site-init : goal.loop-site-init
+loop-site-init g c = c.in_ok-put_byte.ensures.ok
+
+pub loop-site-preserved : goal.loop-site-preserved
+loop-site-preserved g c =
+    let put = rw c.get.ensures.value at c.in_ok-put_byte-2.ensures.ok in
+    byte_turn (g.B.BufMut.written c.args.out.now) (length c.args.sites.now ∷ []) c.args.sites.now c.loop-site.site-index c.site-item.result _ _ c.loop-site-test.true c.site-item.is c.loop-site.invariant put
 
 pub returns-in_err-put_byte-2 : goal.returns-in_err-put_byte-2
 returns-in_err-put_byte-2 g c =

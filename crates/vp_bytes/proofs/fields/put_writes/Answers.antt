@@ -1,8 +1,19 @@
 use Rattle.std.proofs.Common.{[], ◌∷◌, length, arith}
 use Rattle.std.proofs.lemmas.Grind.{common_steps}
 use Rattle.vp_bytes.specs.Fields.{write_bytes}
-use Rattle.vp_bytes.proofs.Writing.{appended, begun_err, begun_item}
+use Rattle.vp_text.proofs.Printing.{begun_none}
+use Rattle.vp_bytes.proofs.Writing.{appended, begun_err, begun_item, item_turn}
 use Rattle.vp_bytes.proofs.fields.put_writes.Goals as goal
+
+pub returns-in_err-put_byte : goal.returns-in_err-put_byte
+returns-in_err-put_byte g c = begun_err _ _ _ _ c.from_residual.ensures.0 (begun_none _ _ _ c.in_err-put_byte.ensures.err)
+
+pub loop-write-init : goal.loop-write-init
+loop-write-init g c = c.in_ok-put_byte.ensures.ok
+
+pub loop-write-preserved : goal.loop-write-preserved
+loop-write-preserved g c =
+    item_turn write_bytes (g.B.BufMut.written c.args.out.now) (length c.args.writes.now ∷ []) c.args.writes.now c.loop-write.write-index c.write-item.result _ _ c.loop-write-test.true c.write-item.is c.loop-write.invariant c.in_ok-put_write.ensures.whole
 
 pub returns-in_err-put_write : goal.returns-in_err-put_write
 returns-in_err-put_write g c =
