@@ -1,11 +1,12 @@
 -- The loop over the holders of a record line: what each turn takes, and what is still read.
+use Rattle.std.specs.Prelude.{IfSome}
 use Rattle.std.proofs.Common.{◌≡◌, ℕ, zero, suc, ◌<◌, ◌≤◌, Bool, true, false, cond, List, [], ◌∷◌, ◌++◌, length, min, ◌+◌, Option, Some, None, Result, Ok, Err, refl, sym, ap, ◌∙◌, arith}
 use Rattle.std.proofs.lemmas.List.{length-append}
 use Rattle.vp_text.specs.Reading.{◌>>=◌, scan, ended, literal_at, number_at, either, next_at}
 use Rattle.vp_text.proofs.Exact.{bind_ok, ok_value, at_err}
 use Rattle.vp_text.proofs.Words.{literal_exact}
 use Rattle.vp_text.proofs.Numbers.{number_exact}
-use Rattle.vp_text.proofs.Repeats.{with_front, items_go}
+use Rattle.vp_text.proofs.Repeats.{with_front, items_go, items_end}
 use Rattle.vp_base.specs.Reading.{place_step, place_of, among_at}
 use Rattle.vp_catalog.specs.Sites.{site_texts, site_of_place, site_at}
 use Rattle.vp_catalog.specs.EntryReading.{some_above, weight_at, others_at, weights_at}
@@ -95,7 +96,7 @@ item_shorter sites above bytes w rest true h =
     omega (arith, ap length same, weight_shorter sites above bytes a.0.0 a.0.1 a.1)
 item_shorter sites above bytes w rest false h = absurd (end_is_none bytes w rest (Some w, rest) h refl)
 
-pub next_shorter : (sites : List ℕ) (above : ℕ) (bytes : List ℕ) (w : ℕ × ℕ) (rest : List ℕ) → next_at (some_above sites above) (weight_at sites above) (10 ∷ []) bytes ≡ Ok (Some w, rest) → length rest < length bytes
+next_shorter : (sites : List ℕ) (above : ℕ) (bytes : List ℕ) (w : ℕ × ℕ) (rest : List ℕ) → next_at (some_above sites above) (weight_at sites above) (10 ∷ []) bytes ≡ Ok (Some w, rest) → length rest < length bytes
 unfolding next_at
 next_shorter sites above bytes w rest e = item_shorter sites above bytes w rest (some_above sites above) e
 
@@ -113,10 +114,29 @@ weights_fail sites bytes left e = rw e refl
 abbrev pub Left : List ℕ → List (ℕ × ℕ) → ℕ → List ℕ → Result (List (ℕ × ℕ) × List ℕ) ℕ → Type 0
 Left sites front above bytes total = (n : ℕ) × (length bytes ≤ n) × (with_front front (others_at sites (suc n) above bytes) ≡ total)
 
-pub weights_go : (sites : List ℕ) (front : List (ℕ × ℕ)) (above : ℕ) (bytes : List ℕ) (w : ℕ × ℕ) (rest : List ℕ) (total : Result (List (ℕ × ℕ) × List ℕ) ℕ)
+weights_go : (sites : List ℕ) (front : List (ℕ × ℕ)) (above : ℕ) (bytes : List ℕ) (w : ℕ × ℕ) (rest : List ℕ) (total : Result (List (ℕ × ℕ) × List ℕ) ℕ)
     → next_at (some_above sites above) (weight_at sites above) (10 ∷ []) bytes ≡ Ok (Some w, rest) → Left sites front above bytes total → Left sites (front ++ w ∷ []) w.0 rest total
 weights_go sites front above bytes w rest total h l = go l.0 l.1 l.2
   where
     go : (n : ℕ) → length bytes ≤ n → with_front front (others_at sites (suc n) above bytes) ≡ total → Left sites (front ++ w ∷ []) w.0 rest total
     go zero le so_far = absurd (omega (arith, le, next_shorter sites above bytes w rest h))
     go (suc n) le so_far = (n, omega (arith, le, next_shorter sites above bytes w rest h), items_go (some_above sites) (λ above weight. weight.0) (weight_at sites) (10 ∷ []) front (suc n) above bytes w rest total h so_far)
+
+-- a holder that was read and is not yet kept, and what is read behind it; or the end
+abbrev pub Stands : List ℕ → List (ℕ × ℕ) → Option (ℕ × ℕ) → List ℕ → Result (List (ℕ × ℕ) × List ℕ) ℕ → Type 0
+Stands sites front (Some w) bytes total = Left sites (front ++ w ∷ []) w.0 bytes total × (length front < w.0)
+Stands sites front None bytes total = (total ≡ Ok (front, bytes)) × (length front ≤ 16)
+
+pub stands_next : (sites : List ℕ) (front : List (ℕ × ℕ)) (above : ℕ) (bytes : List ℕ) (next : Option (ℕ × ℕ)) (rest : List ℕ) (total : Result (List (ℕ × ℕ) × List ℕ) ℕ)
+    → next_at (some_above sites above) (weight_at sites above) (10 ∷ []) bytes ≡ Ok (next, rest) → IfSome next (λ w. above < w.0) → Left sites front above bytes total → length front ≤ above → above ≤ 16 → Stands sites front next rest total
+stands_next sites front above bytes (Some w) rest total h higher l few most = (weights_go sites front above bytes w rest total h l, omega (arith, higher))
+stands_next sites front above bytes None rest total h higher l few most = (items_end (some_above sites) (λ above weight. weight.0) (weight_at sites) (10 ∷ []) front l.0 above bytes rest total h l.2, omega arith)
+
+-- how much is left to read, where a holder may follow
+abbrev pub to_read : Option (ℕ × ℕ) → List ℕ → ℕ
+to_read (Some w) bytes = suc (length bytes)
+to_read None bytes = 0
+
+pub reads_less : (sites : List ℕ) (above : ℕ) (bytes : List ℕ) (next : Option (ℕ × ℕ)) (rest : List ℕ) → next_at (some_above sites above) (weight_at sites above) (10 ∷ []) bytes ≡ Ok (next, rest) → to_read next rest < suc (length bytes)
+reads_less sites above bytes (Some w) rest h = omega (arith, next_shorter sites above bytes w rest h)
+reads_less sites above bytes None rest h = omega arith

@@ -1,10 +1,12 @@
 -- What a printer leaves that puts down one part behind another.
 use Rattle.std.proofs.Common.{◌≡◌, ℕ, true, List, [], ◌∷◌, ◌++◌, ◌+◌, ◌<◌, ◌≤◌, length, get_or, take, sym, ap, subst, ◌∙◌, append_assoc}
-use Rattle.std.specs.Prelude.{⊤, Result, Ok, Err, IsErr, flat_map}
+use Rattle.std.specs.Prelude.{⊤, Result, Ok, Err, IsErr, codes, flat_map}
+use Rattle.std.specs.Fmt.{decimal}
 use Rattle.std.proofs.lemmas.List.{append-nil, take_all, take_more}
 use Rattle.std.proofs.lemmas.Bool.{false≢true}
 use Rattle.std.proofs.lemmas.Grind.{flat_map-append}
 use Rattle.vp_text.specs.Printing.{is_begun, Appends}
+use Rattle.vp_model.specs.Texts.Schedule.{site_line}
 use Rattle.vp_text.proofs.Printing.{begun_none, begun_whole, begun_first, begun_then, begun_item}
 
 -- all of the text
@@ -47,3 +49,13 @@ module _ {X : Type 0} (f : X → List ℕ) (xs : List X) (i : ℕ) where
 
   pub all_items : {E : Type 0} (old new : List ℕ) → length xs ≤ i → new ≡ old ++ flat_map f (take i xs) → Appends {E = E} (Ok tt) old (flat_map f xs) new
   all_items old new le e = all_of old (flat_map f xs) new (e ∙ ap (λ (t : List X). old ++ flat_map f t) (take_all i xs le))
+
+-- a site's line without its newline
+abbrev pub site_parts : ℕ × ℕ → List ℕ
+site_parts site = codes "site " ++ (decimal site.0 ++ 32 ∷ decimal site.1)
+
+pub line_ends : (site : ℕ × ℕ) → site_parts site ++ 10 ∷ [] ≡ site_line site
+line_ends site = ap (λ (t : List ℕ). codes "site " ++ t) (append_assoc (decimal site.0) (32 ∷ decimal site.1) (10 ∷ []))
+
+pub begun_line : {E : Type 0} (result : Result ⊤ E) (old : List ℕ) (site : ℕ × ℕ) (new : List ℕ) → IsErr result → is_begun old (site_parts site) new ≡ true → Appends result old (site_line site) new
+begun_line result old site new err begun = subst (λ (t : List ℕ). Appends result old t new) (line_ends site) (within result old (site_parts site) (10 ∷ []) new err begun)

@@ -87,7 +87,7 @@ impl Catalog {
     {
         self.ports.reserve(1)?;
         self.sites.push(site)?;
-        self.ports.push((site, port))?;
+        self.ports.push_reserved((site, port));
         Ok(())
     }
 
@@ -98,10 +98,10 @@ impl Catalog {
         requires fresh { has_name self.old placed.name ≡ false }
         ensures { self.new ≡ (if is_ok result then record self.old { records = self.old.records ++ placed ∷ [] } else self.old) }
     {
-        let name = Vec::from_slice(*self.records.allocator(), placed.name().as_bytes())?;
         self.records.reserve(1)?;
+        let name = Vec::from_slice(*self.records.allocator(), placed.name().as_bytes())?;
         self.names.insert(name)?;
-        self.records.push(placed)?;
+        self.records.push_reserved(placed);
         Ok(())
     }
 
@@ -138,7 +138,12 @@ impl Catalog {
     fn has_port(&self, port: u16) -> bool
         ensures { result ≡ has_port self.now port }
     {
-        self.ports.iter().any(|entry| entry.1 == port)
+        for entry in self.ports() {
+            if entry.1 == port {
+                return true;
+            }
+        }
+        false
     }
 
     fn has_name(&self, name: &[u8]) -> bool
@@ -261,10 +266,12 @@ impl Catalog {
         ensures { IfOk result (λ others. others ≡ other_holders_in self.now id (option_copied held.entry) rec) }
     {
         let alloc = *self.records.allocator();
-        let none = Sites::new(alloc);
-        match self.holders(rec) {
-            Some(sites) => others_in(alloc, sites.as_slice(), members_of(held, &none), id),
-            None => Ok(none),
+        match held {
+            Some(view) => match self.holders(rec) {
+                Some(sites) => others_in(alloc, sites.as_slice(), &view.members, id),
+                None => Ok(Sites::new(alloc)),
+            },
+            None => Ok(Sites::new(alloc)),
         }
     }
 
@@ -273,9 +280,8 @@ impl Catalog {
     pub fn least_other_holder(&self, id: SiteId, held: Option<&View>, rec: RecId) -> Option<SiteId>
         ensures { result ≡ first (other_holders_in self.now id (option_copied held.entry) rec) }
     {
-        let none = Sites::new(*self.records.allocator());
-        match self.holders(rec) {
-            Some(sites) => least_other(sites.as_slice(), members_of(held, &none), id),
+        match held {
+            Some(view) => least_other(self.holders(rec)?.as_slice(), &view.members, id),
             None => None,
         }
     }
@@ -321,15 +327,22 @@ impl Catalog {
     pub fn names(&self) -> Result<Names, NoMemory>
         ensures { IfOk result (λ names. names ≡ map (λ entry. entry.name) self.now.records) }
     {
-        let names = names_of(*self.records.allocator(), &self.records)?;
-        Ok(Names::from_vec(names))
+        let mut names = Names::new(*self.records.allocator());
+        for placed in self.records() {
+            names.push(placed.name().copy_of()?)?;
+        }
+        Ok(names)
     }
 
     /// The values that the records start with, in their order.
     pub fn start_values(&self) -> Result<Vec<Value>, NoMemory>
         ensures { IfOk result (λ values. values.items ≡ start_values self.now) }
     {
-        values_of(*self.records.allocator(), &self.records)
+        let mut values = Vec::new(*self.records.allocator());
+        for placed in self.records() {
+            values.push(placed.start().copy_of()?)?;
+        }
+        Ok(values)
     }
 
     /// The copies of a site as they start: the catalogue's values, dated with the opening view.
@@ -360,26 +373,6 @@ fn copy_records(alloc: Global, records: &[Placed]) -> Result<Vec<Placed>, NoMemo
         copies.push(placed.copy_of()?)?;
     }
     Ok(copies)
-}
-
-fn names_of(alloc: Global, records: &[Placed]) -> Result<Vec<Name>, NoMemory>
-    ensures { IfOk result (λ names. names.items ≡ map (λ entry. entry.name) records.now) }
-{
-    let mut names = Vec::new(alloc);
-    for placed in records {
-        names.push(placed.name().copy_of()?)?;
-    }
-    Ok(names)
-}
-
-fn values_of(alloc: Global, records: &[Placed]) -> Result<Vec<Value>, NoMemory>
-    ensures { IfOk result (λ values. values.items ≡ map (λ entry. entry.start) records.now) }
-{
-    let mut values = Vec::new(alloc);
-    for placed in records {
-        values.push(placed.start().copy_of()?)?;
-    }
-    Ok(values)
 }
 
 /// The copies that a site has of the records, which has to be at most 256.

@@ -42,12 +42,13 @@ impl Model for Placed {
 
 impl CopyOf for Placed {
     fn copy_of(&self) -> Result<Placed, NoMemory> {
-        Ok(Placed {
-            name: self.name.copy_of()?,
-            start: self.start.copy_of()?,
-            holders: self.holders.copy_of()?,
-            weights: Vec::from_slice(*self.weights.allocator(), &self.weights)?,
-        })
+        let alloc = *self.weights.allocator();
+        Placed::new(
+            alloc,
+            self.name.copy_of()?,
+            self.start.copy_of()?,
+            Vec::from_slice(alloc, &self.weights)?,
+        )
     }
 }
 
@@ -62,11 +63,10 @@ impl Placed {
         requires { length weights.items ≤ 16 }
         ensures { IfOk result (λ placed. placed ≡ record { name = name; start = start; weights = weights.items }) }
     {
-        let holders = Sites::from_vec(holders_of(alloc, &weights)?);
         Ok(Placed {
             name,
             start,
-            holders,
+            holders: holders_of(alloc, &weights)?,
             weights,
         })
     }
@@ -127,10 +127,13 @@ impl Placed {
     }
 }
 
-fn holders_of(alloc: Global, weights: &[(SiteId, u16)]) -> Result<Vec<SiteId>, NoMemory>
-    ensures { IfOk result (λ holders. holders.items ≡ keys weights.now) }
+fn holders_of(alloc: Global, weights: &[(SiteId, u16)]) -> Result<Sites, NoMemory>
+    ensures { IfOk result (λ holders. holders ≡ keys weights.now) }
 {
-    let holders = weights.iter().map(|w| w.0).collect(alloc)?;
+    let mut holders = Sites::new(alloc);
+    for weight in weights {
+        holders.push(weight.0)?;
+    }
     Ok(holders)
 }
 
@@ -150,7 +153,7 @@ pub(crate) fn number_of(numbers: &[(SiteId, u16)], site: SiteId) -> Option<u16>
 pub fn has_site(sites: &[SiteId], site: SiteId) -> bool
     ensures { result ≡ has sites.now site }
 {
-    sites.iter().any(|other| *other == site)
+    sites.contains(&site)
 }
 
 fn weight_at(weights: &[(SiteId, u16)], members: &[SiteId]) -> u32

@@ -1,6 +1,7 @@
 //! The text of a catalogue.
 
 ghost use Rattle.std.specs.Prelude.{◌++◌, ◌∷◌, [], flat_map};
+ghost use Rattle.std.specs.Fmt.{decimal};
 ghost use Rattle.vp_text.specs.Printing.{Appends};
 ghost use Rattle.vp_model.specs.Texts.Schedule.{site_line, weight_text, record_line, catalogue_text};
 
@@ -9,14 +10,19 @@ use crate::placed::Placed;
 use vp_base::{NoMemory, SiteId};
 use vp_text::print_number;
 
-fn print_site(out: &mut Vec<u8>, site: &(SiteId, u16)) -> Result<(), NoMemory>
-    ensures { Appends result out.old.items (site_line site.now) out.new.items }
+/// The site and the number beside it, behind these bytes and with a mark between them.
+fn print_pair(
+    out: &mut Vec<u8>,
+    before: &[u8],
+    pair: &(SiteId, u16),
+    mark: u8,
+) -> Result<(), NoMemory>
+    ensures { Appends result out.old.items (before.now ++ (decimal pair.now.0 ++ mark ∷ decimal pair.now.1)) out.new.items }
 {
-    out.extend_from_slice(b"site ")?;
-    site.0.print(out)?;
-    out.push(b' ')?;
-    print_number(out, u64::from(site.1))?;
-    out.push(b'\n')?;
+    out.extend_from_slice(before)?;
+    pair.0.print(out)?;
+    out.push(mark)?;
+    print_number(out, u64::from(pair.1))?;
     Ok(())
 }
 
@@ -24,18 +30,9 @@ fn print_sites(out: &mut Vec<u8>, sites: &[(SiteId, u16)]) -> Result<(), NoMemor
     ensures { Appends result out.old.items (flat_map site_line sites.now) out.new.items }
 {
     for site in sites {
-        print_site(out, site)?;
+        print_pair(out, b"site ", site, b' ')?;
+        out.push(b'\n')?;
     }
-    Ok(())
-}
-
-fn print_weight(out: &mut Vec<u8>, weight: &(SiteId, u16)) -> Result<(), NoMemory>
-    ensures { Appends result out.old.items (weight_text weight.now) out.new.items }
-{
-    out.push(b' ')?;
-    weight.0.print(out)?;
-    out.push(b':')?;
-    print_number(out, u64::from(weight.1))?;
     Ok(())
 }
 
@@ -43,7 +40,7 @@ fn print_weights(out: &mut Vec<u8>, weights: &[(SiteId, u16)]) -> Result<(), NoM
     ensures { Appends result out.old.items (flat_map weight_text weights.now) out.new.items }
 {
     for weight in weights {
-        print_weight(out, weight)?;
+        print_pair(out, b" ", weight, b':')?;
     }
     Ok(())
 }
@@ -66,8 +63,7 @@ fn print_record(out: &mut Vec<u8>, placed: &Placed) -> Result<(), NoMemory>
     out.extend_from_slice(b"record ")?;
     placed.name().print(out)?;
     out.push(b' ')?;
-    print_copies(out, placed)?;
-    Ok(())
+    print_copies(out, placed)
 }
 
 fn print_records(out: &mut Vec<u8>, records: &[Placed]) -> Result<(), NoMemory>

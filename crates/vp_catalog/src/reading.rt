@@ -83,13 +83,13 @@ fn take_weights(
     ensures read { Tries (λ w. w.items) line_left result cursor.new (weights_at sites.now cursor.old) }
     ensures few { IfOk result (λ w. length w.items ≤ 16) }
 {
-    let mut weights = Vec::new(alloc);
     let first = take_weight(cursor, sites, 0)?;
-    let mut last = first.0.get();
-    weights.push(first)?;
-    while let Some(weight) = take_next(cursor, sites, last)? {
-        last = weight.0.get();
+    let mut weights = Vec::new(alloc);
+    let mut next = Some(first);
+    while let Some(weight) = next {
+        let above = weight.0.get();
         weights.push(weight)?;
+        next = take_next(cursor, sites, above)?;
     }
     Ok(weights)
 }

@@ -1,10 +1,9 @@
-use Rattle.std.proofs.Common.{◌≤◌, length}
 use Rattle.vp_catalog.specs.EntryReading.{weights_at}
-use Rattle.vp_catalog.proofs.Holders.{Left}
+use Rattle.vp_catalog.proofs.Holders.{Stands, to_read}
 use Rattle.vp_catalog.proofs.reading.take_weights.Given as goal
 
-abbrev pub invariant-loop-weights : goal.invariant-loop-weights
-invariant-loop-weights l = Left l.sites l.weights.items l.last l.cursor (weights_at l.sites l.fn.cursor) × (length l.weights.items ≤ l.last) × (l.last ≤ 16)
+abbrev pub invariant-loop-next : goal.invariant-loop-next
+invariant-loop-next l = Stands l.sites l.weights.items l.next l.cursor (weights_at l.sites l.fn.cursor)
 
-abbrev pub decreases-loop-weights : goal.decreases-loop-weights
-decreases-loop-weights l = length l.cursor
+abbrev pub decreases-loop-next : goal.decreases-loop-next
+decreases-loop-next l = to_read l.next l.cursor

@@ -14,4 +14,4 @@ invariant_of-self-2 c =
     let fresh = subst (λ (d : Catalogue). has_port d c.args.port ≡ false) back c.requires.fresh in
     let here : Catalogue = record { sites = c.self.inside.ports.items; records = c.self.inside.records.items } in
     let sites = c.in_ok-push.ensures.ok ∙ ap (λ (s : List ℕ). s ++ c.args.site ∷ []) c.self.invariant.0 ∙ sym (map-append (λ (p : ℕ × ℕ). p.0) c.self.inside.ports.items (site ∷ [])) in
-    rw (c.in_ok-push-2.ensures.items, c.in_ok-reserve.ensures.items) (sites, c.self.invariant.1, site_added here site c.self.invariant.2 first allowed fresh)
+    rw (c.push_reserved.ensures.items, c.in_ok-reserve.ensures.items) (sites, c.self.invariant.1, site_added here site c.self.invariant.2 first allowed fresh)

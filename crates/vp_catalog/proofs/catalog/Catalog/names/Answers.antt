@@ -1,10 +1,11 @@
+use Rattle.std.proofs.Common.{◌∙◌, map, ap}
 use Rattle.std.proofs.lemmas.List.{take_all}
 use Rattle.std.proofs.lemmas.Result.{err_from_is_err_and}
 use Rattle.vp_catalog.proofs.Onward.{read_more}
-use Rattle.vp_catalog.proofs.catalog.names_of.Goals as goal
+use Rattle.vp_catalog.proofs.catalog.Catalog.names.Goals as goal
 
 pub loop-placed-preserved : goal.loop-placed-preserved
-loop-placed-preserved c = read_more (λ entry. entry.name) c.args.records.now c.loop-placed.placed-index c.placed-item.result _ _ c.loop-placed-test.true c.placed-item.is c.loop-placed.invariant (rw (c.in_ok-copy_of.ensures, c.name.ensures) at c.in_ok-push.ensures.items)
+loop-placed-preserved c = read_more (λ entry. entry.name) c.records-placed-items.result.now c.loop-placed.placed-index c.placed-item.result _ _ c.loop-placed-test.true c.placed-item.is c.loop-placed.invariant (rw (c.in_ok-copy_of.ensures, c.name.ensures) at c.in_ok-push.ensures.ok)
 
 pub returns-in_err-copy_of : goal.returns-in_err-copy_of
 returns-in_err-copy_of c =
@@ -17,4 +18,4 @@ returns-in_err-push c =
     rw p.1 tt
 
 pub returns : goal.returns
-returns c = rw (take_all c.loop-placed.placed-index c.args.records.now c.loop-placed-test.false) at c.loop-placed.invariant
+returns c = (rw (take_all c.loop-placed.placed-index c.records-placed-items.result.now c.loop-placed-test.false) at c.loop-placed.invariant) ∙ ap (map (λ entry. entry.name)) c.records-placed-items.ensures

@@ -1,5 +1,0 @@
-use Rattle.std.proofs.Common.{◌≡◌, map, take}
-use Rattle.vp_catalog.proofs.catalog.names_of.Given as goal
-
-abbrev pub invariant-loop-placed : goal.invariant-loop-placed
-invariant-loop-placed l = l.names.items ≡ map (λ entry. entry.name) (take l.placed-index l.records)
