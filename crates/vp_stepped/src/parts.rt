@@ -3,7 +3,7 @@
 ghost use Rattle.std.specs.Prelude.{◌≡◌, OnOk, IfOk, IfSome, is_some, if◌then◌else◌};
 ghost use Rattle.vp_base.specs.declared.entry.Owner.TheVariants as owner;
 ghost use Rattle.vp_base.specs.declared.message.Message.TheVariants as message;
-ghost use Rattle.vp_model.specs.Words.{◌|>◌, keys};
+ghost use Rattle.vp_model.specs.Words.{◌|>◌};
 ghost use Rattle.vp_model.specs.Durable.{doubt_of};
 ghost use Rattle.vp_model.specs.Locks.{with_lock, without_owner};
 ghost use Rattle.vp_model.specs.Site.{send, change_locks, change_participant};
@@ -67,14 +67,6 @@ impl Stepped {
         self.send(to, Message::Refuse { txn, number, why })
     }
 
-    /// The site holds another view than the transaction's, or none.
-    fn refuse_view(&mut self, txn: TxnId, number: CallNo, to: SiteId) -> Result<(), NoMemory>
-        ensures { OnOk result (self.new ≡ refuse_view txn number to self.old) }
-    {
-        let now = self.held_id();
-        self.refuse(txn, number, Obstacle::OtherView { now }, to)
-    }
-
     /// The transaction gets the lock and a part here.
     fn lock(&mut self, request: &Request, exclusive: bool) -> Result<(), PartFault>
         ensures told { lock_refused result ≡ lock_refusal self.old.site.held request.now.txn request.now.view request.now.rec exclusive self.old.site.participant self.old.site.locks }
@@ -120,7 +112,13 @@ impl Stepped {
         if self.holds_view(request.view) {
             return Ok(());
         }
-        self.refuse_view(request.txn, request.number, from)
+        let now = self.held_id();
+        self.refuse(
+            request.txn,
+            request.number,
+            Obstacle::OtherView { now },
+            from,
+        )
     }
 
     /// Another site asks for a shared lock on its copy of the record here, and for the value.
@@ -252,21 +250,8 @@ impl Stepped {
             Some(doubt) => {
                 self.end_doubt(txn, commit, &doubt)?;
                 self.acknowledge(from, txn, commit)?;
-                self.settle_all(catalog, &recs_of(&doubt.1)?)
+                self.settle_written(catalog, doubt.1.as_slice())
             }
         }
     }
-}
-
-/// The records that are written.
-fn recs_of(writes: &Writes) -> Result<Vec<RecId>, NoMemory>
-    ensures { IfOk result (λ recs. recs.items ≡ keys writes.now) }
-{
-    Ok(
-        writes
-            .as_slice()
-            .iter()
-            .map(|write| write.0)
-            .collect(writes.allocator())?,
-    )
 }

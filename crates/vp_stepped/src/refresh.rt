@@ -2,14 +2,16 @@
 
 ghost use Rattle.std.specs.Prelude.{◌≡◌, ◌&&◌, not, false, OnOk, IfOk, option_map};
 ghost use Rattle.std.specs.Option.{option_map_or};
-ghost use Rattle.vp_model.specs.Words.{◌|>◌, for_some, has, is_empty};
+ghost use Rattle.vp_model.specs.Words.{◌|>◌, for_some, has, is_empty, keys};
 ghost use Rattle.vp_model.specs.Refresh.{is_doubtful, is_open, refreshing_of, unanswered, newest, take_newer, unlist, settle, settle_all, start_refresh, start_refresh_all};
 ghost use Rattle.vp_model.specs.Views.{usable_here, refresh_here};
 ghost use Rattle.vp_model.specs.Messages.{on_refresh_request, on_refresh_answer};
 
 use crate::state::SiteState;
 use crate::stepped::Stepped;
-use vp_base::{Boxed, LogRecord, Message, NoMemory, RecId, SiteId, Sites, Stored, View, ViewId};
+use vp_base::{
+    Boxed, LogRecord, Message, NoMemory, RecId, SiteId, Sites, Stored, Value, View, ViewId,
+};
 use vp_catalog::{Catalog, has_site, members_of};
 use vp_lists::view_comes_before;
 
@@ -115,6 +117,20 @@ impl Stepped {
     {
         for rec in recs {
             self.settle(catalog, *rec)?;
+        }
+        Ok(())
+    }
+
+    /// The same for the records that are written.
+    pub(crate) fn settle_written(
+        &mut self,
+        catalog: &Catalog,
+        writes: &[(RecId, Value)],
+    ) -> Result<(), NoMemory>
+        ensures { OnOk result (self.new ≡ settle_all catalog.now (keys writes.now) self.old) }
+    {
+        for write in writes {
+            self.settle(catalog, write.0)?;
         }
         Ok(())
     }

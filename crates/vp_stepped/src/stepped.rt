@@ -74,7 +74,10 @@ impl Stepped {
     pub fn held_id(&self) -> Option<ViewId>
         ensures { result ≡ held_id self.now.site }
     {
-        self.site().views.held().map(|view| view.id)
+        match self.site().views.held() {
+            None => None,
+            Some(view) => Some(view.id),
+        }
     }
 
     /// The held view.
