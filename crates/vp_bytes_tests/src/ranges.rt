@@ -1,6 +1,6 @@
 //! What is read, and what is refused at its place.
 
-ghost use Rattle.std.specs.Prelude.{◌≡◌, ◌≤◌, ◌+◌, IfOk, IfSome, length};
+ghost use Rattle.std.specs.Prelude.{◌≡◌, ◌≤◌, ◌+◌, IfSome};
 ghost use Rattle.vp_base.specs.Identifiers.{IsTxn};
 ghost use Rattle.vp_base.specs.Reading.{txn_of};
 ghost use Rattle.vp_bytes.specs.Ranges.{last_rank, next_rank};
@@ -170,7 +170,7 @@ const SOME_DECISIONS: &[u8] = b"\
     \x09\x01\0\0\0\0\0\0\0\x01\0\
     \x00\x00";
 
-/// A reader.
+/// What is read.
 #[derive(Clone, Copy, Drop)]
 enum Field {
     View,
@@ -179,11 +179,6 @@ enum Field {
     U32,
     TxnBetweenTwo,
     TxnBetweenOne,
-}
-
-/// A reader that needs memory.
-#[derive(Clone, Copy, Drop)]
-enum List {
     Sites,
     SomeSites,
     Copies,
@@ -191,20 +186,19 @@ enum List {
     Decisions,
 }
 
-/// The answer of a row.
-fn answer<T: Drop>(read: Result<T, Unexpected>, cursor: &Cursor) -> usize {
+/// The fault of what needs no memory.
+fn fault<T: Drop>(read: Result<T, Unexpected>) -> Option<LineFault> {
     match read {
-        Ok(_value) => cursor.rest().len().saturating_add(128),
-        Err(e) => e.left,
+        Ok(_value) => None,
+        Err(e) => Some(LineFault::Unexpected(e)),
     }
 }
 
-/// The same where memory is needed.
-fn line_answer<T: Drop>(read: Result<T, LineFault>, cursor: &Cursor) -> Result<usize, NoMemory> {
+/// The fault of what needs memory.
+fn line_fault<T: Drop>(read: Result<T, LineFault>) -> Option<LineFault> {
     match read {
-        Ok(_value) => Ok(cursor.rest().len().saturating_add(128)),
-        Err(LineFault::Unexpected(e)) => Ok(e.left),
-        Err(LineFault::NoMemory) => Err(NoMemory),
+        Ok(_value) => None,
+        Err(fault) => Some(fault),
     }
 }
 
@@ -219,96 +213,43 @@ fn txn(site: u8, life: u32, seq: u32) -> TxnId
     }
 }
 
-fn view_answer(bytes: &[u8]) -> usize {
-    let mut cursor = Cursor::new(bytes);
-    let read = take_view(&mut cursor);
-    answer(read, &cursor)
-}
-
-fn txn_answer(bytes: &[u8]) -> usize {
-    let mut cursor = Cursor::new(bytes);
-    let read = take_txn(&mut cursor);
-    answer(read, &cursor)
-}
-
-fn u16_answer(bytes: &[u8]) -> usize {
-    let mut cursor = Cursor::new(bytes);
-    let read = take_u16_within(&mut cursor, 258, 772);
-    answer(read, &cursor)
-}
-
-fn u32_answer(bytes: &[u8]) -> usize {
-    let mut cursor = Cursor::new(bytes);
-    let read = take_u32_within(&mut cursor, 0x01020304, 0x01030201);
-    answer(read, &cursor)
-}
-
-fn between_two_answer(bytes: &[u8]) -> usize {
-    let mut cursor = Cursor::new(bytes);
-    let read = take_txn_between(&mut cursor, &txn(2, 5, 7), &txn(4, 1, 3));
-    answer(read, &cursor)
-}
-
-fn between_one_answer(bytes: &[u8]) -> usize {
-    let mut cursor = Cursor::new(bytes);
-    let read = take_txn_between(&mut cursor, &txn(2, 5, 7), &txn(2, 5, 7));
-    answer(read, &cursor)
-}
-
-fn sites_answer(alloc: Global, bytes: &[u8], few: u8) -> Result<usize, NoMemory> {
-    let mut cursor = Cursor::new(bytes);
-    let read = take_sites(alloc, &mut cursor, few);
-    line_answer(read, &cursor)
-}
-
-fn copies_answer(alloc: Global, bytes: &[u8]) -> Result<usize, NoMemory> {
-    let mut cursor = Cursor::new(bytes);
-    let read = take_copies(alloc, &mut cursor);
-    line_answer(read, &cursor)
-}
-
-fn doubts_answer(alloc: Global, bytes: &[u8]) -> Result<usize, NoMemory> {
-    let mut cursor = Cursor::new(bytes);
-    let read = take_doubts(alloc, &mut cursor);
-    line_answer(read, &cursor)
-}
-
-fn decisions_answer(alloc: Global, bytes: &[u8]) -> Result<usize, NoMemory> {
-    let mut cursor = Cursor::new(bytes);
-    let read = take_decisions(alloc, &mut cursor);
-    line_answer(read, &cursor)
-}
-
-fn field_answer(field: Field, bytes: &[u8]) -> usize {
+/// Reads the field.
+fn read(alloc: Global, cursor: &mut Cursor, field: Field) -> Option<LineFault> {
+    let low = txn(2, 5, 7);
     match field {
-        Field::View => view_answer(bytes),
-        Field::Txn => txn_answer(bytes),
-        Field::U16 => u16_answer(bytes),
-        Field::U32 => u32_answer(bytes),
-        Field::TxnBetweenTwo => between_two_answer(bytes),
-        Field::TxnBetweenOne => between_one_answer(bytes),
+        Field::View => fault(take_view(cursor)),
+        Field::Txn => fault(take_txn(cursor)),
+        Field::U16 => fault(take_u16_within(cursor, 258, 772)),
+        Field::U32 => fault(take_u32_within(cursor, 0x01020304, 0x01030201)),
+        Field::TxnBetweenTwo => fault(take_txn_between(cursor, &low, &txn(4, 1, 3))),
+        Field::TxnBetweenOne => fault(take_txn_between(cursor, &low, &low)),
+        Field::Sites => line_fault(take_sites(alloc, cursor, 0)),
+        Field::SomeSites => line_fault(take_sites(alloc, cursor, 1)),
+        Field::Copies => line_fault(take_copies(alloc, cursor)),
+        Field::Doubts => line_fault(take_doubts(alloc, cursor)),
+        Field::Decisions => line_fault(take_decisions(alloc, cursor)),
     }
 }
 
-fn list_answer(alloc: Global, list: List, bytes: &[u8]) -> Result<usize, NoMemory> {
-    match list {
-        List::Sites => sites_answer(alloc, bytes, 0),
-        List::SomeSites => sites_answer(alloc, bytes, 1),
-        List::Copies => copies_answer(alloc, bytes),
-        List::Doubts => doubts_answer(alloc, bytes),
-        List::Decisions => decisions_answer(alloc, bytes),
+/// The answer of a row, if there is memory.
+fn answer(alloc: Global, field: Field, bytes: &[u8]) -> Option<usize> {
+    let mut cursor = Cursor::new(bytes);
+    match read(alloc, &mut cursor, field) {
+        None => Some(cursor.rest().len().saturating_add(128)),
+        Some(LineFault::Unexpected(e)) => Some(e.left),
+        Some(LineFault::NoMemory) => None,
     }
 }
 
 /// How many rows have their answer, up to the first that has another one.
-fn fields_answered(field: Field, rows: &[u8]) -> usize {
+fn rows_answered(alloc: Global, field: Field, rows: &[u8]) -> usize {
     let mut rest = rows;
     for row in 0..rows.len() {
-        let [count, answer, behind @ ..] = rest else {
+        let [count, expected, behind @ ..] = rest else {
             return row;
         };
         let (bytes, others) = behind.split_at(usize::from(*count).min(behind.len()));
-        if field_answer(field, bytes) != usize::from(*answer) {
+        if answer(alloc, field, bytes) != Some(usize::from(*expected)) {
             return row;
         }
         rest = others;
@@ -316,123 +257,84 @@ fn fields_answered(field: Field, rows: &[u8]) -> usize {
     rows.len()
 }
 
-/// The same of lists.
-fn lists_answered(alloc: Global, list: List, rows: &[u8]) -> Result<usize, NoMemory> {
-    let mut rest = rows;
-    for row in 0..rows.len() {
-        let [count, answer, behind @ ..] = rest else {
-            return Ok(row);
-        };
-        let (bytes, others) = behind.split_at(usize::from(*count).min(behind.len()));
-        if list_answer(alloc, list, bytes)? != usize::from(*answer) {
-            return Ok(row);
-        }
-        rest = others;
-    }
-    Ok(rows.len())
-}
-
 #[test]
 fn views_and_transactions_are_refused_at_their_places(rt: HostRuntime) {
-    assert_eq!(rt; fields_answered(Field::View, VIEWS), 7);
-    assert_eq!(rt; fields_answered(Field::Txn, TXNS), 6);
+    assert!(rt; rows_answered(rt.alloc(), Field::View, VIEWS) == 7);
+    assert!(rt; rows_answered(rt.alloc(), Field::Txn, TXNS) == 6);
 }
 
 #[test]
 fn numbers_between_two_are_refused_at_their_places(rt: HostRuntime) {
-    assert_eq!(rt; fields_answered(Field::U16, NUMBERS_OF_16_BITS), 9);
-    assert_eq!(rt; fields_answered(Field::U32, NUMBERS_OF_32_BITS), 15);
+    assert!(rt; rows_answered(rt.alloc(), Field::U16, NUMBERS_OF_16_BITS) == 9);
+    assert!(rt; rows_answered(rt.alloc(), Field::U32, NUMBERS_OF_32_BITS) == 15);
 }
 
 #[test]
 fn transactions_between_two_are_refused_at_their_places(rt: HostRuntime) {
-    assert_eq!(rt; fields_answered(Field::TxnBetweenTwo, TXNS_BETWEEN_TWO), 20);
-    assert_eq!(rt; fields_answered(Field::TxnBetweenOne, TXNS_BETWEEN_ONE), 5);
+    assert!(rt; rows_answered(rt.alloc(), Field::TxnBetweenTwo, TXNS_BETWEEN_TWO) == 20);
+    assert!(rt; rows_answered(rt.alloc(), Field::TxnBetweenOne, TXNS_BETWEEN_ONE) == 5);
 }
 
 #[test]
 fn no_site_is_read_only_where_none_may_stand(rt: HostRuntime) {
-    assert!(rt; lists_answered(rt.alloc(), List::Sites, SITES) == Ok(3));
-    assert!(rt; lists_answered(rt.alloc(), List::SomeSites, SOME_SITES) == Ok(1));
+    assert!(rt; rows_answered(rt.alloc(), Field::Sites, SITES) == 3);
+    assert!(rt; rows_answered(rt.alloc(), Field::SomeSites, SOME_SITES) == 1);
 }
 
 #[test]
 fn copies_and_decisions_are_refused_at_their_places(rt: HostRuntime) {
-    assert!(rt; lists_answered(rt.alloc(), List::Copies, SOME_COPIES) == Ok(17));
-    assert!(rt; lists_answered(rt.alloc(), List::Decisions, SOME_DECISIONS) == Ok(12));
+    assert!(rt; rows_answered(rt.alloc(), Field::Copies, SOME_COPIES) == 17);
+    assert!(rt; rows_answered(rt.alloc(), Field::Decisions, SOME_DECISIONS) == 12);
 }
 
 #[test]
 fn transactions_in_doubt_are_refused_at_their_places(rt: HostRuntime) {
-    assert!(rt; lists_answered(rt.alloc(), List::Doubts, SOME_DOUBTS) == Ok(6));
-    assert!(rt; lists_answered(rt.alloc(), List::Doubts, ASCENDING_DOUBTS) == Ok(10));
-    assert!(rt; lists_answered(rt.alloc(), List::Doubts, MANY_DOUBTS) == Ok(11));
-}
-
-/// The value `11`. Faults of values are no case of these tests.
-fn a_value(alloc: Global) -> Result<Value, NoMemory> {
-    match Value::read(alloc, b"11") {
-        Ok(value) => Ok(value),
-        Err(_fault) => Err(NoMemory),
-    }
-}
-
-fn copy(alloc: Global, rec: u8, date: ViewId) -> Result<(RecId, Stored), NoMemory> {
-    let value = a_value(alloc)?;
-    Ok((RecId::new(rec), Stored { value, date }))
+    assert!(rt; rows_answered(rt.alloc(), Field::Doubts, SOME_DOUBTS) == 6);
+    assert!(rt; rows_answered(rt.alloc(), Field::Doubts, ASCENDING_DOUBTS) == 10);
+    assert!(rt; rows_answered(rt.alloc(), Field::Doubts, MANY_DOUBTS) == 11);
 }
 
 const COPIES: &[u8] = b"\0\x02\x05\x0211\0\0\0\0\0\0\0\x01\x02\xff\x0211\0\0\0\0\0\0\0\0\0";
 
-#[test]
-fn copies_have_their_bytes(rt: HostRuntime) {
-    let first = copy(rt.alloc(), 5, ViewId { number: 1, site: 2 }).expect(&rt, "memory");
-    let last = copy(rt.alloc(), 255, ViewId { number: 0, site: 0 }).expect(&rt, "memory");
-    let mut out = BytesMut::new(rt.alloc());
-    put_copies(&mut out, &[first, last]).expect(&rt, "memory");
-    assert!(rt; out.as_slice() == COPIES);
-    assert!(rt; copies_answer(rt.alloc(), COPIES) == Ok(128));
-}
-
 const DOUBTS: &[u8] =
     b"\0\0\0\0\0\0\0\x02\x01\0\0\0\x02\0\0\0\x03\0\0\0\0\0\0\0\x01\x02\x01\x05\x0211\x10\0\0\0\x01\0\0\0\x01\0\0\0\0\0\0\0\0\0\0";
-
-fn a_write(alloc: Global) -> Result<Writes, NoMemory>
-    ensures { IfOk result (λ writes. length writes ≤ 64) }
-{
-    let mut writes = Vec::new(alloc);
-    writes.push((RecId::new(5), a_value(alloc)?))?;
-    Ok(Writes::from_vec(writes))
-}
-
-#[test]
-fn transactions_in_doubt_have_their_bytes(rt: HostRuntime) {
-    let first = Doubt {
-        txn: txn(1, 2, 3),
-        view: ViewId { number: 1, site: 2 },
-        writes: a_write(rt.alloc()).expect(&rt, "memory"),
-    };
-    let last = Doubt {
-        txn: txn(16, 1, 1),
-        view: ViewId { number: 0, site: 0 },
-        writes: Writes::new(rt.alloc()),
-    };
-    let mut out = BytesMut::new(rt.alloc());
-    put_doubts(&mut out, &[first, last]).expect(&rt, "memory");
-    assert!(rt; out.as_slice() == DOUBTS);
-    assert!(rt; doubts_answer(rt.alloc(), DOUBTS) == Ok(128));
-}
 
 const DECISIONS: &[u8] =
     b"\0\0\0\0\0\0\0\x02\x01\0\0\0\x02\0\0\0\x03\x02\x01\x10\x01\0\0\0\x02\0\0\0\x04\x01\x07";
 
-#[test]
-fn decisions_have_their_bytes(rt: HostRuntime) {
-    let mut sites = Vec::new(rt.alloc());
-    sites.push(SiteId::of(1)).expect(&rt, "memory");
-    sites.push(SiteId::of(16)).expect(&rt, "memory");
-    let mut others = Vec::new(rt.alloc());
-    others.push(SiteId::of(7)).expect(&rt, "memory");
+/// Writes two copies.
+fn put_two_copies(out: &mut BytesMut, value: &Value) -> Result<(), NoMemory> {
+    let first = Stored {
+        value: value.duplicate(),
+        date: ViewId { number: 1, site: 2 },
+    };
+    let last = Stored {
+        value: value.duplicate(),
+        date: ViewId { number: 0, site: 0 },
+    };
+    put_copies(out, &[(RecId::new(5), first), (RecId::new(255), last)])
+}
+
+/// Writes two transactions in doubt, the first with a write of the value.
+fn put_two_doubts(out: &mut BytesMut, alloc: Global, value: &Value) -> Result<(), NoMemory> {
+    let writes = vec![in alloc; (RecId::new(5), value.duplicate())]?;
+    let first = Doubt {
+        txn: txn(1, 2, 3),
+        view: ViewId { number: 1, site: 2 },
+        writes: Writes::from_vec(writes),
+    };
+    let last = Doubt {
+        txn: txn(16, 1, 1),
+        view: ViewId { number: 0, site: 0 },
+        writes: Writes::new(alloc),
+    };
+    put_doubts(out, &[first, last])
+}
+
+/// Writes two decisions, which wait for two sites and for one.
+fn put_two_decisions(out: &mut BytesMut, alloc: Global) -> Result<(), NoMemory> {
+    let sites = vec![in alloc; SiteId::of(1), SiteId::of(16)]?;
+    let others = vec![in alloc; SiteId::of(7)]?;
     let first = Decision {
         txn: txn(1, 2, 3),
         waiting: Sites::from_vec(sites),
@@ -441,10 +343,36 @@ fn decisions_have_their_bytes(rt: HostRuntime) {
         txn: txn(1, 2, 4),
         waiting: Sites::from_vec(others),
     };
-    let mut out = BytesMut::new(rt.alloc());
-    put_decisions(&mut out, &[first, last]).expect(&rt, "memory");
-    assert!(rt; out.as_slice() == DECISIONS);
-    assert!(rt; decisions_answer(rt.alloc(), DECISIONS) == Ok(128));
+    put_decisions(out, &[first, last])
+}
+
+/// What is written of the field.
+fn written(alloc: Global, field: Field) -> Result<BytesMut, NoMemory> {
+    let Ok(value) = Value::read(alloc, b"11") else {
+        return Err(NoMemory);
+    };
+    let mut out = BytesMut::new(alloc);
+    match field {
+        Field::Copies => put_two_copies(&mut out, &value)?,
+        Field::Doubts => put_two_doubts(&mut out, alloc, &value)?,
+        _ => put_two_decisions(&mut out, alloc)?,
+    }
+    Ok(out)
+}
+
+/// Whether the field is written as these bytes, and read from them.
+fn has_bytes(alloc: Global, field: Field, bytes: &[u8]) -> bool {
+    match written(alloc, field) {
+        Ok(out) => out.as_slice() == bytes && answer(alloc, field, bytes) == Some(128),
+        Err(NoMemory) => false,
+    }
+}
+
+#[test]
+fn copies_doubts_and_decisions_have_their_bytes(rt: HostRuntime) {
+    assert!(rt; has_bytes(rt.alloc(), Field::Copies, COPIES));
+    assert!(rt; has_bytes(rt.alloc(), Field::Doubts, DOUBTS));
+    assert!(rt; has_bytes(rt.alloc(), Field::Decisions, DECISIONS));
 }
 
 /// How many bytes are left at the fault of a transaction above the last one that so many others can follow.
@@ -452,8 +380,7 @@ fn ascending_left(bytes: &[u8], last: Option<TxnId>, behind: u64) -> Option<usiz
     requires last { IfSome last IsTxn }
     requires room { next_rank last + behind ≤ last_rank }
 {
-    let mut cursor = Cursor::new(bytes);
-    match take_ascending_txn(&mut cursor, last, behind) {
+    match take_ascending_txn(&mut Cursor::new(bytes), last, behind) {
         Ok(_txn) => None,
         Err(e) => Some(e.left),
     }
@@ -463,17 +390,17 @@ fn ascending_left(bytes: &[u8], last: Option<TxnId>, behind: u64) -> Option<usiz
 #[tactic(auto, unfolding(vp_bytes::specs::Ranges::rank))]
 fn the_next_transaction_leaves_room_for_those_behind_it(rt: HostRuntime) {
     let top = b"\x10\xff\xff\xff\xff\xff\xff\xff\xff";
-    assert_eq!(rt; ascending_left(top, None, 0), None);
-    assert_eq!(rt; ascending_left(top, None, 1), Some(1));
+    assert!(rt; ascending_left(top, None, 0).is_none());
+    assert!(rt; ascending_left(top, None, 1) == Some(1));
 }
 
 #[test]
 #[tactic(auto, unfolding(vp_bytes::specs::Ranges::rank))]
 fn behind_the_last_of_a_life_comes_the_next_life(rt: HostRuntime) {
     let same = ascending_left(b"\x01\0\0\0\x01\0\0\0\x01", Some(txn(1, 1, u32::MAX)), 0);
-    assert_eq!(rt; same, Some(5));
+    assert!(rt; same == Some(5));
     let next = ascending_left(b"\x01\0\0\0\x02\0\0\0\x01", Some(txn(1, 1, u32::MAX)), 0);
-    assert_eq!(rt; next, None);
+    assert!(rt; next.is_none());
 }
 
 #[test]
@@ -481,8 +408,8 @@ fn behind_the_last_of_a_life_comes_the_next_life(rt: HostRuntime) {
 fn behind_the_last_of_a_site_comes_the_next_site(rt: HostRuntime) {
     let last = txn(1, u32::MAX, u32::MAX);
     let same = ascending_left(b"\x01\0\0\0\x02\0\0\0\x01", Some(last), 0);
-    assert_eq!(rt; same, Some(9));
+    assert!(rt; same == Some(9));
     let last = txn(1, u32::MAX, u32::MAX);
     let next = ascending_left(b"\x02\0\0\0\x01\0\0\0\x01", Some(last), 0);
-    assert_eq!(rt; next, None);
+    assert!(rt; next.is_none());
 }
