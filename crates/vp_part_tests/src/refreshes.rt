@@ -6,6 +6,7 @@ use vp_base::{CopyOf, RecId, SiteId, Sites, Stored, Value, View, ViewId};
 use vp_catalog::Catalog;
 use vp_refresh::Refresh;
 
+/// The place of x.
 const X: u8 = 0;
 
 fn catalog(rt: &impl Abort, alloc: Global) -> Catalog {
@@ -37,43 +38,45 @@ fn missing(rt: &impl Abort, alloc: Global, refresh: &Refresh) -> Option<usize> {
     let sites = refresh
         .missing(&catalog, SiteId::of(1), Some(&view), RecId::new(X))
         .expect(rt, "memory");
-    sites.map(|sites| sites.as_slice().len())
+    match sites {
+        Some(sites) => Some(sites.as_slice().len()),
+        None => None,
+    }
 }
 
-/// Whether that value is taken where the own copy and those of the sites 3 and 2 have these dates.
-fn is_taken(rt: &impl Abort, alloc: Global, own: u64, three: u64, two: u64, wanted: &[u8]) -> bool {
-    let own = stored(rt, alloc, b"own", own);
-    let three = stored(rt, alloc, b"three", three);
-    let two = stored(rt, alloc, b"two", two);
-    let mut refresh = Refresh::none(alloc);
-    refresh.begin(RecId::new(X)).expect(rt, "memory");
+/// Keeps the copy of x that the site answers with.
+fn keep_answer(rt: &impl Abort, refresh: &mut Refresh, from: SiteId, copy: Stored) {
     refresh
-        .on_answer(SiteId::of(3), RecId::new(X), &three)
+        .on_answer(from, RecId::new(X), &copy)
         .expect(rt, "memory");
-    refresh
-        .on_answer(SiteId::of(2), RecId::new(X), &two)
-        .expect(rt, "memory");
-    match refresh.newest(RecId::new(X), &own).expect(rt, "memory") {
-        Some(copy) => copy.value.as_bytes() == wanted,
-        None => false,
-    }
 }
 
 #[test]
 fn other_holders_in_the_view_are_missing_until_they_answer(rt: HostRuntime) {
     let alloc = rt.alloc();
-    let copy = stored(&rt, alloc, b"11", 3);
     let mut refresh = Refresh::none(alloc);
     assert!(rt; missing(&rt, alloc, &refresh).is_none());
     refresh.begin(RecId::new(X)).expect(&rt, "memory");
     assert!(rt; missing(&rt, alloc, &refresh) == Some(2));
-    refresh
-        .on_answer(SiteId::of(2), RecId::new(X), &copy)
-        .expect(&rt, "memory");
+    let copy = stored(&rt, alloc, b"11", 3);
+    keep_answer(&rt, &mut refresh, SiteId::of(2), copy);
     let copied = refresh.copy_of().expect(&rt, "memory");
     assert!(rt; missing(&rt, alloc, &copied) == Some(1));
     refresh.unlist(RecId::new(X));
     assert!(rt; refresh.as_slice().is_empty());
+}
+
+/// Whether that value is taken where the own copy and those of the sites 3 and 2 have these dates.
+fn is_taken(rt: &impl Abort, alloc: Global, own: u64, three: u64, two: u64, wanted: &[u8]) -> bool {
+    let mut refresh = Refresh::none(alloc);
+    refresh.begin(RecId::new(X)).expect(rt, "memory");
+    let copy = stored(rt, alloc, b"three", three);
+    keep_answer(rt, &mut refresh, SiteId::of(3), copy);
+    let copy = stored(rt, alloc, b"two", two);
+    keep_answer(rt, &mut refresh, SiteId::of(2), copy);
+    let own = stored(rt, alloc, b"own", own);
+    let newest = refresh.newest(RecId::new(X), &own).expect(rt, "memory");
+    newest.expect(rt, "a copy").value.is(wanted)
 }
 
 #[test]

@@ -19,78 +19,57 @@ fn catalog(rt: &impl Abort, alloc: Global) -> Catalog {
 }
 
 /// A site of three in the opening view.
-fn views(rt: &impl Abort, alloc: Global, site: SiteId) -> Views {
-    Views::start(&catalog(rt, alloc), site, OPENING, true).expect(rt, "memory")
+fn opening(rt: &impl Abort, catalog: &Catalog, site: SiteId) -> Views {
+    Views::start(catalog, site, OPENING, true).expect(rt, "memory")
 }
 
-/// The view 1@1 of the sites 1 and 2.
-fn first_view(rt: &impl Abort, alloc: Global) -> View {
-    let mut members = Sites::new(alloc);
-    members.push(SiteId::of(1)).expect(rt, "memory");
-    members.push(SiteId::of(2)).expect(rt, "memory");
-    View { id: FIRST, members }
-}
-
-/// Site 1, which has invited the others to the view 1@1.
-fn inviting(rt: &impl Abort, alloc: Global, effects: &mut Effects) -> Views {
-    let mut site = views(rt, alloc, SiteId::of(1));
+/// Site 1 invites the others to the view 1@1, which is fixed when site 2 has accepted.
+fn agree(rt: &impl Abort, catalog: &Catalog, site: &mut Views, effects: &mut Effects) {
     site.leave();
-    site.invite(&catalog(rt, alloc), effects)
-        .expect(rt, "memory");
-    site
-}
-
-/// How many messages site 1 has sent when site 2 has accepted.
-fn agreed(rt: &impl Abort, alloc: Global) -> usize {
-    let mut effects = Effects::none(alloc);
-    let mut site = inviting(rt, alloc, &mut effects);
+    site.invite(catalog, effects).expect(rt, "memory");
     site.on_accept(SiteId::of(2), FIRST).expect(rt, "memory");
-    site.fix(&mut effects).expect(rt, "memory");
-    effects.messages.as_slice().len()
+    site.fix(effects).expect(rt, "memory");
 }
 
-/// Whether site 2 joins the view 1@1 that it was invited to.
-fn joined(rt: &impl Abort, alloc: Global, effects: &mut Effects) -> bool {
-    let mut site = views(rt, alloc, SiteId::of(2));
+/// Whether a site that has left its view is invited to the view 1@1 and joins it, whose members are these.
+fn joins(rt: &impl Abort, site: &mut Views, members: Sites, effects: &mut Effects) -> bool {
     site.leave();
     site.on_invite(SiteId::of(1), FIRST, effects)
         .expect(rt, "memory");
-    site.on_commit(&first_view(rt, alloc)).expect(rt, "memory")
+    site.on_commit(&View { id: FIRST, members })
+        .expect(rt, "memory")
 }
 
-/// Site 1, which has probed the others.
-fn probing(rt: &impl Abort, alloc: Global) -> Views {
-    let mut site = views(rt, alloc, SiteId::of(1));
-    site.probe(&catalog(rt, alloc), &mut Effects::none(alloc))
-        .expect(rt, "memory");
-    site
+/// The sites 1 and 2.
+fn both(rt: &impl Abort, alloc: Global) -> Sites {
+    let mut sites = Sites::new(alloc);
+    sites.push(SiteId::of(1)).expect(rt, "memory");
+    sites.push(SiteId::of(2)).expect(rt, "memory");
+    sites
+}
+
+#[test]
+fn a_view_is_agreed(rt: HostRuntime) {
+    let catalog = catalog(&rt, rt.alloc());
+    let mut effects = Effects::none(rt.alloc());
+    let mut first = opening(&rt, &catalog, SiteId::of(1));
+    agree(&rt, &catalog, &mut first, &mut effects);
+    assert_eq!(rt; effects.messages.as_slice().len(), 3);
+    let mut second = opening(&rt, &catalog, SiteId::of(2));
+    assert!(rt; joins(&rt, &mut second, both(&rt, rt.alloc()), &mut effects));
 }
 
 /// Whether site 1 wants another view after probes, having heard these sites.
 fn wants_view(rt: &impl Abort, alloc: Global, heard: &[u8]) -> bool {
-    let mut site = probing(rt, alloc);
+    let catalog = catalog(rt, alloc);
+    let mut site = opening(rt, &catalog, SiteId::of(1));
+    site.probe(&catalog, &mut Effects::none(alloc))
+        .expect(rt, "memory");
     for number in heard {
         let other = SiteId::new(*number).expect(rt, "a site");
         site.heard(other).expect(rt, "memory");
     }
     site.wants_view()
-}
-
-/// A site that waits for a view and stops waiting.
-fn waited(rt: &impl Abort, alloc: Global) -> Views {
-    let mut site = views(rt, alloc, SiteId::of(2));
-    site.leave();
-    site.on_invite(SiteId::of(3), HIGH, &mut Effects::none(alloc))
-        .expect(rt, "memory");
-    site.stop_waiting();
-    site
-}
-
-#[test]
-fn a_view_is_agreed(rt: HostRuntime) {
-    assert_eq!(rt; agreed(&rt, rt.alloc()), 3);
-    let mut effects = Effects::none(rt.alloc());
-    assert!(rt; joined(&rt, rt.alloc(), &mut effects));
 }
 
 #[test]
@@ -102,6 +81,10 @@ fn a_site_that_hears_too_little_wants_a_view(rt: HostRuntime) {
 
 #[test]
 fn a_site_stops_waiting(rt: HostRuntime) {
-    let site = waited(&rt, rt.alloc());
+    let mut site = opening(&rt, &catalog(&rt, rt.alloc()), SiteId::of(2));
+    site.leave();
+    site.on_invite(SiteId::of(3), HIGH, &mut Effects::none(rt.alloc()))
+        .expect(&rt, "memory");
+    site.stop_waiting();
     assert!(rt; site.waiting().is_none() && site.promise() == HIGH);
 }
