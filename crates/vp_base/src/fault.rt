@@ -9,13 +9,13 @@ use std::alloc::{AllocError, AllocFailed};
 use vp_text::Unexpected;
 
 /// The text is no such word: its longest prefix that begins one has this many bytes.
-#[derive(Clone, Copy)]
+#[derive(Clone, Copy, Debug, PartialEq, Eq)]
 pub struct BadName {
     pub at: usize,
 }
 
 /// Why a name or a value could not be read.
-#[derive(Clone, Copy, Debug, Drop)]
+#[derive(Clone, Copy, Debug, Drop, PartialEq, Eq)]
 pub enum NameFault {
     /// The text is no such word: its longest prefix that begins one has this many bytes.
     BadName { at: usize },
@@ -55,7 +55,7 @@ impl<T: Drop> From<AllocFailed<T>> for NameFault {
 }
 
 /// Why a part of a line could not be read.
-#[derive(Clone, Copy, Debug, Drop)]
+#[derive(Clone, Copy, Debug, Drop, PartialEq, Eq)]
 pub enum LineFault {
     /// No line that may stand here goes on as the bytes do.
     Unexpected(Unexpected),

@@ -3,7 +3,7 @@
 use vp_base::NoMemory;
 
 /// Why a catalogue could not be read. Lines and places are counted from 1.
-#[derive(Clone, Copy, Drop)]
+#[derive(Clone, Copy, Debug, Drop, PartialEq, Eq)]
 pub enum CatalogFault {
     /// No allowed line stands there: it goes wrong at this byte.
     BadLine { line: usize, at: usize },

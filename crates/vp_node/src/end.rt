@@ -9,7 +9,7 @@ use vp_site::StartFault;
 use vp_stable::{AppendFault, LogFault};
 
 /// Why a node doesn't start, or is gone in a turn.
-#[derive(Clone, Copy, Drop)]
+#[derive(Clone, Copy, Debug, Drop, PartialEq, Eq)]
 pub enum NodeEnd {
     /// The disk failed.
     DiskFault,

@@ -3,7 +3,7 @@
 use vp_base::NoMemory;
 
 /// The lives of the site are spent: this is its last one, and the last number of its type.
-#[derive(Clone, Copy, Drop)]
+#[derive(Clone, Copy, Debug, Drop, PartialEq, Eq)]
 pub enum StartFault {
     LivesSpent { life: u32 },
     NoMemory,

@@ -8,7 +8,7 @@ use vp_base::{Counted, MOST_MESSAGES, NoMemory};
 use vp_mail::SendFault;
 
 /// Why an event is not done. The world is then gone.
-#[derive(Clone, Copy, Drop)]
+#[derive(Clone, Copy, Debug, Drop, PartialEq, Eq)]
 pub enum WorldEnd {
     /// With the event there would be more than `limit` of them.
     Limit { what: Counted, limit: u32 },
