@@ -174,14 +174,13 @@ impl Stepped {
     fn usable_here(&self, catalog: &Catalog) -> Result<Vec<RecId>, NoMemory>
         ensures { IfOk result (λ recs. recs.items ≡ usable_here catalog.now self.now.site) }
     {
-        let copies = self.site().here.copies.as_slice();
-        Ok(
-            copies
-                .iter()
-                .map(|copy| copy.0)
-                .filter(|rec| self.is_open(catalog, *rec))
-                .collect(catalog.sites().allocator())?,
-        )
+        let mut recs = Vec::new(catalog.sites().allocator());
+        for (rec, _) in self.site().here.copies.as_slice() {
+            if self.is_open(catalog, *rec) {
+                recs.push(*rec)?;
+            }
+        }
+        Ok(recs)
     }
 
     /// The copies are refreshed before they are used in the view.
