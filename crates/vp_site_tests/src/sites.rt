@@ -50,15 +50,10 @@ fn begins(rt: &impl Abort, catalog: &Catalog, durable: Durable) -> bool {
 }
 
 #[test]
-fn a_site_is_in_the_opening_view_in_its_first_life(rt: HostRuntime) {
+fn a_site_is_in_the_opening_view_in_its_first_life_and_not_in_its_second(rt: HostRuntime) {
     let catalog = catalog(&rt, rt.alloc());
     let durable = before_lives(&rt, &catalog);
     assert!(rt; begins(&rt, &catalog, durable));
-}
-
-#[test]
-fn a_site_is_not_in_the_opening_view_in_its_second_life(rt: HostRuntime) {
-    let catalog = catalog(&rt, rt.alloc());
     let durable = first_life(&rt, &catalog);
     assert_eq!(rt; durable.life(), 1);
     assert!(rt; !begins(&rt, &catalog, durable));
