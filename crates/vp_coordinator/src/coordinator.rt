@@ -21,11 +21,20 @@ use vp_records::Durable;
 use vp_transactions::Transactions;
 
 /// The transactions of one life of a site.
-#[derive(Drop)]
 pub struct Coordinator {
     id: SiteId,
     life: u32,
     transactions: Transactions,
+}
+
+impl Drop for Coordinator {
+    fn drop(self) {
+        let Coordinator {
+            id: _,
+            life: _,
+            transactions: _,
+        } = self;
+    }
 }
 
 impl Model for Coordinator {

@@ -21,12 +21,22 @@ pub const PAIRS: usize = SITES * SITES;
 /// All messages that were sent, numbered from 1, and the numbers of those that were delivered. For each pair of a sender and a
 /// receiver there is a queue of its messages that were never delivered. The first ones of all queues stand side by side, where a walk
 /// over the pairs reads them.
-#[derive(Drop)]
 pub struct Mail {
     sent: Vec<Sent>,
     delivered: Vec<u32>,
     queues: Vec<Queue>,
     firsts: Vec<Option<u32>>,
+}
+
+impl Drop for Mail {
+    fn drop(self) {
+        let Mail {
+            sent: _,
+            delivered: _,
+            queues: _,
+            firsts: _,
+        } = self;
+    }
 }
 
 impl Model for Mail {

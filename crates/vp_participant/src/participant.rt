@@ -42,11 +42,20 @@ pub struct Settled {
 }
 
 /// The parts here of other sites' transactions, those in doubt, and those that ended here in the held view.
-#[derive(Drop)]
 pub struct Participant {
     parts: Vec<Part>,
     doubts: Vec<Doubt>,
     ended: Vec<TxnId>,
+}
+
+impl Drop for Participant {
+    fn drop(self) {
+        let Participant {
+            parts: _,
+            doubts: _,
+            ended: _,
+        } = self;
+    }
 }
 
 impl Model for Participant {

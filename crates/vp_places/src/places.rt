@@ -19,9 +19,14 @@ use vp_catalog::Catalog;
 use vp_site::Site;
 
 /// The sites of the world, in the order of the catalogue.
-#[derive(Drop)]
 pub struct Places {
     items: Vec<Place>,
+}
+
+impl Drop for Places {
+    fn drop(self) {
+        let Places { items: _ } = self;
+    }
 }
 
 impl Model for Places {

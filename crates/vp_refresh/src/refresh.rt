@@ -15,9 +15,14 @@ use vp_catalog::Catalog;
 use vp_lists::{copy_all, put};
 
 /// The copies of a site that are refreshed, ascending by record.
-#[derive(Drop)]
 pub struct Refresh {
     listed: Vec<Asked>,
+}
+
+impl Drop for Refresh {
+    fn drop(self) {
+        let Refresh { listed: _ } = self;
+    }
 }
 
 impl Model for Refresh {

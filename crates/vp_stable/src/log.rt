@@ -24,7 +24,6 @@ use vp_records::Durable;
 const LONGEST: u64 = 65_536;
 
 /// A log in the two halves of what a disk keeps.
-#[derive(Drop)]
 pub struct Log {
     alloc: Global,
     /// The current half.
@@ -35,6 +34,18 @@ pub struct Log {
     gate: u64,
     /// Where the gate behind the first batch stands; 0 where there is no batch.
     second: u64,
+}
+
+impl Drop for Log {
+    fn drop(self) {
+        let Log {
+            alloc: _,
+            half: _,
+            generation: _,
+            gate: _,
+            second: _,
+        } = self;
+    }
 }
 
 impl Model for Log {

@@ -18,12 +18,22 @@ use vp_catalog::{Catalog, has_site};
 use vp_lists::view_comes_before;
 
 /// What a site knows of views. After want of memory it may only be dropped, and so may the effects.
-#[derive(Drop)]
 pub struct Views {
     id: SiteId,
     promise: ViewId,
     seen: u64,
     standing: Standing,
+}
+
+impl Drop for Views {
+    fn drop(self) {
+        let Views {
+            id: _,
+            promise: _,
+            seen: _,
+            standing: _,
+        } = self;
+    }
 }
 
 impl Model for Views {

@@ -16,10 +16,18 @@ use vp_places::{ByThemselves, Stepper};
 use vp_site::Site;
 
 /// The sites of a catalogue, with their messages. The state stands in a box, so that little is moved where a world goes from call to call.
-#[derive(Drop)]
 pub struct World {
     catalog: Catalog,
     state: Box<State>,
+}
+
+impl Drop for World {
+    fn drop(self) {
+        let World {
+            catalog: _,
+            state: _,
+        } = self;
+    }
 }
 
 impl Model for World {
