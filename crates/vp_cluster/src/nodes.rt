@@ -26,22 +26,12 @@ use vp_turns::Outcome;
 use vp_wire::Body;
 
 /// The hosts of the sites of a catalogue, the letters of the messages that were sent, in order, and the letter that the next step brings.
+#[derive(Drop)]
 pub struct Nodes {
     catalog: Catalog,
     hosts: Vec<Host>,
     letters: Vec<Letter>,
     coming: Option<Letter>,
-}
-
-impl Drop for Nodes {
-    fn drop(self) {
-        let Nodes {
-            catalog: _,
-            hosts: _,
-            letters: _,
-            coming: _,
-        } = self;
-    }
 }
 
 impl Model for Nodes {
