@@ -1,6 +1,6 @@
 //! Three nodes over links in memory: the test passes on what they hand over.
 
-use std::alloc::{AllocError, Global};
+use std::alloc::Global;
 use std::process::Abort;
 use vp_base::SiteId;
 use vp_commands_tests::{BEGIN, BEGUN, COMMIT, Ended, NONE, PORT, Setup, WRITE, datagram};
@@ -8,10 +8,14 @@ use vp_outside::Datagram;
 
 const THREE: &[u8] = b"site 1 7001\nsite 2 7002\nsite 3 7003\nrecord x 10 1:1 2:1 3:1\n";
 
-/// The port of site 2.
+/// The ports of the sites 2 and 3, and of the client.
 const SECOND: u16 = 7002;
 
-/// The most rounds of passing on that follow a call.
+const THIRD: u16 = 7003;
+
+const CLIENT: u16 = 7100;
+
+/// The rounds of passing on that follow a call.
 const ROUNDS: usize = 10;
 
 const WRITTEN: &[u8] = b"\x56\x01\x21\x01\0\x03\x01\0\0\0\x01\0\0\0\x01\0\0\0\x01";
@@ -33,134 +37,99 @@ const OF_A_PARTICIPANT: &[u8] = b"\x01\0\0\0\0\0\0\0\x05\x01\0\0\0\x01\
     \x01\0\0\0\0\0\0\0\x18\x03\x01\0\0\0\x01\0\0\0\x01\0\0\0\0\0\0\0\0\0\x01\0\x02\x31\x31\
     \x01\0\0\0\0\0\0\0\x0b\x04\x01\0\0\0\x01\0\0\0\x01\x01\0";
 
-/// A site, all that has come to it, and how many of the datagrams that it hands over were passed on.
+/// A datagram that was handed over, with the port of its sender.
 #[derive(Drop)]
-struct Member {
-    site: SiteId,
-    port: u16,
-    arrived: Vec<Datagram>,
-    passed: usize,
-}
-
-/// A datagram on its way, with the port of its sender.
-#[derive(Drop)]
-struct OnItsWay {
+struct Handed {
     to: u16,
     datagram: Datagram,
 }
 
-#[derive(Drop)]
-struct Cluster {
+fn hand_over(
+    rt: &impl Abort,
     alloc: Global,
-    members: Vec<Member>,
-    /// What clients were answered.
-    answers: Vec<Datagram>,
+    handed: &mut Vec<Handed>,
+    from: u16,
+    to: u16,
+    bytes: &[u8],
+) {
+    let datagram = datagram(alloc, from, bytes).expect(rt, "memory");
+    handed.push(Handed { to, datagram }).expect(rt, "memory");
 }
 
-fn copied(alloc: Global, datagrams: &[Datagram]) -> Result<Vec<Datagram>, AllocError> {
-    let mut copy = Vec::new(alloc);
-    for it in datagrams {
-        copy.push(datagram(alloc, it.port, &it.bytes)?)?;
+/// What has come to the port.
+fn arrived(rt: &impl Abort, alloc: Global, handed: &[Handed], port: u16) -> Vec<Datagram> {
+    let mut arrived = Vec::new(alloc);
+    for it in handed {
+        if it.to == port {
+            let copy = datagram(alloc, it.datagram.port, &it.datagram.bytes).expect(rt, "memory");
+            arrived.push(copy).expect(rt, "memory");
+        }
     }
-    Ok(copy)
+    arrived
 }
 
-impl Member {
-    /// Its run from an empty log on, which is the same each time for what has come so far.
-    fn run(&self, rt: &impl Abort, alloc: Global) -> Ended {
-        let setup = Setup {
-            catalogue: THREE,
-            site: self.site,
-            halves: [b"", b""],
-            failing: NONE,
-        };
-        let datagrams = copied(alloc, &self.arrived).expect(rt, "memory");
-        setup.run(alloc, datagrams).expect(rt, "a run")
-    }
-
-    /// What it hands over beyond the last time.
-    fn hand_over(&mut self, rt: &impl Abort, alloc: Global, handed: &mut Vec<OnItsWay>) {
-        let ended = self.run(rt, alloc);
-        for it in ended.link.handed().iter().skip(self.passed) {
-            let datagram = datagram(alloc, self.port, &it.bytes).expect(rt, "memory");
-            let to = it.port;
-            handed.push(OnItsWay { to, datagram }).expect(rt, "memory");
-        }
-        self.passed = ended.link.handed().len();
-    }
+/// The run of a site from an empty log on, which is the same each time for what has come to it so far.
+fn run(rt: &impl Abort, alloc: Global, handed: &[Handed], site: SiteId, port: u16) -> Ended {
+    let setup = Setup {
+        catalogue: THREE,
+        site,
+        halves: [b"", b""],
+        failing: NONE,
+    };
+    let datagrams = arrived(rt, alloc, handed, port);
+    setup.run(alloc, datagrams).expect(rt, "a run")
 }
 
-impl Cluster {
-    fn new(rt: &impl Abort, alloc: Global) -> Cluster {
-        let mut members = Vec::new(alloc);
-        for (site, port) in [
-            (SiteId::of(1), PORT),
-            (SiteId::of(2), SECOND),
-            (SiteId::of(3), 7003),
-        ] {
-            let member = Member {
-                site,
-                port,
-                arrived: Vec::new(alloc),
-                passed: 0,
-            };
-            members.push(member).expect(rt, "memory");
-        }
-        Cluster {
-            alloc,
-            members,
-            answers: Vec::new(alloc),
-        }
-    }
-
-    /// What comes to the port of a site comes to it, and all else to a client.
-    fn deliver(&mut self, to: u16, datagram: Datagram) -> Result<(), AllocError> {
-        match self.members.iter_mut().find(|member| member.port == to) {
-            Some(member) => member.arrived.push(datagram)?,
-            None => self.answers.push(datagram)?,
-        }
-        Ok(())
-    }
-
-    /// Passes on what the sites hand over, until they hand over nothing more.
-    fn settle(&mut self, rt: &impl Abort) {
-        for _ in 0..ROUNDS {
-            let mut handed = Vec::new(self.alloc);
-            for member in self.members.iter_mut() {
-                member.hand_over(rt, self.alloc, &mut handed);
-            }
-            for it in handed {
-                self.deliver(it.to, it.datagram).expect(rt, "memory");
+/// What of this a port hands over beyond what was passed on before.
+fn beyond<'a>(given: &'a [Datagram], handed: &[Handed], port: u16) -> &'a [Datagram] {
+    let mut left = given;
+    for it in handed {
+        if it.datagram.port == port {
+            if let Some((_, others)) = left.split_first() {
+                left = others;
             }
         }
     }
+    left
+}
 
-    /// Whether a client's call is answered so in the end.
-    fn answers(&mut self, rt: &impl Abort, port: u16, call: &[u8], answer: &[u8]) -> bool {
-        let datagram = datagram(self.alloc, 7100, call).expect(rt, "memory");
-        self.deliver(port, datagram).expect(rt, "memory");
-        self.settle(rt);
-        match self.answers.pop() {
-            Some(it) => it.port == port && it.bytes.as_slice() == answer,
-            None => false,
+/// Passes on what a site hands over.
+fn pass_on(rt: &impl Abort, alloc: Global, handed: &mut Vec<Handed>, site: SiteId, port: u16) {
+    let ended = run(rt, alloc, handed, site, port);
+    for it in beyond(ended.link.handed(), handed, port) {
+        hand_over(rt, alloc, handed, port, it.port, &it.bytes);
+    }
+}
+
+/// Passes on what the sites hand over, until they hand over nothing more.
+fn settle(rt: &impl Abort, alloc: Global, handed: &mut Vec<Handed>) {
+    for _ in 0..ROUNDS {
+        pass_on(rt, alloc, handed, SiteId::of(1), PORT);
+        pass_on(rt, alloc, handed, SiteId::of(2), SECOND);
+        pass_on(rt, alloc, handed, SiteId::of(3), THIRD);
+    }
+}
+
+/// Whether this is the last that the client was answered, by the site with this port.
+fn is_answered(handed: &[Handed], port: u16, answer: &[u8]) -> bool {
+    let mut is_last = false;
+    for it in handed {
+        if it.to == CLIENT {
+            is_last = it.datagram.port == port && it.datagram.bytes.as_slice() == answer;
         }
     }
+    is_last
+}
 
-    /// The port of a site, but the first, whose log isn't that of a participant.
-    fn without_copy(&self, rt: &impl Abort) -> Option<u16> {
-        for member in self.members.iter().skip(1) {
-            let ended = member.run(rt, self.alloc);
-            if ended.disk.half(0) != OF_A_PARTICIPANT {
-                return Some(member.port);
-            }
-        }
-        None
-    }
+/// Whether the log of the site is that of a participant.
+fn has_copy(rt: &impl Abort, alloc: Global, handed: &[Handed], site: SiteId, port: u16) -> bool {
+    let ended = run(rt, alloc, handed, site, port);
+    ended.disk.half(0) == OF_A_PARTICIPANT
 }
 
 #[test]
 fn a_write_reaches_all_copies(rt: HostRuntime) {
-    let mut cluster = Cluster::new(&rt, rt.alloc());
+    let mut handed = Vec::new(rt.alloc());
     for (port, call, answer) in [
         (PORT, BEGIN, BEGUN),
         (PORT, WRITE, WRITTEN),
@@ -168,7 +137,10 @@ fn a_write_reaches_all_copies(rt: HostRuntime) {
         (SECOND, BEGIN_THERE, BEGUN_THERE),
         (SECOND, READ_THERE, VALUE),
     ] {
-        assert!(rt; cluster.answers(&rt, port, call, answer), "{call:?}");
+        hand_over(&rt, rt.alloc(), &mut handed, CLIENT, port, call);
+        settle(&rt, rt.alloc(), &mut handed);
+        assert!(rt; is_answered(&handed, port, answer), "{call:?}");
     }
-    assert_eq!(rt; cluster.without_copy(&rt), None);
+    assert!(rt; has_copy(&rt, rt.alloc(), &handed, SiteId::of(2), SECOND));
+    assert!(rt; has_copy(&rt, rt.alloc(), &handed, SiteId::of(3), THIRD));
 }

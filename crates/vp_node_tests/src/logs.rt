@@ -1,6 +1,6 @@
 //! A log of three batches, one of whose bytes was changed.
 
-use std::alloc::{AllocError, Global};
+use std::alloc::Global;
 use std::process::Abort;
 use vp_disks::SureDisk;
 use vp_stable::{Log, LogFault};
@@ -14,63 +14,47 @@ const THREE: &[u8] = b"\
 /// The bytes of a batch and the gate before it: the gate, eight of the length, the record's code, four of the life.
 const PIECE: usize = 14;
 
-/// What a recovery gives: so many batches, or the gate at fault.
-#[derive(Clone, Copy, Drop, PartialEq, Eq)]
-enum Recovered {
-    Batches(usize),
-    BadLog(u64),
-}
-
-fn changed(alloc: Global, place: usize, mask: u8) -> Result<Vec<u8>, AllocError> {
-    let mut out = Vec::new(alloc);
-    for (i, byte) in THREE.iter().enumerate() {
-        out.push(if i == place { *byte ^ mask } else { *byte })?;
+/// Whether as many batches are recovered where the byte was changed, or the gate at this place is at fault.
+fn recovers(
+    rt: &impl Abort,
+    alloc: Global,
+    place: usize,
+    mask: u8,
+    wanted: Result<usize, u64>,
+) -> bool {
+    let mut bytes = Vec::from_slice(alloc, THREE).expect(rt, "memory");
+    if let Some(byte) = bytes.get_mut(place) {
+        *byte ^= mask;
     }
-    Ok(out)
-}
-
-/// What is recovered where the byte was changed; none where it is another fault.
-fn recover_changed(rt: &impl Abort, alloc: Global, place: usize, mask: u8) -> Option<Recovered> {
-    let bytes = changed(alloc, place, mask).expect(rt, "memory");
     let mut disk = SureDisk::holding(alloc, bytes, Vec::new(alloc)).expect(rt, "memory");
     match Log::recover(alloc, &mut disk) {
-        Ok((_, batches)) => Some(Recovered::Batches(batches.as_slice().len())),
-        Err(LogFault::BadLog { at, .. }) => Some(Recovered::BadLog(at)),
-        Err(_) => None,
+        Ok((_, batches)) => wanted == Ok(batches.as_slice().len()),
+        Err(LogFault::BadLog { at, .. }) => wanted == Err(at),
+        Err(_) => false,
     }
 }
 
-/// A gate that isn't open any more ends the log. Behind a length or a code that is another one there is no batch. A life may be any number.
-fn wanted(batch: usize, byte: usize) -> Recovered {
-    match byte {
-        0 => Recovered::Batches(batch),
-        1..=9 => Recovered::BadLog(batch.saturating_mul(PIECE) as u64),
-        _ => Recovered::Batches(3),
+/// A gate is open where it is 1. One that isn't open any more ends the log, and one that is opened has no batch behind it. Behind a length or
+/// a code that is another one there is no batch. A life may be any number.
+fn wanted(place: usize, mask: u8) -> Result<usize, u64> {
+    let batch = place / PIECE;
+    match place % PIECE {
+        0 if batch == 3 && mask == 1 => Err(42),
+        0 => Ok(batch),
+        1..=9 => Err(batch.saturating_mul(PIECE) as u64),
+        _ => Ok(3),
     }
 }
 
 #[test]
 fn a_changed_byte_ends_the_log_or_is_refused_at_its_gate_or_is_a_life(rt: HostRuntime) {
     for mask in [1, 2, 4, 8, 16, 32, 64, 128, 255] {
-        for batch in 0..3 {
-            for byte in 0..PIECE {
-                let given = recover_changed(&rt, rt.alloc(), batch * PIECE + byte, mask);
-                assert!(rt; given == Some(wanted(batch, byte)), "{mask} {batch} {byte}");
-            }
+        for place in 0..THREE.len() {
+            let wanted = wanted(place, mask);
+            assert!(rt;
+                recovers(&rt, rt.alloc(), place, mask, wanted),
+                "{mask} {place}"
+            );
         }
-    }
-}
-
-// A gate is open where it is 1.
-#[test]
-fn the_last_gate_is_refused_where_it_is_opened(rt: HostRuntime) {
-    for mask in [1, 2, 4, 8, 16, 32, 64, 128, 255] {
-        let wanted = if mask == 1 {
-            Recovered::BadLog(42)
-        } else {
-            Recovered::Batches(3)
-        };
-        let given = recover_changed(&rt, rt.alloc(), 42, mask);
-        assert!(rt; given == Some(wanted), "{mask}");
     }
 }

@@ -1,7 +1,8 @@
 //! Runs of the program over sources and sinks in memory.
 
-use crate::{answers, is_printed, run_alone, words};
-use std::alloc::{AllocError, Global};
+use crate::{answers, run_alone, words};
+use std::alloc::Global;
+use std::process::Abort;
 use vp_outside::{Sink, SureSink, SureSource, TextSink, TextSource};
 use vp_status::Status;
 use vp_text::print_number;
@@ -81,88 +82,135 @@ start y 5
 end 0
 ";
 
-/// Whether the input is no schedule, and this is told.
-fn is_bad(alloc: Global, input: &str, text: &str) -> Result<bool, AllocError> {
-    answers(alloc, "replay", input, Status::BadLine, text)
-}
+/// Commands, their inputs, and what they are answered.
+const ANSWERED: [(&str, &str, Status, &str); 12] = [
+    ("replay", HEAD, Status::Done, "history\nstart x 10\nend 0\n"),
+    (
+        "replay",
+        TWO_TRANSACTIONS,
+        Status::Done,
+        TWO_TRANSACTIONS_PRINTED,
+    ),
+    ("replay", NO_SUCH_CALL, Status::Done, NO_SUCH_CALL_PRINTED),
+    // Other texts are no schedules.
+    ("replay", "", Status::BadLine, "bad line 1 at 1\n"),
+    (
+        "replay",
+        "site 1 7001\nrecord x 10 1:1\n",
+        Status::BadLine,
+        "bad line 3 at 1\n",
+    ),
+    (
+        "replay",
+        "site 1 7001\nsite 2 7001\nevents\n",
+        Status::BadLine,
+        "twice line 2\n",
+    ),
+    (
+        "replay",
+        "site 1 7001\nevents\ncall 9 begin\n",
+        Status::BadLine,
+        "bad line 3 at 6\n",
+    ),
+    (
+        "replay",
+        "site 1 7001\nevents\ncall 1 beg",
+        Status::BadLine,
+        "bad line 3 at 11\n",
+    ),
+    (
+        "replay",
+        "site 1 7001\nevents\nflew 1\n",
+        Status::BadLine,
+        "bad line 3 at 3\n",
+    ),
+    // Histories.
+    (
+        "check",
+        "history\nstart x 10\ncommit 1.1.1 0@0 r x 10 w x 11\ncommit 1.1.2 0@0 r x 11\nend 2\n",
+        Status::Done,
+        "serial 2\nx 11\n",
+    ),
+    (
+        "check",
+        "history\nstart x 10\ncommit 1.1.1 0@0 w x 11\ncommit 1.1.2 0@0 r x 10\nend 2\n",
+        Status::Differs,
+        "differs 1.1.2 1 x kept 11 read 10\n",
+    ),
+    (
+        "check",
+        "history\nstart x 10\ncommit 1.1.1 1@2\ncommit 2.1.1 0@0\n",
+        Status::BadLine,
+        "bad line 4 at 14\n",
+    ),
+];
 
 #[test]
-fn schedules_of_one_site_are_replayed(rt: HostRuntime) {
-    for (input, text) in [
-        (HEAD, "history\nstart x 10\nend 0\n"),
-        (TWO_TRANSACTIONS, TWO_TRANSACTIONS_PRINTED),
-        (NO_SUCH_CALL, NO_SUCH_CALL_PRINTED),
-    ] {
+fn schedules_are_replayed_or_told_bad_and_histories_give_their_verdict(rt: HostRuntime) {
+    for (command, input, status, text) in ANSWERED {
         assert!(rt;
-            is_printed(rt.alloc(), input, text).expect(&rt, "memory"),
+            answers(rt.alloc(), command, input, status, text).expect(&rt, "memory"),
             "{input}"
         );
     }
-}
-
-#[test]
-fn other_texts_are_no_schedules(rt: HostRuntime) {
-    for (input, text) in [
-        ("", "bad line 1 at 1\n"),
-        ("site 1 7001\nrecord x 10 1:1\n", "bad line 3 at 1\n"),
-        ("site 1 7001\nsite 2 7001\nevents\n", "twice line 2\n"),
-        ("site 1 7001\nevents\ncall 9 begin\n", "bad line 3 at 6\n"),
-        ("site 1 7001\nevents\ncall 1 beg", "bad line 3 at 11\n"),
-        ("site 1 7001\nevents\nflew 1\n", "bad line 3 at 3\n"),
-    ] {
-        assert!(rt;
-            is_bad(rt.alloc(), input, text).expect(&rt, "memory"),
-            "{input}"
-        );
-    }
-}
-
-fn replay(text: Vec<u8>, sink: &mut SureSink) -> Result<Status, AllocError> {
-    let alloc = *text.allocator();
-    let words = words(alloc, &["replay"])?;
-    let mut source = SureSource::new(text);
-    Ok(run_alone(alloc, &words, &mut source, sink))
 }
 
 /// Appends the line so many times.
-fn repeat(text: &mut Vec<u8>, line: &[u8], count: usize) -> Result<(), AllocError> {
+fn repeat(rt: &impl Abort, text: &mut Vec<u8>, line: &[u8], count: usize) {
     for _ in 0..count {
-        text.extend_from_slice(line)?;
+        text.extend_from_slice(line).expect(rt, "memory");
     }
-    Ok(())
+}
+
+/// Appends a line with each of the numbers from the first up to the end, between these bytes.
+fn number(rt: &impl Abort, text: &mut Vec<u8>, before: &[u8], first: u64, end: u64, after: &[u8]) {
+    for number in first..end {
+        text.extend_from_slice(before).expect(rt, "memory");
+        print_number(text, number).expect(rt, "memory");
+        text.extend_from_slice(after).expect(rt, "memory");
+    }
+}
+
+/// What is printed of the text, which is replayed with this status.
+fn replayed(rt: &impl Abort, text: Vec<u8>, status: Status) -> SureSink {
+    let alloc = *text.allocator();
+    let words = words(alloc, &["replay"]).expect(rt, "memory");
+    let mut source = SureSource::new(text);
+    let mut sink = SureSink::new(alloc);
+    assert!(rt; run_alone(alloc, &words, &mut source, &mut sink) == status);
+    sink
+}
+
+/// The text of a schedule up to its events.
+fn head(rt: &impl Abort, alloc: Global) -> Vec<u8> {
+    Vec::from_slice(alloc, HEAD.as_bytes()).expect(rt, "memory")
+}
+
+/// The end of the trace and the history of a transaction with 64 operations, and of one call too many.
+fn end_of_64(rt: &impl Abort, alloc: Global) -> Vec<u8> {
+    let text =
+        b"\n66 call 1 1.1.1 65 read x\n reply toomanyops 1.1.1 65\n67 call 1 1.1.1 65 commit\n commit 1.1.1 0@0\n reply committed 1.1.1 65\nhistory\nstart x 10\ncommit 1.1.1 0@0";
+    let mut end = Vec::from_slice(alloc, text).expect(rt, "memory");
+    repeat(rt, &mut end, b" r x 10", 64);
+    repeat(rt, &mut end, b"\nend 1\n", 1);
+    end
 }
 
 #[test]
 fn a_transaction_has_64_operations(rt: HostRuntime) {
-    let mut text = Vec::from_slice(rt.alloc(), HEAD.as_bytes()).expect(&rt, "memory");
-    text.extend_from_slice(b"call 1 begin\n")
-        .expect(&rt, "memory");
-    for number in 1..66 {
-        text.extend_from_slice(b"call 1 1.1.1 ")
-            .expect(&rt, "memory");
-        print_number(&mut text, number).expect(&rt, "memory");
-        text.extend_from_slice(b" read x\n").expect(&rt, "memory");
-    }
-    text.extend_from_slice(b"call 1 1.1.1 65 commit\n")
-        .expect(&rt, "memory");
-    let mut sink = SureSink::new(rt.alloc());
-    assert!(rt; replay(text, &mut sink).expect(&rt, "memory") == Status::Done);
-    let mut end = Vec::from_slice(
-        rt.alloc(),
-        b"\n66 call 1 1.1.1 65 read x\n reply toomanyops 1.1.1 65\n67 call 1 1.1.1 65 commit\n commit 1.1.1 0@0\n reply committed 1.1.1 65\nhistory\nstart x 10\ncommit 1.1.1 0@0",
-    )
-    .expect(&rt, "memory");
-    repeat(&mut end, b" r x 10", 64).expect(&rt, "memory");
-    end.extend_from_slice(b"\nend 1\n").expect(&rt, "memory");
-    assert!(rt; sink.bytes().ends_with(&end));
+    let mut text = head(&rt, rt.alloc());
+    repeat(&rt, &mut text, b"call 1 begin\n", 1);
+    number(&rt, &mut text, b"call 1 1.1.1 ", 1, 66, b" read x\n");
+    repeat(&rt, &mut text, b"call 1 1.1.1 65 commit\n", 1);
+    let sink = replayed(&rt, text, Status::Done);
+    assert!(rt; sink.bytes().ends_with(&end_of_64(&rt, rt.alloc())));
 }
 
 #[test]
 fn a_site_has_1024_live_transactions(rt: HostRuntime) {
-    let mut text = Vec::from_slice(rt.alloc(), HEAD.as_bytes()).expect(&rt, "memory");
-    repeat(&mut text, b"call 1 begin\n", 1025).expect(&rt, "memory");
-    let mut sink = SureSink::new(rt.alloc());
-    assert!(rt; replay(text, &mut sink).expect(&rt, "memory") == Status::Done);
+    let mut text = head(&rt, rt.alloc());
+    repeat(&rt, &mut text, b"call 1 begin\n", 1025);
+    let sink = replayed(&rt, text, Status::Done);
     assert!(rt;
         sink.bytes().ends_with(
             b" reply begun 1.1.1024 0@0\n1025 call 1 begin\n reply toomanylive 1024\nhistory\nstart x 10\nend 0\n"
@@ -170,96 +218,81 @@ fn a_site_has_1024_live_transactions(rt: HostRuntime) {
     );
 }
 
-#[test]
-fn too_many_records_are_refused(rt: HostRuntime) {
-    let mut text = Vec::from_slice(rt.alloc(), b"site 1 7001\n").expect(&rt, "memory");
-    for number in 0..257 {
-        text.extend_from_slice(b"record r").expect(&rt, "memory");
-        print_number(&mut text, number).expect(&rt, "memory");
-        text.extend_from_slice(b" 10 1:1\n").expect(&rt, "memory");
-    }
-    text.extend_from_slice(b"events\n").expect(&rt, "memory");
-    let mut sink = SureSink::new(rt.alloc());
-    assert!(rt; replay(text, &mut sink).expect(&rt, "memory") == Status::Limit);
-    assert!(rt; sink.bytes() == b"limit records 256\n".as_slice());
+/// A schedule with 257 records.
+fn many_records(rt: &impl Abort, alloc: Global) -> Vec<u8> {
+    let mut text = Vec::from_slice(alloc, b"site 1 7001\n").expect(rt, "memory");
+    number(rt, &mut text, b"record r", 0, 257, b" 10 1:1\n");
+    repeat(rt, &mut text, b"events\n", 1);
+    text
+}
+
+/// A schedule with 100001 events.
+fn many_events(rt: &impl Abort, alloc: Global) -> Vec<u8> {
+    let mut text = head(rt, alloc);
+    repeat(rt, &mut text, b"tick 1\n", 100_001);
+    text
+}
+
+/// One byte more than are read.
+fn many_bytes(rt: &impl Abort, alloc: Global) -> Vec<u8> {
+    let mut bytes = Vec::new(alloc);
+    bytes.resize(MOST_BYTES + 1, b'a').expect(rt, "memory");
+    bytes
+}
+
+/// Whether the text is over a limit, and nothing but this is told.
+fn is_over(rt: &impl Abort, text: Vec<u8>, told: &[u8]) -> bool {
+    replayed(rt, text, Status::Limit).bytes() == told
 }
 
 #[test]
-fn too_many_events_are_refused(rt: HostRuntime) {
-    let mut text = Vec::from_slice(rt.alloc(), HEAD.as_bytes()).expect(&rt, "memory");
-    repeat(&mut text, b"tick 1\n", 100_001).expect(&rt, "memory");
-    let mut sink = SureSink::new(rt.alloc());
-    assert!(rt; replay(text, &mut sink).expect(&rt, "memory") == Status::Limit);
-    assert!(rt; sink.bytes() == b"limit events 100000\n".as_slice());
+fn too_many_records_events_and_bytes_are_refused(rt: HostRuntime) {
+    let alloc = rt.alloc();
+    assert!(rt; is_over(&rt, many_records(&rt, alloc), b"limit records 256\n"));
+    assert!(rt; is_over(&rt, many_events(&rt, alloc), b"limit events 100000\n"));
+    assert!(rt; is_over(&rt, many_bytes(&rt, alloc), b"limit bytes 16777216\n"));
 }
 
-#[test]
-fn histories_give_their_verdict(rt: HostRuntime) {
-    for (history, status, text) in [
-        (
-            "history\nstart x 10\ncommit 1.1.1 0@0 r x 10 w x 11\ncommit 1.1.2 0@0 r x 11\nend 2\n",
-            Status::Done,
-            "serial 2\nx 11\n",
-        ),
-        (
-            "history\nstart x 10\ncommit 1.1.1 0@0 w x 11\ncommit 1.1.2 0@0 r x 10\nend 2\n",
-            Status::Differs,
-            "differs 1.1.2 1 x kept 11 read 10\n",
-        ),
-        (
-            "history\nstart x 10\ncommit 1.1.1 1@2\ncommit 2.1.1 0@0\n",
-            Status::BadLine,
-            "bad line 4 at 14\n",
-        ),
-    ] {
-        assert!(rt;
-            answers(rt.alloc(), "check", history, status, text).expect(&rt, "memory"),
-            "{history}"
-        );
-    }
-}
-
-fn is_refused(alloc: Global, texts: &[&str]) -> Result<bool, AllocError> {
-    let words = words(alloc, texts)?;
+fn is_refused(rt: &impl Abort, alloc: Global, texts: &[&str]) -> bool {
+    let words = words(alloc, texts).expect(rt, "memory");
     let mut source = SureSource::new(Vec::new(alloc));
     let mut sink = SureSink::new(alloc);
     let end = run_alone(alloc, &words, &mut source, &mut sink);
-    Ok(end == Status::Usage && sink.bytes().starts_with(b"usage: vpdb replay|"))
+    end == Status::Usage && sink.bytes().starts_with(b"usage: vpdb replay|")
 }
 
 #[test]
 fn other_words_are_no_command(rt: HostRuntime) {
-    assert!(rt; is_refused(rt.alloc(), &[]).expect(&rt, "memory"));
-    assert!(rt; is_refused(rt.alloc(), &["replay", "-", "--"]).expect(&rt, "memory"));
-    assert!(rt; is_refused(rt.alloc(), &["replay", "--help"]).expect(&rt, "memory"));
-    assert!(rt; is_refused(rt.alloc(), &["Replay"]).expect(&rt, "memory"));
+    let alloc = rt.alloc();
+    assert!(rt;
+        is_refused(&rt, alloc, &[])
+            && is_refused(&rt, alloc, &["replay", "-", "--"])
+            && is_refused(&rt, alloc, &["replay", "--help"])
+            && is_refused(&rt, alloc, &["Replay"])
+    );
+}
+
+/// Whether a replay whose source and sink fail at these calls has this status, where the sink takes 5 bytes at most, and this is printed.
+fn fails(
+    rt: &impl Abort,
+    alloc: Global,
+    source_calls: &[u64],
+    sink_calls: &[u64],
+    status: Status,
+    printed: &[u8],
+) -> bool {
+    let source_calls = Vec::from_slice(alloc, source_calls).expect(rt, "memory");
+    let sink_calls = Vec::from_slice(alloc, sink_calls).expect(rt, "memory");
+    let mut source = TextSource::new(head(rt, alloc), source_calls);
+    let mut sink = TextSink::new(alloc, sink_calls);
+    sink.most = 5;
+    let words = words(alloc, &["replay", "--"]).expect(rt, "memory");
+    let end = run_alone(alloc, &words, &mut source, &mut sink);
+    end == status && sink.bytes() == printed
 }
 
 #[test]
 fn failures_are_told(rt: HostRuntime) {
-    let alloc = rt.alloc();
-    let words = words(alloc, &["replay", "--"]).expect(&rt, "memory");
-    let text = Vec::from_slice(alloc, HEAD.as_bytes()).expect(&rt, "memory");
-    let mut source = TextSource::new(text, Vec::from_slice(alloc, &[2]).expect(&rt, "memory"));
-    let mut sink = TextSink::new(alloc, Vec::new(alloc));
-    assert!(rt; run_alone(alloc, &words, &mut source, &mut sink) == Status::SourceFault);
-    assert!(rt; sink.bytes().is_empty());
-    let text = Vec::from_slice(alloc, HEAD.as_bytes()).expect(&rt, "memory");
-    let mut source = TextSource::new(text, Vec::new(alloc));
-    let mut sink = TextSink::new(alloc, Vec::from_slice(alloc, &[2]).expect(&rt, "memory"));
-    sink.most = 5;
-    assert!(rt; run_alone(alloc, &words, &mut source, &mut sink) == Status::SinkFault);
-    assert!(rt; sink.bytes() == b"histo".as_slice());
-}
-
-#[test]
-fn too_many_bytes_are_refused(rt: HostRuntime) {
-    let alloc = rt.alloc();
-    let words = words(alloc, &["replay"]).expect(&rt, "memory");
-    let mut bytes = Vec::new(alloc);
-    bytes.resize(MOST_BYTES + 1, b'a').expect(&rt, "memory");
-    let mut source = SureSource::new(bytes);
-    let mut sink = SureSink::new(alloc);
-    assert!(rt; run_alone(alloc, &words, &mut source, &mut sink) == Status::Limit);
-    assert!(rt; sink.bytes() == b"limit bytes 16777216\n".as_slice());
+    assert!(rt; fails(&rt, rt.alloc(), &[2], &[], Status::SourceFault, b""));
+    assert!(rt; fails(&rt, rt.alloc(), &[], &[2], Status::SinkFault, b"histo"));
 }
