@@ -1,5 +1,6 @@
 ghost use Rattle.std.specs.Prelude.{◌≤◌, IsTrue};
 
+use crate::logs::{keeps, laid, word};
 use std::alloc::Global;
 use std::process::Abort;
 use vp_base::Word;
@@ -7,10 +8,6 @@ use vp_disks::{MemDisk, SureDisk};
 use vp_outside::{Disk, Failed, OutFault};
 
 const TEXT: &[u8] = b"abcdefgh";
-
-fn word(rt: &impl Abort, alloc: Global, text: &[u8]) -> Word {
-    Word::from_vec(text.to_vec(alloc).expect(rt, "memory"))
-}
 
 /// The length of half 0 and how many of its bytes were read, through the trait.
 fn measure<D: Disk>(disk: &mut D, buf: &mut [u8]) -> Result<(u64, usize), Failed>
@@ -130,12 +127,6 @@ fn cut_short(disk: &mut MemDisk, name: &Word) -> Result<(), OutFault> {
     disk.sync()
 }
 
-/// Whether the log of that name has these halves.
-fn keeps(disk: &mut MemDisk, name: &Word, first: &[u8], second: &[u8]) -> Result<bool, OutFault> {
-    disk.attach(name)?;
-    Ok(disk.half(0) == first && disk.half(1) == second)
-}
-
 /// What is measured of the log of that name.
 fn measured(disk: &mut MemDisk, name: &Word) -> Result<(u64, usize), OutFault> {
     disk.attach(name)?;
@@ -197,19 +188,11 @@ fn fails_to_change(disk: &mut MemDisk, name: &Word) -> Result<bool, OutFault> {
     Ok(written == failed && cut == failed && synced == failed)
 }
 
-/// A disk with a log of that name, which has the text in half 0, and these of whose calls fail.
-fn laid(rt: &impl Abort, alloc: Global, name: &Word, failing: Vec<u64>) -> MemDisk {
-    let half = TEXT.to_vec(alloc).expect(rt, "memory");
-    let mut disk = MemDisk::new(alloc, failing);
-    disk.lay(name, half, Vec::new(alloc)).expect(rt, "memory");
-    disk
-}
-
 #[test]
 fn a_planned_call_of_a_disk_fails_and_changes_nothing(rt: HostRuntime) {
     let name = word(&rt, rt.alloc(), b"one");
     let calls = Vec::from_slice(rt.alloc(), &[1, 3, 4, 6, 7, 8]).expect(&rt, "memory");
-    let mut disk = laid(&rt, rt.alloc(), &name, calls);
+    let mut disk = laid(&rt, rt.alloc(), &name, TEXT, calls);
     assert!(rt; disk.attach(&name) == Err(OutFault::Failed));
     assert!(rt; fails_to_read(&mut disk, &name) == Ok(true));
     assert!(rt; fails_to_change(&mut disk, &name) == Ok(true));
@@ -228,7 +211,7 @@ fn three(disk: &mut MemDisk, name: &Word, at: u64) -> Result<([u8; 3], usize), O
 #[test]
 fn a_log_that_is_laid_is_read(rt: HostRuntime) {
     let name = word(&rt, rt.alloc(), b"one");
-    let mut disk = laid(&rt, rt.alloc(), &name, Vec::new(rt.alloc()));
+    let mut disk = laid(&rt, rt.alloc(), &name, TEXT, Vec::new(rt.alloc()));
     assert!(rt; three(&mut disk, &name, 6) == Ok((*b"gh-", 2)));
 }
 

@@ -1,22 +1,14 @@
 ghost use Rattle.std.specs.Prelude.{◌≤◌};
 
+use crate::logs::{has, keeps, laid, word};
 use std::alloc::Global;
 use std::process::Abort;
 use vp_base::Word;
 use vp_disks::MemDisk;
 use vp_outside::{Disk, Failed, OutFault};
 
-fn word(rt: &impl Abort, alloc: Global, text: &[u8]) -> Word {
-    Word::from_vec(text.to_vec(alloc).expect(rt, "memory"))
-}
-
-/// A disk with a log of that name, which is a closed gate and an empty half.
-fn laid(rt: &impl Abort, alloc: Global, name: &Word) -> MemDisk {
-    let half = b"0".to_vec(alloc).expect(rt, "memory");
-    let mut disk = MemDisk::new(alloc, Vec::new(alloc));
-    disk.lay(name, half, Vec::new(alloc)).expect(rt, "memory");
-    disk
-}
+/// A closed gate.
+const CLOSED: &[u8] = b"0";
 
 /// Appends a batch behind the closed gate, and answers which of the four calls were done.
 fn append(disk: &mut MemDisk, name: &Word) -> Result<[bool; 4], OutFault> {
@@ -26,11 +18,6 @@ fn append(disk: &mut MemDisk, name: &Word) -> Result<[bool; 4], OutFault> {
     let opened = disk.write_at(0, 0, b"1").is_ok();
     let gate_synced = disk.sync().is_ok();
     Ok([written, batch_synced, opened, gate_synced])
-}
-
-/// Whether both halves are these.
-fn has(disk: &MemDisk, first: &[u8], second: &[u8]) -> bool {
-    disk.half(0) == first && disk.half(1) == second
 }
 
 /// What an append leaves that stops behind so many of its calls, with and without what wasn't synced.
@@ -46,11 +33,12 @@ const APPENDS: [(u64, &[u8], &[u8]); 6] = [
 /// Whether an append stops behind so many calls, and leaves this.
 fn leaves(rt: &impl Abort, alloc: Global, calls: u64, late: bool, image: &[u8]) -> bool {
     let name = word(rt, alloc, b"one");
-    let mut disk = laid(rt, alloc, &name);
+    let mut disk = laid(rt, alloc, &name, CLOSED, Vec::new(alloc));
     disk.stop_after(calls.saturating_add(1));
     let done = append(&mut disk, &name);
     let failed = 4_u64.saturating_sub(calls);
-    let stopped = done == Ok([0, 1, 2, 3].map(|call| call < calls)) && disk.faults() == failed;
+    let expected = [0 < calls, 1 < calls, 2 < calls, 3 < calls];
+    let stopped = done == Ok(expected) && disk.faults() == failed;
     disk.leave(late);
     stopped && has(&disk, image, b"")
 }
@@ -67,21 +55,22 @@ fn a_stop_within_an_append_leaves_what_was_done_or_what_was_synced(rt: HostRunti
 fn fails(disk: &mut MemDisk, name: &Word) -> Result<bool, OutFault> {
     disk.attach(name)?;
     let mut buf = [b'-'; 3];
-    let told = (disk.length(0), disk.read(0, 0, &mut buf));
-    let changed = (disk.write_at(0, 0, b"X"), disk.cut(0, 0), disk.sync());
+    let length = disk.length(0);
+    let read = disk.read(0, 0, &mut buf);
+    let written = disk.write_at(0, 0, b"X");
+    let cut = disk.cut(0, 0);
+    let synced = disk.sync();
+    let attached = disk.attach(name);
     let failed = Err(OutFault::Failed);
-    Ok(
-        told == (Err(Failed), Err(Failed))
-            && buf == *b"---"
-            && changed == (failed, failed, failed)
-            && disk.attach(name) == failed,
-    )
+    let told = length == Err(Failed) && read == Err(Failed) && buf == *b"---";
+    let changed = written == failed && cut == failed && synced == failed;
+    Ok(told && changed && attached == failed)
 }
 
 #[test]
 fn each_call_behind_a_stop_fails_until_the_disk_is_left(rt: HostRuntime) {
     let name = word(&rt, rt.alloc(), b"one");
-    let mut disk = laid(&rt, rt.alloc(), &name);
+    let mut disk = laid(&rt, rt.alloc(), &name, CLOSED, Vec::new(rt.alloc()));
     disk.stop_after(1);
     assert!(rt; fails(&mut disk, &name) == Ok(true));
     assert!(rt; disk.faults() == 6 && disk.plan.calls == 7);
@@ -110,16 +99,10 @@ fn cut_and_write(disk: &mut MemDisk, name: &Word) -> Result<(), OutFault> {
     disk.write_at(1, 0, b"half")
 }
 
-/// Whether the log of that name has these halves.
-fn keeps(disk: &mut MemDisk, name: &Word, first: &[u8], second: &[u8]) -> Result<bool, OutFault> {
-    disk.attach(name)?;
-    Ok(has(disk, first, second))
-}
-
 /// Two logs: one that was appended to and then cut and written, and one that was only cut and written.
 fn two_logs(rt: &impl Abort, alloc: Global, one: &Word, two: &Word) -> MemDisk {
     let half = b"other".to_vec(alloc).expect(rt, "memory");
-    let mut disk = laid(rt, alloc, one);
+    let mut disk = laid(rt, alloc, one, CLOSED, Vec::new(alloc));
     append(&mut disk, one).expect(rt, "no fault");
     disk.lay(two, half, Vec::new(alloc)).expect(rt, "memory");
     cut_and_write(&mut disk, one).expect(rt, "no fault");

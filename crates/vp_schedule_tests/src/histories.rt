@@ -1,49 +1,10 @@
-//! Histories that are made, read, printed, refused and checked.
+//! Histories that are read, played, ordered, printed, refused and checked.
 
-use std::alloc::Global;
-use std::process::Abort;
-use vp_base::{Commit, CopyOf, Name, Names, Op, Ops, RecId, Seq, SiteId, TxnId, Value, ViewId};
+use std::alloc::{AllocError, Global};
+use vp_base::{CopyOf, NoMemory};
 use vp_onecopy::{
-    History, HistoryFault, Map, PlayFault, Verdict, check, order, play, print_history, read_history,
+    History, HistoryFault, PlayFault, Verdict, check, order, play, print_history, read_history,
 };
-
-fn value(rt: &impl Abort, alloc: Global, text: &[u8]) -> Value {
-    Value::read(alloc, text).expect(rt, "a value")
-}
-
-fn read(rt: &impl Abort, alloc: Global, rec: u8, text: &[u8]) -> Op {
-    Op::Read {
-        rec: RecId::new(rec),
-        value: value(rt, alloc, text),
-    }
-}
-
-fn write(rt: &impl Abort, alloc: Global, rec: u8, text: &[u8]) -> Op {
-    Op::Write {
-        rec: RecId::new(rec),
-        value: value(rt, alloc, text),
-    }
-}
-
-fn commit(seq: u32, view: ViewId, ops: Vec<Op>) -> Commit {
-    Commit {
-        txn: TxnId {
-            site: SiteId::of(1),
-            life: 1,
-            seq,
-        },
-        view,
-        ops: Ops::from_vec(ops),
-    }
-}
-
-/// The values 10 and 20.
-fn two_values(rt: &impl Abort, alloc: Global) -> Map {
-    let values = vec![in alloc; value(rt, alloc, b"10"), value(rt, alloc, b"20")].expect(
-        rt, "memory",
-    );
-    Map::from_vec(values)
-}
 
 /// Whether the second operation differs, which read 20 where 21 is kept.
 fn differs(played: Result<(), PlayFault>) -> bool {
@@ -53,122 +14,82 @@ fn differs(played: Result<(), PlayFault>) -> bool {
     }
 }
 
-/// Whether a write of record 1 and then a read of another value differ so on a copy of two records.
-fn plays_to_a_difference(rt: &impl Abort, alloc: Global, copy: &mut Map) -> bool {
-    let rec = RecId::new(1);
-    let written = value(rt, alloc, b"21");
-    let read = value(rt, alloc, b"20");
-    let mut ops = Ops::new(alloc);
-    ops.push(Op::Write {
-        rec,
-        value: written,
-    })
-    .expect(rt, "memory");
-    ops.push(Op::Read { rec, value: read }).expect(rt, "memory");
-    copy.as_slice().len() == 2 && differs(play(copy, &ops))
-}
-
 #[test]
 fn a_read_has_the_value_that_was_written(rt: HostRuntime) {
-    let mut copy = two_values(&rt, rt.alloc());
-    assert!(rt; plays_to_a_difference(&rt, rt.alloc(), &mut copy));
+    let lines = b"history\nstart x 10\nstart y 20\ncommit 1.1.1 0@0 w y 21 r y 20\nend 1\n";
+    let history = read_history(rt.alloc(), lines).expect(&rt, "a history");
+    let mut copy = history.start;
+    let commits = history.commits.as_slice();
+    assert_eq!(rt; commits.len(), 1);
+    assert!(rt; differs(play(&mut copy, &commits[0].ops)));
     let left = copy.copy_of().expect(&rt, "memory");
-    assert!(rt; matches!(left.as_slice(), [first, ..] if first.is(b"10")));
+    assert!(rt; matches!(left.as_slice(), [x, y] if x.is(b"10") && y.is(b"21")));
 }
 
-/// The second transaction commits in the opening view after a commit in the next view.
-fn journal(rt: &impl Abort, alloc: Global) -> Vec<Commit> {
-    let opening = ViewId { number: 0, site: 0 };
-    let next = ViewId { number: 1, site: 1 };
-    let mut journal = Vec::new(alloc);
-    let ops = vec![in alloc; read(rt, alloc, 0, b"10"), write(rt, alloc, 0, b"11")].expect(
-        rt, "memory",
-    );
-    journal.push(commit(1, opening, ops)).expect(rt, "memory");
-    let ops = vec![in alloc; read(rt, alloc, 0, b"11")].expect(rt, "memory");
-    journal.push(commit(3, next, ops)).expect(rt, "memory");
-    let ops = vec![in alloc; write(rt, alloc, 1, b"21")].expect(rt, "memory");
-    journal.push(commit(2, opening, ops)).expect(rt, "memory");
-    journal
-}
-
-/// The names `x` and `y`.
-fn names(rt: &impl Abort, alloc: Global) -> Names {
-    let mut names = Names::new(alloc);
-    for text in [b"x", b"y"] {
-        let name = Name::read(alloc, text).expect(rt, "a name");
-        names.push(name).expect(rt, "memory");
-    }
-    names
-}
-
-fn history(rt: &impl Abort, alloc: Global) -> History {
-    History {
-        names: names(rt, alloc),
-        start: two_values(rt, alloc),
-        commits: order(alloc, &journal(rt, alloc)).expect(rt, "memory"),
-    }
-}
-
-fn printed(rt: &impl Abort, alloc: Global, history: &History) -> Vec<u8> {
+fn printed(alloc: Global, history: &History) -> Result<Vec<u8>, NoMemory> {
     let mut out = Vec::new(alloc);
-    print_history(history, &mut out).expect(rt, "memory");
-    out
+    print_history(history, &mut out)?;
+    Ok(out)
 }
 
 #[test]
 fn a_late_commit_stands_in_its_view(rt: HostRuntime) {
     let lines =
         b"history\nstart x 10\nstart y 20\ncommit 1.1.1 0@0 r x 10 w x 11\ncommit 1.1.2 0@0 w y 21\ncommit 1.1.3 1@1 r x 11\nend 3\n";
-    let printed = printed(&rt, rt.alloc(), &history(&rt, rt.alloc()));
-    assert_eq!(rt; printed.as_slice(), lines.as_slice());
+    let mut history = read_history(rt.alloc(), lines).expect(&rt, "a history");
+    // The second transaction commits in the opening view, after a commit in the next view.
+    let mut journal = history.commits.into_vec();
+    assert_eq!(rt; journal.len(), 3);
+    journal.swap(1, 2);
+    history.commits = order(rt.alloc(), &journal).expect(&rt, "memory");
+    assert_eq!(rt;
+        printed(rt.alloc(), &history)
+            .expect(&rt, "memory")
+            .as_slice(),
+        lines.as_slice()
+    );
 }
 
-fn fault(alloc: Global, text: &[u8]) -> Option<HistoryFault> {
+/// The line at fault and the place in it.
+fn fault(alloc: Global, text: &[u8]) -> Result<String, AllocError> {
     match read_history(alloc, text) {
-        Ok(_history) => None,
-        Err(e) => Some(e),
+        Ok(_) => format!(in alloc; "none"),
+        Err(HistoryFault::BadLine { line, at }) => format!(in alloc; "{line}.{at}"),
+        Err(HistoryFault::Twice { line }) => format!(in alloc; "{line} twice"),
+        Err(HistoryFault::NoMemory) => format!(in alloc; "no memory"),
     }
 }
 
-fn bad(line: usize, at: usize) -> Option<HistoryFault> {
-    Some(HistoryFault::BadLine { line, at })
-}
+/// Rows that `|` parts: a text, and behind `=` its fault.
+const NO_HISTORIES: &str = "\
+    =1.1|\
+    history\nstart x 10\ncommit 1.1.1 0@0 r y 10\n=3.20|\
+    history\nstart x 10\nstart x 11\n=3 twice|\
+    history\nstart x 10\ncommit 1.1.1 1@2\ncommit 2.1.1 0@0\n=4.14|\
+    history\nstart x 10\nend 1\n=3.5|\
+    history\nstart x 10\nend 0\nx=4.1|\
+    1 tick\n\nhistory\nstart x 10\nend 0=5.6|\
+    1 tick\nhistor=2.7|\
+    history\nstart ab 1\nstart abcd 2\ncommit 1.1.1 0@0 r abc 1\n=4.23|\
+    history\ncommit 1.1.1 5@2 r x 1\n=2.17";
 
 #[test]
 fn histories_are_refused_at_their_places(rt: HostRuntime) {
-    let cases: [(&[u8], Option<HistoryFault>); 10] = [
-        (b"", bad(1, 1)),
-        (
-            b"history\nstart x 10\ncommit 1.1.1 0@0 r y 10\n",
-            bad(3, 20),
-        ),
-        (
-            b"history\nstart x 10\nstart x 11\n",
-            Some(HistoryFault::Twice { line: 3 }),
-        ),
-        (
-            b"history\nstart x 10\ncommit 1.1.1 1@2\ncommit 2.1.1 0@0\n",
-            bad(4, 14),
-        ),
-        (b"history\nstart x 10\nend 1\n", bad(3, 5)),
-        (b"history\nstart x 10\nend 0\nx", bad(4, 1)),
-        (b"1 tick\n\nhistory\nstart x 10\nend 0", bad(5, 6)),
-        (b"1 tick\nhistor", bad(2, 7)),
-        (
-            b"history\nstart ab 1\nstart abcd 2\ncommit 1.1.1 0@0 r abc 1\n",
-            bad(4, 23),
-        ),
-        (b"history\ncommit 1.1.1 5@2 r x 1\n", bad(2, 17)),
-    ];
-    for (text, at) in cases {
-        assert_eq!(rt; fault(rt.alloc(), text), at);
+    for row in NO_HISTORIES.split('|') {
+        let (text, wanted) = row.split_once('=').unwrap_or((row, ""));
+        assert_eq!(rt;
+            fault(rt.alloc(), text.as_bytes())
+                .expect(&rt, "memory")
+                .as_str(),
+            wanted,
+            "{row}"
+        );
     }
 }
 
-fn verdict(rt: &impl Abort, alloc: Global, text: &[u8]) -> Verdict {
-    let history = read_history(alloc, text).expect(rt, "a history");
-    check(&history.start, history.commits.as_slice()).expect(rt, "memory")
+fn verdict(alloc: Global, text: &[u8]) -> Result<Verdict, HistoryFault> {
+    let history = read_history(alloc, text)?;
+    Ok(check(&history.start, history.commits.as_slice())?)
 }
 
 /// Whether the first operation of transaction 2 differs, which read 10 of record 0 where 11 is kept.
@@ -188,9 +109,14 @@ fn is_difference(verdict: &Verdict) -> bool {
 #[test]
 fn the_first_difference_is_told(rt: HostRuntime) {
     let serial = b"history\nstart x 10\ncommit 1.1.1 0@0 w x 11\ncommit 1.1.2 0@0 r x 11\nend 2\n";
-    assert!(rt; matches!(verdict(&rt, rt.alloc(), serial), Verdict::Serial { .. }));
+    assert!(rt;
+        matches!(
+            verdict(rt.alloc(), serial).expect(&rt, "a history"),
+            Verdict::Serial { .. }
+        )
+    );
     let differs = b"history\nstart x 10\ncommit 1.1.1 0@0 w x 11\ncommit 1.1.2 0@0 r x 10\nend 2\n";
-    assert!(rt; is_difference(&verdict(&rt, rt.alloc(), differs)));
+    assert!(rt; is_difference(&verdict(rt.alloc(), differs).expect(&rt, "a history")));
 }
 
 #[test]
@@ -198,6 +124,10 @@ fn what_was_read_is_printed(rt: HostRuntime) {
     let lines =
         b"history\nstart x 10\nstart y 20\ncommit 1.1.1 0@0 r x 10 w y 21\ncommit 16.2.3 7@3\nend 2\n";
     let history = read_history(rt.alloc(), lines).expect(&rt, "a history");
-    let printed = printed(&rt, rt.alloc(), &history);
-    assert_eq!(rt; printed.as_slice(), lines.as_slice());
+    assert_eq!(rt;
+        printed(rt.alloc(), &history)
+            .expect(&rt, "memory")
+            .as_slice(),
+        lines.as_slice()
+    );
 }

@@ -2,119 +2,109 @@
 
 use std::alloc::Global;
 use std::process::Abort;
-use vp_base::{Name, NameFault, NoMemory, SiteId, TxnId, Value, ViewId, place, take_place};
-use vp_text::Cursor;
+use vp_base::{LineFault, Name, NameFault, NoMemory, SiteId, TxnId, Value, ViewId, place, take_place};
+use vp_text::{Cursor, print_number};
 
-/// The place of the fault, where there is one. Want of memory is no case of these tests.
-fn fault_of<T: Drop>(read: Result<T, NameFault>) -> Option<usize> {
-    match read {
-        Ok(_word) => None,
-        Err(NameFault::BadName { at }) => Some(at),
-        Err(NameFault::NoMemory) => Some(usize::MAX),
-    }
+#[derive(Clone, Copy)]
+enum Kind {
+    Name,
+    Value,
+    View,
+    Txn,
 }
 
-#[test]
-fn names_are_refused_at_their_places(rt: HostRuntime) {
-    let cases: [(&[u8], Option<usize>); 7] = [
-        (b"balance_7", None),
-        (b"aaaaaaaaaaaaaaaa", None),
-        (b"aaaaaaaaaaaaaaaaa", Some(16)),
-        (b"", Some(0)),
-        (b"Balance", Some(0)),
-        (b"bal ance", Some(3)),
-        (b"ab\n", Some(2)),
-    ];
-    for (text, at) in cases {
-        assert_eq!(rt; fault_of(Name::read(rt.alloc(), text)), at);
+/// Appends the word of this kind as it is printed.
+fn print_word(
+    alloc: Global,
+    kind: Kind,
+    text: &[u8],
+    out: &mut Vec<u8>,
+) -> Result<(), NameFault> {
+    match kind {
+        Kind::Name => Name::read(alloc, text)?.print(out)?,
+        Kind::Value => Value::read(alloc, text)?.print(out)?,
+        Kind::View => ViewId::read(text)?.print(out)?,
+        Kind::Txn => TxnId::read(text)?.print(out)?,
     }
+    Ok(())
 }
 
-#[test]
-fn values_are_refused_at_their_places(rt: HostRuntime) {
-    let cases: [(&[u8], Option<usize>); 5] = [
-        (b"~A!z", None),
-        (b"a b", Some(1)),
-        (b"", Some(0)),
-        (b"a\x7f", Some(1)),
-        (
-            b"aaaaaaaaaaaaaaaaaaaaaaaaaaaaaaaaaaaaaaaaaaaaaaaaaaaaaaaaaaaaaaaaa",
-            Some(64),
-        ),
-    ];
-    for (text, at) in cases {
-        assert_eq!(rt; fault_of(Value::read(rt.alloc(), text)), at);
-    }
-}
-
-fn printed_view(alloc: Global, view: ViewId) -> Result<Vec<u8>, NoMemory> {
+/// The word of this kind as it is printed, or its place at fault.
+fn told(alloc: Global, kind: Kind, text: &[u8]) -> Result<Vec<u8>, NoMemory> {
     let mut out = Vec::new(alloc);
-    view.print(&mut out)?;
+    match print_word(alloc, kind, text, &mut out) {
+        Ok(()) => {}
+        Err(NameFault::BadName { at }) => print_number(&mut out, at as u64)?,
+        Err(NameFault::NoMemory) => return Err(NoMemory),
+    }
     Ok(out)
 }
 
-/// Whether the text is a view that is printed as it was read, or is refused at the place.
-fn is_view(alloc: Global, text: &[u8], at: Option<usize>) -> Result<bool, NoMemory> {
-    match ViewId::read(text) {
-        Ok(view) => Ok(at.is_none() && printed_view(alloc, view)?.as_slice() == text),
-        Err(e) => Ok(Some(e.at) == at),
+/// Asserts that each text of the rows, which `|` parts, is printed as it was read, or is at fault at the place behind its `=`.
+fn assert_told(rt: &impl Abort, alloc: Global, kind: Kind, rows: &str) {
+    for row in rows.split('|') {
+        let (text, wanted) = row.split_once('=').unwrap_or((row, row));
+        let told = told(alloc, kind, text.as_bytes()).expect(rt, "memory");
+        assert_eq!(rt; told.as_slice(), wanted.as_bytes(), "{row}");
     }
 }
+
+const NAMES: &str = "\
+    balance_7|\
+    aaaaaaaaaaaaaaaa|\
+    aaaaaaaaaaaaaaaaa=16|\
+    =0|\
+    Balance=0|\
+    bal ance=3|\
+    ab\n=2";
+
+#[test]
+fn names_are_printed_or_refused_at_their_places(rt: HostRuntime) {
+    assert_told(&rt, rt.alloc(), Kind::Name, NAMES);
+}
+
+const VALUES: &str = "\
+    ~A!z|\
+    a b=1|\
+    =0|\
+    a\x7f=1|\
+    aaaaaaaaaaaaaaaaaaaaaaaaaaaaaaaaaaaaaaaaaaaaaaaaaaaaaaaaaaaaaaaaa=64";
+
+#[test]
+fn values_are_printed_or_refused_at_their_places(rt: HostRuntime) {
+    assert_told(&rt, rt.alloc(), Kind::Value, VALUES);
+}
+
+const VIEWS: &str = "\
+    0@0|\
+    12@16|\
+    18446744073709551615@1|\
+    18446744073709551616@1=19|\
+    1@17=3|\
+    0@1=2|\
+    1@0=2|\
+    01@1=1|\
+    1@1 =3|\
+    =0";
 
 #[test]
 fn views_are_printed_or_refused_at_their_places(rt: HostRuntime) {
-    let cases: [(&[u8], Option<usize>); 10] = [
-        (b"0@0", None),
-        (b"12@16", None),
-        (b"18446744073709551615@1", None),
-        (b"18446744073709551616@1", Some(19)),
-        (b"1@17", Some(3)),
-        (b"0@1", Some(2)),
-        (b"1@0", Some(2)),
-        (b"01@1", Some(1)),
-        (b"1@1 ", Some(3)),
-        (b"", Some(0)),
-    ];
-    for (text, at) in cases {
-        assert!(rt;
-            is_view(rt.alloc(), text, at).expect(&rt, "memory"),
-            "{text:?}"
-        );
-    }
+    assert_told(&rt, rt.alloc(), Kind::View, VIEWS);
 }
 
-fn printed_txn(alloc: Global, txn: TxnId) -> Result<Vec<u8>, NoMemory> {
-    let mut out = Vec::new(alloc);
-    txn.print(&mut out)?;
-    Ok(out)
-}
-
-/// Whether the text is a transaction that is printed as it was read, or is refused at the place.
-fn is_txn(alloc: Global, text: &[u8], at: Option<usize>) -> Result<bool, NoMemory> {
-    match TxnId::read(text) {
-        Ok(txn) => Ok(at.is_none() && printed_txn(alloc, txn)?.as_slice() == text),
-        Err(e) => Ok(Some(e.at) == at),
-    }
-}
+const TXNS: &str = "\
+    3.1.12|\
+    16.4294967295.4294967295|\
+    1.4294967296.1=11|\
+    17.1.1=1|\
+    0.1.1=0|\
+    1.0.1=2|\
+    1.1.1.=5|\
+    1.1=3";
 
 #[test]
 fn transactions_are_printed_or_refused_at_their_places(rt: HostRuntime) {
-    let cases: [(&[u8], Option<usize>); 8] = [
-        (b"3.1.12", None),
-        (b"16.4294967295.4294967295", None),
-        (b"1.4294967296.1", Some(11)),
-        (b"17.1.1", Some(1)),
-        (b"0.1.1", Some(0)),
-        (b"1.0.1", Some(2)),
-        (b"1.1.1.", Some(5)),
-        (b"1.1", Some(3)),
-    ];
-    for (text, at) in cases {
-        assert!(rt;
-            is_txn(rt.alloc(), text, at).expect(&rt, "memory"),
-            "{text:?}"
-        );
-    }
+    assert_told(&rt, rt.alloc(), Kind::Txn, TXNS);
 }
 
 #[test]
@@ -134,55 +124,30 @@ fn later_views_are_taken(rt: HostRuntime) {
     }
 }
 
-/// Prints the name `ab` that is taken; false where it is none.
-fn takes_name(alloc: Global, cursor: &mut Cursor, out: &mut Vec<u8>) -> Result<bool, NoMemory> {
-    let Ok(name) = Name::take(alloc, cursor) else {
-        return Ok(false);
-    };
+/// Takes a name and a value and prints them. Whether they are `ab` and `=x~`.
+fn taken(alloc: Global, cursor: &mut Cursor, out: &mut Vec<u8>) -> Result<bool, LineFault> {
+    let name = Name::take(alloc, cursor)?;
+    let value = Value::take(alloc, cursor)?;
     name.print(out)?;
-    Ok(name.is(b"ab"))
-}
-
-/// Prints the value `=x~` that is taken; false where it is none.
-fn takes_value(alloc: Global, cursor: &mut Cursor, out: &mut Vec<u8>) -> Result<bool, NoMemory> {
-    let Ok(value) = Value::take(alloc, cursor) else {
-        return Ok(false);
-    };
     value.print(out)?;
-    Ok(value.is(b"=x~"))
-}
-
-/// What is printed of a name and a value behind it; nothing where they are others.
-fn taken(alloc: Global, cursor: &mut Cursor) -> Result<Vec<u8>, NoMemory> {
-    let mut out = Vec::new(alloc);
-    if takes_name(alloc, cursor, &mut out)? && takes_value(alloc, cursor, &mut out)? {
-        return Ok(out);
-    }
-    Ok(Vec::new(alloc))
+    Ok(name.is(b"ab") && value.is(b"=x~"))
 }
 
 #[test]
 fn words_are_taken_and_printed(rt: HostRuntime) {
     let mut cursor = Cursor::new(b"ab=x~ 3");
-    assert_eq!(rt;
-        taken(rt.alloc(), &mut cursor)
-            .expect(&rt, "memory")
-            .as_slice(),
-        b"ab=x~".as_slice()
-    );
+    let mut out = Vec::new(rt.alloc());
+    assert!(rt; taken(rt.alloc(), &mut cursor, &mut out) == Ok(true));
+    assert_eq!(rt; out.as_slice(), b"ab=x~".as_slice());
     assert!(rt; cursor.literal(b" ").is_ok());
     assert!(rt; SiteId::take(&mut cursor).is_ok());
     assert_eq!(rt; cursor.left(), 0);
 }
 
 /// The names `ab` and `abcd`.
-fn two_names(rt: &impl Abort, alloc: Global) -> Vec<Name> {
-    let mut names = Vec::new(alloc);
-    for text in [b"ab".as_slice(), b"abcd"] {
-        let name = Name::read(alloc, text).expect(rt, "a name");
-        names.push(name).expect(rt, "memory");
-    }
-    names
+fn two_names(alloc: Global) -> Result<Vec<Name>, NameFault> {
+    let (ab, abcd) = (Name::read(alloc, b"ab")?, Name::read(alloc, b"abcd")?);
+    Ok(vec![in alloc; ab, abcd]?)
 }
 
 /// The place of the name that is taken of these, and how many bytes are left.
@@ -196,7 +161,7 @@ fn taken_place(names: &[Name], text: &[u8]) -> (Option<usize>, usize) {
 
 #[test]
 fn names_are_found_by_their_places(rt: HostRuntime) {
-    let names = two_names(&rt, rt.alloc());
+    let names = two_names(rt.alloc()).expect(&rt, "a name");
     assert!(rt; place(&names, b"abcd") == Some(1) && place(&names, b"abc").is_none());
     let cases: [(&[u8], Option<usize>, usize); 4] = [
         (b"ab x", Some(0), 2),
