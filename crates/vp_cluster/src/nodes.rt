@@ -20,8 +20,7 @@ use vp_catalog::Catalog;
 use vp_hosts::{
     Host, Letter, Logs, Stop, begin_all, crash_at, logs_of, restart_at, stop_at, take_at,
 };
-use vp_places::Stepper;
-use vp_site::Site;
+use vp_places::{Site, Stepper};
 use vp_turns::Outcome;
 use vp_wire::Body;
 

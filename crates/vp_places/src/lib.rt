@@ -8,3 +8,5 @@ mod stepper;
 pub use place::Taken;
 pub use places::Places;
 pub use stepper::{ByThemselves, Stepper};
+// what a step is lent
+pub use vp_site::Site;

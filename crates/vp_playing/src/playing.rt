@@ -9,8 +9,7 @@ ghost use Rattle.vp_world.specs.Steps.{IsReady};
 use crate::observer::Observer;
 use vp_base::{Event, Line, NoMemory, Shown};
 use vp_catalog::Catalog;
-use vp_places::Stepper;
-use vp_world::{World, WorldEnd};
+use vp_world::{Stepper, World, WorldEnd};
 
 /// Does one step, and shows its line.
 fn play_step<S: Stepper, O: Observer>(

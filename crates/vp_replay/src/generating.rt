@@ -11,11 +11,10 @@ use crate::drawing::Draws;
 use crate::generated_catalogue::generated_catalogue;
 use std::alloc::Global;
 use vp_base::{Events, NoMemory, Replies};
-use vp_places::ByThemselves;
 use vp_playing::play_event;
 use vp_schedule::{Schedule, print};
 use vp_status::{Defined, Status, print_limit};
-use vp_world::{World, WorldEnd};
+use vp_world::{ByThemselves, World, WorldEnd};
 
 /// A schedule that was made: its events, and what their steps replied.
 #[derive(Drop)]

@@ -11,13 +11,9 @@ use crate::messages::on_input;
 use std::marker::Model;
 use vp_base::{CopyOf, Effects, Input, LogRecord, Newest, NoMemory, SiteId, View, ViewId};
 use vp_catalog::Catalog;
-use vp_coordinator::Coordinator;
-use vp_endings::{Here, SiteCopies};
 use vp_locks::Locks;
-use vp_participant::Participant;
 use vp_records::Durable;
-use vp_refresh::Refresh;
-use vp_stepped::{SiteState, Stepped};
+use vp_stepped::{Coordinator, Here, Participant, Refresh, SiteCopies, SiteState, Stepped};
 use vp_views::Views;
 
 /// The identifier of the view that all sites begin in.

@@ -8,8 +8,7 @@ ghost use Rattle.vp_model.specs.Step.{fix_view, ask_again, ask_again_all, time_o
 use crate::views::invite;
 use vp_base::{Effects, Message, NoMemory, View, ViewId};
 use vp_catalog::Catalog;
-use vp_refresh::Asked;
-use vp_stepped::{SiteState, Stepped};
+use vp_stepped::{Asked, SiteState, Stepped};
 
 /// The invitation ends with those that have accepted as the members of the view, which is then held.
 #[tactic(auto, unfolding(vp_model::specs::Step::fix_view, vp_model::specs::Step::fix, vp_model::specs::Views::hold))]

@@ -14,3 +14,8 @@ pub use parts::{Prepare, Request};
 pub use refresh::RefreshAnswer;
 pub use state::SiteState;
 pub use stepped::Stepped;
+// what a site keeps is made of these
+pub use vp_coordinator::Coordinator;
+pub use vp_endings::{Here, SiteCopies};
+pub use vp_participant::Participant;
+pub use vp_refresh::{Asked, Refresh};

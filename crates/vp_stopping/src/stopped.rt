@@ -20,9 +20,8 @@ use vp_base::{Commits, CopyOf, Event, Events, NoMemory, SiteId};
 use vp_catalog::Catalog;
 use vp_cluster::Nodes;
 use vp_hosts::Stop;
-use vp_places::{ByThemselves, Stepper};
 use vp_schedule::Schedule;
-use vp_world::{World, WorldEnd};
+use vp_world::{ByThemselves, Stepper, World, WorldEnd};
 
 /// What a run comes to that stops within a step: a schedule, with its commits in the order of the steps.
 #[derive(Drop)]

@@ -9,3 +9,5 @@ mod world;
 
 pub use end::WorldEnd;
 pub use world::World;
+// who does the steps of a world's sites
+pub use vp_places::{ByThemselves, Stepper};

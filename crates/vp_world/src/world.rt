@@ -12,8 +12,7 @@ use crate::state::State;
 use std::marker::Model;
 use vp_base::{Commits, CopyOf, Event, Line, Newest, NoMemory, SiteId};
 use vp_catalog::Catalog;
-use vp_places::{ByThemselves, Stepper};
-use vp_site::Site;
+use vp_places::{ByThemselves, Site, Stepper};
 
 /// The sites of a catalogue, with their messages. The state stands in a box, so that little is moved where a world goes from call to call.
 pub struct World {
