@@ -6,11 +6,11 @@ use Rattle.std.specs.Prelude.{IfSome, if◌then◌else◌}
 use Rattle.vp_model.specs.Types.{LogRecord}
 use Rattle.vp_model.specs.Durable.{DurableState}
 use Rattle.vp_outside.specs.Disk.{Halves, DiskState, IsDisk, Becomes, Elapses}
-use Rattle.vp_stable.specs.Halves.{Standing, StandsAt, HaveBatches, AreSettled, GainsAt, MayGainAt, MaySaveAt, DueIsOfTheBatches, saved, due, is_due}
+use Rattle.vp_stable.specs.Halves.{Standing, StandsAt, HaveBatches, AreSettled, GainsAt, MayGainAt, MaySaveAt, DueIsOfTheBatches, IsShort, saved, due, is_due}
 use Rattle.vp_stable.specs.Moments.{LeavesOnly}
 use Rattle.vp_stable.proofs.Times.{elapses_none, elapses_as, elapses_then, leaves_only}
 use Rattle.vp_runs.specs.Keeping.{saved_if_due, kept_with}
-use Rattle.vp_node.specs.Keeping.{SavesDueAt, MaySaveDueAt, KeepsAt, MayKeep, MayKeepAt}
+use Rattle.vp_node.specs.Keeping.{SavesDueAt, MaySaveDueAt, KeepsAt, KeepsShort, MayKeep, MayKeepAt}
 
 -- no call at all: a crash leaves what a read gives
 pub leaves_settled : (P : Halves → Halves → Type 0) → ((log : Halves) → P log log) → (at : Standing) (disk : DiskState) → IsDisk disk → (log : Option Halves)
@@ -36,6 +36,10 @@ may_keep_none d (r ∷ records) at log batches stands = (batches, has stands, in
 pub keeps_may : (d : DurableState) (records : List LogRecord) (from to : Standing) (old new : Halves) → KeepsAt d records from to old new → MayKeepAt d records from old new
 keeps_may d [] from to old new keeps batches stands = (batches, has (keeps batches stands), refl)
 keeps_may d (r ∷ records) from to old new keeps batches stands = (kept_with d (r ∷ records) batches, has (keeps batches stands), inr (inr refl))
+
+pub keeps_short : (records : List LogRecord) → 0 < length records → (from to : Standing) → IsShort to → KeepsShort records from to
+keeps_short [] none from to short = absurd (omega (arith, none))
+keeps_short (r ∷ records) some from to short = short
 
 -- what a crash leaves, said in another way
 pub leaves_as : (P Q : Halves → Halves → Type 0) → ((log image : Halves) → P log image → Q log image) → (old new : DiskState) → (log : Option Halves)

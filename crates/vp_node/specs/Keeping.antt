@@ -3,7 +3,7 @@ use Rattle.std.specs.Prelude.{◌≡◌, ◌⊎◌, List, [], ◌∷◌, ◌++�
 use Rattle.vp_model.specs.Types.{LogRecord}
 use Rattle.vp_model.specs.Durable.{DurableState}
 use Rattle.vp_outside.specs.Disk.{Halves}
-use Rattle.vp_stable.specs.Halves.{Standing, StandsAt, HaveBatches}
+use Rattle.vp_stable.specs.Halves.{Standing, StandsAt, HaveBatches, IsShort}
 use Rattle.vp_runs.specs.Keeping.{saved_if_due, kept_with}
 
 -- ---- a checkpoint where one is due
@@ -19,6 +19,11 @@ MaySaveDueAt d from old new = (batches : List (List LogRecord)) → StandsAt fro
 -- The log that stood there has the records behind its batches, or a checkpoint of this durable part in their place, and stands there now.
 abbrev pub KeepsAt : DurableState → List LogRecord → Standing → Standing → Halves → Halves → Type 0
 KeepsAt d records from to old new = (batches : List (List LogRecord)) → StandsAt from batches old → StandsAt to (kept_with d records batches) new
+
+-- Behind records the log is as short as checkpoints make it; without any it stands where it stood.
+abbrev pub KeepsShort : List LogRecord → Standing → Standing → Type 0
+KeepsShort [] from to = to ≡ from
+KeepsShort (r ∷ records) from to = IsShort to
 
 -- these batches are left as they were, with the records behind them, or as the checkpoint of both
 abbrev pub MayKeep : DurableState → List LogRecord → List (List LogRecord) → List (List LogRecord) → Type 0

@@ -5,10 +5,10 @@ ghost use Rattle.vp_model.specs.Step.{durable_of};
 ghost use Rattle.vp_records.specs.Batches.{IsBatch};
 ghost use Rattle.vp_records.specs.Records.{CanBeSaved};
 ghost use Rattle.vp_outside.specs.Disk.{log_of, Steps};
-ghost use Rattle.vp_stable.specs.Halves.{AreKept, SavesAt, MaySaveAt};
+ghost use Rattle.vp_stable.specs.Halves.{AreKept, SavesAt, MaySaveAt, IsShort};
 ghost use Rattle.vp_stable.specs.Faults.{HasAppendCause};
 ghost use Rattle.vp_stable.specs.Moments.{LeavesOnly, LeavesOthers};
-ghost use Rattle.vp_node.specs.Keeping.{SavesDueAt, MaySaveDueAt, KeepsAt, MayKeepAt};
+ghost use Rattle.vp_node.specs.Keeping.{SavesDueAt, MaySaveDueAt, KeepsAt, MayKeepAt, KeepsShort};
 
 use vp_base::Batch;
 use vp_outside::Disk;
@@ -22,6 +22,7 @@ fn save<D: Disk>(log: &mut Log, disk: &mut D, site: &Site) -> Result<(), AppendF
     requires form { CanBeSaved (durable_of site.now) }
     ensures saved { OnOk result (Steps (SavesAt (durable_of site.now) log.old log.new) (D.state disk.old) (D.state disk.new)) }
     ensures kept { OnOk result (AreKept log.new (D.state disk.new)) }
+    ensures short { OnOk result (IsShort log.new) }
     ensures fault { OnErr result (Steps (MaySaveAt (durable_of site.now) log.old) (D.state disk.old) (D.state disk.new)) }
     ensures any_moment { (D.state disk.old).honest → IfSome (log_of (D.state disk.old)) (λ halves.
         LeavesOnly (D.state disk.old) (D.state disk.new) (MaySaveAt (durable_of site.now) log.old halves)) }
@@ -39,6 +40,7 @@ fn save_if_due<D: Disk>(log: &mut Log, disk: &mut D, site: &Site) -> Result<(), 
     requires form { CanBeSaved (durable_of site.now) }
     ensures saved { OnOk result (Steps (SavesDueAt (durable_of site.now) log.old log.new) (D.state disk.old) (D.state disk.new)) }
     ensures kept { OnOk result (AreKept log.new (D.state disk.new)) }
+    ensures short { OnOk result (IsShort log.new) }
     ensures fault { OnErr result (Steps (MaySaveDueAt (durable_of site.now) log.old) (D.state disk.old) (D.state disk.new)) }
     ensures any_moment { (D.state disk.old).honest → IfSome (log_of (D.state disk.old)) (λ halves.
         LeavesOnly (D.state disk.old) (D.state disk.new) (MaySaveDueAt (durable_of site.now) log.old halves)) }
@@ -65,6 +67,7 @@ pub fn keep<D: Disk>(
     requires batch { IsBatch records.now }
     ensures kept_at { OnOk result (Steps (KeepsAt (durable_of site.now) records.now log.old log.new) (D.state disk.old) (D.state disk.new)) }
     ensures kept { OnOk result (AreKept log.new (D.state disk.new)) }
+    ensures short { OnOk result (KeepsShort records.now log.old log.new) }
     ensures fault { OnErr result (Steps (MayKeepAt (durable_of site.now) records.now log.old) (D.state disk.old) (D.state disk.new)) }
     ensures any_moment { (D.state disk.old).honest → IfSome (log_of (D.state disk.old)) (λ halves.
         LeavesOnly (D.state disk.old) (D.state disk.new) (MayKeepAt (durable_of site.now) records.now log.old halves)) }

@@ -6,6 +6,7 @@ ghost use Rattle.vp_model.specs.Catalogue.{sites_of};
 ghost use Rattle.vp_outside.specs.Disk.{log_of, Steps};
 ghost use Rattle.vp_stable.specs.Halves.{ReadAlike, AreBadLog};
 ghost use Rattle.vp_stable.specs.Moments.{LeavesOnly, LeavesOthers};
+ghost use Rattle.vp_node.specs.Keeping.{KeepsShort};
 ghost use Rattle.vp_node.specs.Nodes.{IsNode, IsKept, Starts, MayStart, IsSpent, Gives, Turns, Saves, MaySave, turn_of};
 ghost use Rattle.vp_runs.specs.Arrivals.{IsArrival};
 ghost use Rattle.vp_runs.specs.Turns.{turn_on};
@@ -113,6 +114,8 @@ impl Node {
         ensures stepped { IfOk result (λ it. IsStepOf catalog.now self.site what it.0.site it.1.effects) }
         ensures saved { IfOk result (λ it. Steps (Saves (turn_on catalog.now self.site what) self.at it.0.at)
             (D.state disk.old) (D.state disk.new)) }
+        // Whatever the disk tells, behind a turn with records no checkpoint is due, unless the generation is the last.
+        ensures short { IfOk result (λ it. KeepsShort (turn_on catalog.now self.site what).batch self.at it.0.at) }
         ensures node { IfOk result (λ it. IsNode catalog.now it.0) }
         ensures kept { IfOk result (λ it. IsKept catalog.now it.0 (D.state disk.new)) }
         ensures left { (D.state disk.old).honest → Steps (MaySave catalog.now self (turn_on catalog.now self.site what)) (D.state disk.old) (D.state disk.new) }
@@ -149,6 +152,8 @@ impl Node {
         ensures turned { IfOk result (λ it. Turns catalog.now self (record { port = port; bytes = bytes.now }) it.0 it.1) }
         ensures saved { IfOk result (λ it. Steps (Saves (turn_of catalog.now self (record { port = port; bytes = bytes.now })) self.at it.0.at)
             (D.state disk.old) (D.state disk.new)) }
+        // Whatever the disk tells, behind a turn with records no checkpoint is due, unless the generation is the last.
+        ensures short { IfOk result (λ it. KeepsShort (turn_of catalog.now self (record { port = port; bytes = bytes.now })).batch self.at it.0.at) }
         ensures node { IfOk result (λ it. IsNode catalog.now it.0) }
         ensures kept { IfOk result (λ it. IsKept catalog.now it.0 (D.state disk.new)) }
         ensures fault { (D.state disk.old).honest → OnErr result (Steps (MaySave catalog.now self (turn_of catalog.now self (record { port = port; bytes = bytes.now })))

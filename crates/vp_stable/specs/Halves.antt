@@ -1,5 +1,5 @@
 -- What the two halves of a log stand for: the batches of the current one.
-use Rattle.std.specs.Prelude.{◌≡◌, ◌⊎◌, ℕ, ◌+◌, ◌*◌, ◌-◌, ◌^◌, Bool, false, nat_lt, ◌==◌, ◌&&◌, if◌then◌else◌, List, [], ◌∷◌, ◌++◌, length, IfSome, Result, Ok, Err}
+use Rattle.std.specs.Prelude.{◌≡◌, ◌⊎◌, ℕ, ◌+◌, ◌*◌, ◌-◌, ◌^◌, Bool, false, true, nat_lt, ◌==◌, ◌&&◌, if◌then◌else◌, List, [], ◌∷◌, ◌++◌, length, IfSome, Result, Ok, Err}
 use Rattle.vp_base.specs.declared.entry.LogRecord.{LogRecord}
 use Rattle.vp_base.specs.declared.entry.LogRecord.TheVariants as log_record
 use Rattle.vp_model.specs.Durable.{DurableState, empty_durable, apply_all}
@@ -161,6 +161,10 @@ size batches = length (opened batches) + 1
 abbrev pub due : List (List LogRecord) → Bool
 due [] = false
 due (batch ∷ batches) = nat_lt 65536 (size (batch ∷ batches)) && nat_lt (2 * length (opened (batch ∷ []))) (size (batch ∷ batches))
+
+-- The log that stands there is as short as checkpoints make it: none is due, or none can be made, since its generation is the last.
+abbrev pub IsShort : Standing → Type 0
+IsShort at = (is_due at ≡ false) ⊎ (is_last at.generation ≡ true)
 
 -- ---- what holds of all halves
 

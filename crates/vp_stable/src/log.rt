@@ -5,7 +5,7 @@ ghost use Rattle.std.specs.List.{AllByRecursion};
 ghost use Rattle.vp_records.specs.Batches.{IsBatch};
 ghost use Rattle.vp_records.specs.Records.{CanBeSaved};
 ghost use Rattle.vp_outside.specs.Disk.{log_of, Steps};
-ghost use Rattle.vp_stable.specs.Halves.{Recovers, StandsAt, AreKept, ReadAlike, GainsAt, MayGainAt, SavesAt, MaySaveAt, FoldsAlike, is_due};
+ghost use Rattle.vp_stable.specs.Halves.{Recovers, StandsAt, AreKept, ReadAlike, GainsAt, MayGainAt, SavesAt, MaySaveAt, FoldsAlike, IsShort, is_due};
 ghost use Rattle.vp_stable.specs.Moments.{LeavesOnly, LeavesOthers};
 ghost use Rattle.vp_stable.specs.Stops.{AppendsToStop, GainsWhere};
 ghost use Rattle.vp_stable.specs.Faults.{HasLogCause, HasAppendCause};
@@ -151,6 +151,8 @@ impl Log {
         ensures saved { OnOk result (Steps (SavesAt durable.now self.old self.new) (D.state disk.old) (D.state disk.new)) }
         ensures kept { OnOk result (AreKept self.new (D.state disk.new)) }
         ensures fault { OnErr result (Steps (MaySaveAt durable.now self.old) (D.state disk.old) (D.state disk.new)) }
+        // Whatever the disk tells, none is due then, unless its generation is the last.
+        ensures short { OnOk result (IsShort self.new) }
 
         // A crash at any moment leaves the batches that were there or the checkpoint, which fold to the same durable part.
         ensures any_moment { (D.state disk.old).honest → IfSome (log_of (D.state disk.old)) (λ log.

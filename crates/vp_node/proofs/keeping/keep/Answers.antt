@@ -7,7 +7,7 @@ use Rattle.vp_stable.specs.Moments.{LeavesOnly}
 use Rattle.vp_stable.proofs.Times.{others_join}
 use Rattle.vp_node.specs.Keeping.{SavesDueAt, MaySaveDueAt, KeepsAt, MayKeepAt}
 use Rattle.vp_stable.proofs.Writes.{becomes-as, becomes-then, on_err, on_err_as, on_ok_as}
-use Rattle.vp_node.proofs.Kept.{leaves_settled, leaves_as, may_keep_none, may_gain_keeps, may_save_keeps, keeps_then, leaves_then}
+use Rattle.vp_node.proofs.Kept.{leaves_settled, leaves_as, may_keep_none, keeps_short, may_gain_keeps, may_save_keeps, keeps_then, leaves_then}
 use Rattle.vp_node.proofs.keeping.keep.Goals as goal
 
 pub returns-then-is_empty-clause-any_moment : goal.returns-then-is_empty-clause-any_moment
@@ -33,6 +33,11 @@ returns-clause-kept_at g c =
     let saved = rw c.append.ensures.others.stays.same_name at c.save_if_due.ensures.saved in
     on_ok_as c.save_if_due.result
     (becomes-then {S = GainsAt c.args.records.now c.args.log.now c.append.new.self} {T = SavesDueAt d c.append.new.self c.save_if_due.new.log} {U = KeepsAt d c.args.records.now c.args.log.now c.save_if_due.new.log} _ _ _ (keeps_then d c.args.records.now some c.args.log.now c.append.new.self c.save_if_due.new.log) c.in_ok-append.ensures.appended) saved
+
+pub returns-clause-short : goal.returns-clause-short
+returns-clause-short g c =
+    let some : 0 < length c.args.records.now = search rules in
+    on_ok_as c.save_if_due.result (keeps_short c.args.records.now some c.args.log.now c.save_if_due.new.log) c.save_if_due.ensures.short
 
 pub returns-clause-fault : goal.returns-clause-fault
 returns-clause-fault g c =

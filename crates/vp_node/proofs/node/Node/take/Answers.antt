@@ -84,6 +84,12 @@ returns-clause-saved g c =
     let at_is = ap (λ (n : NodeValue). n.at) c.self.view_is in
     rw (site_is, records_are, at_is) at c.in_ok-keep.ensures.kept_at
 
+pub returns-clause-short : goal.returns-clause-short
+returns-clause-short g c =
+    let records_are = subst (λ (n : NodeValue). c.in_ok-site.outcome.effects.records ≡ (turn_on c.args.catalog.now n.site c.args.what).batch) c.self.view_is c.in_ok-site.ensures.does.records_are in
+    let at_is = ap (λ (n : NodeValue). n.at) c.self.view_is in
+    rw (records_are, at_is) at c.in_ok-keep.ensures.short
+
 pub returns-clause-left : goal.returns-clause-left
 returns-clause-left g c honest =
     let site_is = subst (λ (n : NodeValue). c.in_ok-site.site ≡ (turn_on c.args.catalog.now n.site c.args.what).site) c.self.view_is c.in_ok-site.ensures.does.site_is in
