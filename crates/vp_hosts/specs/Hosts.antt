@@ -35,6 +35,10 @@ told host = state_after host.disk true 0
 abbrev pub log_on : List Change → Halves
 log_on changes = content_of (changes_of (asked_of changes) changes)
 
+-- halves are a log
+abbrev pub AreLog : Halves → Type 0
+AreLog log = (batches : List (List LogRecord)) × HaveBatches batches log
+
 -- the halves of its log
 abbrev pub log_in : HostValue → Halves
 log_in host = log_on host.disk

@@ -45,11 +45,13 @@ impl Drop for Host {
 }
 
 impl Model for Host {
-    ghost use Rattle.vp_hosts.specs.Hosts.{HostValue};
+    ghost use Rattle.vp_hosts.specs.Hosts.{HostValue, AreLog, log_on};
 
     ghost Value = { HostValue };
 
     ghost view = { λ h. record { id = h.id; port = h.port; disk = h.disk; log = h.log } };
+
+    ghost invariant = { λ h. AreLog (log_on h.disk) };
 }
 
 impl Host {
@@ -60,17 +62,22 @@ impl Host {
     {
         halves_are_one_log();
         let mut disk = SureDisk::new(catalog.sites().allocator());
-        // the first life is not the last one, and this disk fails for want of memory alone
-        let Ok(node) = Node::start(catalog, id, &mut disk) else {
-            return Err(NoMemory);
-        };
-        let (_, log) = node.into_parts();
-        Ok(Host {
-            id,
-            port,
-            disk,
-            log: Some(log),
-        })
+        match Node::start(catalog, id, &mut disk) {
+            Ok(node) => {
+                let (_, log) = node.into_parts();
+                Ok(Host {
+                    id,
+                    port,
+                    disk,
+                    log: Some(log),
+                })
+            }
+            Err(NodeEnd::NoMemory) => Err(NoMemory),
+            // this disk never fails, its log is empty, and the first life is not the last one
+            Err(NodeEnd::DiskFault) => unreachable!(),
+            Err(NodeEnd::BadLog { .. }) => unreachable!(),
+            Err(NodeEnd::LivesSpent { .. }) => unreachable!(),
+        }
     }
 
     pub fn port(&self) -> u16
@@ -112,13 +119,18 @@ impl Host {
         let alloc = catalog.sites().allocator();
         let what = arrival(alloc, catalog, self.id, letter.from, &letter.bytes)?;
         let node = Node::from_parts(site, log);
-        // this disk fails for want of memory alone
-        let Ok((node, outcome)) = node.take(catalog, &mut self.disk, what) else {
-            return Err(NoMemory);
-        };
-        let (site, log) = node.into_parts();
-        self.log = Some(log);
-        Ok((site, outcome))
+        match node.take(catalog, &mut self.disk, what) {
+            Ok((node, outcome)) => {
+                let (site, log) = node.into_parts();
+                self.log = Some(log);
+                Ok((site, outcome))
+            }
+            Err(NodeEnd::NoMemory) => Err(NoMemory),
+            // this disk never fails, and a turn reads no log and starts no life
+            Err(NodeEnd::DiskFault) => unreachable!(),
+            Err(NodeEnd::BadLog { .. }) => unreachable!(),
+            Err(NodeEnd::LivesSpent { .. }) => unreachable!(),
+        }
     }
 
     /// The site goes down.
@@ -178,8 +190,10 @@ impl Host {
                 Ok(())
             }
             Err(NodeEnd::LivesSpent { .. }) => Ok(()),
-            // the log is one that this host has left, and this disk fails for want of memory alone
-            Err(_) => Err(NoMemory),
+            Err(NodeEnd::NoMemory) => Err(NoMemory),
+            // this disk never fails, and its log is one that this host has left
+            Err(NodeEnd::DiskFault) => unreachable!(),
+            Err(NodeEnd::BadLog { .. }) => unreachable!(),
         }
     }
 }

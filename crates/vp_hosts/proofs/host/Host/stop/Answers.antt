@@ -7,6 +7,7 @@ use Rattle.vp_runs.proofs.Shaped.{turn_shaped}
 use Rattle.vp_hosts.specs.Hosts.{Stops}
 use Rattle.vp_hosts.specs.Letters.{as_received}
 use Rattle.vp_hosts.specs.Stops.{is_kept}
+use Rattle.vp_hosts.proofs.Holding.{left_holds}
 use Rattle.vp_hosts.proofs.Hosting.{host_with, parts_up, parts_arrival, parts_stand}
 use Rattle.vp_hosts.proofs.HostStops.{shown_none, shown_some, stops_none, stops_within}
 use Rattle.vp_hosts.proofs.host.Host.stop.Goals as goal
@@ -49,3 +50,8 @@ returns-clause-stops c =
     (stops_within cat (as_received letter) c.args.site _ c.args.self.now c.self.view_is c.requires.host c.in-Some.log up c.in_ok-what.what comes c.in_ok-outcome.outcome.effects.records c.in_ok-outcome.ensures.does.records_are
     c.in_ok-left.left (is_kept c.args.stop.now)
     (shown_some c.in_ok-outcome.outcome.effects.records c.as_slice.result.now c.is_empty.result c.as_slice.ensures c.is_empty.ensures c.if-is_empty.false) c.in_ok-left.ensures))
+
+pub invariant_of-self-2 : goal.invariant_of-self-2
+invariant_of-self-2 c =
+    let up : c.self.inside.log ≡ Some c.in-Some.log = cc in
+    left_holds _ c.in-Some.log (is_kept c.args.stop.now) c.self.inside.disk c.in_ok-left.left (parts_stand c.args.catalog.now _ c.args.self.now c.self.view_is c.in-Some.log up c.requires.host) c.in_ok-left.ensures
