@@ -25,6 +25,13 @@ pub type SiteLog = (SiteId, Word, Word);
 /// The logs of sites.
 pub type Logs = Seq<SiteLog>;
 
+/// The log of a site that stopped within an append, and whether the batch of that is in it.
+#[derive(Drop)]
+pub struct StoppedLog {
+    pub log: SiteLog,
+    pub kept: bool,
+}
+
 /// The port of a site, the disk that keeps its log, and that log while the site is up. The site itself is lent for each of its turns.
 pub struct Host {
     id: SiteId,
@@ -142,18 +149,18 @@ impl Host {
     }
 
     /// The letter comes, and the site, which is lent for it, stops within the append that this asks for: it is down then, and its log is as that
-    /// leaves it. Answers whether the batch is there; none where the letter asks for none.
+    /// leaves it. Answers the log, and whether the batch is there; none where the letter asks for none.
     pub fn stop(
         &mut self,
         catalog: &Catalog,
         site: Site,
         letter: &Letter,
         stop: &Stop,
-    ) -> Result<Option<bool>, NoMemory>
+    ) -> Result<Option<StoppedLog>, NoMemory>
         requires host { IsHost catalog.now self.old }
         requires lent { Lends catalog.now site self.old }
         ensures stops { IfOk result (Stops catalog.now (as_received letter.now) site self.old self.new) }
-        ensures kept { IfOk result (λ kept. IfSome kept (λ k. k ≡ is_kept stop.now)) }
+        ensures kept { IfOk result (λ left. IfSome left (λ it. it.kept ≡ is_kept stop.now)) }
         ensures host { IsHost catalog.now self.new }
         ensures place { address_of self.new ≡ address_of self.old }
     {
@@ -169,7 +176,10 @@ impl Host {
         }
         let left = append_stopped(alloc, log, batch, &self.disk, stop)?;
         self.disk = left;
-        Ok(Some(stop.keeps_batch()))
+        Ok(Some(StoppedLog {
+            log: self.log(alloc)?,
+            kept: stop.keeps_batch(),
+        }))
     }
 
     /// The log gets the start of the site's next life, where that is down and a life is left. Without memory the site stays down.
