@@ -1,5 +1,5 @@
 -- A letter that comes changes the nodes as it changes their hosts.
-use Rattle.std.proofs.Common.{◌≡◌, sym, subst, Bool, List, ◌++◌, length, take, map}
+use Rattle.std.proofs.Common.{◌≡◌, sym, subst, List, ◌++◌, length, take, map}
 use Rattle.std.specs.Prelude.{Option, Some, None, Result, Ok, Err, OnOk}
 use Rattle.vp_model.specs.Types.{Input}
 use Rattle.vp_model.specs.Catalogue.{Catalogue}
@@ -10,6 +10,7 @@ use Rattle.vp_hosts.specs.Hosts.{HostValue, Stops, Takes}
 use Rattle.vp_hosts.specs.Letters.{as_received}
 use Rattle.vp_cluster.specs.Letters.{sent_from}
 use Rattle.vp_hosts.specs.Ports.{ChangesAt}
+use Rattle.vp_hosts.specs.declared.host.StoppedLog.{StoppedLog}
 use Rattle.vp_cluster.specs.Nodes.{NodesValue, Comes, Posts, StopsWith}
 
 pub letter_came : (letter : Letter) (site after : SiteState) (outcome : Outcome) (catalogue : Catalogue) (hosts next : List HostValue) (letters more : List Letter) (coming : Option Letter) (old : NodesValue)
@@ -19,11 +20,11 @@ pub letter_came : (letter : Letter) (site after : SiteState) (outcome : Outcome)
 letter_came letter site after outcome catalogue hosts next letters more coming old is changes put =
     subst (λ (old : NodesValue). Comes letter site old (record { catalogue = catalogue; hosts = next; letters = more; coming = coming })) is (after, outcome, changes, put)
 
-pub letter_stops : (letter : Letter) (site : SiteState) (catalogue : Catalogue) (hosts next : List HostValue) (letters : List Letter) (coming : Option Letter) (kept : Option Bool) (old new : NodesValue)
-    → record { catalogue = catalogue; hosts = hosts; letters = letters; coming = coming } ≡ old → new.hosts ≡ next → ChangesAt letter.to (λ host next. Stops catalogue (as_received letter) site host next kept) hosts next → StopsWith letter site kept old new
-letter_stops letter site catalogue hosts next letters coming kept old new is same changes =
-    subst (λ (old : NodesValue). StopsWith letter site kept old new) is
-    (subst (λ (next : List HostValue). ChangesAt letter.to (λ host next. Stops catalogue (as_received letter) site host next kept) hosts next) (sym same) changes)
+pub letter_stops : (letter : Letter) (site : SiteState) (catalogue : Catalogue) (hosts next : List HostValue) (letters : List Letter) (coming : Option Letter) (left : Option StoppedLog) (old new : NodesValue)
+    → record { catalogue = catalogue; hosts = hosts; letters = letters; coming = coming } ≡ old → new.hosts ≡ next → ChangesAt letter.to (λ host next. Stops catalogue (as_received letter) site host next left) hosts next → StopsWith letter site left old new
+letter_stops letter site catalogue hosts next letters coming left old new is same changes =
+    subst (λ (old : NodesValue). StopsWith letter site left old new) is
+    (subst (λ (next : List HostValue). ChangesAt letter.to (λ host next. Stops catalogue (as_received letter) site host next left) hosts next) (sym same) changes)
 
 -- the letter that waited has come, where there was memory for that
 pub letter_posts : {T E : Type 0} (r : Result T E) (letter : Letter) (site : SiteState) (given : Input) (catalogue : Catalogue) (hosts : List HostValue) (letters : List Letter) (coming : Option Letter) (old new : NodesValue)

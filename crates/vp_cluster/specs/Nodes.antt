@@ -1,5 +1,5 @@
 -- The nodes of a cluster: what they make of an event, and of the step of a site that is lent to them.
-use Rattle.std.specs.Prelude.{◌≡◌, ℕ, Bool, List, [], ◌++◌, map, length, take, Option, Some}
+use Rattle.std.specs.Prelude.{◌≡◌, ℕ, List, [], ◌++◌, map, length, take, Option, Some}
 use Rattle.vp_model.specs.Types.{Event, Input}
 use Rattle.vp_model.specs.Types.event
 use Rattle.vp_model.specs.Words.{value_at}
@@ -9,6 +9,7 @@ use Rattle.vp_runs.specs.declared.arrival.Arrival.TheVariants as arrives
 use Rattle.vp_runs.specs.Arrivals.{arrival}
 use Rattle.vp_turns.specs.declared.turned.Outcome.{Outcome}
 use Rattle.vp_hosts.specs.declared.letter.Letter.{Letter}
+use Rattle.vp_hosts.specs.declared.host.StoppedLog.{StoppedLog}
 use Rattle.vp_hosts.specs.Hosts.{HostValue, Takes, Stops, Crashes, Restarts, Begins}
 use Rattle.vp_hosts.specs.Letters.{as_received}
 use Rattle.vp_hosts.specs.Ports.{host_at, LendsAt, ChangesAt, ChangesOf}
@@ -58,8 +59,8 @@ pub record Posts (site : SiteState) (given : Input) (old new : NodesValue) : Typ
   pub same_catalogue : new.catalogue ≡ old.catalogue
 
 -- The letter comes to the host at its port, and this site, which is lent to it, stops within the append of its batch.
-abbrev pub StopsWith : Letter → SiteState → Option Bool → NodesValue → NodesValue → Type 0
-StopsWith letter site kept old new = ChangesAt letter.to (λ host next. Stops old.catalogue (as_received letter) site host next kept) old.hosts new.hosts
+abbrev pub StopsWith : Letter → SiteState → Option StoppedLog → NodesValue → NodesValue → Type 0
+StopsWith letter site left old new = ChangesAt letter.to (λ host next. Stops old.catalogue (as_received letter) site host next left) old.hosts new.hosts
 
 -- Each site of the catalogue is in its first life, and no letter was sent.
 pub record Begin (catalogue : Catalogue) (nodes : NodesValue) : Type 0 where

@@ -18,7 +18,8 @@ use std::marker::Model;
 use vp_base::{CopyOf, Effects, Event, Input, NoMemory, SiteId};
 use vp_catalog::Catalog;
 use vp_hosts::{
-    Host, Letter, Logs, Stop, begin_all, crash_at, logs_of, restart_at, stop_at, take_at,
+    Host, Letter, Logs, Stop, StoppedLog, begin_all, crash_at, logs_of, restart_at, stop_at,
+    take_at,
 };
 use vp_places::{Site, Stepper};
 use vp_turns::Outcome;
@@ -121,24 +122,29 @@ impl Nodes {
         site: Site,
         letter: &Letter,
         stop: &Stop,
-    ) -> Result<Option<bool>, NoMemory>
+    ) -> Result<Option<StoppedLog>, NoMemory>
         requires { LendsAt self.old.catalogue site letter.now.to self.old.hosts }
-        ensures stops { IfOk result (λ kept. StopsWith letter.now site kept self.old self.new) }
-        ensures kept { IfOk result (λ kept. IfSome kept (λ k. k ≡ is_kept stop.now)) }
+        ensures stops { IfOk result (λ left. StopsWith letter.now site left self.old self.new) }
+        ensures kept { IfOk result (λ left. IfSome left (λ it. it.kept ≡ is_kept stop.now)) }
         ensures letters { self.new.letters ≡ self.old.letters }
         ensures same { self.new.catalogue ≡ self.old.catalogue }
     {
         stop_at(&mut self.hosts, &self.catalog, site, letter, stop)
     }
 
-    /// The event's step of the site, which is lent for it and stops within the append of its batch. Answers whether the batch is in the log; none
-    /// where there is none.
-    pub fn stop(&mut self, event: &Event, site: Site, stop: &Stop) -> Result<Option<bool>, NoMemory>
+    /// The event's step of the site, which is lent for it and stops within the append of its batch. Answers its log, and whether the batch is in
+    /// that; none where there is none.
+    pub fn stop(
+        &mut self,
+        event: &Event,
+        site: Site,
+        stop: &Stop,
+    ) -> Result<Option<StoppedLog>, NoMemory>
         requires event { IsEvent event.now }
         requires lent { (letter : Letter) → letter_of self.old.catalogue self.old.letters event.now ≡ Some letter → LendsAt self.old.catalogue site letter.to self.old.hosts }
-        ensures stops { IfOk result (λ kept. (letter : Letter) → letter_of self.old.catalogue self.old.letters event.now ≡ Some letter → StopsWith letter site kept self.old self.new) }
-        ensures nothing { letter_of self.old.catalogue self.old.letters event.now ≡ None → IfOk result (λ kept. (kept ≡ None) × (self.new ≡ self.old)) }
-        ensures kept { IfOk result (λ kept. IfSome kept (λ k. k ≡ is_kept stop.now)) }
+        ensures stops { IfOk result (λ left. (letter : Letter) → letter_of self.old.catalogue self.old.letters event.now ≡ Some letter → StopsWith letter site left self.old self.new) }
+        ensures nothing { letter_of self.old.catalogue self.old.letters event.now ≡ None → IfOk result (λ left. (left ≡ None) × (self.new ≡ self.old)) }
+        ensures kept { IfOk result (λ left. IfSome left (λ it. it.kept ≡ is_kept stop.now)) }
         ensures letters { self.new.letters ≡ self.old.letters }
         ensures same { self.new.catalogue ≡ self.old.catalogue }
     {

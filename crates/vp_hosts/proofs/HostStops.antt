@@ -12,7 +12,8 @@ use Rattle.vp_stable.specs.Stops.{GainsWhere, with_batch}
 use Rattle.vp_runs.specs.declared.arrival.Arrival.{Arrival}
 use Rattle.vp_runs.specs.Arrivals.{arrival}
 use Rattle.vp_runs.specs.Turns.{turn_on}
-use Rattle.vp_hosts.specs.Hosts.{HostValue, IsHost, IsAt, Stops, log_on, log_in, turn_at}
+use Rattle.vp_hosts.specs.declared.host.StoppedLog.{StoppedLog}
+use Rattle.vp_hosts.specs.Hosts.{HostValue, IsHost, IsAt, Stops, log_on, log_in, site_log, turn_at}
 use Rattle.vp_hosts.proofs.Hosting.{host_with, parts_rest}
 
 -- whether a batch is one without records
@@ -29,15 +30,19 @@ shown_some batch shown b same is e none =
     absurd (let z = sym e ∙ is ∙ test in cc)
 
 module _ (catalogue : Catalogue) (d : Datagram) (site : SiteState) (parts host : HostValue) (same : parts ≡ host) (is : IsHost catalogue host) where
-  abbrev After : List Change → Option Bool → Type 0
-  After disk kept = Stops catalogue d site host (host_with parts.id parts.port disk None) kept
+  abbrev behind : List Change → HostValue
+  behind disk = host_with parts.id parts.port disk None
 
-  stays_so : (disk : List Change) (kept : Option Bool)
-      → ((batches : List (List LogRecord)) → IsAt batches (Some site) parts → IfNone kept ((turn_at catalogue site d).batch ≡ [])
-      × IfSome kept (λ k. ((turn_at catalogue site d).batch ≢ []) × IsAt (with_batch k (turn_at catalogue site d).batch batches) None (host_with parts.id parts.port disk None)))
-      → After disk kept
-  stays_so disk kept up = record {
+  abbrev After : List Change → Option StoppedLog → Type 0
+  After disk left = Stops catalogue d site host (behind disk) left
+
+  stays_so : (disk : List Change) (left : Option StoppedLog) → IfSome left (λ it. it.log ≡ site_log (behind disk))
+      → ((batches : List (List LogRecord)) → IsAt batches (Some site) parts → IfNone left ((turn_at catalogue site d).batch ≡ [])
+      × IfSome left (λ it. ((turn_at catalogue site d).batch ≢ []) × IsAt (with_batch it.kept (turn_at catalogue site d).batch batches) None (behind disk)))
+      → After disk left
+  stays_so disk left log_is up = record {
     stays = record { host = parts_rest catalogue parts host same disk is; same_id = ap (λ (h : HostValue). h.id) same; same_port = ap (λ (h : HostValue). h.port) same };
+    log_is = log_is;
     up = λ batches h. up batches (subst (λ h. IsAt batches (Some site) h) (sym same) h);
   }
 
@@ -48,19 +53,19 @@ module _ (catalogue : Catalogue) (d : Datagram) (site : SiteState) (parts host :
 
     -- which asks for no batch
     pub stops_none : (disk : List Change) → batch ≡ [] → After disk None
-    stops_none disk none = stays_so disk None (λ batches h. (its ∙ none, tt))
+    stops_none disk none = stays_so disk None tt (λ batches h. (its ∙ none, tt))
 
     stands : (batches : List (List LogRecord)) → IsAt batches (Some site) parts → StandsAt at batches (log_in parts)
     stands batches h = subst (λ (log : Option Standing). IfSome log (λ at. StandsAt at batches (log_in parts))) up h.stands
 
     -- which asks for this batch: the log is left with it or without
-    pub stops_within : (left : List Change) (kept : Bool) → batch ≢ [] → GainsWhere batch at kept (log_on parts.disk) (log_on left) → After left (Some kept)
-    stops_within left kept some gains = stays_so left (Some kept) (λ batches h. (
+    pub stops_within : (left : List Change) (it : StoppedLog) → batch ≢ [] → it.log ≡ site_log (behind left) → GainsWhere batch at it.kept (log_on parts.disk) (log_on left) → After left (Some it)
+    stops_within left it some log_is gains = stays_so left (Some it) log_is (λ batches h. (
       tt,
       (
         (λ none. some (sym its ∙ none)),
         record {
-          has = subst (λ b. HaveBatches (with_batch kept b batches) (log_on left)) (sym its) (gains batches (stands batches h));
+          has = subst (λ b. HaveBatches (with_batch it.kept b batches) (log_on left)) (sym its) (gains batches (stands batches h));
           is_up = refl;
           stands = tt;
         },

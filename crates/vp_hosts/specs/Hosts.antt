@@ -1,5 +1,5 @@
 -- A host: a site's port and disk, and the log that it keeps while the site is up.
-use Rattle.std.specs.Prelude.{◌≡◌, ◌≢◌, ℕ, ◌-◌, ◌^◌, Bool, true, List, [], Option, Some, None, IfSome, IfNone, is_some}
+use Rattle.std.specs.Prelude.{◌≡◌, ◌≢◌, ℕ, ◌-◌, ◌^◌, true, List, [], Option, Some, None, IfSome, IfNone, is_some}
 use Rattle.vp_model.specs.Types.{LogRecord}
 use Rattle.vp_model.specs.Words.{value_at}
 use Rattle.vp_model.specs.Catalogue.{Catalogue}
@@ -19,6 +19,7 @@ use Rattle.vp_runs.specs.Runs.{NodeState, start_node, after_turn}
 use Rattle.vp_runs.specs.Turns.{Turn, turn_on}
 use Rattle.vp_turns.specs.Taking.{IsStepOf}
 use Rattle.vp_turns.specs.declared.turned.Outcome.{Outcome}
+use Rattle.vp_hosts.specs.declared.host.StoppedLog.{StoppedLog}
 
 -- what contracts see of a host: its site with its port, what was done to its disk, and where its log stands while the site is up
 pub record HostValue : Type 0 where
@@ -34,6 +35,10 @@ told host = state_after host.disk true 0
 -- the halves of the log on a disk in memory
 abbrev pub log_on : List Change → Halves
 log_on changes = content_of (changes_of (asked_of changes) changes)
+
+-- halves are a log
+abbrev pub AreLog : Halves → Type 0
+AreLog log = (batches : List (List LogRecord)) × HaveBatches batches log
 
 -- the halves of its log
 abbrev pub log_in : HostValue → Halves
@@ -90,12 +95,13 @@ pub record Takes (catalogue : Catalogue) (d : Datagram) (site : SiteState) (old 
   pub stepped : IsStepOf catalogue site (arrival catalogue site.id d) after outcome.effects
   pub up : (batches : List (List LogRecord)) → IsAt batches (Some site) old → IsAt (after_turn (node_at site batches) (turn_at catalogue site d)).batches (Some (turn_at catalogue site d).site) new
 
--- A datagram comes to it, and its site stops within the append of the turn's batch: it is down then, and the log has the batch or not, as is
--- answered. Nothing is answered where the turn has no batch.
-pub record Stops (catalogue : Catalogue) (d : Datagram) (site : SiteState) (old new : HostValue) (kept : Option Bool) : Type 0 where
+-- A datagram comes to it, and its site stops within the append of the turn's batch: it is down then, and the log, which is answered, has the
+-- batch or not, as is answered too. Nothing is answered where the turn has no batch.
+pub record Stops (catalogue : Catalogue) (d : Datagram) (site : SiteState) (old new : HostValue) (left : Option StoppedLog) : Type 0 where
   pub stays : Stays catalogue old new
-  pub up : (batches : List (List LogRecord)) → IsAt batches (Some site) old → IfNone kept ((turn_at catalogue site d).batch ≡ [])
-      × IfSome kept (λ k. ((turn_at catalogue site d).batch ≢ []) × IsAt (with_batch k (turn_at catalogue site d).batch batches) None new)
+  pub log_is : IfSome left (λ it. it.log ≡ site_log new)
+  pub up : (batches : List (List LogRecord)) → IsAt batches (Some site) old → IfNone left ((turn_at catalogue site d).batch ≡ [])
+      × IfSome left (λ it. ((turn_at catalogue site d).batch ≢ []) × IsAt (with_batch it.kept (turn_at catalogue site d).batch batches) None new)
 
 -- Its site goes down, and the log stays.
 pub record Crashes (catalogue : Catalogue) (old new : HostValue) : Type 0 where

@@ -25,6 +25,13 @@ pub type SiteLog = (SiteId, Word, Word);
 /// The logs of sites.
 pub type Logs = Seq<SiteLog>;
 
+/// The log of a site that stopped within an append, and whether the batch of that is in it.
+#[derive(Drop)]
+pub struct StoppedLog {
+    pub log: SiteLog,
+    pub kept: bool,
+}
+
 /// The port of a site, the disk that keeps its log, and that log while the site is up. The site itself is lent for each of its turns.
 pub struct Host {
     id: SiteId,
@@ -45,11 +52,13 @@ impl Drop for Host {
 }
 
 impl Model for Host {
-    ghost use Rattle.vp_hosts.specs.Hosts.{HostValue};
+    ghost use Rattle.vp_hosts.specs.Hosts.{HostValue, AreLog, log_on};
 
     ghost Value = { HostValue };
 
     ghost view = { λ h. record { id = h.id; port = h.port; disk = h.disk; log = h.log } };
+
+    ghost invariant = { λ h. AreLog (log_on h.disk) };
 }
 
 impl Host {
@@ -60,17 +69,22 @@ impl Host {
     {
         halves_are_one_log();
         let mut disk = SureDisk::new(catalog.sites().allocator());
-        // the first life is not the last one, and this disk fails for want of memory alone
-        let Ok(node) = Node::start(catalog, id, &mut disk) else {
-            return Err(NoMemory);
-        };
-        let (_, log) = node.into_parts();
-        Ok(Host {
-            id,
-            port,
-            disk,
-            log: Some(log),
-        })
+        match Node::start(catalog, id, &mut disk) {
+            Ok(node) => {
+                let (_, log) = node.into_parts();
+                Ok(Host {
+                    id,
+                    port,
+                    disk,
+                    log: Some(log),
+                })
+            }
+            Err(NodeEnd::NoMemory) => Err(NoMemory),
+            // this disk never fails, its log is empty, and the first life is not the last one
+            Err(NodeEnd::DiskFault) => unreachable!(),
+            Err(NodeEnd::BadLog { .. }) => unreachable!(),
+            Err(NodeEnd::LivesSpent { .. }) => unreachable!(),
+        }
     }
 
     pub fn port(&self) -> u16
@@ -112,13 +126,18 @@ impl Host {
         let alloc = catalog.sites().allocator();
         let what = arrival(alloc, catalog, self.id, letter.from, &letter.bytes)?;
         let node = Node::from_parts(site, log);
-        // this disk fails for want of memory alone
-        let Ok((node, outcome)) = node.take(catalog, &mut self.disk, what) else {
-            return Err(NoMemory);
-        };
-        let (site, log) = node.into_parts();
-        self.log = Some(log);
-        Ok((site, outcome))
+        match node.take(catalog, &mut self.disk, what) {
+            Ok((node, outcome)) => {
+                let (site, log) = node.into_parts();
+                self.log = Some(log);
+                Ok((site, outcome))
+            }
+            Err(NodeEnd::NoMemory) => Err(NoMemory),
+            // this disk never fails, and a turn reads no log and starts no life
+            Err(NodeEnd::DiskFault) => unreachable!(),
+            Err(NodeEnd::BadLog { .. }) => unreachable!(),
+            Err(NodeEnd::LivesSpent { .. }) => unreachable!(),
+        }
     }
 
     /// The site goes down.
@@ -130,18 +149,18 @@ impl Host {
     }
 
     /// The letter comes, and the site, which is lent for it, stops within the append that this asks for: it is down then, and its log is as that
-    /// leaves it. Answers whether the batch is there; none where the letter asks for none.
+    /// leaves it. Answers the log, and whether the batch is there; none where the letter asks for none.
     pub fn stop(
         &mut self,
         catalog: &Catalog,
         site: Site,
         letter: &Letter,
         stop: &Stop,
-    ) -> Result<Option<bool>, NoMemory>
+    ) -> Result<Option<StoppedLog>, NoMemory>
         requires host { IsHost catalog.now self.old }
         requires lent { Lends catalog.now site self.old }
         ensures stops { IfOk result (Stops catalog.now (as_received letter.now) site self.old self.new) }
-        ensures kept { IfOk result (λ kept. IfSome kept (λ k. k ≡ is_kept stop.now)) }
+        ensures kept { IfOk result (λ left. IfSome left (λ it. it.kept ≡ is_kept stop.now)) }
         ensures host { IsHost catalog.now self.new }
         ensures place { address_of self.new ≡ address_of self.old }
     {
@@ -157,7 +176,10 @@ impl Host {
         }
         let left = append_stopped(alloc, log, batch, &self.disk, stop)?;
         self.disk = left;
-        Ok(Some(stop.keeps_batch()))
+        Ok(Some(StoppedLog {
+            log: self.log(alloc)?,
+            kept: stop.keeps_batch(),
+        }))
     }
 
     /// The log gets the start of the site's next life, where that is down and a life is left. Without memory the site stays down.
@@ -178,8 +200,10 @@ impl Host {
                 Ok(())
             }
             Err(NodeEnd::LivesSpent { .. }) => Ok(()),
-            // the log is one that this host has left, and this disk fails for want of memory alone
-            Err(_) => Err(NoMemory),
+            Err(NodeEnd::NoMemory) => Err(NoMemory),
+            // this disk never fails, and its log is one that this host has left
+            Err(NodeEnd::DiskFault) => unreachable!(),
+            Err(NodeEnd::BadLog { .. }) => unreachable!(),
         }
     }
 }

@@ -7,7 +7,7 @@ ghost use Rattle.vp_hosts.specs.Letters.{as_received};
 ghost use Rattle.vp_hosts.specs.Stops.{is_kept};
 ghost use Rattle.vp_hosts.specs.Ports.{AreBegun, AreHosts, LendsAt, ChangesAt, ChangesOf};
 
-use crate::host::{Host, SiteLog};
+use crate::host::{Host, SiteLog, StoppedLog};
 use crate::letter::Letter;
 use crate::stopping::Stop;
 use std::alloc::Global;
@@ -70,11 +70,11 @@ pub fn stop_at(
     site: Site,
     letter: &Letter,
     stop: &Stop,
-) -> Result<Option<bool>, NoMemory>
+) -> Result<Option<StoppedLog>, NoMemory>
     requires hosts { AreHosts catalog.now hosts.old }
     requires lent { LendsAt catalog.now site letter.now.to hosts.old }
-    ensures stops { IfOk result (λ kept. ChangesAt letter.now.to (λ host after. Stops catalog.now (as_received letter.now) site host after kept) hosts.old hosts.new) }
-    ensures kept { IfOk result (λ kept. IfSome kept (λ k. k ≡ is_kept stop.now)) }
+    ensures stops { IfOk result (λ left. ChangesAt letter.now.to (λ host after. Stops catalog.now (as_received letter.now) site host after left) hosts.old hosts.new) }
+    ensures kept { IfOk result (λ left. IfSome left (λ it. it.kept ≡ is_kept stop.now)) }
     ensures hosts { AreHosts catalog.now hosts.new }
 {
     let Some(i) = index_of(hosts, letter.to) else {

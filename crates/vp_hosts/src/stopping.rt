@@ -12,7 +12,7 @@ ghost use Rattle.vp_hosts.specs.Stops.{is_kept};
 use std::alloc::Global;
 use vp_base::{Batch, NoMemory, Word};
 use vp_disks::{MemDisk, SureDisk};
-use vp_outside::Disk;
+use vp_outside::{Disk, OutFault};
 use vp_stable::{AppendFault, Log};
 
 /// Where a run stops: in the step of this number, counted from 1, after so many device calls of its append. What was written and not
@@ -52,12 +52,15 @@ fn stopping_disk(alloc: Global, disk: &SureDisk, calls: u8) -> Result<MemDisk, N
         disk.half(0).to_vec(alloc)?,
         disk.half(1).to_vec(alloc)?,
     )?;
-    // no call is planned to fail
-    let Ok(()) = stopping.attach(&name) else {
-        return Err(NoMemory);
-    };
-    stopping.stop_after(u64::from(calls));
-    Ok(stopping)
+    match stopping.attach(&name) {
+        Ok(()) => {
+            stopping.stop_after(u64::from(calls));
+            Ok(stopping)
+        }
+        Err(OutFault::NoMemory) => Err(NoMemory),
+        // no call is planned to fail
+        Err(OutFault::Failed) => unreachable!(),
+    }
 }
 
 /// The log with which its disk is left, which stops in the append of the batch: with that where the stop keeps it, else without.
@@ -74,6 +77,7 @@ pub fn append_stopped(
 {
     let mut log = log;
     let mut stopping = stopping_disk(alloc, disk, stop.calls)?;
+    // the disk fails where it stops; all calls may have been done before that
     if let Err(AppendFault::NoMemory) = log.append(&mut stopping, batch) {
         return Err(NoMemory);
     }

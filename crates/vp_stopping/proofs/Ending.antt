@@ -14,6 +14,10 @@ use Rattle.vp_model.specs.World.{Moment, Schedule, site_of, next, moments_of}
 use Rattle.vp_laws.proofs.Lists.Members.{Has, has_first, has_left, has_right}
 use Rattle.vp_schedule.specs.Document.{IsSchedule}
 use Rattle.vp_schedule.specs.Events.{IsEvent as IsReadable}
+use Rattle.vp_stable.specs.Halves.{HaveBatches}
+use Rattle.vp_stable.specs.Stops.{with_batch}
+use Rattle.vp_kept.specs.Kept.{forced_at, kept_in}
+use Rattle.vp_hosts.specs.declared.host.StoppedLog.{StoppedLog}
 use Rattle.vp_stops.specs.Stopped.{moment_of, appender, left_of_line}
 use Rattle.vp_world.specs.Known.{Known}
 use Rattle.vp_world.specs.Limits.{limit_of, Ends}
@@ -26,11 +30,11 @@ use Rattle.vp_stopping.specs.declared.stopped.Stopped.{Stopped}
 use Rattle.vp_stopping.specs.declared.stopped.StoppedSite.{StoppedSite}
 use Rattle.vp_stopping.specs.Left.{CanRise}
 use Rattle.vp_stopping.specs.Singles.{ComesTo, IsBefore, GoesOn, StopsIn, StopsOf}
-use Rattle.vp_stopping.specs.RanStopped.{RunsStopped}
+use Rattle.vp_stopping.specs.RanStopped.{LeavesLog, RunsStopped}
 use Rattle.vp_cluster.proofs.Acting.{Facts}
 use Rattle.vp_cluster.proofs.Running.{events_formed}
 use Rattle.vp_cluster.proofs.Tied.{facts}
-use Rattle.vp_stopping.proofs.TiedStops.{nothing_appended, batch_appended}
+use Rattle.vp_stopping.proofs.TiedStops.{Left, nothing_appended, batch_appended}
 use Rattle.vp_stopping.proofs.Rejoined.{stopped_none, stopped_nobody, none_stopped, none_up_to, ended_before, up_to_it, limit_of_it}
 
 -- ---- there is nothing to stop in
@@ -51,12 +55,17 @@ came_ends s step kept end.NoMemory r ended is = rw is tt
 
 -- ---- the run went on behind the stop
 
-pub all_done : (s : Schedule) (step : ℕ) (kept : Bool) (it : Stopped) → GoesOn s step kept (Ok it) → RunsStopped s step kept (Ok (Some it))
-all_done s step kept it goes = (goes.0, ap (λ o. option_map_or (limit_reached world_limits) o (limit_in world_limits (take step (moments_of s)))) goes.0 ∙ goes.1, goes.2)
+pub all_done : (s : Schedule) (step : ℕ) (left : StoppedLog) (it : Stopped) → GoesOn s step left (Ok it) → LeavesLog step left.kept s left.log → RunsStopped s step left.kept (Ok (Some it))
+all_done s step left it goes leaves = (
+  goes.0,
+  ap (λ o. option_map_or (limit_reached world_limits) o (limit_in world_limits (take step (moments_of s)))) goes.0 ∙ goes.1,
+  goes.2,
+  subst (LeavesLog step left.kept s) (sym goes.3) leaves,
+)
 
-pub rest_ends : (s : Schedule) (step : ℕ) (kept : Bool) (why : WorldEnd) (r : Result (Option Stopped) WorldEnd) → GoesOn s step kept (Err why) → r ≡ Err why → RunsStopped s step kept r
-rest_ends s step kept (end.Limit what much) r goes is = rw is (goes.0, ap (λ o. option_map_or (limit_reached world_limits) o (limit_in world_limits (take step (moments_of s)))) goes.1.1 ∙ goes.1.2)
-rest_ends s step kept end.NoMemory r goes is = rw is tt
+pub rest_ends : (s : Schedule) (step : ℕ) (left : StoppedLog) (why : WorldEnd) (r : Result (Option Stopped) WorldEnd) → GoesOn s step left (Err why) → r ≡ Err why → RunsStopped s step left.kept r
+rest_ends s step left (end.Limit what much) r goes is = rw is (goes.0, ap (λ o. option_map_or (limit_reached world_limits) o (limit_in world_limits (take step (moments_of s)))) goes.1.1 ∙ goes.1.2)
+rest_ends s step left end.NoMemory r goes is = rw is tt
 
 -- ---- at the step
 
@@ -97,10 +106,22 @@ module _ (s : Schedule) (is : IsSchedule s) (step : ℕ) (front : Front) (e : Ev
       nothing_appended s.catalogue is.catalogue_is m (take (step - 1) (moments_of s)) front.nodes its_facts h.tied
       (λ id site takes up. subst (λ e. StopsOf e site None front.nodes) (sym h.before.event_is) (stops id site (taker_is id takes) (site_is id site up)))
 
-  pub somebody : (at : StoppedSite) → StopsIn e front (Some at) → appender s.catalogue m ≡ Some at.site
-  somebody at stops =
-      (batch_appended s.catalogue is.catalogue_is m (take (step - 1) (moments_of s)) front.nodes its_facts h.tied at.site at.kept (taker_there at.site stops.0)
-      (λ site up. subst (λ e. StopsOf e site (Some at.kept) front.nodes) (sym h.before.event_is) (stops.1 site (site_is at.site site up)))).0
+  module _ (at : StoppedSite) (stops : StopsIn e front (Some at)) where
+    appended : Left s.catalogue m (take (step - 1) (moments_of s)) at.left at.site
+    appended =
+        batch_appended s.catalogue is.catalogue_is m (take (step - 1) (moments_of s)) front.nodes its_facts h.tied at.site at.left (taker_there at.site stops.0)
+        (λ site up. subst (λ e. StopsOf e site (Some at.left) front.nodes) (sym h.before.event_is) (stops.1 site (site_is at.site site up)))
+
+    pub somebody : appender s.catalogue m ≡ Some at.site
+    somebody = appended.0
+
+    pub leaves_log : LeavesLog step at.left.kept s at.left.log
+    leaves_log = record {
+      m = m;
+      is = h.before.is;
+      site_is = appended.0 ∙ ap Some (sym appended.1);
+      has = subst (λ id. HaveBatches (with_batch at.left.kept (forced_at s.catalogue id m) (kept_in s.catalogue id (take (step - 1) (moments_of s)))) (at.left.log.1, at.left.log.2)) (sym appended.1) appended.2;
+    }
 
   -- ---- the run has come to the step once more
 

@@ -15,6 +15,7 @@ use Rattle.vp_world.specs.Steps.{taker}
 use Rattle.vp_world.specs.declared.end.WorldEnd.{WorldEnd}
 use Rattle.vp_world.specs.declared.end.WorldEnd.TheVariants as end
 use Rattle.vp_stopping.specs.declared.stopped.Steps.{Steps}
+use Rattle.vp_hosts.specs.declared.host.StoppedLog.{StoppedLog}
 use Rattle.vp_stopping.specs.declared.stopped.Stopped.{Stopped}
 use Rattle.vp_stopping.specs.Left.{next_single, left_then}
 use Rattle.vp_stopping.specs.Singles.{HaveDone, AreBefore, GoesOn, moment_in, run_in_place}
@@ -146,8 +147,11 @@ raised_so steps stop left behind before now first last is =
 
 -- ---- the whole
 
-module _ (s : Schedule) (step : ℕ) (e : Event) (steps : Steps) (left : List Event) (h : AreBefore s step e steps left) (site : ℕ) (kept : Bool) (by : appender s.catalogue h.m ≡ Some site)
+module _ (s : Schedule) (step : ℕ) (e : Event) (steps : Steps) (left : List Event) (h : AreBefore s step e steps left) (site : ℕ) (at : StoppedLog) (by : appender s.catalogue h.m ≡ Some site)
     (takes : taker steps.world.catalogue e steps.world.world ≡ Some site) where
+  abbrev kept : Bool
+  kept = at.kept
+
   abbrev c : Catalogue
   c = steps.world.catalogue
 
@@ -190,7 +194,7 @@ module _ (s : Schedule) (step : ℕ) (e : Event) (steps : Steps) (left : List Ev
         ∙ ap (λ o. option_or o (limit_in world_limits Whole.moments)) some,
   )
 
-  pub stop_ends : (why : WorldEnd) (r : Result Stopped WorldEnd) → Ends {A = Steps} (limit_in world_limits In.moments) (Err why) → r ≡ Err why → GoesOn s step kept r
+  pub stop_ends : (why : WorldEnd) (r : Result Stopped WorldEnd) → Ends {A = Steps} (limit_in world_limits In.moments) (Err why) → r ≡ Err why → GoesOn s step at r
   stop_ends (end.Limit what much) r ended is = rw is (ended.1, stop_ended what much ended.0)
   stop_ends end.NoMemory r ended is = rw is tt
 
@@ -236,15 +240,15 @@ module _ (s : Schedule) (step : ℕ) (e : Event) (steps : Steps) (left : List Ev
       limit_then_is ∙ ap (λ (r : Run). limit_in world_limits r.moments) (sym whole_is) ∙ some,
     )
 
-    pub rest_ends : (why : WorldEnd) (r : Result Stopped WorldEnd) → Ends {A = Steps} (limit_in world_limits (run_from stop.world.catalogue 1 behind (run_in stop.world.world)).moments) (Err why) → r ≡ Err why → GoesOn s step kept r
+    pub rest_ends : (why : WorldEnd) (r : Result Stopped WorldEnd) → Ends {A = Steps} (limit_in world_limits (run_from stop.world.catalogue 1 behind (run_in stop.world.world)).moments) (Err why) → r ≡ Err why → GoesOn s step at r
     rest_ends (end.Limit what much) r ended is = rw is (ended.1, rest_ended what ended.0)
     rest_ends end.NoMemory r ended is = rw is tt
 
     -- all is done
     pub rest_done : (ended : Steps) → HaveDone stop.world.catalogue (stop.done ++ singles (run_from stop.world.catalogue 1 behind (run_in stop.world.world)).moments) (run_from stop.world.catalogue 1 behind (run_in stop.world.world)).world ended
         → limit_in world_limits (run_from stop.world.catalogue 1 behind (run_in stop.world.world)).moments ≡ None
-        → (it : Stopped) → it.schedule.catalogue ≡ s.catalogue → it.schedule.events ≡ ended.done → it.commits ≡ ended.world.world.journal → GoesOn s step kept (Ok it)
-    rest_done ended all within it catalogue_is events_are commits_are =
+        → (it : Stopped) → it.schedule.catalogue ≡ s.catalogue → it.schedule.events ≡ ended.done → it.commits ≡ ended.world.world.journal → it.log ≡ at.log → GoesOn s step at (Ok it)
+    rest_done ended all within it catalogue_is events_are commits_are log_is =
         let events : it.schedule.events ≡ (comes_to s step kept h.m site h.is).events =
         events_are ∙ all.1 ∙ ap (λ (r : Run). stop.done ++ singles r.moments) whole_is
         ∙ ap (λ (d : List Event). d ++ singles Whole.moments) (done.1 ∙ ap (λ (d : List Event). d ++ stop_at kept site e) h.done.1 ∙ ap (λ e. singles (take (step - 1) (moments_of s)) ++ stop_at kept site e) (sym h.event_is))
@@ -255,4 +259,5 @@ module _ (s : Schedule) (step : ℕ) (e : Event) (steps : Steps) (left : List Ev
           stopped_is s step kept h.m site h.is by ∙ ap Some same,
           ap (limit_reached world_limits) (sym same) ∙ limit_then_is ∙ ap (λ (r : Run). limit_in world_limits r.moments) (sym whole_is) ∙ within,
           commits_are ∙ ap (λ (k : Known). k.world.journal) all.0 ∙ ap (λ (r : Run). r.world.journal) whole_is ∙ journal_is s step kept h.m site h.is by ∙ ap journal_of same,
+          log_is,
         )

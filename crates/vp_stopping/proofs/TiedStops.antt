@@ -12,7 +12,6 @@ use Rattle.vp_model.specs.Told.{is_step}
 use Rattle.vp_model.specs.Justified.{site_named}
 use Rattle.vp_model.specs.World.{Moment, site_of, next}
 use Rattle.vp_laws.proofs.Lists.Numbers.{eq_self}
-use Rattle.vp_outside.specs.Disk.{Halves}
 use Rattle.vp_stable.specs.Halves.{HaveBatches}
 use Rattle.vp_runs.specs.Turns.{Turn}
 use Rattle.vp_kept.specs.Kept.{input_of, forced, forced_at, kept_in as batches_in}
@@ -21,6 +20,7 @@ use Rattle.vp_stops.specs.Stopped.{appends, appender}
 use Rattle.vp_world.specs.Steps.{taker}
 use Rattle.vp_hosts.specs.declared.letter.Letter.{Letter}
 use Rattle.vp_hosts.specs.Letters.{as_received}
+use Rattle.vp_hosts.specs.declared.host.StoppedLog.{StoppedLog}
 use Rattle.vp_cluster.specs.Letters.{letter_of}
 use Rattle.vp_stable.specs.Stops.{with_batch}
 use Rattle.vp_hosts.specs.Hosts.{HostValue, IsAt, Stops, turn_at, log_in}
@@ -68,6 +68,11 @@ module _ (catalogue : Catalogue) (m : Moment) (s : ℕ) (a : Acts catalogue m s)
   appender_is : appender catalogue m ≡ (if not (is_empty records) then Some s else None)
   appender_is = appender_by catalogue m (Some s) names ∙ ap (λ (b : Bool). if b then Some s else None) appends_is
 
+-- the site is the one that appends, and its log has what was in it, with the batch of the moment's step or without
+abbrev pub Left : Catalogue → Moment → List Moment → StoppedLog → ℕ → Type 0
+Left catalogue m moments it s = (appender catalogue m ≡ Some s) × (it.log.0 ≡ s)
+    × HaveBatches (with_batch it.kept (forced_at catalogue s m) (batches_in catalogue s moments)) (it.log.1, it.log.2)
+
 is_there : (records : List LogRecord) → records ≢ [] → not (is_empty records) ≡ true
 is_there [] some = absurd (some refl)
 is_there (r ∷ rest) some = refl
@@ -84,8 +89,8 @@ module _ (catalogue : Catalogue) (k : IsCatalogue catalogue) (m : Moment) (momen
     comes : letter_of old.catalogue old.letters e ≡ Some letter
     comes = ap (λ (c : Catalogue). letter_of c old.letters e) tied.catalogue_is ∙ (acting.letter catalogue k m moments old facts tied s a).1
 
-    stops : (kept : Option Bool) → StopsOf e a.x kept old → (host : HostValue) × Stops old.catalogue (as_received letter) a.x (acting.own catalogue k m moments old facts tied s a).host host kept
-    stops kept h =
+    stops : (left : Option StoppedLog) → StopsOf e a.x left old → (host : HostValue) × Stops old.catalogue (as_received letter) a.x (acting.own catalogue k m moments old facts tied s a).host host left
+    stops left h =
         let own = acting.own catalogue k m moments old facts tied s a in
         let there = (h.1 letter comes).there own.host own.host_is in
         (there.0, there.2)
@@ -104,16 +109,16 @@ module _ (catalogue : Catalogue) (k : IsCatalogue catalogue) (m : Moment) (momen
         let none = (stop.up (batches_in catalogue s moments) at).0 in
         appender_is catalogue m s a ∙ ap (λ r. if not (is_empty r) then Some s else None) (sym turn_batch ∙ none)
 
-    abbrev Left : Bool → Type 0
-    Left kept = (appender catalogue m ≡ Some s) × ((log : Halves) × HaveBatches (with_batch kept (forced_at catalogue s m) (batches_in catalogue s moments)) log)
-
-    some_acts : (kept : Bool) → StopsOf e a.x (Some kept) old → Left kept
-    some_acts kept h =
-        let (host, stop) = stops (Some kept) h in
+    some_acts : (it : StoppedLog) → StopsOf e a.x (Some it) old → Left catalogue m moments it s
+    some_acts it h =
+        let (host, stop) = stops (Some it) h in
+        let own = acting.own catalogue k m moments old facts tied s a in
         let some = (stop.up (batches_in catalogue s moments) at).1 in
         let batch = turn_batch ∙ sym (forced_is catalogue m s a) in (
           appender_is catalogue m s a ∙ ap (λ (b : Bool). if b then Some s else None) (is_there (records catalogue m s a) (λ none. some.0 (turn_batch ∙ none))),
-          (log_in host, subst (λ r. HaveBatches (with_batch kept r (batches_in catalogue s moments)) (log_in host)) batch some.1.has),
+          ap (λ (log : ℕ × List ℕ × List ℕ). log.0) stop.log_is ∙ stop.stays.same_id ∙ own.id_is,
+          subst (λ (log : ℕ × List ℕ × List ℕ). HaveBatches (with_batch it.kept (forced_at catalogue s m) (batches_in catalogue s moments)) (log.1, log.2)) (sym stop.log_is)
+              (subst (λ r. HaveBatches (with_batch it.kept r (batches_in catalogue s moments)) (log_in host)) batch some.1.has),
         )
 
   what : Effect catalogue m
@@ -148,15 +153,14 @@ module _ (catalogue : Catalogue) (k : IsCatalogue catalogue) (m : Moment) (momen
       by (Effect.restarts s is sent own others) = (unnamed (ap (site_named m.before) is)).1
       by (Effect.stands plain none sent all) = nobody_steps catalogue m none
 
-  pub batch_appended : (id : ℕ) (kept : Bool) → taker catalogue e m.before ≡ Some id → ((site : SiteState) → site_of m.before id ≡ Some site → StopsOf e site (Some kept) old)
-      → (appender catalogue m ≡ Some id) × ((log : Halves) × HaveBatches (with_batch kept (forced_at catalogue id m) (batches_in catalogue id moments)) log)
-  batch_appended id kept takes h = by what
+  pub batch_appended : (id : ℕ) (it : StoppedLog) → taker catalogue e m.before ≡ Some id → ((site : SiteState) → site_of m.before id ≡ Some site → StopsOf e site (Some it) old) → Left catalogue m moments it id
+  batch_appended id it takes h = by what
     where
-      by : Effect catalogue m → (appender catalogue m ≡ Some id) × ((log : Halves) × HaveBatches (with_batch kept (forced_at catalogue id m) (batches_in catalogue id moments)) log)
+      by : Effect catalogue m → Left catalogue m moments it id
       by (Effect.acts s a others) =
           let same : s ≡ id = (let z = sym (taker_acts s a) ∙ takes in cc) in
-          subst (λ s. (appender catalogue m ≡ Some s) × ((log : Halves) × HaveBatches (with_batch kept (forced_at catalogue s m) (batches_in catalogue s moments)) log)) same
-          (some_acts s a kept (h a.x (subst (λ id. site_of m.before id ≡ Some a.x) same a.up)))
+          subst (λ s. Left catalogue m moments it s) same
+          (some_acts s a it (h a.x (subst (λ id. site_of m.before id ≡ Some a.x) same a.up)))
       by (Effect.crashes s is sent own others) = absurd (let z = sym (unnamed (ap (site_named m.before) is)).0 ∙ takes in cc)
       by (Effect.restarts s is sent own others) = absurd (let z = sym (unnamed (ap (site_named m.before) is)).0 ∙ takes in cc)
       by (Effect.stands plain none sent all) = absurd (let z = sym (idle none) ∙ takes in cc)

@@ -12,6 +12,7 @@ use Rattle.vp_world.specs.Limits.{limit_of}
 use Rattle.vp_world.specs.declared.end.WorldEnd.{WorldEnd}
 use Rattle.vp_world.specs.declared.end.WorldEnd.TheVariants as end
 use Rattle.vp_hosts.specs.declared.letter.Letter.{Letter}
+use Rattle.vp_hosts.specs.declared.host.StoppedLog.{StoppedLog}
 use Rattle.vp_hosts.specs.Ports.{LendsAt}
 use Rattle.vp_stopping.specs.declared.stopped.Steps.{Steps}
 use Rattle.vp_stopping.specs.declared.stopped.Front.{Front}
@@ -68,17 +69,17 @@ ComesTo s step (Err (end.Limit what limit)) = (limit ≡ limit_of what) × (limi
 ComesTo s step (Err end.NoMemory) = Unit {0}
 
 -- The site stops within the append that the event's letter asks for, and leaves the nodes so.
-abbrev pub StopsOf : Event → SiteState → Option Bool → NodesValue → Type 0
-StopsOf e site kept old = (new : NodesValue) × ((letter : Letter) → letter_of old.catalogue old.letters e ≡ Some letter → StopsWith letter site kept old new)
+abbrev pub StopsOf : Event → SiteState → Option StoppedLog → NodesValue → Type 0
+StopsOf e site left old = (new : NodesValue) × ((letter : Letter) → letter_of old.catalogue old.letters e ≡ Some letter → StopsWith letter site left old new)
 
 -- What a stop within the event's step answers: of its site, where it is one's, what the nodes say.
 abbrev pub StopsIn : Event → Front → Option StoppedSite → Type 0
 StopsIn e front None = (id : ℕ) (site : SiteState) → taker front.steps.world.catalogue e front.steps.world.world ≡ Some id → site_of front.steps.world.world id ≡ Some site → StopsOf e site None front.nodes
 StopsIn e front (Some it) = (taker front.steps.world.catalogue e front.steps.world.world ≡ Some it.site)
-    × ((site : SiteState) → site_of front.steps.world.world it.site ≡ Some site → StopsOf e site (Some it.kept) front.nodes)
+    × ((site : SiteState) → site_of front.steps.world.world it.site ≡ Some site → StopsOf e site (Some it.left) front.nodes)
 
--- The run behind the stop comes to its end, or a limit ends it.
-abbrev pub GoesOn : Schedule → ℕ → Bool → Result Stopped WorldEnd → Type 0
-GoesOn s step kept (Ok it) = (stopped step kept s ≡ Some it.schedule) × (limit_reached world_limits it.schedule ≡ None) × (it.commits ≡ journal_of it.schedule)
-GoesOn s step kept (Err (end.Limit what limit)) = (limit ≡ limit_of what) × ((t : Schedule) × (stopped step kept s ≡ Some t) × (limit_reached world_limits t ≡ Some what))
-GoesOn s step kept (Err end.NoMemory) = Unit {0}
+-- The run behind the stop comes to its end, with the log that was left there, or a limit ends it.
+abbrev pub GoesOn : Schedule → ℕ → StoppedLog → Result Stopped WorldEnd → Type 0
+GoesOn s step left (Ok it) = (stopped step left.kept s ≡ Some it.schedule) × (limit_reached world_limits it.schedule ≡ None) × (it.commits ≡ journal_of it.schedule) × (it.log ≡ left.log)
+GoesOn s step left (Err (end.Limit what limit)) = (limit ≡ limit_of what) × ((t : Schedule) × (stopped step left.kept s ≡ Some t) × (limit_reached world_limits t ≡ Some what))
+GoesOn s step left (Err end.NoMemory) = Unit {0}

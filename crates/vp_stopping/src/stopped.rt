@@ -19,22 +19,24 @@ use crate::left::Left;
 use vp_base::{Commits, CopyOf, Event, Events, NoMemory, SiteId};
 use vp_catalog::Catalog;
 use vp_cluster::Nodes;
-use vp_hosts::Stop;
+use vp_hosts::{SiteLog, Stop, StoppedLog};
 use vp_schedule::Schedule;
 use vp_world::{ByThemselves, Stepper, World, WorldEnd};
 
-/// What a run comes to that stops within a step: a schedule, with its commits in the order of the steps.
+/// What a run comes to that stops within a step: a schedule, with its commits in the order of the steps; and the log of the site that
+/// stopped, as it was left then.
 #[derive(Drop)]
 pub struct Stopped {
     pub schedule: Schedule,
     pub commits: Commits,
+    pub log: SiteLog,
 }
 
-/// A site that stopped within a step, and whether the batch of that step is in its log.
-#[derive(Clone, Copy)]
+/// A site that stopped within a step, and what it left.
+#[derive(Drop)]
 struct StoppedSite {
     site: SiteId,
-    kept: bool,
+    left: StoppedLog,
 }
 
 /// The message that the event delivers.
@@ -146,9 +148,9 @@ impl Steps {
 }
 
 impl Steps {
-    /// What the run has come to.
-    fn stopped(self, catalog: &Catalog) -> Result<Stopped, NoMemory>
-        ensures { IfOk result (λ it. it ≡ record { schedule = record { catalogue = catalog.now; events = self.done }; commits = self.world.world.journal }) }
+    /// What the run has come to, in which a site left this log.
+    fn stopped(self, catalog: &Catalog, log: SiteLog) -> Result<Stopped, NoMemory>
+        ensures { IfOk result (λ it. it ≡ record { schedule = record { catalogue = catalog.now; events = self.done }; commits = self.world.world.journal; log = log }) }
     {
         let Steps { world, done } = self;
         Ok(Stopped {
@@ -157,6 +159,7 @@ impl Steps {
                 events: done,
             },
             commits: world.journal().copy_of()?,
+            log,
         })
     }
 }
@@ -209,7 +212,7 @@ impl Front {
         requires hears { IsEvent event.now }
         requires lent { MayStop event.now self }
         ensures stops { IfOk result (StopsIn event.now self) }
-        ensures kept { IfOk result (λ at. IfSome at (λ it. it.kept ≡ is_kept stop.now)) }
+        ensures kept { IfOk result (λ at. IfSome at (λ it. it.left.kept ≡ is_kept stop.now)) }
     {
         let Front {
             mut nodes,
@@ -224,7 +227,7 @@ impl Front {
         };
         match nodes.stop(event, site, stop)? {
             None => Ok(None),
-            Some(kept) => Ok(Some(StoppedSite { site: id, kept })),
+            Some(left) => Ok(Some(StoppedSite { site: id, left })),
         }
     }
 }
@@ -257,22 +260,27 @@ fn go_on(
 ) -> Result<Stopped, WorldEnd>
     requires taken { taker front.steps.world.catalogue event front.steps.world.world ≡ Some at.site }
     requires rise { AllByRecursion CanRise front.left }
-    ensures { (step : ℕ) (h : AreBefore schedule.now step event front.steps front.left) → appender schedule.now.catalogue h.m ≡ Some at.site → GoesOn schedule.now step at.kept result }
+    ensures { (step : ℕ) (h : AreBefore schedule.now step event front.steps front.left) → appender schedule.now.catalogue h.m ≡ Some at.site → GoesOn schedule.now step at.left result }
 {
     let Front {
         nodes: _,
         steps,
         mut left,
     } = front;
+    let StoppedSite {
+        site,
+        left: StoppedLog { log, kept },
+    } = at;
     let before = steps.world.messages() as u32;
-    let steps = steps.stop(at.site, event, at.kept)?;
+    let steps = steps.stop(site, event, kept)?;
     left.raise(before + 1, steps.world.messages() as u32 - before)?;
     let ended = steps.go_on(left)?;
-    Ok(ended.stopped(&schedule.catalog)?)
+    Ok(ended.stopped(&schedule.catalog, log)?)
 }
 
 /// Runs the schedule through nodes up to a step, and stops the site that takes it within the append of its batch. The site is down then, and
-/// nothing that the step sends is handed over; the run goes on behind that. None where there is no such step, or it appends no batch.
+/// nothing that the step sends is handed over; the run goes on behind that. Its log is answered as it was left. None where there is no such
+/// step, or it appends no batch.
 pub fn run_stopped(schedule: &Schedule, stop: &Stop) -> Result<Option<Stopped>, WorldEnd>
     requires schedule { IsSchedule schedule.now }
     requires calls { stop.now.calls ≤ 4 }

@@ -7,7 +7,7 @@ use Rattle.vp_stopping.specs.declared.stopped.StoppedSite.{StoppedSite}
 use Rattle.vp_hosts.specs.Stops.{is_kept}
 use Rattle.vp_stopping.specs.Singles.{ComesTo, IsBefore, StopsIn}
 use Rattle.vp_stopping.specs.RanStopped.{RunsStopped}
-use Rattle.vp_stopping.proofs.Ending.{no_step, nothing_there, came_ends, nobody, somebody, same_appender, taker_again, nothing_done, nothing_ends, rest_ends, all_done, all_rise}
+use Rattle.vp_stopping.proofs.Ending.{no_step, nothing_there, came_ends, nobody, somebody, same_appender, leaves_log, taker_again, nothing_done, nothing_ends, rest_ends, all_done, all_rise}
 use Rattle.vp_stopping.proofs.stopped.run_stopped.Goals as goal
 
 pub returns-then-stop-eq0 : goal.returns-then-stop-eq0
@@ -115,10 +115,10 @@ returns-in_err-go_on-in-Some-stopped c =
     let g : IsBefore s step again f = subst (λ (o : Option (Front × Event)). ComesTo s step (Ok o)) came_again c.in_ok-front-2.ensures in
     let stopped : c.in_ok-stopped.stopped ≡ Some at = cc in
     let stops = subst (λ (o : Option StoppedSite). StopsIn e front o) stopped c.in_ok-stopped.ensures.stops in
-    let kept : at.kept ≡ is_kept c.args.stop.now = subst (λ (o : Option StoppedSite). IfSome o (λ it. it.kept ≡ is_kept c.args.stop.now)) stopped c.in_ok-stopped.ensures.kept in
+    let kept : at.left.kept ≡ is_kept c.args.stop.now = subst (λ (o : Option StoppedSite). IfSome o (λ it. it.left.kept ≡ is_kept c.args.stop.now)) stopped c.in_ok-stopped.ensures.kept in
     let goes = c.in_err-go_on-in-Some-stopped.ensures step g.before (same_appender s c.requires.schedule step front e h again f g (Some at.site) (somebody s c.requires.schedule step front e h at stops)) in
     subst (λ kept. RunsStopped s step kept c.from_residual-in_err-go_on-in-Some-stopped.result) kept
-    (rest_ends s step at.kept c.in_err-go_on-in-Some-stopped.field-0.0 c.from_residual-in_err-go_on-in-Some-stopped.result goes
+    (rest_ends s step at.left c.in_err-go_on-in-Some-stopped.field-0.0 c.from_residual-in_err-go_on-in-Some-stopped.result goes
     (gave_err c.from_residual-in_err-go_on-in-Some-stopped.result c.in_err-go_on-in-Some-stopped.field-0.0 c.from_residual-in_err-go_on-in-Some-stopped.ensures.1))
 
 pub returns-in_ok-go_on-in-Some-stopped : goal.returns-in_ok-go_on-in-Some-stopped
@@ -136,6 +136,6 @@ returns-in_ok-go_on-in-Some-stopped c =
     let g : IsBefore s step again f = subst (λ (o : Option (Front × Event)). ComesTo s step (Ok o)) came_again c.in_ok-front-2.ensures in
     let stopped : c.in_ok-stopped.stopped ≡ Some at = cc in
     let stops = subst (λ (o : Option StoppedSite). StopsIn e front o) stopped c.in_ok-stopped.ensures.stops in
-    let kept : at.kept ≡ is_kept c.args.stop.now = subst (λ (o : Option StoppedSite). IfSome o (λ it. it.kept ≡ is_kept c.args.stop.now)) stopped c.in_ok-stopped.ensures.kept in
+    let kept : at.left.kept ≡ is_kept c.args.stop.now = subst (λ (o : Option StoppedSite). IfSome o (λ it. it.left.kept ≡ is_kept c.args.stop.now)) stopped c.in_ok-stopped.ensures.kept in
     let goes = c.in_ok-go_on-in-Some-stopped.ensures step g.before (same_appender s c.requires.schedule step front e h again f g (Some at.site) (somebody s c.requires.schedule step front e h at stops)) in
-    subst (λ kept. RunsStopped s step kept (Ok (Some c.in_ok-go_on-in-Some-stopped.field-0))) kept (all_done s step at.kept c.in_ok-go_on-in-Some-stopped.field-0 goes)
+    subst (λ kept. RunsStopped s step kept (Ok (Some c.in_ok-go_on-in-Some-stopped.field-0))) kept (all_done s step at.left c.in_ok-go_on-in-Some-stopped.field-0 goes (leaves_log s c.requires.schedule step front e h at stops))

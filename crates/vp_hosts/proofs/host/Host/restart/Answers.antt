@@ -1,7 +1,9 @@
-use Rattle.std.proofs.Common.{◌≡◌, false, inr, ap}
+use Rattle.std.proofs.Common.{◌≡◌, ◌∙◌, false, inr, ap}
 use Rattle.std.specs.Prelude.{is_some, Result, Err}
 use Rattle.vp_node.specs.Nodes.{NodeValue}
 use Rattle.vp_node.specs.declared.end.NodeEnd.{NodeEnd}
+use Rattle.vp_hosts.specs.Hosts.{log_on}
+use Rattle.vp_hosts.proofs.Holding.{kept_holds, never_bad, never_fails, read_holds, start_holds}
 use Rattle.vp_hosts.proofs.Hosting.{parts_listed, parts_go_up, parts_stay_down}
 use Rattle.vp_hosts.proofs.host.Host.restart.Goals as goal
 
@@ -25,3 +27,26 @@ returns-in-Err-LivesSpent-clause-restarts c =
     let is = ap failed spent.field-0-is in
     parts_stay_down c.args.catalog.now _ c.args.self.now c.self.view_is c.halves_are_one_log.ensures.batches rests c.requires.host c.start.new.disk spent.ensures.others.stays.same_name spent.field-0-0
     (spent.ensures.lives_spent spent.field-0-0 is) (spent.ensures.unchanged 0 0 spent.field-0-0 (inr is))
+
+pub invariant_of-self : goal.invariant_of-self
+invariant_of-self c = kept_holds c.args.catalog.now c.in-Ok.node c.start.new.disk c.in-Ok.ensures.kept
+
+pub invariant_of-self-in-Err-LivesSpent : goal.invariant_of-self-in-Err-LivesSpent
+invariant_of-self-in-Err-LivesSpent c =
+    let spent = c.in-Err-LivesSpent in
+    let failed : NodeEnd → Result NodeValue NodeEnd = λ e. Err e in
+    read_holds c.self.inside.disk c.start.new.disk spent.ensures.others.stays.same_name (spent.ensures.unchanged 0 0 spent.field-0-0 (inr (ap failed spent.field-0-is))) c.self.invariant
+
+pub invariant_of-self-in-Err-NoMemory : goal.invariant_of-self-in-Err-NoMemory
+invariant_of-self-in-Err-NoMemory c =
+    let h = c.in-Err-NoMemory.ensures in
+    start_holds c.self.inside.disk c.start.new.disk h.others.stays.same_name c.args.catalog.now c.self.inside.id h.fault c.self.invariant
+
+pub unreachable-requires : goal.unreachable-requires
+unreachable-requires c = never_fails _ c.start.ensures.cause c.in-Err-DiskFault.is c.in-Err-DiskFault.field-0-is
+
+pub unreachable-requires-in-Err-BadLog : goal.unreachable-requires-in-Err-BadLog
+unreachable-requires-in-Err-BadLog c =
+    let bad = c.in-Err-BadLog in
+    let failed : NodeEnd → Result NodeValue NodeEnd = λ e. Err e in
+    never_bad (log_on c.self.inside.disk) bad.field-0-0 bad.field-0-1 c.halves_are_one_log.ensures.bad c.self.invariant (c.start.ensures.bad_log bad.field-0-0 bad.field-0-1 (bad.is ∙ ap failed bad.field-0-is))

@@ -1,6 +1,7 @@
-use Rattle.std.proofs.Common.{◌≡◌, ◌∙◌, List, ℕ, Some, None, ap}
+use Rattle.std.proofs.Common.{◌≡◌, ◌∙◌, List, ℕ, Some, None, ap, ⊎_elim}
 use Rattle.vp_runs.specs.Arrivals.{arrival}
 use Rattle.vp_hosts.specs.Letters.{as_received}
+use Rattle.vp_hosts.proofs.Holding.{kept_holds, never_fails, turn_ends, turn_holds}
 use Rattle.vp_hosts.proofs.Hosting.{parts_up, parts_node, parts_take}
 use Rattle.vp_hosts.proofs.host.Host.take.Goals as goal
 
@@ -19,8 +20,8 @@ take-requires-2-clause-kept c =
     let up : c.self.inside.log ≡ Some c.in-Some.log = cc in
     (parts_node c.args.catalog.now _ c.args.self.now c.self.view_is c.args.site c.in-Some.log c.from_parts-node.result c.from_parts-node.ensures up c.requires.host c.requires.lent).1
 
-pub returns-clause-takes : goal.returns-clause-takes
-returns-clause-takes c =
+pub returns-in-Ok-clause-takes : goal.returns-in-Ok-clause-takes
+returns-in-Ok-clause-takes c =
     let letter = c.args.letter.now in
     let cat = c.args.catalog.now in
     let h = c.in-Ok.ensures in
@@ -29,5 +30,22 @@ returns-clause-takes c =
     parts_take cat _ c.args.self.now c.self.view_is (as_received letter) c.args.site c.requires.lent c.requires.host c.in-Some.log up c.from_parts-node.result c.from_parts-node.ensures c.in_ok-what.what what_is _ h.others.stays.same_name
     c.in-Ok.node c.in-Ok.outcome c.into_parts-site.result c.into_parts-site.ensures (h.took, h.stepped, h.saved) h.kept
 
-pub returns-clause-host : goal.returns-clause-host
-returns-clause-host c = (returns-clause-takes c).stays.host
+pub returns-in-Ok-clause-host : goal.returns-in-Ok-clause-host
+returns-in-Ok-clause-host c = (returns-in-Ok-clause-takes c).stays.host
+
+pub invariant_of-self-in-Ok : goal.invariant_of-self-in-Ok
+invariant_of-self-in-Ok c = kept_holds c.args.catalog.now c.in-Ok.node c.take-2.new.disk c.in-Ok.ensures.kept
+
+pub invariant_of-self-in-Err-NoMemory : goal.invariant_of-self-in-Err-NoMemory
+invariant_of-self-in-Err-NoMemory c =
+    let h = c.in-Err-NoMemory.ensures in
+    turn_holds c.self.inside.disk c.take-2.new.disk h.others.stays.same_name c.args.catalog.now c.from_parts-node.result _ (h.left tt)
+
+pub unreachable-requires-in-Err-DiskFault : goal.unreachable-requires-in-Err-DiskFault
+unreachable-requires-in-Err-DiskFault c = never_fails _ c.take-2.ensures.cause c.in-Err-DiskFault.is c.in-Err-DiskFault.field-0-is
+
+pub unreachable-requires-in-Err-BadLog : goal.unreachable-requires-in-Err-BadLog
+unreachable-requires-in-Err-BadLog c = let is = c.in-Err-BadLog.field-0-is in ⊎_elim (λ e. cc) (λ e. cc) (turn_ends _ c.take-2.ensures.ends c.in-Err-BadLog.is)
+
+pub unreachable-requires-in-Err-LivesSpent : goal.unreachable-requires-in-Err-LivesSpent
+unreachable-requires-in-Err-LivesSpent c = let is = c.in-Err-LivesSpent.field-0-is in ⊎_elim (λ e. cc) (λ e. cc) (turn_ends _ c.take-2.ensures.ends c.in-Err-LivesSpent.is)

@@ -1,8 +1,9 @@
-use Rattle.std.proofs.Common.{◌≡◌, ◌∙◌, ap, sym, subst, Bool, Option, Some, None}
+use Rattle.std.proofs.Common.{◌≡◌, ◌∙◌, ap, sym, subst, Option, Some, None}
 use Rattle.vp_model.specs.Site.{SiteState}
 use Rattle.vp_model.specs.World.{site_of}
 use Rattle.vp_world.specs.Steps.{taker}
 use Rattle.vp_hosts.specs.declared.letter.Letter.{Letter}
+use Rattle.vp_hosts.specs.declared.host.StoppedLog.{StoppedLog}
 use Rattle.vp_cluster.specs.Letters.{letter_of}
 use Rattle.vp_cluster.specs.Nodes.{StopsWith}
 use Rattle.vp_stopping.specs.Singles.{StopsOf}
@@ -19,7 +20,7 @@ returns-in-None-clause-stops c = λ id site takes up.
     let it : own ≡ site = (let z = sym (sym c.into_site.ensures ∙ c.in-Some-into_site.is) ∙ ap (site_of front.steps.world.world) same ∙ up in cc) in
     subst (λ (x : SiteState). StopsOf c.args.event.now x None front.nodes) it (
       c.stop.new.self,
-      subst (λ (kept : Option Bool). (letter : Letter) → letter_of front.nodes.catalogue front.nodes.letters c.args.event.now ≡ Some letter → StopsWith letter own kept front.nodes c.stop.new.self) c.in-None.is c.in_ok-stop.ensures.stops,
+      subst (λ (left : Option StoppedLog). (letter : Letter) → letter_of front.nodes.catalogue front.nodes.letters c.args.event.now ≡ Some letter → StopsWith letter own left front.nodes c.stop.new.self) c.in-None.is c.in_ok-stop.ensures.stops,
     )
 
 pub returns-clause-stops : goal.returns-clause-stops
@@ -30,8 +31,8 @@ returns-clause-stops c =
       takes,
       λ site up.
           let it : own ≡ site = (let z = sym (sym c.into_site.ensures ∙ c.in-Some-into_site.is) ∙ up in cc) in
-          subst (λ (x : SiteState). StopsOf c.args.event.now x (Some c.in-Some-2.kept) front.nodes) it (
+          subst (λ (x : SiteState). StopsOf c.args.event.now x (Some c.in-Some-2.left) front.nodes) it (
             c.stop.new.self,
-            subst (λ (kept : Option Bool). (letter : Letter) → letter_of front.nodes.catalogue front.nodes.letters c.args.event.now ≡ Some letter → StopsWith letter own kept front.nodes c.stop.new.self) c.in-Some-2.is c.in_ok-stop.ensures.stops,
+            subst (λ (left : Option StoppedLog). (letter : Letter) → letter_of front.nodes.catalogue front.nodes.letters c.args.event.now ≡ Some letter → StopsWith letter own left front.nodes c.stop.new.self) c.in-Some-2.is c.in_ok-stop.ensures.stops,
           ),
     )
