@@ -126,7 +126,7 @@ fn count_read(
 }
 
 #[tactic(auto, using(crate::proofs::Answered::questions))]
-fn read_answered(
+fn on_read_answer(
     lent: &mut Lent,
     at: &Around<'_>,
     from: SiteId,
@@ -173,7 +173,7 @@ fn count_write(
 }
 
 #[tactic(auto, using(crate::proofs::Answered::questions))]
-fn write_answered(
+fn on_write_answer(
     lent: &mut Lent,
     at: &Around<'_>,
     from: SiteId,
@@ -195,7 +195,7 @@ fn write_answered(
 }
 
 #[tactic(auto, using(vp_endings::proofs::Rows::close_own))]
-fn refused(
+fn on_refuse(
     lent: &mut Lent,
     at: &Around<'_>,
     from: SiteId,
@@ -236,7 +236,7 @@ fn count_vote(
 }
 
 #[tactic(auto, using(crate::proofs::Answered::questions))]
-fn voted(
+fn on_vote(
     lent: &mut Lent,
     at: &Around<'_>,
     from: SiteId,
@@ -296,11 +296,11 @@ fn answered(
 {
     match message {
         Message::ReadAnswer { number, value, .. } => {
-            read_answered(lent, at, from, handled, *number, value.as_ref())
+            on_read_answer(lent, at, from, handled, *number, value.as_ref())
         }
-        Message::WriteAnswer { number, .. } => write_answered(lent, at, from, handled, *number),
-        Message::Refuse { number, why, .. } => refused(lent, at, from, handled, *number, why),
-        Message::Vote { .. } => voted(lent, at, from, handled),
+        Message::WriteAnswer { number, .. } => on_write_answer(lent, at, from, handled, *number),
+        Message::Refuse { number, why, .. } => on_refuse(lent, at, from, handled, *number, why),
+        Message::Vote { .. } => on_vote(lent, at, from, handled),
         _ => {
             lent.put_back(handled);
             Ok(())
