@@ -14,8 +14,16 @@ use vp_base::{
     Sites, TxnId, Value, ViewId,
 };
 use vp_catalog::Catalog;
-use vp_endings::{Around, Lent};
+use vp_endings::Lent;
 use vp_transactions::Handled;
+
+/// What the row of an answer reads: who sent it, the site that it came to, and the catalogue.
+#[derive(Clone, Copy)]
+pub struct Incoming<'a> {
+    pub catalog: &'a Catalog,
+    pub from: SiteId,
+    pub id: SiteId,
+}
 
 /// The sites but this one.
 fn sites_without(sites: &Sites, site: SiteId) -> Result<Sites, NoMemory>
@@ -126,27 +134,26 @@ fn count_read(
 }
 
 #[tactic(auto, using(crate::proofs::Answered::questions))]
-fn read_answered(
+fn on_read_answer(
     lent: &mut Lent,
-    at: &Around<'_>,
-    from: SiteId,
+    came: &Incoming<'_>,
     handled: &mut Handled,
     number: CallNo,
     value: &Value,
 ) -> Result<(), NoMemory>
     requires { waits handled.old.live ≡ true }
     ensures { OnOk result (lent.new ≡
-        read_answered at.now.catalog.now from number value.now handled.old.live handled.old.pending handled.old.pending.call
+        read_answered came.now.catalog.now came.now.from number value.now handled.old.live handled.old.pending handled.old.pending.call
         (in_place handled.old.live lent.old)) }
 {
-    match wanted_read(at.catalog, number, &handled.pending) {
+    match wanted_read(came.catalog, number, &handled.pending) {
         None => {
             lent.put_back(handled);
             Ok(())
         }
         Some(rec) => {
             let value = value.copy_of()?;
-            count_read(lent, from, handled, rec, value)
+            count_read(lent, came.from, handled, rec, value)
         }
     }
 }
@@ -173,82 +180,70 @@ fn count_write(
 }
 
 #[tactic(auto, using(crate::proofs::Answered::questions))]
-fn write_answered(
+fn on_write_answer(
     lent: &mut Lent,
-    at: &Around<'_>,
-    from: SiteId,
+    came: &Incoming<'_>,
     handled: &mut Handled,
     number: CallNo,
 ) -> Result<(), NoMemory>
     requires { waits handled.old.live ≡ true }
     ensures { OnOk result (lent.new ≡
-        write_answered at.now.catalog.now from number handled.old.live handled.old.pending handled.old.pending.call
+        write_answered came.now.catalog.now came.now.from number handled.old.live handled.old.pending handled.old.pending.call
         (in_place handled.old.live lent.old)) }
 {
-    match wanted_write(at.catalog, number, &handled.pending)? {
+    match wanted_write(came.catalog, number, &handled.pending)? {
         None => {
             lent.put_back(handled);
             Ok(())
         }
-        Some((rec, value)) => count_write(lent, from, handled, rec, value),
+        Some((rec, value)) => count_write(lent, came.from, handled, rec, value),
     }
 }
 
 #[tactic(auto, using(vp_endings::proofs::Rows::close_own))]
-fn refused(
+fn on_refuse(
     lent: &mut Lent,
-    at: &Around<'_>,
-    from: SiteId,
+    came: &Incoming<'_>,
     handled: &mut Handled,
     number: CallNo,
     why: &Obstacle,
 ) -> Result<(), NoMemory>
     requires { waits handled.old.live ≡ true }
-    ensures { OnOk result (lent.new ≡ refusal_at at.now.id from number why.now handled.old.live handled.old.pending (in_place handled.old.live lent.old)) }
+    ensures { OnOk result (lent.new ≡ refusal_at came.now.id came.now.from number why.now handled.old.live handled.old.pending (in_place handled.old.live lent.old)) }
 {
-    match refusal(from, number, why, handled)? {
+    match refusal(came.from, number, why, handled)? {
         None => {
             lent.put_back(handled);
             Ok(())
         }
-        Some(end) => lent.close(at.id, &mut handled.live, end),
+        Some(end) => lent.close(came.id, &mut handled.live, end),
     }
 }
 
 /// The site has voted yes; where no other vote is missing, the transaction commits.
 #[tactic(auto, using(vp_endings::proofs::Rows::wait_in_place))]
-fn count_vote(
-    lent: &mut Lent,
-    at: &Around<'_>,
-    from: SiteId,
-    handled: &mut Handled,
-) -> Result<(), NoMemory>
+fn count_vote(lent: &mut Lent, came: &Incoming<'_>, handled: &mut Handled) -> Result<(), NoMemory>
     ensures { OnOk result (lent.new ≡
-        count_in from handled.old.live handled.old.pending (decide at.now.catalog.now at.now.id handled.old.live)
+        count_in came.now.from handled.old.live handled.old.pending (decide came.now.catalog.now came.now.id handled.old.live)
         (in_place handled.old.live lent.old)) }
 {
-    let missing_votes = sites_without(&handled.pending.missing, from)?;
+    let missing_votes = sites_without(&handled.pending.missing, came.from)?;
     if missing_votes.as_slice().is_empty() {
-        lent.decide(at, &mut handled.live)
+        lent.decide(came.catalog, came.id, &mut handled.live)
     } else {
         lent.wait_for(handled, missing_votes)
     }
 }
 
 #[tactic(auto, using(crate::proofs::Answered::questions))]
-fn voted(
-    lent: &mut Lent,
-    at: &Around<'_>,
-    from: SiteId,
-    handled: &mut Handled,
-) -> Result<(), NoMemory>
+fn on_vote(lent: &mut Lent, came: &Incoming<'_>, handled: &mut Handled) -> Result<(), NoMemory>
     requires { waits handled.old.live ≡ true }
     ensures { OnOk result (lent.new ≡
-        voted at.now.catalog.now at.now.id from handled.old.live handled.old.pending handled.old.pending.call
+        voted came.now.catalog.now came.now.id came.now.from handled.old.live handled.old.pending handled.old.pending.call
         (in_place handled.old.live lent.old)) }
 {
     if is_commit(&handled.pending.call) {
-        return count_vote(lent, at, from, handled);
+        return count_vote(lent, came, handled);
     }
     lent.put_back(handled);
     Ok(())
@@ -285,22 +280,21 @@ fn on_inquire(lent: &mut Lent, id: SiteId, from: SiteId, txn: &TxnId) -> Result<
 /// What an answer, a refusal or a vote does to the call that waits for it.
 fn answered(
     lent: &mut Lent,
-    at: &Around<'_>,
-    from: SiteId,
+    came: &Incoming<'_>,
     handled: &mut Handled,
     message: &Message,
 ) -> Result<(), NoMemory>
     requires { waits handled.old.live ≡ true }
     ensures { OnOk result (lent.new ≡
-        answered at.now.catalog.now at.now.id from message.now handled.old.live handled.old.pending (in_place handled.old.live lent.old)) }
+        answered came.now.catalog.now came.now.id came.now.from message.now handled.old.live handled.old.pending (in_place handled.old.live lent.old)) }
 {
     match message {
         Message::ReadAnswer { number, value, .. } => {
-            read_answered(lent, at, from, handled, *number, value.as_ref())
+            on_read_answer(lent, came, handled, *number, value.as_ref())
         }
-        Message::WriteAnswer { number, .. } => write_answered(lent, at, from, handled, *number),
-        Message::Refuse { number, why, .. } => refused(lent, at, from, handled, *number, why),
-        Message::Vote { .. } => voted(lent, at, from, handled),
+        Message::WriteAnswer { number, .. } => on_write_answer(lent, came, handled, *number),
+        Message::Refuse { number, why, .. } => on_refuse(lent, came, handled, *number, why),
+        Message::Vote { .. } => on_vote(lent, came, handled),
         _ => {
             lent.put_back(handled);
             Ok(())
@@ -311,37 +305,31 @@ fn answered(
 /// An answer, a refusal or a vote comes, and the transaction's call may wait for it.
 fn on_awaited(
     lent: &mut Lent,
-    at: &Around<'_>,
-    from: SiteId,
+    came: &Incoming<'_>,
     txn: &TxnId,
     message: &Message,
 ) -> Result<(), NoMemory>
     ensures { OnOk result (lent.new ≡
-        for_some (waiting_call txn.now from lent.old.live) (λ h. answered at.now.catalog.now at.now.id from message.now h.live h.pending) lent.old) }
+        for_some (waiting_call txn.now came.now.from lent.old.live) (λ h. answered came.now.catalog.now came.now.id came.now.from message.now h.live h.pending) lent.old) }
 {
-    match lent.coordinator.take_waiting(txn, from)? {
+    match lent.coordinator.take_waiting(txn, came.from)? {
         None => Ok(()),
-        Some(mut handled) => answered(lent, at, from, &mut handled, message),
+        Some(mut handled) => answered(lent, came, &mut handled, message),
     }
 }
 
 /// What a message does to the transactions that this site began.
 #[tactic(auto, unfolding(vp_model::specs::Answers::on_answer), using(crate::proofs::Answered::awaited))]
-pub fn on_answer(
-    lent: &mut Lent,
-    at: &Around<'_>,
-    from: SiteId,
-    message: &Message,
-) -> Result<(), NoMemory>
-    ensures { OnOk result (lent.new ≡ on_answer at.now.catalog.now at.now.id from message.now lent.old) }
+pub fn on_answer(lent: &mut Lent, came: &Incoming<'_>, message: &Message) -> Result<(), NoMemory>
+    ensures { OnOk result (lent.new ≡ on_answer came.now.catalog.now came.now.id came.now.from message.now lent.old) }
 {
     match message {
-        Message::ReadAnswer { txn, .. } => on_awaited(lent, at, from, txn, message),
-        Message::WriteAnswer { txn, .. } => on_awaited(lent, at, from, txn, message),
-        Message::Refuse { txn, .. } => on_awaited(lent, at, from, txn, message),
-        Message::Vote { txn } => on_awaited(lent, at, from, txn, message),
-        Message::Ack { txn } => on_ack(lent, from, txn),
-        Message::Inquire { txn } => on_inquire(lent, at.id, from, txn),
+        Message::ReadAnswer { txn, .. } => on_awaited(lent, came, txn, message),
+        Message::WriteAnswer { txn, .. } => on_awaited(lent, came, txn, message),
+        Message::Refuse { txn, .. } => on_awaited(lent, came, txn, message),
+        Message::Vote { txn } => on_awaited(lent, came, txn, message),
+        Message::Ack { txn } => on_ack(lent, came.from, txn),
+        Message::Inquire { txn } => on_inquire(lent, came.id, came.from, txn),
         _ => Ok(()),
     }
 }

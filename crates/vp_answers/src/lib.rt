@@ -4,4 +4,4 @@
 
 mod answers;
 
-pub use answers::on_answer;
+pub use answers::{Incoming, on_answer};

@@ -19,14 +19,23 @@ use vp_endings::{Around, Lent};
 use vp_operations::{commit, read_named, write_named};
 use vp_transactions::{Handled, Transactions, told_again};
 
+/// A call of a transaction, under its number, from the port of a client.
+#[derive(Clone, Copy)]
+struct TxnCall<'a> {
+    port: u16,
+    txn: &'a TxnId,
+    number: CallNo,
+    call: &'a Call,
+}
+
 /// The call as it waits.
-fn pending_call(alloc: Global, port: u16, number: CallNo, call: &Call) -> Result<Pending, NoMemory>
-    ensures { IfOk result (λ p. p ≡ handled port number call.now) }
+fn pending_call(alloc: Global, asked: &TxnCall<'_>) -> Result<Pending, NoMemory>
+    ensures { IfOk result (λ p. p ≡ handled asked.now.port asked.now.number asked.now.call.now) }
 {
     Ok(Pending {
-        number,
-        port,
-        call: call.copy_of()?,
+        number: asked.number,
+        port: asked.port,
+        call: asked.call.copy_of()?,
         missing: Sites::new(alloc),
         marked: false,
     })
@@ -167,36 +176,30 @@ fn live_call(
 }
 
 #[tactic(auto, unfolding(vp_model::specs::Calls::on_txn_call))]
-fn on_txn_call(
-    lent: &mut Lent,
-    at: &Around<'_>,
-    port: u16,
-    txn: &TxnId,
-    number: CallNo,
-    call: &Call,
-) -> Result<(), NoMemory>
+fn on_txn_call(lent: &mut Lent, at: &Around<'_>, asked: &TxnCall<'_>) -> Result<(), NoMemory>
     ensures { OnOk result (lent.new ≡
-        on_txn_call at.now.catalog.now at.now.id (option_copied at.now.held) port txn.now number call.now lent.old) }
+        on_txn_call at.now.catalog.now at.now.id (option_copied at.now.held) asked.now.port asked.now.txn.now asked.now.number asked.now.call.now lent.old) }
 {
-    let pending = pending_call(lent.coordinator.allocator(), port, number, call)?;
-    match lent.coordinator.take_up(txn) {
-        None => ended_call(lent, port, txn, number),
+    let pending = pending_call(lent.coordinator.allocator(), asked)?;
+    match lent.coordinator.take_up(asked.txn) {
+        None => ended_call(lent, asked),
         Some(live) => {
             let mut handled = Handled { live, pending };
-            live_call(lent, at, &mut handled, call)
+            live_call(lent, at, &mut handled, asked.call)
         }
     }
 }
 
 /// A call of a transaction that is not live.
 #[tactic(auto, unfolding(vp_model::specs::Calls::finished_call))]
-fn ended_call(lent: &mut Lent, port: u16, txn: &TxnId, number: CallNo) -> Result<(), NoMemory>
+fn ended_call(lent: &mut Lent, asked: &TxnCall<'_>) -> Result<(), NoMemory>
     ensures { OnOk result (lent.new ≡
-        option_map_or (λ f. finished_call port number f lent.old) (finished_of txn.now lent.old.finished) (lent_reply (answer.Unknown txn.now) port lent.old)) }
+        option_map_or (λ f. finished_call asked.now.port asked.now.number f lent.old) (finished_of asked.now.txn.now lent.old.finished)
+        (lent_reply (answer.Unknown asked.now.txn.now) asked.now.port lent.old)) }
 {
-    match lent.coordinator.told_after(txn, number)? {
+    match lent.coordinator.told_after(asked.txn, asked.number)? {
         None => Ok(()),
-        Some(answer) => lent.effects.reply(port, answer),
+        Some(answer) => lent.effects.reply(asked.port, answer),
     }
 }
 
@@ -209,9 +212,17 @@ pub fn own_call(lent: &mut Lent, at: &Around<'_>, port: u16, call: &Call) -> Res
     match call {
         Call::Begin => on_begin(lent, at, port),
         Call::Regroup => Ok(()),
-        Call::Read { txn, number, .. } => on_txn_call(lent, at, port, txn, *number, call),
-        Call::Write { txn, number, .. } => on_txn_call(lent, at, port, txn, *number, call),
-        Call::Commit { txn, number } => on_txn_call(lent, at, port, txn, *number, call),
-        Call::Abort { txn, number } => on_txn_call(lent, at, port, txn, *number, call),
+        Call::Read { txn, number, .. }
+        | Call::Write { txn, number, .. }
+        | Call::Commit { txn, number }
+        | Call::Abort { txn, number } => {
+            let asked = TxnCall {
+                port,
+                txn,
+                number: *number,
+                call,
+            };
+            on_txn_call(lent, at, &asked)
+        }
     }
 }

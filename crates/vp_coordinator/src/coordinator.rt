@@ -13,7 +13,7 @@ use crate::calls::own_call;
 use std::alloc::Global;
 use std::marker::Model;
 use std::mem;
-use vp_answers::on_answer;
+use vp_answers::{Incoming, on_answer};
 use vp_base::{Call, CopyOf, Decisions, Effects, Message, Newest, NoMemory, SiteId, View, ViewId};
 use vp_catalog::Catalog;
 use vp_endings::{Around, Here, Lent};
@@ -122,16 +122,13 @@ impl Coordinator {
         ensures id { self.new.id ≡ self.old.id }
         ensures life { self.new.life ≡ self.old.life }
     {
-        // an answer reads neither the view nor the promise
-        let at = Around {
+        let came = Incoming {
             catalog,
-            held: None,
+            from,
             id: self.id,
-            life: self.life,
-            promise: ViewId { number: 0, site: 0 },
         };
         let mut lent = take(&mut self.transactions, here, effects);
-        let done = on_answer(&mut lent, &at, from, message);
+        let done = on_answer(&mut lent, &came, message);
         give_back(lent, &mut self.transactions, here, effects);
         done
     }

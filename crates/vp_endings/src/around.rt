@@ -1,4 +1,4 @@
-//! What a row reads of its site, and the least of the sites that it turns to.
+//! What a row of a call reads of its site, and the least of the sites that it turns to.
 
 ghost use Rattle.std.specs.Prelude.{◌≡◌};
 ghost use Rattle.vp_model.specs.Words.{first};
@@ -6,7 +6,7 @@ ghost use Rattle.vp_model.specs.Words.{first};
 use vp_base::{SiteId, View, ViewId};
 use vp_catalog::Catalog;
 
-/// What the rows read of their site, and do not change.
+/// What the rows of calls read of their site, and do not change.
 #[derive(Clone, Copy)]
 pub struct Around<'a> {
     pub catalog: &'a Catalog,

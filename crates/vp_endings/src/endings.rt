@@ -10,7 +10,6 @@ ghost use Rattle.vp_model.specs.Calls.{handling, answer_read, answer_write};
 ghost use Rattle.vp_transactions.specs.Waiting.{waits};
 ghost use Rattle.vp_endings.specs.Lent.{in_place};
 
-use crate::around::Around;
 use crate::lent::Lent;
 use crate::writes::{last_writes, writes_held, writing_parts};
 use std::mem;
@@ -18,6 +17,7 @@ use vp_base::{
     Answer, Commit, CopyOf, Effects, Ending, Live, LogRecord, Name, NoMemory, Op, Ops, Owner,
     RecId, SiteId, Sites, Value, Writes,
 };
+use vp_catalog::Catalog;
 use vp_transactions::{Handled, tell_outcome};
 
 impl Lent {
@@ -131,14 +131,20 @@ impl Lent {
     }
 
     #[tactic(auto, unfolding(vp_model::specs::Transactions::keep_writes))]
-    fn keep_writes(&mut self, at: &Around<'_>, t: &Live, writes: &Writes) -> Result<(), NoMemory>
+    fn keep_writes(
+        &mut self,
+        catalog: &Catalog,
+        id: SiteId,
+        t: &Live,
+        writes: &Writes,
+    ) -> Result<(), NoMemory>
         requires { writes.now ≡ last_writes t.now.ops }
-        ensures { OnOk result (self.new ≡ keep_writes at.now.catalog.now at.now.id t.now self.old) }
+        ensures { OnOk result (self.new ≡ keep_writes catalog.now id t.now self.old) }
     {
         let alloc = t.ops.allocator();
-        let own = writes_held(alloc, at.catalog, at.id, writes.as_slice())?;
+        let own = writes_held(alloc, catalog, id, writes.as_slice())?;
         self.here.copies.write(&t.view, own.as_slice());
-        let waiting = writing_parts(alloc, at.catalog, t, writes.as_slice())?;
+        let waiting = writing_parts(alloc, catalog, t, writes.as_slice())?;
         self.coordinator.keep_decision(&t.txn, waiting.copy_of()?)?;
         self.effects.force(LogRecord::Commit {
             txn: t.txn,
@@ -149,15 +155,15 @@ impl Lent {
     }
 
     /// Where the transaction wrote, its decision is forced to the log.
-    fn keep_written(&mut self, at: &Around<'_>, t: &Live) -> Result<(), NoMemory>
+    fn keep_written(&mut self, catalog: &Catalog, id: SiteId, t: &Live) -> Result<(), NoMemory>
         ensures { OnOk result (self.new ≡
-            (if is_empty (last_writes t.now.ops) then self.old else keep_writes at.now.catalog.now at.now.id t.now self.old)) }
+            (if is_empty (last_writes t.now.ops) then self.old else keep_writes catalog.now id t.now self.old)) }
     {
         let writes = last_writes(t.ops.allocator(), t.ops.as_slice())?;
         if writes.as_slice().is_empty() {
             return Ok(());
         }
-        self.keep_writes(at, t, &writes)
+        self.keep_writes(catalog, id, t, &writes)
     }
 
     #[tactic(auto, unfolding(vp_model::specs::Transactions::decided, vp_model::specs::Transactions::finish))]
@@ -173,11 +179,11 @@ impl Lent {
     /// The transaction commits: where it wrote, that is forced to the log before it is told. Its operations go to the journal,
     /// and its answers to the ends that are kept.
     #[tactic(auto, unfolding(vp_model::specs::Transactions::decide))]
-    pub fn decide(&mut self, at: &Around<'_>, t: &mut Live) -> Result<(), NoMemory>
-        ensures { OnOk result (self.new ≡ decide at.now.catalog.now at.now.id t.old self.old) }
+    pub fn decide(&mut self, catalog: &Catalog, id: SiteId, t: &mut Live) -> Result<(), NoMemory>
+        ensures { OnOk result (self.new ≡ decide catalog.now id t.old self.old) }
     {
-        self.keep_written(at, t)?;
-        self.decided(at.id, t)
+        self.keep_written(catalog, id, t)?;
+        self.decided(id, t)
     }
 }
 

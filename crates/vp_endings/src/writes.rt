@@ -1,9 +1,7 @@
 //! What a transaction has written, and which parts hold it.
 
 ghost use Rattle.std.specs.Prelude.{◌≡◌, [], not, OnOk, IfOk, filter};
-ghost use Rattle.std.specs.List.{list_any};
-ghost use Rattle.vp_model.specs.Words.{has, is_empty};
-ghost use Rattle.vp_model.specs.Catalogue.{holders};
+ghost use Rattle.vp_model.specs.Words.{is_empty};
 ghost use Rattle.vp_model.specs.Transactions.{with_op, last_writes, writes_held, writing_parts};
 
 use std::alloc::Global;
@@ -58,16 +56,11 @@ pub fn writes_held(
     Ok(Writes::from_vec(held))
 }
 
+/// Whether the site holds a written record.
 fn holds_some(catalog: &Catalog, site: SiteId, writes: &[(RecId, Value)]) -> bool
-    ensures { result ≡ list_any (λ w. has (holders catalog.now w.0) site) writes.now }
-{
-    writes.iter().any(|write| catalog.is_holder(write.0, site))
-}
-
-fn has_write(catalog: &Catalog, site: SiteId, writes: &[(RecId, Value)]) -> bool
     ensures { result ≡ not (is_empty (writes_held catalog.now site writes.now)) }
 {
-    holds_some(catalog, site, writes)
+    writes.iter().any(|write| catalog.is_holder(write.0, site))
 }
 
 /// The parts that hold a written record.
@@ -85,7 +78,7 @@ pub fn writing_parts(
         .as_slice()
         .iter()
         .copied()
-        .filter(|site| has_write(catalog, *site, writes))
+        .filter(|site| holds_some(catalog, *site, writes))
         .collect(alloc)?;
     Ok(Sites::from_vec(parts))
 }

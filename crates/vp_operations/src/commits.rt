@@ -32,7 +32,7 @@ pub fn commit(lent: &mut Lent, at: &Around<'_>, handled: &mut Handled) -> Result
 {
     if handled.live.parts.as_slice().is_empty() {
         handled.attach_call()?;
-        lent.decide(at, &mut handled.live)
+        lent.decide(at.catalog, at.id, &mut handled.live)
     } else {
         prepare_parts(lent, at, handled)
     }

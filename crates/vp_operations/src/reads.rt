@@ -7,9 +7,9 @@ ghost use Rattle.vp_model.specs.Calls.{with_record, lock_here, answer_read, read
 ghost use Rattle.vp_transactions.specs.Waiting.{waits};
 ghost use Rattle.vp_endings.specs.Lent.{in_place};
 
-use crate::records::{copy_here, own_write, usable_record};
+use crate::records::{NamedValue, copy_here, own_write, usable_record};
 use std::alloc::Global;
-use vp_base::{Live, Message, Name, NoMemory, RecId, SiteId, Sites, Value};
+use vp_base::{Live, Message, Name, NoMemory, RecId, SiteId, Sites};
 use vp_endings::{Around, Lent};
 use vp_lists::put_in;
 use vp_locks::LockFault;
@@ -63,16 +63,15 @@ fn read_here(
     lent: &mut Lent,
     id: SiteId,
     handled: &mut Handled,
-    name: &Name,
-    rec: RecId,
-    value: Value,
+    found: &NamedValue<'_>,
 ) -> Result<(), NoMemory>
     ensures { OnOk result (lent.new ≡
-        lock_here id handled.old.live handled.old.pending name.now rec false (answer_read handled.old.live handled.old.pending rec value) (in_place handled.old.live lent.old)) }
+        lock_here id handled.old.live handled.old.pending found.now.name.now found.now.rec false (answer_read handled.old.live handled.old.pending found.now.rec found.now.value.now)
+        (in_place handled.old.live lent.old)) }
 {
-    match lent.here.locks.take_shared(rec, handled.txn()) {
-        Ok(()) => lent.answer_read(handled, rec, value),
-        Err(LockFault::Held { owner }) => lent.close_blocked(id, handled, name, owner),
+    match lent.here.locks.take_shared(found.rec, handled.txn()) {
+        Ok(()) => lent.answer_read(handled, found.rec, found.value.duplicate()),
+        Err(LockFault::Held { owner }) => lent.close_blocked(id, handled, found.name, owner),
         Err(LockFault::NoMemory) => Err(NoMemory),
     }
 }
@@ -92,7 +91,10 @@ fn read(
     match own_write(&handled.live, rec)? {
         Some(value) => lent.answer_read(handled, rec, value),
         None => match copy_here(&lent.here, rec)? {
-            Some(stored) => read_here(lent, at.id, handled, name, rec, stored.into_value()),
+            Some(stored) => {
+                let value = &stored.into_value();
+                read_here(lent, at.id, handled, &NamedValue { name, rec, value })
+            }
             None => read_there(lent, at, handled, rec),
         },
     }

@@ -15,6 +15,14 @@ use vp_catalog::members_of;
 use vp_endings::{Around, Here};
 use vp_transactions::Handled;
 
+/// A value that an operation reads of a record or writes to it. The record is known by name and by number.
+#[derive(Clone, Copy)]
+pub struct NamedValue<'a> {
+    pub name: &'a Name,
+    pub rec: RecId,
+    pub value: &'a Value,
+}
+
 /// Whether the record may be used in the held view.
 fn is_usable(alloc: Global, at: &Around<'_>, rec: RecId) -> bool
     ensures { result ≡ is_usable_in at.now.catalog.now (option_copied at.now.held) rec }

@@ -9,7 +9,7 @@ ghost use Rattle.vp_model.specs.Calls.{with_record, lock_here, answer_write, wri
 ghost use Rattle.vp_transactions.specs.Waiting.{waits};
 ghost use Rattle.vp_endings.specs.Lent.{in_place};
 
-use crate::records::{usable_record, wrote};
+use crate::records::{NamedValue, usable_record, wrote};
 use vp_base::{Effects, Message, Name, NoMemory, RecId, SiteId, Sites, Value};
 use vp_endings::{Around, Lent};
 use vp_lists::put_in;
@@ -37,17 +37,16 @@ fn write_elsewhere(
     lent: &mut Lent,
     at: &Around<'_>,
     handled: &mut Handled,
-    rec: RecId,
-    value: &Value,
+    wanted: &NamedValue<'_>,
 ) -> Result<(), NoMemory>
     ensures { OnOk result (lent.new ≡
-        write_elsewhere at.now.catalog.now at.now.id (option_copied at.now.held) handled.old.live handled.old.pending rec value.now (in_place handled.old.live lent.old)) }
+        write_elsewhere at.now.catalog.now at.now.id (option_copied at.now.held) handled.old.live handled.old.pending wanted.now.rec wanted.now.value.now (in_place handled.old.live lent.old)) }
 {
-    let asked = at.catalog.other_holders(at.id, at.held, rec)?;
+    let asked = at.catalog.other_holders(at.id, at.held, wanted.rec)?;
     if asked.as_slice().is_empty() {
-        lent.answer_write(handled, rec, value)
+        lent.answer_write(handled, wanted.rec, wanted.value)
     } else {
-        write_at(lent, at.id, handled, rec, asked)
+        write_at(lent, at.id, handled, wanted.rec, asked)
     }
 }
 
@@ -57,16 +56,15 @@ fn write_here(
     lent: &mut Lent,
     at: &Around<'_>,
     handled: &mut Handled,
-    name: &Name,
-    value: &Value,
-    rec: RecId,
+    wanted: &NamedValue<'_>,
 ) -> Result<(), NoMemory>
     ensures { OnOk result (lent.new ≡
-        lock_here at.now.id handled.old.live handled.old.pending name.now rec true (write_elsewhere at.now.catalog.now at.now.id (option_copied at.now.held) handled.old.live handled.old.pending rec value.now) (in_place handled.old.live lent.old)) }
+        lock_here at.now.id handled.old.live handled.old.pending wanted.now.name.now wanted.now.rec true
+        (write_elsewhere at.now.catalog.now at.now.id (option_copied at.now.held) handled.old.live handled.old.pending wanted.now.rec wanted.now.value.now) (in_place handled.old.live lent.old)) }
 {
-    match lent.here.locks.take_exclusive(rec, handled.txn()) {
-        Ok(()) => write_elsewhere(lent, at, handled, rec, value),
-        Err(LockFault::Held { owner }) => lent.close_blocked(at.id, handled, name, owner),
+    match lent.here.locks.take_exclusive(wanted.rec, handled.txn()) {
+        Ok(()) => write_elsewhere(lent, at, handled, wanted),
+        Err(LockFault::Held { owner }) => lent.close_blocked(at.id, handled, wanted.name, owner),
         Err(LockFault::NoMemory) => Err(NoMemory),
     }
 }
@@ -76,19 +74,17 @@ fn write(
     lent: &mut Lent,
     at: &Around<'_>,
     handled: &mut Handled,
-    name: &Name,
-    value: &Value,
-    rec: RecId,
+    wanted: &NamedValue<'_>,
 ) -> Result<(), NoMemory>
     ensures { OnOk result (lent.new ≡
-        write at.now.catalog.now at.now.id (option_copied at.now.held) handled.old.live handled.old.pending name.now value.now rec (in_place handled.old.live lent.old)) }
+        write at.now.catalog.now at.now.id (option_copied at.now.held) handled.old.live handled.old.pending wanted.now.name.now wanted.now.value.now wanted.now.rec (in_place handled.old.live lent.old)) }
 {
-    if wrote(&handled.live, rec) {
-        lent.answer_write(handled, rec, value)
-    } else if lent.here.copies.has(rec) {
-        write_here(lent, at, handled, name, value, rec)
+    if wrote(&handled.live, wanted.rec) {
+        lent.answer_write(handled, wanted.rec, wanted.value)
+    } else if lent.here.copies.has(wanted.rec) {
+        write_here(lent, at, handled, wanted)
     } else {
-        write_elsewhere(lent, at, handled, rec, value)
+        write_elsewhere(lent, at, handled, wanted)
     }
 }
 
@@ -107,7 +103,7 @@ pub fn write_named(
         (write at.now.catalog.now at.now.id (option_copied at.now.held) handled.old.live handled.old.pending name.now value.now) (in_place handled.old.live lent.old)) }
 {
     match usable_record(at, handled, name)? {
-        Ok(rec) => write(lent, at, handled, name, value, rec),
+        Ok(rec) => write(lent, at, handled, &NamedValue { name, rec, value }),
         Err(answer) => lent.refuse(handled, answer),
     }
 }

@@ -2,7 +2,7 @@
 
 use std::alloc::Global;
 use std::process::Abort;
-use vp_base::{Effects, SiteId, Sites, View, ViewId};
+use vp_base::{CopyOf, Effects, SiteId, Sites, View, ViewId};
 use vp_catalog::Catalog;
 use vp_views::Views;
 
@@ -77,6 +77,43 @@ fn a_site_that_hears_too_little_wants_a_view(rt: HostRuntime) {
     assert!(rt; wants_view(&rt, rt.alloc(), &[2]));
     assert!(rt; !wants_view(&rt, rt.alloc(), &[2, 3]));
     assert!(rt; wants_view(&rt, rt.alloc(), &[2, 3, 4]));
+}
+
+/// Whether the site holds the view with so many members.
+fn holds(site: &Views, id: ViewId, count: usize) -> bool {
+    match site.held() {
+        None => false,
+        Some(view) => view.id == id && view.members.as_slice().len() == count,
+    }
+}
+
+/// What a copy of a site hears is not heard at the site.
+#[test]
+fn a_copy_of_a_site_that_listens_listens_for_itself(rt: HostRuntime) {
+    let catalog = catalog(&rt, rt.alloc());
+    let mut site = opening(&rt, &catalog, SiteId::of(1));
+    site.probe(&catalog, &mut Effects::none(rt.alloc()))
+        .expect(&rt, "memory");
+    site.heard(SiteId::of(2)).expect(&rt, "memory");
+    let mut copy = site.copy_of().expect(&rt, "memory");
+    assert!(rt; holds(&copy, OPENING, 3) && copy.wants_view());
+    copy.heard(SiteId::of(3)).expect(&rt, "memory");
+    assert!(rt; !copy.wants_view() && site.wants_view());
+}
+
+#[test]
+fn a_copy_of_a_site_that_invites_has_who_accepted(rt: HostRuntime) {
+    let catalog = catalog(&rt, rt.alloc());
+    let mut effects = Effects::none(rt.alloc());
+    let mut site = opening(&rt, &catalog, SiteId::of(1));
+    site.leave();
+    site.invite(&catalog, &mut effects).expect(&rt, "memory");
+    site.on_accept(SiteId::of(2), FIRST).expect(&rt, "memory");
+    let mut copy = site.copy_of().expect(&rt, "memory");
+    assert!(rt; copy.inviting() == Some(FIRST) && copy.promise() == FIRST);
+    assert!(rt; copy.fix(&mut effects).expect(&rt, "memory"));
+    assert!(rt; holds(&copy, FIRST, 2));
+    assert!(rt; site.inviting() == Some(FIRST) && site.held().is_none());
 }
 
 #[test]

@@ -80,6 +80,7 @@ pub fn on_message(
             };
             stepped.on_refresh_answer(catalog, from, &answer)
         }
+        // the row `on_probe_message`
         Message::Probe { .. } => stepped.site.views.heard(from),
         Message::ReadAnswer { .. }
         | Message::WriteAnswer { .. }

@@ -95,7 +95,7 @@ impl LiveTxns {
         requires { waits t.old ≡ true }
         ensures { self.new ≡ change_first (λ u. same_txn u.txn t.old.txn) (λ u. t.old) self.old }
     {
-        lay_down(&mut self.items, self.last, t)
+        exchange(&mut self.items, self.last, t)
     }
 
     pub fn remove(&mut self, txn: &TxnId)
@@ -109,7 +109,7 @@ impl LiveTxns {
         ensures taken { result ≡ slice_get self.old 0 }
         ensures rest { self.new ≡ drop 1 self.old }
     {
-        drop_first(&mut self.items)
+        self.items.remove(0)
     }
 
     /// Copies of those whose call was pending at the tick before.
@@ -124,7 +124,7 @@ impl LiveTxns {
     pub fn mark(&mut self)
         ensures { self.new ≡ map mark self.old }
     {
-        mark_all(&mut self.items)
+        mark_each(&mut self.items)
     }
 
     /// What a client would call next of the transaction that began last.
@@ -257,15 +257,6 @@ fn exchange(live: &mut Slots<Live>, likely: usize, t: &mut Live)
     }
 }
 
-fn lay_down(live: &mut Slots<Live>, likely: usize, t: &mut Live)
-    requires all { AreLive live.old }
-    requires item { waits t.old ≡ true }
-    ensures placed { live.new ≡ change_first (λ u. same_txn u.txn t.old.txn) (λ u. t.old) live.old }
-    ensures rest { AreLive live.new }
-{
-    exchange(live, likely, t);
-}
-
 fn drop_txn(live: &mut Slots<Live>, likely: usize, txn: &TxnId)
     requires { AreLive live.old }
     ensures dropped { live.new ≡ without_first (λ u. same_txn u.txn txn.now) live.old }
@@ -274,15 +265,6 @@ fn drop_txn(live: &mut Slots<Live>, likely: usize, txn: &TxnId)
     if let Some(place) = place_of(live, likely, txn) {
         let _ = live.remove(place);
     }
-}
-
-fn drop_first(live: &mut Slots<Live>) -> Option<Live>
-    requires { AreLive live.old }
-    ensures taken { result ≡ slice_get live.old 0 }
-    ensures left { live.new ≡ drop 1 live.old }
-    ensures rest { AreLive live.new }
-{
-    live.remove(0)
 }
 
 /// Whether the transaction's call was pending at the tick before.
@@ -346,14 +328,6 @@ fn mark_one(t: &mut Live)
     if let Some(pending) = &mut t.pending {
         pending.as_mut().marked = true;
     }
-}
-
-fn mark_all(live: &mut Slots<Live>)
-    requires { AreLive live.old }
-    ensures marked { live.new ≡ map mark live.old }
-    ensures rest { AreLive live.new }
-{
-    mark_each(live);
 }
 
 fn mark_each(live: &mut Slots<Live>)

@@ -51,12 +51,6 @@ awaits (standing.Holding view heard) = false
 awaits standing.Waiting = true
 awaits (standing.Inviting accepted) = false
 
-abbrev pub members_invited : Standing → Option (List ℕ)
-members_invited standing.Apart = None
-members_invited (standing.Holding view heard) = None
-members_invited standing.Waiting = None
-members_invited (standing.Inviting accepted) = Some accepted
-
 abbrev pub held_in : Standing → Option ViewId
 held_in standing.Apart = None
 held_in (standing.Holding view heard) = Some view.id

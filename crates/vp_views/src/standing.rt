@@ -1,7 +1,7 @@
 //! Where a site stands among views.
 
-ghost use Rattle.std.specs.Prelude.{◌≡◌, OnOk, IfOk, is_some};
-ghost use Rattle.vp_views.specs.Viewing.{IsPromised, accepted_by, members_invited, heard_by, listening, held_in, awaits};
+ghost use Rattle.std.specs.Prelude.{◌≡◌, OnOk};
+ghost use Rattle.vp_views.specs.Viewing.{IsPromised, accepted_by, heard_by, listening, held_in, awaits};
 
 use vp_base::{CopyOf, NoMemory, SiteId, Sites, View, ViewId};
 use vp_lists::put_in;
@@ -41,16 +41,6 @@ impl Standing {
         ensures { result ≡ awaits self.now }
     {
         matches!(self, Standing::Waiting)
-    }
-
-    /// The sites that have accepted the invitation, where there is one.
-    pub fn invited(&self) -> Result<Option<Sites>, NoMemory>
-        ensures { IfOk result (λ sites. sites ≡ members_invited self.now) }
-    {
-        match self {
-            Standing::Inviting { accepted } => Ok(Some(accepted.copy_of()?)),
-            _ => Ok(None),
-        }
     }
 
     /// The site has accepted the invitation, where there is one.

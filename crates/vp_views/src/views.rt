@@ -219,12 +219,14 @@ impl Views {
     }
 
     /// The sites that have accepted the invitation, where there is one.
-    #[tactic(auto, using(crate::proofs::Invitations::inviting_is, crate::proofs::Invitations::hears_none))]
     fn accepted(&self) -> Result<Option<Sites>, NoMemory>
         ensures sites { IfOk result (λ sites. self.now.inviting ≡ option_map (λ members. (self.now.promise, members)) sites) }
         ensures silent { IfOk result (λ sites. IsSome sites → self.now.monitor ≡ None) }
     {
-        self.standing.invited()
+        match &self.standing {
+            Standing::Inviting { accepted } => Ok(Some(accepted.copy_of()?)),
+            _ => Ok(None),
+        }
     }
 
     /// The invitation ends with these members.
