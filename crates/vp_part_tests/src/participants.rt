@@ -2,9 +2,11 @@
 
 use std::alloc::Global;
 use std::process::Abort;
-use vp_base::{Copies, CopyOf, RecId, Recs, SiteId, Sites, TxnId, Value, View, ViewId, Writes};
+use vp_base::{
+    CallNo, Copies, CopyOf, RecId, Recs, SiteId, Sites, TxnId, Value, View, ViewId, Writes,
+};
 use vp_locks::Locks;
-use vp_participant::{Participant, Voted};
+use vp_participant::{Participant, Prepare, Request, Voted};
 use vp_records::Durable;
 
 const ID: ViewId = ViewId { number: 1, site: 1 };
@@ -31,20 +33,35 @@ fn started(rt: &impl Abort, alloc: Global, locks: &mut Locks) -> Participant {
     Participant::restore(alloc, &durable, locks).expect(rt, "memory")
 }
 
+/// The number of each call, which no participant reads.
+fn number(rt: &impl Abort) -> CallNo {
+    CallNo::new(1).expect(rt, "a number")
+}
+
 /// Whether the part reads record 0, which it locks, and gets the lock of record 1 to write it.
-fn takes_locks(participant: &mut Participant, locks: &mut Locks, held: &View) -> bool {
-    let (read, written) = (RecId::new(0), RecId::new(1));
-    let held = Some(held);
-    let is_read = participant.read_request(locks, held, txn(), ID, read);
-    let is_written = participant.write_request(locks, held, txn(), ID, written);
-    is_read.is_ok() && is_written.is_ok()
+fn takes_locks(
+    rt: &impl Abort,
+    participant: &mut Participant,
+    locks: &mut Locks,
+    held: &View,
+) -> bool {
+    let read = Request::new(txn(), ID, number(rt), RecId::new(0));
+    let write = Request::new(txn(), ID, number(rt), RecId::new(1));
+    participant.read_request(locks, Some(held), &read).is_ok()
+        && participant.write_request(locks, Some(held), &write).is_ok()
 }
 
 /// Whether the part votes yes on its write, which is to be forced before it is sent.
 fn votes(rt: &impl Abort, participant: &mut Participant, locks: &Locks, held: &View) -> bool {
     let alloc = held.members.allocator();
-    let (reads, writes) = (Recs::new(alloc), write(rt, alloc));
-    let vote = participant.prepare(locks, Some(held), txn(), ID, &reads, &writes);
+    let asked = Prepare {
+        txn: txn(),
+        view: ID,
+        number: number(rt),
+        reads: &Recs::new(alloc),
+        writes: &write(rt, alloc),
+    };
+    let vote = participant.prepare(locks, Some(held), &asked);
     matches!(vote, Ok(Voted::Yes { forced: Some(_) }))
 }
 
@@ -72,7 +89,7 @@ fn keeps_its_lock(participant: &mut Participant, locks: &mut Locks) -> bool {
 
 /// Whether the transaction was in doubt, and ends with its lock.
 fn lets_go(rt: &impl Abort, participant: &mut Participant, locks: &mut Locks) -> bool {
-    let settled = participant.outcome(locks, None, txn(), true);
+    let settled = participant.outcome(locks, None, txn());
     settled.expect(rt, "memory").doubt.is_some()
         && are_in_doubt(rt, participant, 0)
         && !locks.holds(RecId::new(1), true, txn())
@@ -87,7 +104,7 @@ fn a_part_votes_outlasts_its_view_and_ends(rt: HostRuntime) {
     let mut locks = Locks::new(rt.alloc());
     let mut participant = started(&rt, rt.alloc(), &mut locks);
     assert!(rt;
-        takes_locks(&mut participant, &mut locks, &held)
+        takes_locks(&rt, &mut participant, &mut locks, &held)
             && votes(&rt, &mut participant, &locks, &held)
             && shows_doubt(&rt, &participant)
             && keeps_its_lock(&mut participant, &mut locks)

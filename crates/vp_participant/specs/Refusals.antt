@@ -51,3 +51,9 @@ lock_refused (Err (part_fault.Held owner)) = Some (part_fault.Held owner)
 abbrev pub of_lock : LockFault → PartFault
 of_lock (lock_fault.Held owner) = part_fault.Held owner
 of_lock lock_fault.NoMemory = part_fault.NoMemory
+
+-- and as that of a request for a vote
+abbrev pub of_vote : PrepareFault → PartFault
+of_vote (vote_fault.OtherView now) = part_fault.OtherView now
+of_vote vote_fault.Ended = part_fault.Ended
+of_vote vote_fault.NoMemory = part_fault.NoMemory

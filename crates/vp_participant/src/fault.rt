@@ -3,8 +3,8 @@
 use vp_base::{NoMemory, Owner, ViewId};
 use vp_locks::LockFault;
 
-/// Why a lock is refused: the site holds another view or none, the transaction ended here, or another owner has a lock that
-/// forbids it.
+/// Why a lock is refused: the site holds another view, `now`, or none; the transaction ended here in the held view; or an owner
+/// other than the transaction has a lock that forbids it.
 #[derive(Clone, Copy, Drop)]
 pub enum PartFault {
     OtherView { now: Option<ViewId> },
@@ -13,7 +13,7 @@ pub enum PartFault {
     NoMemory,
 }
 
-/// Why a vote is refused: the site holds another view or none, or the transaction ended here.
+/// Why a vote is refused: the site holds another view, `now`, or none, or the transaction ended here in the held view.
 #[derive(Clone, Copy, Drop)]
 pub enum PrepareFault {
     OtherView { now: Option<ViewId> },
@@ -42,6 +42,21 @@ impl From<LockFault> for PartFault {
         match e {
             LockFault::Held { owner } => PartFault::Held { owner },
             LockFault::NoMemory => PartFault::NoMemory,
+        }
+    }
+}
+
+impl From<PrepareFault> for PartFault {
+    ghost use Rattle.std.specs.Prelude.{◌≡◌};
+    ghost use Rattle.vp_participant.specs.Refusals.{of_vote};
+
+    ghost from_gives = { λ e f. f ≡ of_vote e };
+
+    fn from(e: PrepareFault) -> PartFault {
+        match e {
+            PrepareFault::OtherView { now } => PartFault::OtherView { now },
+            PrepareFault::Ended => PartFault::Ended,
+            PrepareFault::NoMemory => PartFault::NoMemory,
         }
     }
 }

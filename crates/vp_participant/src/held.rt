@@ -16,8 +16,5 @@ pub fn id_of(held: Option<&View>) -> Option<ViewId>
 pub fn is_held(held: Option<&View>, view: ViewId) -> bool
     ensures { result ≡ is_view (id_of (option_copied held.entry)) view }
 {
-    match held {
-        None => false,
-        Some(held) => held.id == view,
-    }
+    held.is_some_and(|held| held.id == view)
 }

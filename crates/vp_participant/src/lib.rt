@@ -9,6 +9,8 @@ mod fault;
 mod held;
 mod participant;
 mod parts;
+mod requests;
 
 pub use fault::{PartFault, PrepareFault};
 pub use participant::{Participant, Settled, Voted};
+pub use requests::{Prepare, Request};

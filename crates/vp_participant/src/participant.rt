@@ -1,14 +1,13 @@
 //! The participant of a site.
 
-ghost use Rattle.std.specs.Prelude.{◌≡◌, ◌++◌, [], flat_map, OnOk, IfOk, IfSome, is_ok, is_some, if◌then◌else◌, option_copied, option_map, filter, true, false};
+ghost use Rattle.std.specs.Prelude.{◌≡◌, ◌++◌, [], flat_map, OnOk, IfOk, IfSome, is_some, option_copied, filter, true, false};
 ghost use Rattle.std.specs.List.{list_all};
 ghost use Rattle.vp_base.specs.declared.entry.Owner.TheVariants as owner;
-ghost use Rattle.vp_locks.specs.Faults.{holder_in};
 ghost use Rattle.vp_model.specs.Words.{keys, has_txn};
 ghost use Rattle.vp_base.specs.declared.entry.LogRecord.TheVariants as log_record;
-ghost use Rattle.vp_model.specs.Locks.{conflict, holds, with_lock, without_owner};
+ghost use Rattle.vp_model.specs.Locks.{holds, with_lock, without_owner};
 ghost use Rattle.vp_model.specs.Views.{without_parts, outlasts};
-ghost use Rattle.vp_model.specs.Messages.{with_part, has_all_locks, with_vote, with_new_doubt, with_ended};
+ghost use Rattle.vp_model.specs.Messages.{with_part, has_all_locks, with_new_doubt, with_ended};
 ghost use Rattle.vp_model.specs.Step.{known, locks_in_doubt};
 ghost use Rattle.vp_participant.specs.Refusals.{lock_refusal, lock_refused, vote_refusal, vote_refused};
 ghost use Rattle.vp_participant.specs.Doubts.{doubt_ended, is_written};
@@ -18,17 +17,19 @@ use crate::doubts::{add_doubt, add_doubted, is_in_doubt, is_written, lock_doubts
 use crate::fault::{PartFault, PrepareFault};
 use crate::held::{id_of, is_held};
 use crate::parts::{drop_part, has_part, mark_voted, part_of, txns_of};
+use crate::requests::{Prepare, Request};
 use std::alloc::Global;
 use std::marker::Model;
 use vp_base::{
-    CopyOf, Doubt, InDoubt, Lock, LogRecord, NoMemory, Owner, Part, RecId, Recs, TxnId, Txns,
-    Value, View, ViewId, Writes,
+    CopyOf, Doubt, InDoubt, Lock, LogRecord, NoMemory, Owner, Part, RecId, TxnId, Txns, Value,
+    View, ViewId, Writes,
 };
 use vp_lists::{copy_all, is_same_txn, put};
-use vp_locks::{Keeps, LockFault, Locks};
+use vp_locks::{Keeps, Locks};
 use vp_records::Durable;
 
-/// A vote: yes, with what is to be forced to the log before it is sent, or none.
+/// What a part votes: yes, with the log record that is to be forced before the vote is sent, if any; or it is silent, and
+/// nothing is sent.
 #[derive(Drop)]
 pub enum Voted {
     Yes { forced: Option<LogRecord> },
@@ -41,7 +42,8 @@ pub struct Settled {
     pub doubt: Option<(ViewId, Writes)>,
 }
 
-/// The parts here of other sites' transactions, those in doubt, and those that ended here in the held view.
+/// The parts here of other sites' transactions, those in doubt, and those that ended here in the held view. After want of
+/// memory it may only be dropped, and so may the lock table that the call was lent.
 pub struct Participant {
     parts: Vec<Part>,
     doubts: Vec<Doubt>,
@@ -103,7 +105,7 @@ impl Participant {
         self.ended.iter().any(|ended| is_same_txn(ended, txn))
     }
 
-    /// A part that is here keeps its state.
+    /// The transaction gets a part, which has not voted. One that has a part or is in doubt stays as it is.
     fn join(&mut self, txn: &TxnId, view: ViewId) -> Result<(), NoMemory>
         ensures { OnOk result (self.new ≡ with_part txn.now view self.old) }
     {
@@ -120,30 +122,17 @@ impl Participant {
         )
     }
 
-    /// A lock for the part of the transaction, which joins where there is none.
-    fn request(
-        &mut self,
-        locks: &mut Locks,
-        held: Option<&View>,
-        txn: TxnId,
-        view: ViewId,
-        rec: RecId,
-        exclusive: bool,
-    ) -> Result<(), PartFault>
-        ensures told { lock_refused result ≡ lock_refusal (option_copied held.entry) txn view rec exclusive self.old locks.old }
-        ensures part { OnOk result (self.new ≡ with_part txn view self.old) }
-        ensures lock { OnOk result (locks.new ≡ with_lock rec exclusive (owner.Txn txn) locks.old) }
-        ensures refused { IfSome (lock_refused result) (λ why. (self.new ≡ self.old) × (locks.new ≡ locks.old)) }
+    /// Why the transaction is refused, whatever it asks for.
+    fn refusal(&self, held: Option<&View>, txn: &TxnId, view: ViewId) -> Option<PrepareFault>
+        ensures { result ≡ vote_refusal (option_copied held.entry) txn.now view self.now }
     {
         if !is_held(held, view) {
-            return Err(PartFault::OtherView { now: id_of(held) });
+            Some(PrepareFault::OtherView { now: id_of(held) })
+        } else if self.has_ended(txn) {
+            Some(PrepareFault::Ended)
+        } else {
+            None
         }
-        if self.has_ended(&txn) {
-            return Err(PartFault::Ended);
-        }
-        take_lock(locks, rec, exclusive, &txn)?;
-        self.join(&txn, view)?;
-        Ok(())
     }
 
     /// A shared lock for the part of the transaction, which joins where there is none.
@@ -151,16 +140,19 @@ impl Participant {
         &mut self,
         locks: &mut Locks,
         held: Option<&View>,
-        txn: TxnId,
-        view: ViewId,
-        rec: RecId,
+        request: &Request,
     ) -> Result<(), PartFault>
-        ensures told { lock_refused result ≡ lock_refusal (option_copied held.entry) txn view rec false self.old locks.old }
-        ensures part { OnOk result (self.new ≡ with_part txn view self.old) }
-        ensures lock { OnOk result (locks.new ≡ with_lock rec false (owner.Txn txn) locks.old) }
+        ensures told { lock_refused result ≡ lock_refusal (option_copied held.entry) request.now.txn request.now.view request.now.rec false self.old locks.old }
+        ensures part { OnOk result (self.new ≡ with_part request.now.txn request.now.view self.old) }
+        ensures lock { OnOk result (locks.new ≡ with_lock request.now.rec false (owner.Txn request.now.txn) locks.old) }
         ensures refused { IfSome (lock_refused result) (λ why. (self.new ≡ self.old) × (locks.new ≡ locks.old)) }
     {
-        self.request(locks, held, txn, view, rec, false)
+        if let Some(why) = self.refusal(held, &request.txn, request.view) {
+            return Err(why.into());
+        }
+        locks.take_shared(request.rec, request.txn)?;
+        self.join(&request.txn, request.view)?;
+        Ok(())
     }
 
     /// An exclusive lock for the part of the transaction, which joins where there is none.
@@ -168,19 +160,22 @@ impl Participant {
         &mut self,
         locks: &mut Locks,
         held: Option<&View>,
-        txn: TxnId,
-        view: ViewId,
-        rec: RecId,
+        request: &Request,
     ) -> Result<(), PartFault>
-        ensures told { lock_refused result ≡ lock_refusal (option_copied held.entry) txn view rec true self.old locks.old }
-        ensures part { OnOk result (self.new ≡ with_part txn view self.old) }
-        ensures lock { OnOk result (locks.new ≡ with_lock rec true (owner.Txn txn) locks.old) }
+        ensures told { lock_refused result ≡ lock_refusal (option_copied held.entry) request.now.txn request.now.view request.now.rec true self.old locks.old }
+        ensures part { OnOk result (self.new ≡ with_part request.now.txn request.now.view self.old) }
+        ensures lock { OnOk result (locks.new ≡ with_lock request.now.rec true (owner.Txn request.now.txn) locks.old) }
         ensures refused { IfSome (lock_refused result) (λ why. (self.new ≡ self.old) × (locks.new ≡ locks.old)) }
     {
-        self.request(locks, held, txn, view, rec, true)
+        if let Some(why) = self.refusal(held, &request.txn, request.view) {
+            return Err(why.into());
+        }
+        locks.take_exclusive(request.rec, request.txn)?;
+        self.join(&request.txn, request.view)?;
+        Ok(())
     }
 
-    /// The part is a part no more: its transaction is in doubt until its outcome comes.
+    /// The part is a part no more: its transaction is in doubt until its outcome comes. Gives the log record of the vote.
     fn put_in_doubt(&mut self, part: &Part, writes: &Writes) -> Result<LogRecord, NoMemory>
         ensures forced { IfOk result (λ forced. forced ≡ log_record.Yes part.now.txn part.now.view writes.now) }
         ensures doubt { OnOk result (self.new ≡ with_new_doubt part.now writes.now self.old) }
@@ -199,37 +194,31 @@ impl Participant {
         &mut self,
         locks: &Locks,
         part: &Part,
-        reads: &[RecId],
-        writes: &Writes,
+        asked: &Prepare<'_>,
     ) -> Result<Voted, NoMemory>
-        ensures { IfOk result (λ voted. (voted, self.new) ≡ first_ballot part.now reads.now writes.now locks.now self.old) }
+        ensures { IfOk result (λ voted. (voted, self.new) ≡ first_ballot part.now asked.now.reads.now asked.now.writes.now locks.now self.old) }
     {
-        if !has_all_locks(locks, &part.txn, reads, writes.as_slice()) {
+        let (reads, writes) = (asked.reads.as_slice(), asked.writes.as_slice());
+        if !has_all_locks(locks, &part.txn, reads, writes) {
             return Ok(Voted::Silent);
         }
-        if writes.as_slice().is_empty() {
+        if writes.is_empty() {
             mark_voted(&mut self.parts, part)?;
             return Ok(Voted::Yes { forced: None });
         }
-        let forced = self.put_in_doubt(part, writes)?;
+        let forced = self.put_in_doubt(part, asked.writes)?;
         Ok(Voted::Yes {
             forced: Some(forced),
         })
     }
 
-    fn vote(
-        &mut self,
-        locks: &Locks,
-        part: &Part,
-        reads: &[RecId],
-        writes: &Writes,
-    ) -> Result<Voted, NoMemory>
-        ensures { IfOk result (λ voted. (voted, self.new) ≡ ballot_of part.now reads.now writes.now locks.now self.old) }
+    fn vote(&mut self, locks: &Locks, part: &Part, asked: &Prepare<'_>) -> Result<Voted, NoMemory>
+        ensures { IfOk result (λ voted. (voted, self.new) ≡ ballot_of part.now asked.now.reads.now asked.now.writes.now locks.now self.old) }
     {
         if part.voted {
             Ok(Voted::Yes { forced: None })
         } else {
-            self.first_vote(locks, part, reads, writes)
+            self.first_vote(locks, part, asked)
         }
     }
 
@@ -240,38 +229,31 @@ impl Participant {
         &mut self,
         locks: &Locks,
         held: Option<&View>,
-        txn: TxnId,
-        view: ViewId,
-        reads: &Recs,
-        writes: &Writes,
+        asked: &Prepare<'_>,
     ) -> Result<Voted, PrepareFault>
-        ensures told { vote_refused result ≡ vote_refusal (option_copied held.entry) txn view self.old }
-        ensures voted { IfOk result (λ voted. (voted, self.new) ≡ ballot txn reads.now writes.now locks.now self.old) }
+        ensures told { vote_refused result ≡ vote_refusal (option_copied held.entry) asked.now.txn asked.now.view self.old }
+        ensures voted { IfOk result (λ voted. (voted, self.new) ≡ ballot asked.now.txn asked.now.reads.now asked.now.writes.now locks.now self.old) }
         ensures refused { IfSome (vote_refused result) (λ why. self.new ≡ self.old) }
     {
-        if !is_held(held, view) {
-            return Err(PrepareFault::OtherView { now: id_of(held) });
+        if let Some(why) = self.refusal(held, &asked.txn, asked.view) {
+            return Err(why);
         }
-        if self.has_ended(&txn) {
-            return Err(PrepareFault::Ended);
-        }
-        if is_in_doubt(&self.doubts, &txn) {
+        if is_in_doubt(&self.doubts, &asked.txn) {
             return Ok(Voted::Yes { forced: None });
         }
-        match part_of(&self.parts, &txn) {
+        match part_of(&self.parts, &asked.txn) {
             None => Ok(Voted::Silent),
-            Some(part) => Ok(self.vote(locks, &part, reads.as_slice(), writes)?),
+            Some(part) => Ok(self.vote(locks, &part, asked)?),
         }
     }
 
-    /// The transaction ends here with all its locks, and in a view its end is noted. What it was in doubt of is given back: to
-    /// write it where it was committed, and to let the records go on.
+    /// The transaction ends here with all its locks, and in a view its end is noted. What it was in doubt of is given back: the
+    /// caller writes it where the transaction was committed, and nothing waits for the doubt any more.
     pub fn outcome(
         &mut self,
         locks: &mut Locks,
         held: Option<&View>,
         txn: TxnId,
-        _commit: bool,
     ) -> Result<Settled, NoMemory>
         ensures doubt { IfOk result (λ settled. settled.doubt ≡ doubt_ended txn self.old.doubts) }
         ensures ended { OnOk result (self.new ≡ with_ended (is_some held.entry) txn self.old) }
@@ -337,17 +319,6 @@ impl Keeps for Participant {
             Owner::Txn(txn) if is_in_doubt(&self.doubts, txn) => lock.exclusive,
             Owner::Txn(txn) => !has_part(&self.parts, txn),
         }
-    }
-}
-
-fn take_lock(locks: &mut Locks, rec: RecId, exclusive: bool, txn: &TxnId) -> Result<(), LockFault>
-    ensures held { holder_in result ≡ conflict rec exclusive txn.now locks.old }
-    ensures locks { locks.new ≡ (if is_ok result then with_lock rec exclusive (owner.Txn txn.now) locks.old else locks.old) }
-{
-    if exclusive {
-        locks.take_exclusive(rec, *txn)
-    } else {
-        locks.take_shared(rec, *txn)
     }
 }
 

@@ -19,10 +19,7 @@ pub fn has_part(parts: &[Part], txn: &TxnId) -> bool
 pub fn part_of(parts: &[Part], txn: &TxnId) -> Option<Part>
     ensures { result ≡ part_of txn.now parts.now }
 {
-    match find_txn(parts, txn) {
-        None => None,
-        Some(part) => Some(*part),
-    }
+    find_txn(parts, txn).copied()
 }
 
 /// The part has voted.

@@ -8,7 +8,7 @@ use Rattle.vp_model.specs.Words.{has_txn}
 use Rattle.vp_model.specs.Locks.{conflict}
 use Rattle.vp_model.specs.Site.{Stepped, send}
 use Rattle.vp_model.specs.Messages.{holds_view, refuse_view, grant}
-use Rattle.vp_stepped.specs.declared.parts.Request.{Request}
+use Rattle.vp_participant.specs.declared.requests.Request.{Request}
 
 -- the lock is granted with this answer, or refused
 abbrev pub asked : Request → Bool → Message → ℕ → Stepped → Stepped

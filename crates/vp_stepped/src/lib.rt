@@ -10,7 +10,6 @@ mod refresh;
 mod state;
 mod stepped;
 
-pub use parts::{Prepare, Request};
 pub use refresh::RefreshAnswer;
 pub use state::SiteState;
 pub use stepped::Stepped;

@@ -16,43 +16,10 @@ ghost use Rattle.vp_stepped.specs.Ballots.{told};
 use crate::state::SiteState;
 use crate::stepped::Stepped;
 use vp_base::{
-    Boxed, CallNo, LogRecord, Message, NoMemory, Obstacle, RecId, Recs, SiteId, TxnId, ViewId,
-    Writes,
+    Boxed, CallNo, LogRecord, Message, NoMemory, Obstacle, SiteId, TxnId, ViewId, Writes,
 };
 use vp_catalog::Catalog;
-use vp_participant::{PartFault, PrepareFault, Settled, Voted};
-
-/// A transaction's request for a lock on a record, in its view, as its call of this number.
-#[derive(Clone, Copy, Drop)]
-pub struct Request {
-    pub txn: TxnId,
-    pub view: ViewId,
-    pub number: CallNo,
-    pub rec: RecId,
-}
-
-impl Request {
-    pub fn new(txn: TxnId, view: ViewId, number: CallNo, rec: RecId) -> Request
-        ensures { result ≡ record { txn = txn; view = view; number = number; rec = rec } }
-    {
-        Request {
-            txn,
-            view,
-            number,
-            rec,
-        }
-    }
-}
-
-/// What a transaction asks its part to vote on: what it read and what it writes here.
-#[derive(Clone, Copy, Drop)]
-pub struct Prepare<'a> {
-    pub txn: TxnId,
-    pub view: ViewId,
-    pub number: CallNo,
-    pub reads: &'a Recs,
-    pub writes: &'a Writes,
-}
+use vp_participant::{PartFault, Prepare, PrepareFault, Request, Settled, Voted};
 
 impl Stepped {
     fn refuse(
@@ -76,11 +43,10 @@ impl Stepped {
         let site: &mut SiteState = &mut self.site;
         let locks = &mut site.here.locks;
         let held = site.views.held();
-        let Request { txn, view, rec, .. } = *request;
         if exclusive {
-            site.participant.write_request(locks, held, txn, view, rec)
+            site.participant.write_request(locks, held, request)
         } else {
-            site.participant.read_request(locks, held, txn, view, rec)
+            site.participant.read_request(locks, held, request)
         }
     }
 
@@ -121,7 +87,7 @@ impl Stepped {
         )
     }
 
-    /// Another site asks for a shared lock on its copy of the record here, and for the value.
+    /// Another site asks for a shared lock on the copy of the record here, and for its value.
     #[tactic(auto, unfolding(vp_model::specs::Messages::on_read_request, vp_model::specs::Messages::on_request, vp_model::specs::Messages::lock_copy))]
     pub fn on_read_request(&mut self, from: SiteId, request: &Request) -> Result<(), NoMemory>
         ensures { OnOk result (self.new ≡ on_read_request from request.now.txn request.now.view request.now.number request.now.rec self.old) }
@@ -169,20 +135,15 @@ impl Stepped {
         }
     }
 
-    /// A transaction asks for the vote of its part here.
+    /// A transaction asks for the vote of its part here. A part that stays silent sends nothing.
     #[tactic(auto, unfolding(vp_model::specs::Messages::on_prepare), using(crate::proofs::Voting::prepare_row))]
     pub fn on_prepare(&mut self, from: SiteId, asked: &Prepare<'_>) -> Result<(), NoMemory>
         ensures { OnOk result (self.new ≡ on_prepare from asked.now.txn asked.now.view asked.now.number asked.now.reads.now asked.now.writes.now self.old) }
     {
         let site: &mut SiteState = &mut self.site;
-        let voted = site.participant.prepare(
-            &site.here.locks,
-            site.views.held(),
-            asked.txn,
-            asked.view,
-            asked.reads,
-            asked.writes,
-        );
+        let voted = site
+            .participant
+            .prepare(&site.here.locks, site.views.held(), asked);
         match voted {
             Ok(voted) => self.cast(asked.txn, voted, from),
             Err(PrepareFault::Ended) => Ok(()),
@@ -197,14 +158,13 @@ impl Stepped {
     }
 
     /// The part of the transaction ends, with its locks.
-    fn end_here(&mut self, txn: TxnId, commit: bool) -> Result<Settled, NoMemory>
+    fn end_here(&mut self, txn: TxnId) -> Result<Settled, NoMemory>
         ensures part { OnOk result (self.new ≡ self.old |> change_participant (with_ended (is_some self.old.site.held) txn) |> change_locks (without_owner (owner.Txn txn))) }
         ensures doubt { IfOk result (λ settled. settled.doubt ≡ doubt_ended txn self.old.site.doubts) }
     {
         let site: &mut SiteState = &mut self.site;
         let held = site.views.held();
-        site.participant
-            .outcome(&mut site.here.locks, held, txn, commit)
+        site.participant.outcome(&mut site.here.locks, held, txn)
     }
 
     /// What the transaction was in doubt of ends: a commit makes its writes copies.
@@ -234,7 +194,8 @@ impl Stepped {
         }
     }
 
-    /// The outcome of a transaction comes: the records that it was in doubt of may end their refresh.
+    /// The outcome of a transaction comes from the site that decided it. Its part and its locks go, and where it was in doubt the
+    /// refreshes that waited for nothing else end.
     #[tactic(auto, unfolding(vp_model::specs::Messages::on_outcome, vp_model::specs::Messages::end_part, vp_model::specs::Messages::end_here))]
     pub fn on_outcome(
         &mut self,
@@ -245,7 +206,7 @@ impl Stepped {
     ) -> Result<(), NoMemory>
         ensures { OnOk result (self.new ≡ on_outcome catalog.now from txn commit self.old) }
     {
-        match self.end_here(txn, commit)?.doubt {
+        match self.end_here(txn)?.doubt {
             None => self.acknowledge(from, txn, commit),
             Some(doubt) => {
                 self.end_doubt(txn, commit, &doubt)?;

@@ -15,7 +15,7 @@ use vp_base::{
 use vp_catalog::{Catalog, has_site, members_of};
 use vp_lists::view_comes_before;
 
-/// The copy of another site, as it answers to a refresh in the view.
+/// Another site's copy of the record, with which it answers to a refresh in the view.
 #[derive(Clone, Copy, Drop)]
 pub struct RefreshAnswer<'a> {
     pub view: ViewId,
@@ -112,6 +112,8 @@ impl Stepped {
         }
     }
 
+    /// Ends the refresh of each of the records whose other holders in the view have all answered and that no transaction in doubt
+    /// writes. The other records, and those that are not under refresh, stay as they are.
     pub fn settle_all(&mut self, catalog: &Catalog, recs: &[RecId]) -> Result<(), NoMemory>
         ensures { OnOk result (self.new ≡ settle_all catalog.now recs.now self.old) }
     {
@@ -121,7 +123,7 @@ impl Stepped {
         Ok(())
     }
 
-    /// The same for the records that are written.
+    /// The same for the records of the writes.
     pub(crate) fn settle_written(
         &mut self,
         catalog: &Catalog,
@@ -149,6 +151,7 @@ impl Stepped {
         self.effects.send_all(id, others.as_slice(), &request)
     }
 
+    /// The same for each of the records.
     fn start_refresh_all(
         &mut self,
         catalog: &Catalog,
@@ -163,6 +166,7 @@ impl Stepped {
         Ok(())
     }
 
+    /// Whether the held view may use the record.
     fn is_open(&self, catalog: &Catalog, rec: RecId) -> bool
         ensures { result ≡ is_open catalog.now self.now.site rec }
     {
@@ -183,7 +187,8 @@ impl Stepped {
         Ok(recs)
     }
 
-    /// The copies are refreshed before they are used in the view.
+    /// Begins the refresh of each copy here that may be used in the view, which the site holds by now. A copy stays locked until
+    /// its refresh ends: at once where no other holder is in the view and no transaction in doubt writes the record.
     #[tactic(auto, unfolding(vp_model::specs::Views::refresh_here))]
     pub fn refresh_here(&mut self, catalog: &Catalog, view: &View) -> Result<(), NoMemory>
         ensures { OnOk result (self.new ≡ refresh_here catalog.now view.now self.old) }
@@ -193,7 +198,7 @@ impl Stepped {
         self.settle_all(catalog, &recs)
     }
 
-    /// Another site asks for the copy of the record, to refresh its own.
+    /// Another site asks for the copy of the record, to refresh its own. Where it gets no answer it asks again at its next tick.
     #[tactic(auto, unfolding(vp_model::specs::Messages::on_refresh_request))]
     pub fn on_refresh_request(
         &mut self,
@@ -215,7 +220,8 @@ impl Stepped {
         }
     }
 
-    /// The copy of another site comes.
+    /// The copy of another site comes. It is kept where it was asked for in the held view, and the last one that was missing
+    /// ends the refresh, unless a transaction in doubt writes the record.
     #[tactic(auto, unfolding(vp_model::specs::Messages::on_refresh_answer))]
     pub fn on_refresh_answer(
         &mut self,

@@ -7,7 +7,7 @@ use vp_participant::Participant;
 use vp_refresh::Refresh;
 use vp_views::Views;
 
-/// What a site keeps while it is up: each part by its own crate.
+/// What a site keeps while it is up: each part by its own crate. `here` has the locks and the copies, which the parts are lent.
 pub struct SiteState {
     pub views: Views,
     pub here: Here,

@@ -28,6 +28,7 @@ impl Model for Stepped {
 }
 
 impl Stepped {
+    /// The site as its step begins: it has given nothing yet.
     pub fn begin(alloc: Global, site: Box<SiteState>) -> Stepped
         ensures { result ≡ begin_step site.value }
     {
@@ -49,13 +50,14 @@ impl Stepped {
         self.site().coordinator.id()
     }
 
-    /// The record is to be forced to the log.
+    /// The log record is to be forced before the messages and replies of the step leave the site.
     pub fn force(&mut self, entry: LogRecord) -> Result<(), NoMemory>
         ensures { OnOk result (self.new ≡ force entry self.old) }
     {
         self.effects.force(entry)
     }
 
+    /// The message is to be sent to the site, behind those that the step has given so far.
     pub fn send(&mut self, to: SiteId, message: Message) -> Result<(), NoMemory>
         ensures { OnOk result (self.new ≡ send message to self.old) }
     {
@@ -63,7 +65,7 @@ impl Stepped {
         self.effects.send(id, to, message)
     }
 
-    /// Answers the client at the port.
+    /// The client at the port is to be answered.
     pub fn reply(&mut self, to: u16, answer: Answer) -> Result<(), NoMemory>
         ensures { OnOk result (self.new ≡ reply answer to self.old) }
     {
@@ -74,20 +76,18 @@ impl Stepped {
     pub fn held_id(&self) -> Option<ViewId>
         ensures { result ≡ held_id self.now.site }
     {
-        match self.site().views.held() {
-            None => None,
-            Some(view) => Some(view.id),
-        }
+        self.site().views.held().map(|view| view.id)
     }
 
     /// The held view.
     pub fn held_view(&self) -> Result<Option<View>, NoMemory>
         ensures { IfOk result (λ held. held ≡ self.now.site.held) }
     {
-        match self.site().views.held() {
-            None => Ok(None),
-            Some(view) => Ok(Some(view.copy_of()?)),
-        }
+        self.site()
+            .views
+            .held()
+            .map(|view| view.copy_of())
+            .transpose()
     }
 
     pub(crate) fn allocator(&self) -> Global {
@@ -97,19 +97,18 @@ impl Stepped {
     pub fn holds_view(&self, id: ViewId) -> bool
         ensures { result ≡ holds_view self.now.site id }
     {
-        match self.site().views.held() {
-            None => false,
-            Some(view) => view.id == id,
-        }
+        self.site().views.held().is_some_and(|view| view.id == id)
     }
 
     /// The copy of the record here.
     pub fn copy_here(&self, rec: RecId) -> Result<Option<Stored>, NoMemory>
         ensures { IfOk result (λ stored. stored ≡ value_at rec self.now.site.copies) }
     {
-        match self.site().here.copies.get(rec) {
-            None => Ok(None),
-            Some(stored) => Ok(Some(stored.copy_of()?)),
-        }
+        self.site()
+            .here
+            .copies
+            .get(rec)
+            .map(|stored| stored.copy_of())
+            .transpose()
     }
 }
