@@ -22,15 +22,15 @@ pub record NodesValue : Type 0 where
   pub letters : List Letter
   pub coming : Option Letter
 
--- what the hosts do when the event is heard of
-abbrev pub HostsHear : Event → Catalogue → List HostValue → List HostValue → Type 0
-HostsHear (event.Crash site) catalogue old new = ChangesOf catalogue site (Crashes catalogue) old new
-HostsHear (event.Restart site) catalogue old new = ChangesOf catalogue site (Restarts catalogue) old new
-HostsHear e catalogue old new = new ≡ old
+-- what the hosts do when the event is announced
+abbrev pub HostsAnnounced : Event → Catalogue → List HostValue → List HostValue → Type 0
+HostsAnnounced (event.Crash site) catalogue old new = ChangesOf catalogue site (Crashes catalogue) old new
+HostsAnnounced (event.Restart site) catalogue old new = ChangesOf catalogue site (Restarts catalogue) old new
+HostsAnnounced e catalogue old new = new ≡ old
 
--- They have heard of the event: a crash and a restart are done, and the letter of another one waits.
-pub record Hears (e : Event) (old new : NodesValue) : Type 0 where
-  pub hosts : HostsHear e old.catalogue old.hosts new.hosts
+-- The event was announced to them: a crash and a restart are done, and the letter of another one waits.
+pub record Announced (e : Event) (old new : NodesValue) : Type 0 where
+  pub hosts : HostsAnnounced e old.catalogue old.hosts new.hosts
   pub coming_is : new.coming ≡ letter_of old.catalogue old.letters e
   pub letters_stay : new.letters ≡ old.letters
   pub same_catalogue : new.catalogue ≡ old.catalogue

@@ -5,7 +5,7 @@ ghost use Rattle.vp_laws.specs.ShapeLaws.{IsEvent};
 ghost use Rattle.vp_hosts.specs.Hosts.{Crashes, Restarts, site_log};
 ghost use Rattle.vp_cluster.specs.Letters.{letter_of, in_order};
 ghost use Rattle.vp_hosts.specs.Ports.{ChangesOf, LendsAt};
-ghost use Rattle.vp_cluster.specs.Nodes.{Begin, Comes, HostsHear, StopsWith};
+ghost use Rattle.vp_cluster.specs.Nodes.{Begin, Comes, HostsAnnounced, StopsWith};
 ghost use Rattle.vp_runs.specs.Arrivals.{arrival};
 ghost use Rattle.vp_turns.specs.Taking.{IsStepOf};
 ghost use Rattle.vp_hosts.specs.Letters.{as_received};
@@ -167,7 +167,7 @@ impl Nodes {
 
     /// A crash or a restart is done.
     fn change(&mut self, event: &Event) -> Result<(), NoMemory>
-        ensures hosts { OnOk result (HostsHear event.now self.old.catalogue self.old.hosts self.new.hosts) }
+        ensures hosts { OnOk result (HostsAnnounced event.now self.old.catalogue self.old.hosts self.new.hosts) }
         ensures letters { OnOk result (self.new.letters ≡ self.old.letters) }
         ensures same { OnOk result (self.new.catalogue ≡ self.old.catalogue) }
     {
@@ -184,18 +184,18 @@ impl Nodes {
 
 impl Stepper for Nodes {
     ghost use Rattle.vp_laws.specs.ShapeLaws.{IsEvent};
-    ghost use Rattle.vp_cluster.specs.Nodes.{Hears, MayStep, Posts};
+    ghost use Rattle.vp_cluster.specs.Nodes.{Announced, MayStep, Posts};
 
-    ghost hears = { IsEvent };
+    ghost announces = { IsEvent };
 
-    ghost heard = { Hears };
+    ghost announced = { Announced };
 
     ghost may = { MayStep };
 
     ghost did = { Posts };
 
     /// A crash and a restart are done at once; the letter of another event waits for the step that takes it.
-    fn hear(&mut self, event: &Event) -> Result<(), NoMemory> {
+    fn announce(&mut self, event: &Event) -> Result<(), NoMemory> {
         self.change(event)?;
         self.coming = self.letter(event)?;
         Ok(())
