@@ -4,7 +4,7 @@ use Rattle.std.specs.Prelude.{Option, Some, None, Result, Ok, Err, OnOk}
 use Rattle.vp_model.specs.Types.{Input}
 use Rattle.vp_model.specs.Catalogue.{Catalogue}
 use Rattle.vp_model.specs.Site.{SiteState}
-use Rattle.vp_turns.specs.declared.turned.Outcome.{Outcome}
+use Rattle.vp_turns.specs.declared.turned.TurnEffects.{TurnEffects}
 use Rattle.vp_hosts.specs.declared.letter.Letter.{Letter}
 use Rattle.vp_hosts.specs.Hosts.{HostValue, Stops, Takes}
 use Rattle.vp_hosts.specs.Letters.{as_received}
@@ -12,7 +12,7 @@ use Rattle.vp_cluster.specs.Letters.{sent_from}
 use Rattle.vp_hosts.specs.Ports.{ChangesAt}
 use Rattle.vp_cluster.specs.Nodes.{NodesValue, Comes, Posts, StopsWith}
 
-pub letter_came : (letter : Letter) (site after : SiteState) (outcome : Outcome) (catalogue : Catalogue) (hosts next : List HostValue) (letters more : List Letter) (coming : Option Letter) (old : NodesValue)
+pub letter_came : (letter : Letter) (site after : SiteState) (outcome : TurnEffects) (catalogue : Catalogue) (hosts next : List HostValue) (letters more : List Letter) (coming : Option Letter) (old : NodesValue)
     → record { catalogue = catalogue; hosts = hosts; letters = letters; coming = coming } ≡ old
     → ChangesAt letter.to (λ host next. Takes catalogue (as_received letter) site host next after outcome) hosts next → more ≡ letters ++ map (sent_from letter.to) (take (length outcome.effects.messages) outcome.datagrams)
     → Comes letter site old (record { catalogue = catalogue; hosts = next; letters = more; coming = coming })

@@ -25,7 +25,7 @@ use Rattle.vp_runs.specs.Turns.{Turn, step_turn, datagrams_of, reply_datagram}
 use Rattle.vp_kept.specs.Kept.{with_life, kept_after, kept_in as batches_in}
 use Rattle.vp_kept.proofs.Happened.{Leaves, LeavesIt, LeavesOthers, Acts, put_down, RestartEffect, IsPlain, Effect, happened}
 use Rattle.vp_kept.proofs.Folds.{folds_on}
-use Rattle.vp_turns.specs.declared.turned.Outcome.{Outcome}
+use Rattle.vp_turns.specs.declared.turned.TurnEffects.{TurnEffects}
 use Rattle.vp_places.specs.Places.{Did}
 use Rattle.vp_world.specs.Steps.{step_of, DoesEvent}
 use Rattle.vp_hosts.specs.declared.letter.Letter.{Letter}
@@ -159,7 +159,7 @@ module _ (catalogue : Catalogue) (k : IsCatalogue catalogue) (m : Moment) (momen
         let same : posts.letter ≡ letter.0 = (let z = sym posts.coming_is ∙ announced.coming_is ∙ ap (λ (c : Catalogue). letter_of c old.letters m.line.event) tied.catalogue_is ∙ letter.1 in cc) in
         subst (λ (letter : Letter). Comes letter a.x told new) same posts.comes
 
-    abbrev outcome : Outcome
+    abbrev outcome : TurnEffects
     outcome = comes.1
 
     abbrev own : HasSite catalogue moments m.before old s letter.0.to

@@ -7,7 +7,7 @@ use Rattle.vp_model.specs.Catalogue.{Catalogue}
 use Rattle.vp_model.specs.Site.{SiteState}
 use Rattle.vp_runs.specs.declared.arrival.Arrival.TheVariants as arrives
 use Rattle.vp_runs.specs.Arrivals.{arrival}
-use Rattle.vp_turns.specs.declared.turned.Outcome.{Outcome}
+use Rattle.vp_turns.specs.declared.turned.TurnEffects.{TurnEffects}
 use Rattle.vp_hosts.specs.declared.letter.Letter.{Letter}
 use Rattle.vp_hosts.specs.Hosts.{HostValue, Takes, Stops, Crashes, Restarts, Begins}
 use Rattle.vp_hosts.specs.Letters.{as_received}
@@ -46,7 +46,7 @@ pub record MayStep (catalogue : Catalogue) (site : SiteState) (given : Input) (n
 -- The letter comes to the host at its port, to which this site is lent. Of the datagrams that this gives the first are those of the
 -- messages of its step, and are letters from then on.
 abbrev pub Comes : Letter → SiteState → NodesValue → NodesValue → Type 0
-Comes letter site old new = (after : SiteState) × (outcome : Outcome)
+Comes letter site old new = (after : SiteState) × (outcome : TurnEffects)
     × ChangesAt letter.to (λ host next. Takes old.catalogue (as_received letter) site host next after outcome) old.hosts new.hosts
     × (new.letters ≡ old.letters ++ map (sent_from letter.to) (take (length outcome.effects.messages) outcome.datagrams))
 

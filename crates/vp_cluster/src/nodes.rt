@@ -22,7 +22,7 @@ use vp_hosts::{
 };
 use vp_places::Stepper;
 use vp_site::Site;
-use vp_turns::Outcome;
+use vp_turns::TurnEffects;
 use vp_wire::Body;
 
 /// The hosts of the sites of a catalogue, the letters of the messages that were sent, in order, and the letter that the next step brings.
@@ -106,7 +106,7 @@ impl Nodes {
         ensures same { OnOk result (self.new.catalogue ≡ self.old.catalogue) }
     {
         let (site, outcome) = take_at(&mut self.hosts, &self.catalog, site, letter)?;
-        let Outcome {
+        let TurnEffects {
             effects,
             datagrams,
             ..

@@ -20,7 +20,7 @@ use Rattle.vp_runs.specs.Runs.{start_node, after_turn}
 use Rattle.vp_runs.specs.Turns.{Turn, turn_on}
 use Rattle.vp_node.specs.Nodes.{NodeValue, IsNode, IsKept, Starts, IsSpent, Gives, Saves}
 use Rattle.vp_turns.specs.Taking.{IsStepOf}
-use Rattle.vp_turns.specs.declared.turned.Outcome.{Outcome}
+use Rattle.vp_turns.specs.declared.turned.TurnEffects.{TurnEffects}
 use Rattle.vp_node.proofs.Kept.{has as have}
 use Rattle.vp_node.proofs.Turning.{settled}
 use Rattle.vp_hosts.specs.Hosts.{HostValue, IsHost, IsAt, Lends, Takes, Crashes, Restarts, Begins, is_spent, log_in, told, node_at, turn_at}
@@ -86,7 +86,7 @@ module _ (catalogue : Catalogue) (d : Datagram) (site : SiteState) (id port : �
     turned_at : (batches : List (List LogRecord)) → StandsAt from batches (log_in before) → IsAt (after_turn (node_at site batches) turn).batches (Some turn.site) behind
     turned_at batches stands = record { has = have (stands_kept batches stands); is_up = refl; stands = stands_kept batches stands }
 
-  takes_turn : (outcome : Outcome) → IsHost catalogue before → asked_of new ≡ asked_of old → Gives turn after outcome → IsStepOf catalogue site (arrival catalogue site.id d) after.site outcome.effects
+  takes_turn : (outcome : TurnEffects) → IsHost catalogue before → asked_of new ≡ asked_of old → Gives turn after outcome → IsStepOf catalogue site (arrival catalogue site.id d) after.site outcome.effects
       → Steps (Saves turn from after.at) (state_after old true 0) (state_after new true 0) → IsKept catalogue after (state_after new true 0) → Takes catalogue d site before behind after.site outcome
   takes_turn outcome is asked gives stepped saved kept = record {
     stays = record {
@@ -100,7 +100,7 @@ module _ (catalogue : Catalogue) (d : Datagram) (site : SiteState) (id port : �
     up = λ batches h. turned_at asked saved batches h.stands;
   }
 
-pub takes : (catalogue : Catalogue) (d : Datagram) (site : SiteState) (host : HostValue) (new : List Change) (from : Standing) (after : NodeValue) (outcome : Outcome) → host.log ≡ Some from → IsHost catalogue host
+pub takes : (catalogue : Catalogue) (d : Datagram) (site : SiteState) (host : HostValue) (new : List Change) (from : Standing) (after : NodeValue) (outcome : TurnEffects) → host.log ≡ Some from → IsHost catalogue host
     → asked_of new ≡ asked_of host.disk → Gives (turn_at catalogue site d) after outcome → IsStepOf catalogue site (arrival catalogue site.id d) after.site outcome.effects
     → Steps (Saves (turn_at catalogue site d) from after.at) (told host) (state_after new true 0) → IsKept catalogue after (state_after new true 0)
     → Takes catalogue d site host (host_with host.id host.port new (Some after.at)) after.site outcome
@@ -252,12 +252,12 @@ module _ (catalogue : Catalogue) (parts host : HostValue) (same : parts ≡ host
   -- the site takes the turn as a node with the log that its host has
   module _ (d : Datagram) (site : SiteState) (lends : Lends catalogue site host) (is : IsHost catalogue host) (from : Standing) (up : parts.log ≡ Some from) (node : NodeValue) (is_node : node ≡ record { site = site; at = from })
       (what : Arrival) (comes : what ≡ arrival catalogue parts.id d) (new : List Change) (asked : asked_of new ≡ asked_of parts.disk) where
-    abbrev Gave : NodeValue → Arrival → NodeValue → Outcome → Type 0
+    abbrev Gave : NodeValue → Arrival → NodeValue → TurnEffects → Type 0
     Gave node what after outcome =
         Gives (turn_on catalogue node.site what) after outcome × IsStepOf catalogue node.site what after.site outcome.effects
         × Steps (Saves (turn_on catalogue node.site what) node.at after.at) (told parts) (state_after new true 0)
 
-    pub parts_take : (after : NodeValue) (outcome : Outcome) (back : SiteState × Standing) → back ≡ (after.site, after.at) → Gave node what after outcome → IsKept catalogue after (state_after new true 0)
+    pub parts_take : (after : NodeValue) (outcome : TurnEffects) (back : SiteState × Standing) → back ≡ (after.site, after.at) → Gave node what after outcome → IsKept catalogue after (state_after new true 0)
         → Takes catalogue d site host (host_with parts.id parts.port new (Some back.1)) back.0 outcome
     parts_take after outcome back back_is gave kept =
         let here = subst (λ (n : NodeValue). Gave n what after outcome) is_node gave in

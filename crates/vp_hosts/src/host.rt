@@ -17,7 +17,7 @@ use vp_disks::SureDisk;
 use vp_node::{Node, NodeEnd};
 use vp_site::Site;
 use vp_stable::{Log, halves_are_one_log};
-use vp_turns::{Outcome, arrival, take};
+use vp_turns::{TurnEffects, arrival, take};
 
 /// A site with both halves of its log.
 pub type SiteLog = (SiteId, Word, Word);
@@ -99,7 +99,7 @@ impl Host {
         catalog: &Catalog,
         site: Site,
         letter: &Letter,
-    ) -> Result<(Site, Outcome), NoMemory>
+    ) -> Result<(Site, TurnEffects), NoMemory>
         requires host { IsHost catalog.now self.old }
         requires lent { Lends catalog.now site self.old }
         ensures takes { IfOk result (λ it. Takes catalog.now (as_received letter.now) site self.old self.new it.0 it.1) }

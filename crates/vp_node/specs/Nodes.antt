@@ -15,7 +15,7 @@ use Rattle.vp_runs.specs.Keeping.{durable_in}
 use Rattle.vp_node.specs.Keeping.{KeepsAt, MayKeepAt}
 use Rattle.vp_runs.specs.Turns.{Turn, turn_on, turn_lines}
 use Rattle.vp_runs.specs.Runs.{start_node}
-use Rattle.vp_turns.specs.declared.turned.Outcome.{Outcome}
+use Rattle.vp_turns.specs.declared.turned.TurnEffects.{TurnEffects}
 use Rattle.vp_turns.specs.declared.turned.Turned.{Turned}
 
 -- what contracts see of a node: its site, and where its log stands
@@ -70,7 +70,7 @@ abbrev pub turn_of : Catalogue → NodeValue → Datagram → Turn
 turn_of catalogue node d = turn_on catalogue node.site (what_comes catalogue node d)
 
 -- The site took the turn, and this is what it committed and has to hand over.
-pub record Gives (turn : Turn) (after : NodeValue) (outcome : Outcome) : Type 0 where
+pub record Gives (turn : Turn) (after : NodeValue) (outcome : TurnEffects) : Type 0 where
   pub site : after.site ≡ turn.site
   pub datagrams : outcome.datagrams ≡ turn.datagrams
   pub commits : outcome.effects.commits ≡ turn.commits

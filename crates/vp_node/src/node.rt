@@ -23,7 +23,7 @@ use vp_outside::Disk;
 use vp_runs::Arrival;
 use vp_site::Site;
 use vp_stable::{Log, halves_are_one_log};
-use vp_turns::{Outcome, Turned, arrival, arrival_line, take};
+use vp_turns::{TurnEffects, Turned, arrival, arrival_line, take};
 
 /// A site that is up, with its log.
 #[derive(Drop)]
@@ -103,7 +103,7 @@ impl Node {
         catalog: &Catalog,
         disk: &mut D,
         what: Arrival,
-    ) -> Result<(Node, Outcome), NodeEnd>
+    ) -> Result<(Node, TurnEffects), NodeEnd>
         requires attached { IsTrue (D.state disk.old).attached }
         requires node { IsNode catalog.now self }
         requires kept { IsKept catalog.now self (D.state disk.old) }

@@ -7,10 +7,10 @@ use Rattle.vp_model.specs.Step.{step}
 use Rattle.vp_runs.specs.declared.arrival.Arrival.{Arrival}
 use Rattle.vp_runs.specs.declared.arrival.Arrival.TheVariants.{Gives}
 use Rattle.vp_runs.specs.Turns.{Turn}
-use Rattle.vp_turns.specs.declared.turned.Outcome.{Outcome}
+use Rattle.vp_turns.specs.declared.turned.TurnEffects.{TurnEffects}
 
--- The site took the turn, and gives its outcome.
-pub record Does (turn : Turn) (site : SiteState) (outcome : Outcome) : Type 0 where
+-- The site took the turn, and gives its effects.
+pub record Does (turn : Turn) (site : SiteState) (outcome : TurnEffects) : Type 0 where
   pub site_is : site ≡ turn.site
   pub records_are : outcome.effects.records ≡ turn.batch
   pub datagrams_are : outcome.datagrams ≡ turn.datagrams
