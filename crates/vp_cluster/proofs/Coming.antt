@@ -12,12 +12,12 @@ use Rattle.vp_cluster.specs.Letters.{sent_from}
 use Rattle.vp_hosts.specs.Ports.{ChangesAt}
 use Rattle.vp_cluster.specs.Nodes.{NodesValue, Comes, Posts, StopsWith}
 
-pub letter_came : (letter : Letter) (site after : SiteState) (outcome : TurnEffects) (catalogue : Catalogue) (hosts next : List HostValue) (letters more : List Letter) (coming : Option Letter) (old : NodesValue)
+pub letter_came : (letter : Letter) (site after : SiteState) (turn_effects : TurnEffects) (catalogue : Catalogue) (hosts next : List HostValue) (letters more : List Letter) (coming : Option Letter) (old : NodesValue)
     → record { catalogue = catalogue; hosts = hosts; letters = letters; coming = coming } ≡ old
-    → ChangesAt letter.to (λ host next. Takes catalogue (as_received letter) site host next after outcome) hosts next → more ≡ letters ++ map (sent_from letter.to) (take (length outcome.effects.messages) outcome.datagrams)
+    → ChangesAt letter.to (λ host next. Takes catalogue (as_received letter) site host next after turn_effects) hosts next → more ≡ letters ++ map (sent_from letter.to) (take (length turn_effects.effects.messages) turn_effects.datagrams)
     → Comes letter site old (record { catalogue = catalogue; hosts = next; letters = more; coming = coming })
-letter_came letter site after outcome catalogue hosts next letters more coming old is changes put =
-    subst (λ (old : NodesValue). Comes letter site old (record { catalogue = catalogue; hosts = next; letters = more; coming = coming })) is (after, outcome, changes, put)
+letter_came letter site after turn_effects catalogue hosts next letters more coming old is changes put =
+    subst (λ (old : NodesValue). Comes letter site old (record { catalogue = catalogue; hosts = next; letters = more; coming = coming })) is (after, turn_effects, changes, put)
 
 pub letter_stops : (letter : Letter) (site : SiteState) (catalogue : Catalogue) (hosts next : List HostValue) (letters : List Letter) (coming : Option Letter) (kept : Option Bool) (old new : NodesValue)
     → record { catalogue = catalogue; hosts = hosts; letters = letters; coming = coming } ≡ old → new.hosts ≡ next → ChangesAt letter.to (λ host next. Stops catalogue (as_received letter) site host next kept) hosts next → StopsWith letter site kept old new

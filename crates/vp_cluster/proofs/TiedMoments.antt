@@ -159,8 +159,8 @@ module _ (catalogue : Catalogue) (k : IsCatalogue catalogue) (m : Moment) (momen
         let same : posts.letter ≡ letter.0 = (let z = sym posts.coming_is ∙ announced.coming_is ∙ ap (λ (c : Catalogue). letter_of c old.letters m.line.event) tied.catalogue_is ∙ letter.1 in cc) in
         subst (λ (letter : Letter). Comes letter a.x told new) same posts.comes
 
-    abbrev outcome : TurnEffects
-    outcome = comes.1
+    abbrev turn_effects : TurnEffects
+    turn_effects = comes.1
 
     abbrev own : HasSite catalogue moments m.before old s letter.0.to
     own = acting.own catalogue k m moments old facts tied s a
@@ -171,7 +171,7 @@ module _ (catalogue : Catalogue) (k : IsCatalogue catalogue) (m : Moment) (momen
     hosts_same : told.hosts ≡ old.hosts
     hosts_same = hosts_stay m.line.event old.catalogue old.hosts told.hosts (acting.plain catalogue k m moments old facts tied s a) announced.hosts
 
-    host_now : (after : HostValue) × (host_at letter.0.to new.hosts ≡ Some after) × Takes told.catalogue (as_received letter.0) a.x own.host after comes.0 outcome
+    host_now : (after : HostValue) × (host_at letter.0.to new.hosts ≡ Some after) × Takes told.catalogue (as_received letter.0) a.x own.host after comes.0 turn_effects
     host_now = comes.2.there own.host (ap (host_at letter.0.to) hosts_same ∙ own.host_is)
 
     turn_is : turn_at told.catalogue a.x (as_received letter.0) ≡ taken
@@ -182,10 +182,10 @@ module _ (catalogue : Catalogue) (k : IsCatalogue catalogue) (m : Moment) (momen
         let was = subst (λ (up : Option SiteState). IsAt (log s) up own.host) (acting.up_is catalogue k m moments old facts tied s a) own.at in
         subst (λ (turn : Turn). IsAt (after_turn (node_at a.x (log s)) turn).batches (Some turn.site) host_now.0) turn_is (host_now.2.up (log s) was)
 
-    datagrams_are : outcome.datagrams ≡ taken.datagrams
+    datagrams_are : turn_effects.datagrams ≡ taken.datagrams
     datagrams_are = host_now.2.datagrams_are ∙ ap (λ (turn : Turn). turn.datagrams) turn_is
 
-    as_many : length outcome.effects.messages ≡ length effects.messages
+    as_many : length turn_effects.effects.messages ≡ length effects.messages
     as_many =
         let stepped = host_now.2.stepped a.given (acting.comes catalogue k m moments old facts tied s a told announced.same_catalogue) in
         ap (λ (o : Stepped). length o.effects.messages) stepped ∙ ap (λ (c : Catalogue). length (step c a.x a.given).effects.messages) (announced.same_catalogue ∙ tied.catalogue_is)
@@ -215,10 +215,10 @@ module _ (catalogue : Catalogue) (k : IsCatalogue catalogue) (m : Moment) (momen
         let local = local-step catalogue a.x a.given (facts.views.site s a.x a.up).tidy in
         ((local.sent sent h).0 ∙ is_id, facts.routed sent (subst (λ (all : List Sent). Has all sent) (sym a.sent_is) (has_right m.before.sent effects.messages sent h)))
 
-    letters_more : map (sent_from letter.0.to) (take (length outcome.effects.messages) outcome.datagrams) ≡ map (letter_for catalogue) effects.messages
+    letters_more : map (sent_from letter.0.to) (take (length turn_effects.effects.messages) turn_effects.datagrams) ≡ map (letter_for catalogue) effects.messages
     unfolding datagrams_of
     letters_more =
-        ap (λ (count : ℕ). map (sent_from letter.0.to) (take count outcome.datagrams)) as_many
+        ap (λ (count : ℕ). map (sent_from letter.0.to) (take count turn_effects.datagrams)) as_many
         ∙ ap (λ (given : List Datagram). map (sent_from letter.0.to) (take (length effects.messages) given)) datagrams_are
         ∙ posted catalogue k s letter.0.to letter.2.to_is effects.messages from_here (map (reply_datagram a.x.id) effects.replies)
 

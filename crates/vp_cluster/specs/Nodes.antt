@@ -46,9 +46,9 @@ pub record MayStep (catalogue : Catalogue) (site : SiteState) (given : Input) (n
 -- The letter comes to the host at its port, to which this site is lent. Of the datagrams that this gives the first are those of the
 -- messages of its step, and are letters from then on.
 abbrev pub Comes : Letter → SiteState → NodesValue → NodesValue → Type 0
-Comes letter site old new = (after : SiteState) × (outcome : TurnEffects)
-    × ChangesAt letter.to (λ host next. Takes old.catalogue (as_received letter) site host next after outcome) old.hosts new.hosts
-    × (new.letters ≡ old.letters ++ map (sent_from letter.to) (take (length outcome.effects.messages) outcome.datagrams))
+Comes letter site old new = (after : SiteState) × (turn_effects : TurnEffects)
+    × ChangesAt letter.to (λ host next. Takes old.catalogue (as_received letter) site host next after turn_effects) old.hosts new.hosts
+    × (new.letters ≡ old.letters ++ map (sent_from letter.to) (take (length turn_effects.effects.messages) turn_effects.datagrams))
 
 -- The letter that waited comes, with this site's step.
 pub record Posts (site : SiteState) (given : Input) (old new : NodesValue) : Type 0 where

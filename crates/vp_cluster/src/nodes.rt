@@ -105,12 +105,12 @@ impl Nodes {
         ensures stepped { IfOk result (λ it. IsStepOf self.old.catalogue site (arrival self.old.catalogue site.id (as_received letter.now)) it.0 it.1) }
         ensures same { OnOk result (self.new.catalogue ≡ self.old.catalogue) }
     {
-        let (site, outcome) = take_at(&mut self.hosts, &self.catalog, site, letter)?;
+        let (site, turn_effects) = take_at(&mut self.hosts, &self.catalog, site, letter)?;
         let TurnEffects {
             effects,
             datagrams,
             ..
-        } = outcome;
+        } = turn_effects;
         let count = effects.messages.as_slice().len();
         put_letters(letter.to, count, datagrams, &mut self.letters)?;
         Ok((site, effects))

@@ -113,12 +113,12 @@ impl Host {
         let what = arrival(alloc, catalog, self.id, letter.from, &letter.bytes)?;
         let node = Node::from_parts(site, log);
         // this disk fails for want of memory alone
-        let Ok((node, outcome)) = node.take(catalog, &mut self.disk, what) else {
+        let Ok((node, turn_effects)) = node.take(catalog, &mut self.disk, what) else {
             return Err(NoMemory);
         };
         let (site, log) = node.into_parts();
         self.log = Some(log);
-        Ok((site, outcome))
+        Ok((site, turn_effects))
     }
 
     /// The site goes down.
@@ -150,8 +150,8 @@ impl Host {
         };
         let alloc = catalog.sites().allocator();
         let what = arrival(alloc, catalog, self.id, letter.from, &letter.bytes)?;
-        let (_, outcome) = take(site, catalog, what)?;
-        let batch = &outcome.effects.records;
+        let (_, turn_effects) = take(site, catalog, what)?;
+        let batch = &turn_effects.effects.records;
         if batch.as_slice().is_empty() {
             return Ok(None);
         }

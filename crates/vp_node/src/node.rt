@@ -127,10 +127,10 @@ impl Node {
         ensures others { LeavesOthers (D.state disk.old) (D.state disk.new) }
         ensures cause { HasNodeCause (D.state disk.old).faults (D.state disk.new).faults result }
     {
-        let (site, outcome) = take(self.site, catalog, what)?;
+        let (site, turn_effects) = take(self.site, catalog, what)?;
         let mut log = self.log;
-        keep(&mut log, disk, &site, &outcome.effects.records)?;
-        Ok((Node { site, log }, outcome))
+        keep(&mut log, disk, &site, &turn_effects.effects.records)?;
+        Ok((Node { site, log }, turn_effects))
     }
 
     /// Takes one datagram, and tells of it. Its records are synced before it returns, and nothing is sent here. After a fault or want of
@@ -167,7 +167,7 @@ impl Node {
         let alloc = catalog.sites().allocator();
         let what = arrival(alloc, catalog, self.site.id(), port, bytes)?;
         let line = arrival_line(alloc, port, bytes, &what)?;
-        let (node, outcome) = self.take(catalog, disk, what)?;
-        Ok((node, outcome.recorded(line)?))
+        let (node, turn_effects) = self.take(catalog, disk, what)?;
+        Ok((node, turn_effects.recorded(line)?))
     }
 }

@@ -31,12 +31,12 @@ fn step(site: Site, catalog: &Catalog, input: Input) -> Result<(Site, TurnEffect
     let (site, effects) = site.step(catalog, &input)?;
     let messages = effects.messages.as_slice();
     let datagrams = datagrams_of(catalog, id, messages, effects.replies.as_slice())?;
-    let outcome = TurnEffects {
+    let turn_effects = TurnEffects {
         effects,
         datagrams,
         stop: false,
     };
-    Ok((site, outcome))
+    Ok((site, turn_effects))
 }
 
 /// A turn without a step.
