@@ -50,9 +50,6 @@ log_kept catalogue node disk kept honest = settled catalogue node (disk.may_leav
 abbrev pub host_with : ℕ → ℕ → List Change → Option Standing → HostValue
 host_with id port disk log = record { id = id; port = port; disk = disk; log = log }
 
-not_down : (batches : List (List LogRecord)) (id port : ℕ) (disk : List Change) (at : Standing) → IsAt batches None (host_with id port disk (Some at)) → ⊥
-not_down batches id port disk at h = let e = h.is_up in cc
-
 not_up : (batches : List (List LogRecord)) (site : SiteState) (id port : ℕ) (disk : List Change) → IsAt batches (Some site) (host_with id port disk None) → ⊥
 not_up batches site id port disk h = let e = h.is_up in cc
 
@@ -177,19 +174,6 @@ module _ (catalogue : Catalogue) (id port : ℕ) (old new : List Change) where
         absurd (left (subst (λ bs. is_spent catalogue id bs) same (spent.1.2 ∙ spent.0)));
   }
 
--- where its site is up nothing is done
-pub goes_on : (catalogue : Catalogue) (host : HostValue) → is_some host.log ≡ true → IsHost catalogue host → Restarts catalogue host host
-goes_on catalogue host up is = by host.log refl
-  where
-    by : (log : Option Standing) → host.log ≡ log → Restarts catalogue host host
-    by (Some at) e = record {
-      stays = record { host = is; same_id = refl; same_port = refl };
-      up = λ batches site h. h;
-      spent = λ batches h last. h;
-      down = λ batches h left. absurd (not_down batches host.id host.port host.disk at (rw e at h));
-    }
-    by None e = let none : is_some {T = Standing} None ≡ true = rw e at up in cc
-
 pub is_down : (log : Option Standing) → is_some log ≡ false → log ≡ None
 is_down None e = refl
 is_down (Some at) e = cc
@@ -245,9 +229,6 @@ module _ (catalogue : Catalogue) (parts host : HostValue) (same : parts ≡ host
 
   pub parts_crash : IsHost catalogue host → Crashes catalogue host (host_with parts.id parts.port parts.disk None)
   parts_crash is = subst (λ h. Crashes catalogue h (host_with parts.id parts.port parts.disk None)) same (crashes catalogue parts (known is))
-
-  pub parts_go_on : is_some parts.log ≡ true → IsHost catalogue host → Restarts catalogue host parts
-  parts_go_on up is = subst (λ h. Restarts catalogue h parts) same (goes_on catalogue parts up (known is))
 
   -- the site takes the turn as a node with the log that its host has
   module _ (d : Datagram) (site : SiteState) (lends : Lends catalogue site host) (is : IsHost catalogue host) (from : Standing) (up : parts.log ≡ Some from) (node : NodeValue) (is_node : node ≡ record { site = site; at = from })
