@@ -3,6 +3,7 @@
 ghost use Rattle.std.specs.Prelude.{◌≡◌, ◌≤◌, ◌<◌, ◌↔◌, IfOk, IfSome, IsErrOf, IsTrue, None, ℕ, List, length};
 ghost use Rattle.vp_outside.specs.Causes.{Rose};
 ghost use Rattle.vp_outside.specs.Input.{IsEnded, Took};
+ghost use Rattle.vp_serving.specs.Serving.{outside};
 ghost use Rattle.vp_top.specs.Ends.{Ends, EndsAsNode, EndsInText, LeavesLink};
 ghost use Rattle.vp_top.specs.Plans.{Plans};
 ghost use Rattle.vp_top.specs.Program.{AreOf, Calls, IsForNode, Reads};
@@ -55,15 +56,7 @@ pub fn run<S: Source, K: Sink, L: Link, D: Disk>(
 ) -> Status
     requires fresh { (L.state link.old).asked ≡ None }
     ensures ends { Ends words.now (S.state source.old) (S.state source.new)
-        (record {
-          link = L.state link.old;
-          link' = L.state link.new;
-          sink = K.state sink.old;
-          sink' = K.state sink.new;
-          disk = D.state disk.old;
-          disk' = D.state disk.new;
-        })
-        result }
+        (outside (L.state link.old) (L.state link.new) (K.state sink.old) (K.state sink.new) (D.state disk.old) (D.state disk.new)) result }
     // Whatever is no node prints a text.
     ensures text { (AreOf IsForNode words.now → ⊥)
         → EndsInText words.now (S.state source.old) (S.state source.new) (L.state link.old) (L.state link.new) (K.state sink.old) (K.state sink.new) result }
@@ -71,15 +64,7 @@ pub fn run<S: Source, K: Sink, L: Link, D: Disk>(
     ensures link_uncalled { (AreOf Calls words.now → ⊥) → link.new ≡ link.old }
     // Unless a node serves.
     ensures disk_uncalled { (EndsAsNode words.now (S.state source.old) (S.state source.new)
-        (record {
-          link = L.state link.old;
-          link' = L.state link.new;
-          sink = K.state sink.old;
-          sink' = K.state sink.new;
-          disk = D.state disk.old;
-          disk' = D.state disk.new;
-        })
-        result → ⊥) → disk.new ≡ disk.old }
+        (outside (L.state link.old) (L.state link.new) (K.state sink.old) (K.state sink.new) (D.state disk.old) (D.state disk.new)) result → ⊥) → disk.new ≡ disk.old }
 {
     match plan(alloc, words, source, link) {
         Ok(Plan::Print(defined)) => defined.print(sink),
