@@ -29,7 +29,7 @@ use Rattle.vp_hosts.specs.Letters.{as_received}
 use Rattle.vp_cluster.specs.Letters.{letter_of}
 use Rattle.vp_hosts.specs.Hosts.{HostValue, IsAt, Lends, turn_at}
 use Rattle.vp_hosts.specs.Ports.{host_at, LendsAt}
-use Rattle.vp_cluster.specs.Nodes.{NodesValue, HostsHear, Hears, MayStep}
+use Rattle.vp_cluster.specs.Nodes.{NodesValue, HostsAnnounced, Announced, MayStep}
 use Rattle.vp_cluster.specs.Clusters.{HasSite, AreTied}
 use Rattle.vp_cluster.proofs.Lent.{none_lent, site_lent}
 use Rattle.vp_cluster.proofs.TiedLetters.{Brings, brought}
@@ -55,7 +55,7 @@ abbrev pub Folds : Catalogue → List Moment → WorldState → Type 0
 Folds catalogue moments w = (id : ℕ) (place : Place) → place_of id w.places ≡ Some place → Has (sites_of catalogue) id → durable_in catalogue id (batches_in catalogue id moments) ≡ place.durable
 
 -- the hosts stay as they are of an event that is neither a crash nor a restart
-pub hosts_stay : (e : Event) (catalogue : Catalogue) (old new : List HostValue) → IsPlain e → HostsHear e catalogue old new → new ≡ old
+pub hosts_stay : (e : Event) (catalogue : Catalogue) (old new : List HostValue) → IsPlain e → HostsAnnounced e catalogue old new → new ≡ old
 hosts_stay (event.Crash s) catalogue old new plain h = absurd plain
 hosts_stay (event.Restart s) catalogue old new plain h = absurd plain
 hosts_stay e catalogue old new plain h = h
@@ -120,13 +120,13 @@ module _ (catalogue : Catalogue) (k : IsCatalogue catalogue) (m : Moment) (momen
     pub lends_at : (nodes : NodesValue) → nodes.catalogue ≡ old.catalogue → nodes.hosts ≡ old.hosts → LendsAt nodes.catalogue a.x letter.0.to nodes.hosts
     lends_at nodes same hosts = (own.host, ap (host_at letter.0.to) hosts ∙ own.host_is, subst (λ (c : Catalogue). Lends c a.x own.host) (sym (same ∙ tied.catalogue_is)) lends)
 
-    may_step : (told : NodesValue) → Hears m.line.event old told → MayStep catalogue a.x a.given told
-    may_step told heard = record {
+    may_step : (told : NodesValue) → Announced m.line.event old told → MayStep catalogue a.x a.given told
+    may_step told announced = record {
       letter = letter.0;
-      coming_is = heard.coming_is ∙ ap (λ (c : Catalogue). letter_of c old.letters m.line.event) tied.catalogue_is ∙ letter.1;
-      comes = comes told heard.same_catalogue;
-      lent = lends_at told heard.same_catalogue (hosts_stay m.line.event old.catalogue old.hosts told.hosts plain heard.hosts);
-      same_catalogue = heard.same_catalogue ∙ tied.catalogue_is;
+      coming_is = announced.coming_is ∙ ap (λ (c : Catalogue). letter_of c old.letters m.line.event) tied.catalogue_is ∙ letter.1;
+      comes = comes told announced.same_catalogue;
+      lent = lends_at told announced.same_catalogue (hosts_stay m.line.event old.catalogue old.hosts told.hosts plain announced.hosts);
+      same_catalogue = announced.same_catalogue ∙ tied.catalogue_is;
     }
 
 -- ---- any event
@@ -136,9 +136,9 @@ IfLent catalogue told o = IfSome o (λ it. MayStep catalogue it.0 it.1 told)
 
 -- nodes that are tied to what came before may do the step of the next event
 pub ready_on : (catalogue : Catalogue) (k : IsCatalogue catalogue) (m : Moment) (moments : List Moment) (old : NodesValue) → Facts catalogue m → AreTied catalogue moments m.before old → Folds catalogue moments m.before → Effect catalogue m
-    → IsReady Hears (MayStep catalogue) m.line.event m.before old
-ready_on catalogue k m moments old facts tied folds (Effect.acts s a others) = λ told heard. subst (IfLent catalogue told) (sym (lent catalogue k m moments old facts tied s a)) (may_step catalogue k m moments old facts tied s a folds told heard)
-ready_on catalogue k m moments old facts tied folds (Effect.crashes s is sent here others) = λ told heard. subst (IfLent catalogue told) (ap (λ (e : Event). step_of e m.before) (sym is)) tt
-ready_on catalogue k m moments old facts tied folds (Effect.restarts s is sent here others) = λ told heard. subst (IfLent catalogue told) (ap (λ (e : Event). step_of e m.before) (sym is)) tt
+    → IsReady Announced (MayStep catalogue) m.line.event m.before old
+ready_on catalogue k m moments old facts tied folds (Effect.acts s a others) = λ told announced. subst (IfLent catalogue told) (sym (lent catalogue k m moments old facts tied s a)) (may_step catalogue k m moments old facts tied s a folds told announced)
+ready_on catalogue k m moments old facts tied folds (Effect.crashes s is sent here others) = λ told announced. subst (IfLent catalogue told) (ap (λ (e : Event). step_of e m.before) (sym is)) tt
+ready_on catalogue k m moments old facts tied folds (Effect.restarts s is sent here others) = λ told announced. subst (IfLent catalogue told) (ap (λ (e : Event). step_of e m.before) (sym is)) tt
 ready_on catalogue k m moments old facts tied folds (Effect.stands plain none sent all) =
-    λ told heard. subst (IfLent catalogue told) (sym (none_lent catalogue m.before m.line.event plain (ap (λ (n : Moment). is_step n.line.shown) (sym facts.next_is) ∙ none))) tt
+    λ told announced. subst (IfLent catalogue told) (sym (none_lent catalogue m.before m.line.event plain (ap (λ (n : Moment). is_step n.line.shown) (sym facts.next_is) ∙ none))) tt

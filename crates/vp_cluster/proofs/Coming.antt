@@ -4,7 +4,7 @@ use Rattle.std.specs.Prelude.{Option, Some, None, Result, Ok, Err, OnOk}
 use Rattle.vp_model.specs.Types.{Input}
 use Rattle.vp_model.specs.Catalogue.{Catalogue}
 use Rattle.vp_model.specs.Site.{SiteState}
-use Rattle.vp_turns.specs.declared.turned.Outcome.{Outcome}
+use Rattle.vp_turns.specs.declared.turned.TurnEffects.{TurnEffects}
 use Rattle.vp_hosts.specs.declared.letter.Letter.{Letter}
 use Rattle.vp_hosts.specs.Hosts.{HostValue, Stops, Takes}
 use Rattle.vp_hosts.specs.Letters.{as_received}
@@ -13,12 +13,12 @@ use Rattle.vp_hosts.specs.Ports.{ChangesAt}
 use Rattle.vp_hosts.specs.declared.host.StoppedLog.{StoppedLog}
 use Rattle.vp_cluster.specs.Nodes.{NodesValue, Comes, Posts, StopsWith}
 
-pub letter_came : (letter : Letter) (site after : SiteState) (outcome : Outcome) (catalogue : Catalogue) (hosts next : List HostValue) (letters more : List Letter) (coming : Option Letter) (old : NodesValue)
+pub letter_came : (letter : Letter) (site after : SiteState) (turn_effects : TurnEffects) (catalogue : Catalogue) (hosts next : List HostValue) (letters more : List Letter) (coming : Option Letter) (old : NodesValue)
     → record { catalogue = catalogue; hosts = hosts; letters = letters; coming = coming } ≡ old
-    → ChangesAt letter.to (λ host next. Takes catalogue (as_received letter) site host next after outcome) hosts next → more ≡ letters ++ map (sent_from letter.to) (take (length outcome.effects.messages) outcome.datagrams)
+    → ChangesAt letter.to (λ host next. Takes catalogue (as_received letter) site host next after turn_effects) hosts next → more ≡ letters ++ map (sent_from letter.to) (take (length turn_effects.effects.messages) turn_effects.datagrams)
     → Comes letter site old (record { catalogue = catalogue; hosts = next; letters = more; coming = coming })
-letter_came letter site after outcome catalogue hosts next letters more coming old is changes put =
-    subst (λ (old : NodesValue). Comes letter site old (record { catalogue = catalogue; hosts = next; letters = more; coming = coming })) is (after, outcome, changes, put)
+letter_came letter site after turn_effects catalogue hosts next letters more coming old is changes put =
+    subst (λ (old : NodesValue). Comes letter site old (record { catalogue = catalogue; hosts = next; letters = more; coming = coming })) is (after, turn_effects, changes, put)
 
 pub letter_stops : (letter : Letter) (site : SiteState) (catalogue : Catalogue) (hosts next : List HostValue) (letters : List Letter) (coming : Option Letter) (left : Option StoppedLog) (old new : NodesValue)
     → record { catalogue = catalogue; hosts = hosts; letters = letters; coming = coming } ≡ old → new.hosts ≡ next → ChangesAt letter.to (λ host next. Stops catalogue (as_received letter) site host next left) hosts next → StopsWith letter site left old new

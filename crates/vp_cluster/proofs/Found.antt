@@ -10,9 +10,6 @@ use Rattle.vp_hosts.specs.Hosts.{HostValue, address_of, Begins}
 use Rattle.vp_hosts.specs.Ports.{AreBegun, host_at}
 use Rattle.vp_cluster.specs.Nodes.{NodesValue, Begin}
 
-abbrev at_port : ℕ → HostValue → Bool
-at_port port host = host.port == port
-
 -- the ports of hosts with these sites differ
 ports_of : (hosts : List HostValue) → map (λ (s : ℕ × ℕ). s.1) (map address_of hosts) ≡ map (λ (host : HostValue). host.port) hosts
 ports_of [] = refl

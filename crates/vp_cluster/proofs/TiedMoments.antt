@@ -25,7 +25,7 @@ use Rattle.vp_runs.specs.Turns.{Turn, step_turn, datagrams_of, reply_datagram}
 use Rattle.vp_kept.specs.Kept.{with_life, kept_after, kept_in as batches_in}
 use Rattle.vp_kept.proofs.Happened.{Leaves, LeavesIt, LeavesOthers, Acts, put_down, RestartEffect, IsPlain, Effect, happened}
 use Rattle.vp_kept.proofs.Folds.{folds_on}
-use Rattle.vp_turns.specs.declared.turned.Outcome.{Outcome}
+use Rattle.vp_turns.specs.declared.turned.TurnEffects.{TurnEffects}
 use Rattle.vp_places.specs.Places.{Did}
 use Rattle.vp_world.specs.Steps.{step_of, DoesEvent}
 use Rattle.vp_hosts.specs.declared.letter.Letter.{Letter}
@@ -33,7 +33,7 @@ use Rattle.vp_hosts.specs.Letters.{as_received}
 use Rattle.vp_cluster.specs.Letters.{sent_from, letter_of, letter_for}
 use Rattle.vp_hosts.specs.Hosts.{HostValue, IsAt, node_at, turn_at, Takes, Crashes, Restarts}
 use Rattle.vp_hosts.specs.Ports.{host_at, ChangesOf}
-use Rattle.vp_cluster.specs.Nodes.{NodesValue, HostsHear, Hears, Comes, Posts}
+use Rattle.vp_cluster.specs.Nodes.{NodesValue, HostsAnnounced, Announced, Comes, Posts}
 use Rattle.vp_cluster.specs.Clusters.{HasSite, AreTied}
 use Rattle.vp_cluster.proofs.TiedLetters.{ports_differ, Brings, posted}
 use Rattle.vp_cluster.proofs.Lent.{none_lent}
@@ -102,7 +102,7 @@ module _ (catalogue : Catalogue) (m : Moment) (moments : List Moment) (old new :
         (same_site id s)
 
 module _ (catalogue : Catalogue) (k : IsCatalogue catalogue) (m : Moment) (moments : List Moment) (old new : NodesValue) (facts : Facts catalogue m) (tied : AreTied catalogue moments m.before old) (folds : Folds catalogue moments m.before)
-    (does : DoesEvent Hears Posts m.line.event m.before old new) where
+    (does : DoesEvent Announced Posts m.line.event m.before old new) where
   abbrev Tied : Type 0
   Tied = AreTied catalogue (moments ++ m ∷ []) m.after new
 
@@ -115,12 +115,12 @@ module _ (catalogue : Catalogue) (k : IsCatalogue catalogue) (m : Moment) (momen
   listed : (id port : ℕ) → value_at id catalogue.sites ≡ Some port → Has (sites_of catalogue) id
   listed id port at = facts.views.known id (tied.sites id port at).place (tied.sites id port at).place_is
 
-  -- the nodes that have heard of the event
+  -- the nodes to which the event was announced
   abbrev told : NodesValue
   told = does.0
 
-  heard : Hears m.line.event old told
-  heard = does.1
+  announced : Announced m.line.event old told
+  announced = does.1
 
   abbrev Done : Option (SiteState × Input) → Type 0
   Done o = Did (λ (it : SiteState × Input). Posts it.0 it.1) o told new
@@ -133,11 +133,11 @@ module _ (catalogue : Catalogue) (k : IsCatalogue catalogue) (m : Moment) (momen
   letters_stay sent same = same ∙ tied.letters ∙ ap (map (letter_for catalogue)) (sym sent)
 
   tied_so : new.catalogue ≡ told.catalogue → ((id port : ℕ) → value_at id catalogue.sites ≡ Some port → HasSite catalogue (moments ++ m ∷ []) m.after new id port) → new.letters ≡ map (letter_for catalogue) m.after.sent → Tied
-  tied_so same sites letters = record { catalogue_is = same ∙ heard.same_catalogue ∙ tied.catalogue_is; sites = sites; letters = letters }
+  tied_so same sites letters = record { catalogue_is = same ∙ announced.same_catalogue ∙ tied.catalogue_is; sites = sites; letters = letters }
 
   -- the same where no more is done
   tied_still : new ≡ told → ((id port : ℕ) → value_at id catalogue.sites ≡ Some port → HasSite catalogue (moments ++ m ∷ []) m.after new id port) → m.after.sent ≡ m.before.sent → Tied
-  tied_still same sites sent = tied_so (ap (λ (nodes : NodesValue). nodes.catalogue) same) sites (letters_stay sent (ap (λ (nodes : NodesValue). nodes.letters) same ∙ heard.letters_stay))
+  tied_still same sites sent = tied_so (ap (λ (nodes : NodesValue). nodes.catalogue) same) sites (letters_stay sent (ap (λ (nodes : NodesValue). nodes.letters) same ∙ announced.letters_stay))
 
   -- ---- a step
 
@@ -156,11 +156,11 @@ module _ (catalogue : Catalogue) (k : IsCatalogue catalogue) (m : Moment) (momen
 
     comes : Comes letter.0 a.x told new
     comes =
-        let same : posts.letter ≡ letter.0 = (let z = sym posts.coming_is ∙ heard.coming_is ∙ ap (λ (c : Catalogue). letter_of c old.letters m.line.event) tied.catalogue_is ∙ letter.1 in cc) in
+        let same : posts.letter ≡ letter.0 = (let z = sym posts.coming_is ∙ announced.coming_is ∙ ap (λ (c : Catalogue). letter_of c old.letters m.line.event) tied.catalogue_is ∙ letter.1 in cc) in
         subst (λ (letter : Letter). Comes letter a.x told new) same posts.comes
 
-    abbrev outcome : Outcome
-    outcome = comes.1
+    abbrev turn_effects : TurnEffects
+    turn_effects = comes.1
 
     abbrev own : HasSite catalogue moments m.before old s letter.0.to
     own = acting.own catalogue k m moments old facts tied s a
@@ -169,26 +169,26 @@ module _ (catalogue : Catalogue) (k : IsCatalogue catalogue) (m : Moment) (momen
     is_id = acting.is_id catalogue k m moments old facts tied s a
 
     hosts_same : told.hosts ≡ old.hosts
-    hosts_same = hosts_stay m.line.event old.catalogue old.hosts told.hosts (acting.plain catalogue k m moments old facts tied s a) heard.hosts
+    hosts_same = hosts_stay m.line.event old.catalogue old.hosts told.hosts (acting.plain catalogue k m moments old facts tied s a) announced.hosts
 
-    host_now : (after : HostValue) × (host_at letter.0.to new.hosts ≡ Some after) × Takes told.catalogue (as_received letter.0) a.x own.host after comes.0 outcome
+    host_now : (after : HostValue) × (host_at letter.0.to new.hosts ≡ Some after) × Takes told.catalogue (as_received letter.0) a.x own.host after comes.0 turn_effects
     host_now = comes.2.there own.host (ap (host_at letter.0.to) hosts_same ∙ own.host_is)
 
     turn_is : turn_at told.catalogue a.x (as_received letter.0) ≡ taken
-    turn_is = ap (λ (c : Catalogue). turn_at c a.x (as_received letter.0)) heard.same_catalogue ∙ acting.turn_is catalogue k m moments old facts tied s a
+    turn_is = ap (λ (c : Catalogue). turn_at c a.x (as_received letter.0)) announced.same_catalogue ∙ acting.turn_is catalogue k m moments old facts tied s a
 
     done : IsAt (after_turn (node_at a.x (log s)) taken).batches (Some taken.site) host_now.0
     done =
         let was = subst (λ (up : Option SiteState). IsAt (log s) up own.host) (acting.up_is catalogue k m moments old facts tied s a) own.at in
         subst (λ (turn : Turn). IsAt (after_turn (node_at a.x (log s)) turn).batches (Some turn.site) host_now.0) turn_is (host_now.2.up (log s) was)
 
-    datagrams_are : outcome.datagrams ≡ taken.datagrams
+    datagrams_are : turn_effects.datagrams ≡ taken.datagrams
     datagrams_are = host_now.2.datagrams_are ∙ ap (λ (turn : Turn). turn.datagrams) turn_is
 
-    as_many : length outcome.effects.messages ≡ length effects.messages
+    as_many : length turn_effects.effects.messages ≡ length effects.messages
     as_many =
-        let stepped = host_now.2.stepped a.given (acting.comes catalogue k m moments old facts tied s a told heard.same_catalogue) in
-        ap (λ (o : Stepped). length o.effects.messages) stepped ∙ ap (λ (c : Catalogue). length (step c a.x a.given).effects.messages) (heard.same_catalogue ∙ tied.catalogue_is)
+        let stepped = host_now.2.stepped a.given (acting.comes catalogue k m moments old facts tied s a told announced.same_catalogue) in
+        ap (λ (o : Stepped). length o.effects.messages) stepped ∙ ap (λ (c : Catalogue). length (step c a.x a.given).effects.messages) (announced.same_catalogue ∙ tied.catalogue_is)
 
     left : (after_step (step catalogue a.x a.given) own.place).durable ≡ durable_of (step catalogue a.x a.given).site
     left = ap (apply_all effects.records) (acting.durable_is catalogue k m moments old facts tied s a) ∙ step-folds catalogue a.x a.given
@@ -215,17 +215,17 @@ module _ (catalogue : Catalogue) (k : IsCatalogue catalogue) (m : Moment) (momen
         let local = local-step catalogue a.x a.given (facts.views.site s a.x a.up).tidy in
         ((local.sent sent h).0 ∙ is_id, facts.routed sent (subst (λ (all : List Sent). Has all sent) (sym a.sent_is) (has_right m.before.sent effects.messages sent h)))
 
-    letters_more : map (sent_from letter.0.to) (take (length outcome.effects.messages) outcome.datagrams) ≡ map (letter_for catalogue) effects.messages
+    letters_more : map (sent_from letter.0.to) (take (length turn_effects.effects.messages) turn_effects.datagrams) ≡ map (letter_for catalogue) effects.messages
     unfolding datagrams_of
     letters_more =
-        ap (λ (count : ℕ). map (sent_from letter.0.to) (take count outcome.datagrams)) as_many
+        ap (λ (count : ℕ). map (sent_from letter.0.to) (take count turn_effects.datagrams)) as_many
         ∙ ap (λ (given : List Datagram). map (sent_from letter.0.to) (take (length effects.messages) given)) datagrams_are
         ∙ posted catalogue k s letter.0.to letter.2.to_is effects.messages from_here (map (reply_datagram a.x.id) effects.replies)
 
     letters_now : new.letters ≡ map (letter_for catalogue) m.after.sent
     letters_now =
         comes.3 ∙ ap (λ (letters : List Letter). told.letters ++ letters) letters_more
-        ∙ ap (λ (letters : List Letter). letters ++ map (letter_for catalogue) effects.messages) (heard.letters_stay ∙ tied.letters)
+        ∙ ap (λ (letters : List Letter). letters ++ map (letter_for catalogue) effects.messages) (announced.letters_stay ∙ tied.letters)
         ∙ sym (map-append (letter_for catalogue) m.before.sent effects.messages)
         ∙ ap (map (letter_for catalogue)) (sym a.sent_is)
 
@@ -237,7 +237,7 @@ module _ (catalogue : Catalogue) (k : IsCatalogue catalogue) (m : Moment) (momen
   crashed : (s : ℕ) → m.line.event ≡ event.Crash s → m.after.sent ≡ m.before.sent → ((place : Place) → place_of s m.before.places ≡ Some place → Leaves catalogue m s (Some (put_down place)) (λ b. b)) → LeavesOthers catalogue m s → Tied
   crashed s is sent own others =
       let same : new ≡ told = no_more (ap (λ (e : Event). step_of e m.before) is) in
-      let changes = at_catalogue (λ c. ChangesOf c s (Crashes c) old.hosts new.hosts) (subst (ChangesOf old.catalogue s (Crashes old.catalogue) old.hosts) (ap (λ (nodes : NodesValue). nodes.hosts) (sym same)) (subst (λ (e : Event). HostsHear e old.catalogue old.hosts told.hosts) is heard.hosts)) in
+      let changes = at_catalogue (λ c. ChangesOf c s (Crashes c) old.hosts new.hosts) (subst (ChangesOf old.catalogue s (Crashes old.catalogue) old.hosts) (ap (λ (nodes : NodesValue). nodes.hosts) (sym same)) (subst (λ (e : Event). HostsAnnounced e old.catalogue old.hosts told.hosts) is announced.hosts)) in
       tied_still same
       (changed catalogue m moments old new k s (Crashes catalogue) changes others tied.sites
       (λ port h host there crashes. turns catalogue m moments old new s port (put_down h.place) (λ b. b) (own h.place h.place_is) host there (crashes.stays.same_id ∙ h.id_is) (crashes.down (log s) h.place.up h.at)))
@@ -272,7 +272,7 @@ module _ (catalogue : Catalogue) (k : IsCatalogue catalogue) (m : Moment) (momen
   restarted : (s : ℕ) → m.line.event ≡ event.Restart s → m.after.sent ≡ m.before.sent → ((place : Place) → place_of s m.before.places ≡ Some place → RestartEffect catalogue m s place) → LeavesOthers catalogue m s → Tied
   restarted s is sent own others =
       let same : new ≡ told = no_more (ap (λ (e : Event). step_of e m.before) is) in
-      let changes = at_catalogue (λ c. ChangesOf c s (Restarts c) old.hosts new.hosts) (subst (ChangesOf old.catalogue s (Restarts old.catalogue) old.hosts) (ap (λ (nodes : NodesValue). nodes.hosts) (sym same)) (subst (λ (e : Event). HostsHear e old.catalogue old.hosts told.hosts) is heard.hosts)) in
+      let changes = at_catalogue (λ c. ChangesOf c s (Restarts c) old.hosts new.hosts) (subst (ChangesOf old.catalogue s (Restarts old.catalogue) old.hosts) (ap (λ (nodes : NodesValue). nodes.hosts) (sym same)) (subst (λ (e : Event). HostsAnnounced e old.catalogue old.hosts told.hosts) is announced.hosts)) in
       tied_still same
       (changed catalogue m moments old new k s (Restarts catalogue) changes others tied.sites (λ port h host there restarts. restarted_so s port h host there restarts (own h.place h.place_is)))
       sent
@@ -282,7 +282,7 @@ module _ (catalogue : Catalogue) (k : IsCatalogue catalogue) (m : Moment) (momen
   quiet : IsPlain m.line.event → is_step m.line.shown ≡ false → m.after.sent ≡ m.before.sent → ((id : ℕ) → LeavesIt catalogue m id) → Tied
   quiet plain none sent all =
       let same : new ≡ told = no_more (none_lent catalogue m.before m.line.event plain (ap (λ (n : Moment). is_step n.line.shown) (sym facts.next_is) ∙ none)) in
-      let hosts : new.hosts ≡ old.hosts = ap (λ (nodes : NodesValue). nodes.hosts) same ∙ hosts_stay m.line.event old.catalogue old.hosts told.hosts plain heard.hosts in
+      let hosts : new.hosts ≡ old.hosts = ap (λ (nodes : NodesValue). nodes.hosts) same ∙ hosts_stay m.line.event old.catalogue old.hosts told.hosts plain announced.hosts in
       tied_still same (λ id port at. stays catalogue m moments old new id port (tied.sites id port at) (all id) (ap (host_at port) hosts)) sent
 
   pub tied_on : Effect catalogue m → Tied

@@ -7,7 +7,7 @@ use Rattle.vp_model.specs.Catalogue.{Catalogue}
 use Rattle.vp_model.specs.Site.{SiteState}
 use Rattle.vp_runs.specs.declared.arrival.Arrival.TheVariants as arrives
 use Rattle.vp_runs.specs.Arrivals.{arrival}
-use Rattle.vp_turns.specs.declared.turned.Outcome.{Outcome}
+use Rattle.vp_turns.specs.declared.turned.TurnEffects.{TurnEffects}
 use Rattle.vp_hosts.specs.declared.letter.Letter.{Letter}
 use Rattle.vp_hosts.specs.declared.host.StoppedLog.{StoppedLog}
 use Rattle.vp_hosts.specs.Hosts.{HostValue, Takes, Stops, Crashes, Restarts, Begins}
@@ -23,15 +23,15 @@ pub record NodesValue : Type 0 where
   pub letters : List Letter
   pub coming : Option Letter
 
--- what the hosts do when the event is heard of
-abbrev pub HostsHear : Event → Catalogue → List HostValue → List HostValue → Type 0
-HostsHear (event.Crash site) catalogue old new = ChangesOf catalogue site (Crashes catalogue) old new
-HostsHear (event.Restart site) catalogue old new = ChangesOf catalogue site (Restarts catalogue) old new
-HostsHear e catalogue old new = new ≡ old
+-- what the hosts do when the event is announced
+abbrev pub HostsAnnounced : Event → Catalogue → List HostValue → List HostValue → Type 0
+HostsAnnounced (event.Crash site) catalogue old new = ChangesOf catalogue site (Crashes catalogue) old new
+HostsAnnounced (event.Restart site) catalogue old new = ChangesOf catalogue site (Restarts catalogue) old new
+HostsAnnounced e catalogue old new = new ≡ old
 
--- They have heard of the event: a crash and a restart are done, and the letter of another one waits.
-pub record Hears (e : Event) (old new : NodesValue) : Type 0 where
-  pub hosts : HostsHear e old.catalogue old.hosts new.hosts
+-- The event was announced to them: a crash and a restart are done, and the letter of another one waits.
+pub record Announced (e : Event) (old new : NodesValue) : Type 0 where
+  pub hosts : HostsAnnounced e old.catalogue old.hosts new.hosts
   pub coming_is : new.coming ≡ letter_of old.catalogue old.letters e
   pub letters_stay : new.letters ≡ old.letters
   pub same_catalogue : new.catalogue ≡ old.catalogue
@@ -47,9 +47,9 @@ pub record MayStep (catalogue : Catalogue) (site : SiteState) (given : Input) (n
 -- The letter comes to the host at its port, to which this site is lent. Of the datagrams that this gives the first are those of the
 -- messages of its step, and are letters from then on.
 abbrev pub Comes : Letter → SiteState → NodesValue → NodesValue → Type 0
-Comes letter site old new = (after : SiteState) × (outcome : Outcome)
-    × ChangesAt letter.to (λ host next. Takes old.catalogue (as_received letter) site host next after outcome) old.hosts new.hosts
-    × (new.letters ≡ old.letters ++ map (sent_from letter.to) (take (length outcome.effects.messages) outcome.datagrams))
+Comes letter site old new = (after : SiteState) × (turn_effects : TurnEffects)
+    × ChangesAt letter.to (λ host next. Takes old.catalogue (as_received letter) site host next after turn_effects) old.hosts new.hosts
+    × (new.letters ≡ old.letters ++ map (sent_from letter.to) (take (length turn_effects.effects.messages) turn_effects.datagrams))
 
 -- The letter that waited comes, with this site's step.
 pub record Posts (site : SiteState) (given : Input) (old new : NodesValue) : Type 0 where

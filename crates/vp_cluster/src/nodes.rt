@@ -5,7 +5,7 @@ ghost use Rattle.vp_laws.specs.ShapeLaws.{IsEvent};
 ghost use Rattle.vp_hosts.specs.Hosts.{Crashes, Restarts, site_log};
 ghost use Rattle.vp_cluster.specs.Letters.{letter_of, in_order};
 ghost use Rattle.vp_hosts.specs.Ports.{ChangesOf, LendsAt};
-ghost use Rattle.vp_cluster.specs.Nodes.{Begin, Comes, HostsHear, StopsWith};
+ghost use Rattle.vp_cluster.specs.Nodes.{Begin, Comes, HostsAnnounced, StopsWith};
 ghost use Rattle.vp_runs.specs.Arrivals.{arrival};
 ghost use Rattle.vp_turns.specs.Taking.{IsStepOf};
 ghost use Rattle.vp_hosts.specs.Letters.{as_received};
@@ -22,7 +22,7 @@ use vp_hosts::{
     take_at,
 };
 use vp_places::{Site, Stepper};
-use vp_turns::Outcome;
+use vp_turns::TurnEffects;
 use vp_wire::Body;
 
 /// The hosts of the sites of a catalogue, the letters of the messages that were sent, in order, and the letter that the next step brings.
@@ -105,12 +105,12 @@ impl Nodes {
         ensures stepped { IfOk result (λ it. IsStepOf self.old.catalogue site (arrival self.old.catalogue site.id (as_received letter.now)) it.0 it.1) }
         ensures same { OnOk result (self.new.catalogue ≡ self.old.catalogue) }
     {
-        let (site, outcome) = take_at(&mut self.hosts, &self.catalog, site, letter)?;
-        let Outcome {
+        let (site, turn_effects) = take_at(&mut self.hosts, &self.catalog, site, letter)?;
+        let TurnEffects {
             effects,
             datagrams,
             ..
-        } = outcome;
+        } = turn_effects;
         let count = effects.messages.as_slice().len();
         put_letters(letter.to, count, datagrams, &mut self.letters)?;
         Ok((site, effects))
@@ -172,7 +172,7 @@ impl Nodes {
 
     /// A crash or a restart is done.
     fn change(&mut self, event: &Event) -> Result<(), NoMemory>
-        ensures hosts { OnOk result (HostsHear event.now self.old.catalogue self.old.hosts self.new.hosts) }
+        ensures hosts { OnOk result (HostsAnnounced event.now self.old.catalogue self.old.hosts self.new.hosts) }
         ensures letters { OnOk result (self.new.letters ≡ self.old.letters) }
         ensures same { OnOk result (self.new.catalogue ≡ self.old.catalogue) }
     {
@@ -189,18 +189,18 @@ impl Nodes {
 
 impl Stepper for Nodes {
     ghost use Rattle.vp_laws.specs.ShapeLaws.{IsEvent};
-    ghost use Rattle.vp_cluster.specs.Nodes.{Hears, MayStep, Posts};
+    ghost use Rattle.vp_cluster.specs.Nodes.{Announced, MayStep, Posts};
 
-    ghost hears = { IsEvent };
+    ghost announces = { IsEvent };
 
-    ghost heard = { Hears };
+    ghost announced = { Announced };
 
     ghost may = { MayStep };
 
     ghost did = { Posts };
 
     /// A crash and a restart are done at once; the letter of another event waits for the step that takes it.
-    fn hear(&mut self, event: &Event) -> Result<(), NoMemory> {
+    fn announce(&mut self, event: &Event) -> Result<(), NoMemory> {
         self.change(event)?;
         self.coming = self.letter(event)?;
         Ok(())

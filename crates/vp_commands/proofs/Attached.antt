@@ -14,7 +14,7 @@ use Rattle.vp_stable.specs.Halves.{HaveBatches, AreBadLog}
 use Rattle.vp_stable.specs.Moments.{LeavesOthers}
 use Rattle.vp_runs.specs.Runs.{NodeRun, node_run}
 use Rattle.vp_node.specs.Nodes.{IsSpent}
-use Rattle.vp_serving.specs.Serving.{Outside, Course, run_of, Did, IsKeptAs, LeavesFrom, IsSafe, IsIdle, HasNotStarted, IsUnbound, IsWhole, HasStopped, HasDone, HasLost, HasTorn, IsBroken, IsUnwritten, Serves}
+use Rattle.vp_serving.specs.Serving.{Outside, outside, Course, run_of, Did, IsKeptAs, LeavesFrom, IsSafe, IsIdle, HasNotStarted, IsUnbound, IsWhole, HasStopped, HasDone, HasLost, HasTorn, IsBroken, IsUnwritten, Serves}
 use Rattle.vp_serving.specs.declared.end.End.{End}
 use Rattle.vp_serving.specs.declared.end.End.TheVariants as ends
 use Rattle.vp_commands.specs.NodeEnds.{attached_to, end_of_attach, last_line, status_of, NodeEnds}
@@ -166,13 +166,13 @@ module _ (name : List ℕ) (old : DiskState) (t : Unit {0}) where
     }
 
 pub served : (catalogue : Catalogue) (id turns : ℕ) (name : List ℕ) (link link' : LinkState) (sink mid sink' : SinkState) (disk attached disk' : DiskState) (t : Unit {0}) (end : End) (told : Status)
-    → Attaches name disk attached (Ok t) → Serves catalogue id turns (record { link = link; link' = link'; sink = sink; sink' = mid; disk = attached; disk' = disk' }) end
+    → Attaches name disk attached (Ok t) → Serves catalogue id turns (outside link link' sink mid attached disk') end
     → LeavesOthers attached disk' → sink.faults ≤ mid.faults → Prints (status_of end) (last_line end) mid sink' told
-    → NodeEnds catalogue id turns name (record { link = link; link' = link'; sink = sink; sink' = sink'; disk = disk; disk' = disk' }) told
+    → NodeEnds catalogue id turns name (outside link link' sink sink' disk disk') told
 served catalogue id turns name link link' sink mid sink' disk attached disk' t end told a s others later tells = inl (record {
   end = end;
   sink = mid;
-  serves = serves_attached name disk t catalogue id turns (record { link = link; link' = link'; sink = sink; sink' = mid; disk = attached; disk' = disk' }) a end s;
+  serves = serves_attached name disk t catalogue id turns (outside link link' sink mid attached disk') a end s;
   others = others_attached name disk t attached disk' a others;
   later = later;
   tells = tells;
@@ -180,5 +180,5 @@ served catalogue id turns name link link' sink mid sink' disk attached disk' t e
 
 pub unattached : (catalogue : Catalogue) (id turns : ℕ) (name : List ℕ) (link : LinkState) (sink sink' : SinkState) (disk disk' : DiskState) (fault : OutFault) (told : Status)
     → Attaches {T = Unit {0}} name disk disk' (Err fault) → Prints (status_of (end_of_attach fault)) (last_line (end_of_attach fault)) sink sink' told
-    → NodeEnds catalogue id turns name (record { link = link; link' = link; sink = sink; sink' = sink'; disk = disk; disk' = disk' }) told
+    → NodeEnds catalogue id turns name (outside link link sink sink' disk disk') told
 unattached catalogue id turns name link sink sink' disk disk' fault told a tells = inr (record { fault = fault; attaches = a; uncalled = refl; tells = tells })

@@ -5,6 +5,7 @@ ghost use Rattle.vp_model.specs.Words.{has};
 ghost use Rattle.vp_model.specs.Catalogue.{sites_of};
 ghost use Rattle.vp_status.specs.Lines.{bad_log_text};
 ghost use Rattle.vp_status.specs.Printing.{Prints};
+ghost use Rattle.vp_serving.specs.Serving.{outside};
 ghost use Rattle.vp_commands.specs.NodeEnds.{DecidedIfCalm, HasCause, NodeEnds, last_line, status_of};
 
 use std::alloc::Global;
@@ -28,35 +29,11 @@ pub fn serve_log<L: Link, D: Disk, K: Sink>(
     requires fresh { (L.state link.old).asked ≡ None }
     requires id { has (sites_of catalog.now) id ≡ true }
     ensures ends { NodeEnds catalog.now id turns log.now
-        (record {
-          link = L.state link.old;
-          link' = L.state link.new;
-          sink = K.state sink.old;
-          sink' = K.state sink.new;
-          disk = D.state disk.old;
-          disk' = D.state disk.new;
-        })
-        result }
+        (outside (L.state link.old) (L.state link.new) (K.state sink.old) (K.state sink.new) (D.state disk.old) (D.state disk.new)) result }
     ensures cause { HasCause catalog.now id log.now
-        (record {
-          link = L.state link.old;
-          link' = L.state link.new;
-          sink = K.state sink.old;
-          sink' = K.state sink.new;
-          disk = D.state disk.old;
-          disk' = D.state disk.new;
-        })
-        result }
+        (outside (L.state link.old) (L.state link.new) (K.state sink.old) (K.state sink.new) (D.state disk.old) (D.state disk.new)) result }
     ensures decided { DecidedIfCalm catalog.now id log.now
-        (record {
-          link = L.state link.old;
-          link' = L.state link.new;
-          sink = K.state sink.old;
-          sink' = K.state sink.new;
-          disk = D.state disk.old;
-          disk' = D.state disk.new;
-        })
-        result }
+        (outside (L.state link.old) (L.state link.new) (K.state sink.old) (K.state sink.new) (D.state disk.old) (D.state disk.new)) result }
 {
     let end = match disk.attach(log) {
         Ok(()) => serve(catalog, id, link, disk, sink, turns),

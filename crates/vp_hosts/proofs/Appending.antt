@@ -1,23 +1,17 @@
 -- The append of a batch on a disk that stops.
-use Rattle.std.proofs.Common.{◌≡◌, ◌∙◌, ℕ, Bool, true, false, ap, sym, subst, List}
-use Rattle.std.specs.Prelude.{nat_lt, if◌then◌else◌, Option, Some, IfSome}
+use Rattle.std.proofs.Common.{◌≡◌, ◌∙◌, ℕ, Bool, true, false, ap, subst, List}
+use Rattle.std.specs.Prelude.{nat_lt, if◌then◌else◌, Some}
 use Rattle.vp_model.specs.Types.{LogRecord}
 use Rattle.vp_disks.specs.Changes.{content_of, synced_of}
-use Rattle.vp_outside.specs.Disk.{Halves, Becomes, DiskState, Only, half_of, log_of}
+use Rattle.vp_outside.specs.Disk.{Halves, Becomes, DiskState, half_of, log_of}
 use Rattle.vp_disks.specs.Images.{image_of}
 use Rattle.vp_disks.specs.declared.changes.Change.{Change}
-use Rattle.vp_stable.specs.Halves.{AreSettled, Standing, StandsAt}
+use Rattle.vp_stable.specs.Halves.{Standing}
 use Rattle.vp_stable.specs.Stops.{AppendsToStop, GainsWhere}
 
 -- both halves make the log
 pub halves_same : (first second : List ℕ) (log : Halves) → first ≡ half_of 0 log → second ≡ half_of 1 log → (first, second) ≡ log
 halves_same first second log one other = ap (λ (half : List ℕ). (half, second)) one ∙ ap (λ (half : List ℕ). (log.0, half)) other
-
--- the log is there as it stood
-pub settled_there : (at : Standing) (log : Halves) (images : Halves → Type 0) (told : Option Halves) → told ≡ Some log → Only log images → (batches : List (List LogRecord)) × StandsAt at batches log
-    → IfSome told (λ log. AreSettled at log images)
-settled_there at log images told is only stands =
-    subst (λ told. IfSome told (λ log. AreSettled at log images)) (sym is) (record { synced = only; batches = stands.0; stands = stands.1 })
 
 -- what the stop leaves is what is read, or what was last synced
 pub left_by_stop : (batch : List LogRecord) (at : Standing) (calls : ℕ) (late : Bool) (log : Halves) (old : DiskState) (changes : List Change) (new : DiskState) → log_of old ≡ Some log

@@ -74,10 +74,3 @@ at_own_port catalogue site port does old new is h = record {
   there = λ p e. subst (λ p. ChangesAt p does old new) (let z = sym is ∙ e in cc) h;
   nowhere = λ none. absurd (let z = sym is ∙ none in cc);
 }
-
--- the catalogue lacks the site
-pub at_no_port : (catalogue : Catalogue) (site : ℕ) (does : HostValue → HostValue → Type 0) (hosts : List HostValue) → value_at site catalogue.sites ≡ None → ChangesOf catalogue site does hosts hosts
-at_no_port catalogue site does hosts none = record {
-  there = λ p e. absurd (let z = sym none ∙ e in cc);
-  nowhere = λ none. refl;
-}

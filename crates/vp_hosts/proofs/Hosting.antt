@@ -20,7 +20,7 @@ use Rattle.vp_runs.specs.Runs.{start_node, after_turn}
 use Rattle.vp_runs.specs.Turns.{Turn, turn_on}
 use Rattle.vp_node.specs.Nodes.{NodeValue, IsNode, IsKept, Starts, IsSpent, Gives, Saves}
 use Rattle.vp_turns.specs.Taking.{IsStepOf}
-use Rattle.vp_turns.specs.declared.turned.Outcome.{Outcome}
+use Rattle.vp_turns.specs.declared.turned.TurnEffects.{TurnEffects}
 use Rattle.vp_node.proofs.Kept.{has as have}
 use Rattle.vp_node.proofs.Turning.{settled}
 use Rattle.vp_hosts.specs.Hosts.{HostValue, IsHost, IsAt, Lends, Takes, Crashes, Restarts, Begins, is_spent, log_in, told, node_at, turn_at}
@@ -49,9 +49,6 @@ log_kept catalogue node disk kept honest = settled catalogue node (disk.may_leav
 
 abbrev pub host_with : ℕ → ℕ → List Change → Option Standing → HostValue
 host_with id port disk log = record { id = id; port = port; disk = disk; log = log }
-
-not_down : (batches : List (List LogRecord)) (id port : ℕ) (disk : List Change) (at : Standing) → IsAt batches None (host_with id port disk (Some at)) → ⊥
-not_down batches id port disk at h = let e = h.is_up in cc
 
 not_up : (batches : List (List LogRecord)) (site : SiteState) (id port : ℕ) (disk : List Change) → IsAt batches (Some site) (host_with id port disk None) → ⊥
 not_up batches site id port disk h = let e = h.is_up in cc
@@ -86,9 +83,9 @@ module _ (catalogue : Catalogue) (d : Datagram) (site : SiteState) (id port : �
     turned_at : (batches : List (List LogRecord)) → StandsAt from batches (log_in before) → IsAt (after_turn (node_at site batches) turn).batches (Some turn.site) behind
     turned_at batches stands = record { has = have (stands_kept batches stands); is_up = refl; stands = stands_kept batches stands }
 
-  takes_turn : (outcome : Outcome) → IsHost catalogue before → asked_of new ≡ asked_of old → Gives turn after outcome → IsStepOf catalogue site (arrival catalogue site.id d) after.site outcome.effects
-      → Steps (Saves turn from after.at) (state_after old true 0) (state_after new true 0) → IsKept catalogue after (state_after new true 0) → Takes catalogue d site before behind after.site outcome
-  takes_turn outcome is asked gives stepped saved kept = record {
+  takes_turn : (turn_effects : TurnEffects) → IsHost catalogue before → asked_of new ≡ asked_of old → Gives turn after turn_effects → IsStepOf catalogue site (arrival catalogue site.id d) after.site turn_effects.effects
+      → Steps (Saves turn from after.at) (state_after old true 0) (state_after new true 0) → IsKept catalogue after (state_after new true 0) → Takes catalogue d site before behind after.site turn_effects
+  takes_turn turn_effects is asked gives stepped saved kept = record {
     stays = record {
       host = record { port_is = is.port_is; kept = log_kept catalogue after (state_after new true 0) kept };
       same_id = refl;
@@ -100,13 +97,13 @@ module _ (catalogue : Catalogue) (d : Datagram) (site : SiteState) (id port : �
     up = λ batches h. turned_at asked saved batches h.stands;
   }
 
-pub takes : (catalogue : Catalogue) (d : Datagram) (site : SiteState) (host : HostValue) (new : List Change) (from : Standing) (after : NodeValue) (outcome : Outcome) → host.log ≡ Some from → IsHost catalogue host
-    → asked_of new ≡ asked_of host.disk → Gives (turn_at catalogue site d) after outcome → IsStepOf catalogue site (arrival catalogue site.id d) after.site outcome.effects
+pub takes : (catalogue : Catalogue) (d : Datagram) (site : SiteState) (host : HostValue) (new : List Change) (from : Standing) (after : NodeValue) (turn_effects : TurnEffects) → host.log ≡ Some from → IsHost catalogue host
+    → asked_of new ≡ asked_of host.disk → Gives (turn_at catalogue site d) after turn_effects → IsStepOf catalogue site (arrival catalogue site.id d) after.site turn_effects.effects
     → Steps (Saves (turn_at catalogue site d) from after.at) (told host) (state_after new true 0) → IsKept catalogue after (state_after new true 0)
-    → Takes catalogue d site host (host_with host.id host.port new (Some after.at)) after.site outcome
-takes catalogue d site host new from after outcome up is asked gives stepped saved kept =
-    subst (λ (log : Option Standing). IsHost catalogue (host_with host.id host.port host.disk log) → Takes catalogue d site (host_with host.id host.port host.disk log) (host_with host.id host.port new (Some after.at)) after.site outcome)
-    (sym up) (λ known. takes_turn catalogue d site host.id host.port host.disk new from after outcome known asked gives stepped saved kept) is
+    → Takes catalogue d site host (host_with host.id host.port new (Some after.at)) after.site turn_effects
+takes catalogue d site host new from after turn_effects up is asked gives stepped saved kept =
+    subst (λ (log : Option Standing). IsHost catalogue (host_with host.id host.port host.disk log) → Takes catalogue d site (host_with host.id host.port host.disk log) (host_with host.id host.port new (Some after.at)) after.site turn_effects)
+    (sym up) (λ known. takes_turn catalogue d site host.id host.port host.disk new from after turn_effects known asked gives stepped saved kept) is
 
 -- what is known of the log of a host that is up
 its_log : (catalogue : Catalogue) (host : HostValue) (at : Standing) → host.log ≡ Some at → IsHost catalogue host → AreKept at (told host)
@@ -177,19 +174,6 @@ module _ (catalogue : Catalogue) (id port : ℕ) (old new : List Change) where
         absurd (left (subst (λ bs. is_spent catalogue id bs) same (spent.1.2 ∙ spent.0)));
   }
 
--- where its site is up nothing is done
-pub goes_on : (catalogue : Catalogue) (host : HostValue) → is_some host.log ≡ true → IsHost catalogue host → Restarts catalogue host host
-goes_on catalogue host up is = by host.log refl
-  where
-    by : (log : Option Standing) → host.log ≡ log → Restarts catalogue host host
-    by (Some at) e = record {
-      stays = record { host = is; same_id = refl; same_port = refl };
-      up = λ batches site h. h;
-      spent = λ batches h last. h;
-      down = λ batches h left. absurd (not_down batches host.id host.port host.disk at (rw e at h));
-    }
-    by None e = let none : is_some {T = Standing} None ≡ true = rw e at up in cc
-
 pub is_down : (log : Option Standing) → is_some log ≡ false → log ≡ None
 is_down None e = refl
 is_down (Some at) e = cc
@@ -246,25 +230,22 @@ module _ (catalogue : Catalogue) (parts host : HostValue) (same : parts ≡ host
   pub parts_crash : IsHost catalogue host → Crashes catalogue host (host_with parts.id parts.port parts.disk None)
   parts_crash is = subst (λ h. Crashes catalogue h (host_with parts.id parts.port parts.disk None)) same (crashes catalogue parts (known is))
 
-  pub parts_go_on : is_some parts.log ≡ true → IsHost catalogue host → Restarts catalogue host parts
-  parts_go_on up is = subst (λ h. Restarts catalogue h parts) same (goes_on catalogue parts up (known is))
-
   -- the site takes the turn as a node with the log that its host has
   module _ (d : Datagram) (site : SiteState) (lends : Lends catalogue site host) (is : IsHost catalogue host) (from : Standing) (up : parts.log ≡ Some from) (node : NodeValue) (is_node : node ≡ record { site = site; at = from })
       (what : Arrival) (comes : what ≡ arrival catalogue parts.id d) (new : List Change) (asked : asked_of new ≡ asked_of parts.disk) where
-    abbrev Gave : NodeValue → Arrival → NodeValue → Outcome → Type 0
-    Gave node what after outcome =
-        Gives (turn_on catalogue node.site what) after outcome × IsStepOf catalogue node.site what after.site outcome.effects
+    abbrev Gave : NodeValue → Arrival → NodeValue → TurnEffects → Type 0
+    Gave node what after turn_effects =
+        Gives (turn_on catalogue node.site what) after turn_effects × IsStepOf catalogue node.site what after.site turn_effects.effects
         × Steps (Saves (turn_on catalogue node.site what) node.at after.at) (told parts) (state_after new true 0)
 
-    pub parts_take : (after : NodeValue) (outcome : Outcome) (back : SiteState × Standing) → back ≡ (after.site, after.at) → Gave node what after outcome → IsKept catalogue after (state_after new true 0)
-        → Takes catalogue d site host (host_with parts.id parts.port new (Some back.1)) back.0 outcome
-    parts_take after outcome back back_is gave kept =
-        let here = subst (λ (n : NodeValue). Gave n what after outcome) is_node gave in
-        let there : Gave (record { site = site; at = from }) (arrival catalogue site.id d) after outcome = subst (λ (what : Arrival). Gave (record { site = site; at = from }) what after outcome) (parts_arrival site d what lends comes) here in
-        subst (λ (back : SiteState × Standing). Takes catalogue d site host (host_with parts.id parts.port new (Some back.1)) back.0 outcome) (sym back_is)
-        (subst (λ h. Takes catalogue d site h (host_with parts.id parts.port new (Some after.at)) after.site outcome) same
-        (takes catalogue d site parts new from after outcome up (known is) asked there.0 there.1 there.2 kept))
+    pub parts_take : (after : NodeValue) (turn_effects : TurnEffects) (back : SiteState × Standing) → back ≡ (after.site, after.at) → Gave node what after turn_effects → IsKept catalogue after (state_after new true 0)
+        → Takes catalogue d site host (host_with parts.id parts.port new (Some back.1)) back.0 turn_effects
+    parts_take after turn_effects back back_is gave kept =
+        let here = subst (λ (n : NodeValue). Gave n what after turn_effects) is_node gave in
+        let there : Gave (record { site = site; at = from }) (arrival catalogue site.id d) after turn_effects = subst (λ (what : Arrival). Gave (record { site = site; at = from }) what after turn_effects) (parts_arrival site d what lends comes) here in
+        subst (λ (back : SiteState × Standing). Takes catalogue d site host (host_with parts.id parts.port new (Some back.1)) back.0 turn_effects) (sym back_is)
+        (subst (λ h. Takes catalogue d site h (host_with parts.id parts.port new (Some after.at)) after.site turn_effects) same
+        (takes catalogue d site parts new from after turn_effects up (known is) asked there.0 there.1 there.2 kept))
 
   module _ (one : HalvesAreOneLog) (rests : is_some parts.log ≡ false) (is : IsHost catalogue host) (new : List Change) (asked : asked_of new ≡ asked_of parts.disk) where
     pub parts_go_up : (node : NodeValue) (apart : SiteState × Standing) → apart ≡ (node.site, node.at) → Starts catalogue parts.id node (told parts) (state_after new true 0) → node.site.life < 2 ^ 32

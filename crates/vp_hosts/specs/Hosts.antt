@@ -18,7 +18,7 @@ use Rattle.vp_runs.specs.Keeping.{durable_in}
 use Rattle.vp_runs.specs.Runs.{NodeState, start_node, after_turn}
 use Rattle.vp_runs.specs.Turns.{Turn, turn_on}
 use Rattle.vp_turns.specs.Taking.{IsStepOf}
-use Rattle.vp_turns.specs.declared.turned.Outcome.{Outcome}
+use Rattle.vp_turns.specs.declared.turned.TurnEffects.{TurnEffects}
 use Rattle.vp_hosts.specs.declared.host.StoppedLog.{StoppedLog}
 
 -- what contracts see of a host: its site with its port, what was done to its disk, and where its log stands while the site is up
@@ -88,11 +88,11 @@ abbrev pub turn_at : Catalogue → SiteState → Datagram → Turn
 turn_at catalogue site d = turn_on catalogue site (arrival catalogue site.id d)
 
 -- A datagram comes to it, and its site is lent for that: the site takes the turn and is given back, with what the turn gives.
-pub record Takes (catalogue : Catalogue) (d : Datagram) (site : SiteState) (old new : HostValue) (after : SiteState) (outcome : Outcome) : Type 0 where
+pub record Takes (catalogue : Catalogue) (d : Datagram) (site : SiteState) (old new : HostValue) (after : SiteState) (turn_effects : TurnEffects) : Type 0 where
   pub stays : Stays catalogue old new
   pub site_is : after ≡ (turn_at catalogue site d).site
-  pub datagrams_are : outcome.datagrams ≡ (turn_at catalogue site d).datagrams
-  pub stepped : IsStepOf catalogue site (arrival catalogue site.id d) after outcome.effects
+  pub datagrams_are : turn_effects.datagrams ≡ (turn_at catalogue site d).datagrams
+  pub stepped : IsStepOf catalogue site (arrival catalogue site.id d) after turn_effects.effects
   pub up : (batches : List (List LogRecord)) → IsAt batches (Some site) old → IsAt (after_turn (node_at site batches) (turn_at catalogue site d)).batches (Some (turn_at catalogue site d).site) new
 
 -- A datagram comes to it, and its site stops within the append of the turn's batch: it is down then, and the log, which is answered, has the

@@ -17,7 +17,7 @@ use vp_disks::SureDisk;
 use vp_node::{Node, NodeEnd};
 use vp_site::Site;
 use vp_stable::{Log, halves_are_one_log};
-use vp_turns::{Outcome, arrival, take};
+use vp_turns::{TurnEffects, arrival, take};
 
 /// A site with both halves of its log.
 pub type SiteLog = (SiteId, Word, Word);
@@ -113,7 +113,7 @@ impl Host {
         catalog: &Catalog,
         site: Site,
         letter: &Letter,
-    ) -> Result<(Site, Outcome), NoMemory>
+    ) -> Result<(Site, TurnEffects), NoMemory>
         requires host { IsHost catalog.now self.old }
         requires lent { Lends catalog.now site self.old }
         ensures takes { IfOk result (λ it. Takes catalog.now (as_received letter.now) site self.old self.new it.0 it.1) }
@@ -127,10 +127,10 @@ impl Host {
         let what = arrival(alloc, catalog, self.id, letter.from, &letter.bytes)?;
         let node = Node::from_parts(site, log);
         match node.take(catalog, &mut self.disk, what) {
-            Ok((node, outcome)) => {
+            Ok((node, turn_effects)) => {
                 let (site, log) = node.into_parts();
                 self.log = Some(log);
-                Ok((site, outcome))
+                Ok((site, turn_effects))
             }
             Err(NodeEnd::NoMemory) => Err(NoMemory),
             // this disk never fails, and a turn reads no log and starts no life
@@ -169,8 +169,8 @@ impl Host {
         };
         let alloc = catalog.sites().allocator();
         let what = arrival(alloc, catalog, self.id, letter.from, &letter.bytes)?;
-        let (_, outcome) = take(site, catalog, what)?;
-        let batch = &outcome.effects.records;
+        let (_, turn_effects) = take(site, catalog, what)?;
+        let batch = &turn_effects.effects.records;
         if batch.as_slice().is_empty() {
             return Ok(None);
         }

@@ -14,7 +14,7 @@ use std::alloc::Global;
 use vp_base::{NoMemory, SiteId};
 use vp_catalog::Catalog;
 use vp_site::Site;
-use vp_turns::Outcome;
+use vp_turns::TurnEffects;
 
 /// A host for each site of the catalogue, in its first life.
 pub fn begin_all(catalog: &Catalog) -> Result<Vec<Host>, NoMemory>
@@ -51,7 +51,7 @@ pub fn take_at(
     catalog: &Catalog,
     site: Site,
     letter: &Letter,
-) -> Result<(Site, Outcome), NoMemory>
+) -> Result<(Site, TurnEffects), NoMemory>
     requires hosts { AreHosts catalog.now hosts.old }
     requires lent { LendsAt catalog.now site letter.now.to hosts.old }
     ensures takes { IfOk result (λ it. ChangesAt letter.now.to (λ host after. Takes catalog.now (as_received letter.now) site host after it.0 it.1) hosts.old hosts.new) }

@@ -15,7 +15,7 @@ use Rattle.vp_runs.specs.Keeping.{durable_in}
 use Rattle.vp_node.specs.Keeping.{KeepsAt, MayKeepAt}
 use Rattle.vp_runs.specs.Turns.{Turn, turn_on, turn_lines}
 use Rattle.vp_runs.specs.Runs.{start_node}
-use Rattle.vp_turns.specs.declared.turned.Outcome.{Outcome}
+use Rattle.vp_turns.specs.declared.turned.TurnEffects.{TurnEffects}
 use Rattle.vp_turns.specs.declared.turned.Turned.{Turned}
 
 -- what contracts see of a node: its site, and where its log stands
@@ -70,11 +70,11 @@ abbrev pub turn_of : Catalogue → NodeValue → Datagram → Turn
 turn_of catalogue node d = turn_on catalogue node.site (what_comes catalogue node d)
 
 -- The site took the turn, and this is what it committed and has to hand over.
-pub record Gives (turn : Turn) (after : NodeValue) (outcome : Outcome) : Type 0 where
+pub record Gives (turn : Turn) (after : NodeValue) (turn_effects : TurnEffects) : Type 0 where
   pub site : after.site ≡ turn.site
-  pub datagrams : outcome.datagrams ≡ turn.datagrams
-  pub commits : outcome.effects.commits ≡ turn.commits
-  pub stop : outcome.stop ≡ turn.stop
+  pub datagrams : turn_effects.datagrams ≡ turn.datagrams
+  pub commits : turn_effects.effects.commits ≡ turn.commits
+  pub stop : turn_effects.stop ≡ turn.stop
 
 -- The site took the turn, and this is what it recorded, committed and has to hand over.
 pub record Turns (catalogue : Catalogue) (node : NodeValue) (d : Datagram) (after : NodeValue) (told : Turned) : Type 0 where

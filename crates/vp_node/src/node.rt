@@ -24,7 +24,7 @@ use vp_outside::Disk;
 use vp_runs::Arrival;
 use vp_site::Site;
 use vp_stable::{Log, halves_are_one_log};
-use vp_turns::{Outcome, Turned, arrival, arrival_line, take};
+use vp_turns::{TurnEffects, Turned, arrival, arrival_line, take};
 
 /// A site that is up, with its log.
 #[derive(Drop)]
@@ -104,7 +104,7 @@ impl Node {
         catalog: &Catalog,
         disk: &mut D,
         what: Arrival,
-    ) -> Result<(Node, Outcome), NodeEnd>
+    ) -> Result<(Node, TurnEffects), NodeEnd>
         requires attached { IsTrue (D.state disk.old).attached }
         requires node { IsNode catalog.now self }
         requires kept { IsKept catalog.now self (D.state disk.old) }
@@ -130,10 +130,10 @@ impl Node {
         ensures others { LeavesOthers (D.state disk.old) (D.state disk.new) }
         ensures cause { HasNodeCause (D.state disk.old).faults (D.state disk.new).faults result }
     {
-        let (site, outcome) = take(self.site, catalog, what)?;
+        let (site, turn_effects) = take(self.site, catalog, what)?;
         let mut log = self.log;
-        keep(&mut log, disk, &site, &outcome.effects.records)?;
-        Ok((Node { site, log }, outcome))
+        keep(&mut log, disk, &site, &turn_effects.effects.records)?;
+        Ok((Node { site, log }, turn_effects))
     }
 
     /// Takes one datagram, and tells of it. Its records are synced before it returns, and nothing is sent here. After a fault or want of
@@ -172,7 +172,7 @@ impl Node {
         let alloc = catalog.sites().allocator();
         let what = arrival(alloc, catalog, self.site.id(), port, bytes)?;
         let line = arrival_line(alloc, port, bytes, &what)?;
-        let (node, outcome) = self.take(catalog, disk, what)?;
-        Ok((node, outcome.recorded(line)?))
+        let (node, turn_effects) = self.take(catalog, disk, what)?;
+        Ok((node, turn_effects.recorded(line)?))
     }
 }

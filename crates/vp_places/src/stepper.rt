@@ -7,17 +7,17 @@ use vp_base::{Effects, Event, Input, NoMemory};
 use vp_catalog::Catalog;
 use vp_site::Site;
 
-/// Who does the steps of the sites of a world, and knows of each event before it happens. A site is lent for its step.
+/// Who does the steps of the sites of a world. Each event is announced to it before it happens, and a site is lent for its step.
 pub trait Stepper {
     ghost use Rattle.vp_model.specs.Types.{Event, Input};
     ghost use Rattle.vp_model.specs.Catalogue.{Catalogue};
     ghost use Rattle.vp_model.specs.Site.{SiteState};
 
-    /// The events that it may be told.
-    ghost hears: { Event → Type 0 };
+    /// The events that may be announced to it.
+    ghost announces: { Event → Type 0 };
 
-    /// What an event makes of it that it is told: before and after.
-    ghost heard: { Event → Self → Self → Type 0 };
+    /// What it makes of the event that is announced, by its states before and after.
+    ghost announced: { Event → Self → Self → Type 0 };
 
     /// The steps that it may be asked for.
     ghost may: { Catalogue → SiteState → Input → Self → Type 0 };
@@ -25,10 +25,10 @@ pub trait Stepper {
     /// What the step of this site with this input makes of it.
     ghost did: { SiteState → Input → Self → Self → Type 0 };
 
-    /// The event is the next one that happens.
-    fn hear(&mut self, event: &Event) -> Result<(), NoMemory>
-        requires { hears event.now }
-        ensures { OnOk result (heard event.now self.old self.new) };
+    /// Tells it the event that happens next.
+    fn announce(&mut self, event: &Event) -> Result<(), NoMemory>
+        requires { announces event.now }
+        ensures { OnOk result (announced event.now self.old self.new) };
 
     /// Does what the input does to the site. Without memory the site is gone, as in a crash.
     fn step(
@@ -47,15 +47,15 @@ pub trait Stepper {
 pub struct ByThemselves;
 
 impl Stepper for ByThemselves {
-    ghost hears = { λ _. ⊤ };
+    ghost announces = { λ _. ⊤ };
 
-    ghost heard = { λ _ _ _. ⊤ };
+    ghost announced = { λ _ _ _. ⊤ };
 
     ghost may = { λ _ _ _ _. ⊤ };
 
     ghost did = { λ _ _ _ _. ⊤ };
 
-    fn hear(&mut self, _: &Event) -> Result<(), NoMemory> {
+    fn announce(&mut self, _: &Event) -> Result<(), NoMemory> {
         Ok(())
     }
 

@@ -35,12 +35,12 @@ SeesSome {S} sees begins (line ∷ lines) old new = (new ≡ old) ⊎ (begins li
 
 -- whoever does the steps, before and after those of these moments
 abbrev pub StepsAll : {S : Type 0} → (Event → S → S → Type 0) → (SiteState → Input → S → S → Type 0) → List Moment → S → S → Type 0
-StepsAll heard did moments old new = SeesAll (λ (m : Moment). DoesEvent heard did m.line.event m.before) moments old new
+StepsAll announced did moments old new = SeesAll (λ (m : Moment). DoesEvent announced did m.line.event m.before) moments old new
 
 -- it may do the step of each of these moments, once it has done those before
-abbrev pub IsReadyFor : {S : Type 0} → (hears : Event → Type 0) → (heard : Event → S → S → Type 0) → (did : SiteState → Input → S → S → Type 0) → (may : SiteState → Input → S → Type 0) → List Moment → S → Type 0
-IsReadyFor {S} hears heard did may moments old = (before rest : List Moment) (m : Moment) (now : S) → moments ≡ before ++ m ∷ rest → StepsAll heard did before old now
-    → hears m.line.event × IsReady heard may m.line.event m.before now
+abbrev pub IsReadyFor : {S : Type 0} → (announces : Event → Type 0) → (announced : Event → S → S → Type 0) → (did : SiteState → Input → S → S → Type 0) → (may : SiteState → Input → S → Type 0) → List Moment → S → Type 0
+IsReadyFor {S} announces announced did may moments old = (before rest : List Moment) (m : Moment) (now : S) → moments ≡ before ++ m ∷ rest → StepsAll announced did before old now
+    → announces m.line.event × IsReady announced may m.line.event m.before now
 
 -- The steps of the run are done, and the observer has seen the event's own lines and then theirs; or a limit ends them, and it has seen the
 -- event's own lines and those of the steps before; or there is no memory, and it has seen some of these.

@@ -1,9 +1,8 @@
 -- Counting replies one after the other.
-use Rattle.std.proofs.Common.{◌≡◌, ◌∙◌, ap, sym, refl, arith, ℕ, zero, suc, ◌+◌, ◌<◌, ◌≤◌, ◌^◌, Bool, true, false, cond, List, [], ◌∷◌, length, drop}
+use Rattle.std.proofs.Common.{◌≡◌, ◌∙◌, ap, sym, arith, ℕ, zero, suc, ◌+◌, ◌<◌, ◌≤◌, ◌^◌, Bool, true, false, cond, List, [], ◌∷◌, length, drop}
 use Rattle.std.specs.Prelude.{get_or, filter}
-use Rattle.vp_model.specs.Types.{TxnId, ViewId, Answer, Reply}
-use Rattle.vp_model.specs.Types.answer
-use Rattle.vp_replay.specs.Summary.{refuses, count_of}
+use Rattle.vp_model.specs.Types.{Answer, Reply}
+use Rattle.vp_replay.specs.Summary.{count_of}
 
 abbrev pub one_if : Bool → ℕ
 one_if true = 1
@@ -40,13 +39,3 @@ count_fits test rs i n r small so_far lt at is =
     let one : one_if (test r.answer) ≡ 1 = ap one_if is in
     let few = count_few test rs in
     omega (arith, next, one, few, small, so_far)
-
--- an answer that is none of those which grant something
-pub refused_else : (a : Answer) → ((t : TxnId) (v : ViewId) → a ≡ answer.Begun t v → ⊥) → ((t : TxnId) (n : ℕ) (v : List ℕ) → a ≡ answer.Value t n v → ⊥) → ((t : TxnId) (n : ℕ) → a ≡ answer.Written t n → ⊥) → ((t : TxnId) (n : ℕ) → a ≡ answer.Committed t n → ⊥) → ((t : TxnId) (n : ℕ) → a ≡ answer.Aborted t n → ⊥) → ((v : ViewId) → a ≡ answer.Inviting v → ⊥) → refuses a ≡ true
-refused_else (answer.Begun t v) begun value written committed aborted inviting = absurd (begun t v refl)
-refused_else (answer.Value t n v) begun value written committed aborted inviting = absurd (value t n v refl)
-refused_else (answer.Written t n) begun value written committed aborted inviting = absurd (written t n refl)
-refused_else (answer.Committed t n) begun value written committed aborted inviting = absurd (committed t n refl)
-refused_else (answer.Aborted t n) begun value written committed aborted inviting = absurd (aborted t n refl)
-refused_else (answer.Inviting v) begun value written committed aborted inviting = absurd (inviting v refl)
-refused_else _ begun value written committed aborted inviting = refl

@@ -92,11 +92,12 @@ pub fn generated(alloc: Global, seed: u32, count: u32) -> Result<Defined, NoMemo
 {
     let mut text = Vec::new(alloc);
     let status = match generate(seed, count, &mut text)? {
+        None => Status::Done,
         Some(WorldEnd::Limit { limit, .. }) => {
             print_limit(limit, &mut text)?;
             Status::Limit
         }
-        _ => Status::Done,
+        Some(WorldEnd::NoMemory) => unreachable!(),
     };
     Ok(Defined { status, text })
 }

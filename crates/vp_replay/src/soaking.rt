@@ -65,6 +65,32 @@ struct Counts {
     refused: usize,
 }
 
+/// Whether what the client asked for is not done.
+fn is_refusal(answer: &Answer) -> bool
+    ensures { result ≡ refuses answer.now }
+{
+    match answer {
+        Answer::Begun { .. }
+        | Answer::Value { .. }
+        | Answer::Written { .. }
+        | Answer::Committed { .. }
+        | Answer::Aborted { .. }
+        | Answer::Inviting { .. } => false,
+        Answer::NoView { .. }
+        | Answer::Unknown { .. }
+        | Answer::Skipped { .. }
+        | Answer::Busy { .. }
+        | Answer::NoRecord { .. }
+        | Answer::TooManyOps { .. }
+        | Answer::Inaccessible { .. }
+        | Answer::LockHeld { .. }
+        | Answer::ViewChanged { .. }
+        | Answer::TimedOut { .. }
+        | Answer::Spent { .. }
+        | Answer::TooManyLive => true,
+    }
+}
+
 fn count(replies: &[Reply]) -> Counts
     ensures { result ≡ record { begun = count_of begins replies.now; committed = count_of commits replies.now; refused = count_of refuses replies.now } }
 {
@@ -74,14 +100,14 @@ fn count(replies: &[Reply]) -> Counts
         refused: 0,
     };
     for reply in replies {
-        match reply.answer {
+        match &reply.answer {
             Answer::Begun { .. } => counts.begun += 1,
             Answer::Committed { .. } => counts.committed += 1,
-            Answer::Value { .. }
-            | Answer::Written { .. }
-            | Answer::Aborted { .. }
-            | Answer::Inviting { .. } => {}
-            _ => counts.refused += 1,
+            answer => {
+                if is_refusal(answer) {
+                    counts.refused += 1;
+                }
+            }
         }
     }
     counts

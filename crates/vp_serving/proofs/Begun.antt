@@ -16,7 +16,7 @@ use Rattle.vp_runs.specs.Runs.{NodeRun, node_run, recorded}
 use Rattle.vp_node.specs.Causes.{HasNodeCause}
 use Rattle.vp_serving.specs.Ends.{end_of_node}
 use Rattle.vp_node.specs.Nodes.{NodeValue, IsNode, IsKept, Starts, MayStart, IsSpent}
-use Rattle.vp_serving.specs.Serving.{Course, IsIdle, IsBroken, IsUnwritten, Serves}
+use Rattle.vp_serving.specs.Serving.{outside, Course, IsIdle, IsBroken, IsUnwritten, Serves}
 use Rattle.vp_serving.specs.Telling.{AsksPort, IsBound, Begins}
 use Rattle.vp_node.specs.declared.end.NodeEnd.{NodeEnd}
 use Rattle.vp_node.specs.declared.end.NodeEnd.TheVariants as node_ends
@@ -24,7 +24,7 @@ use Rattle.vp_serving.specs.declared.end.End.{End}
 use Rattle.vp_serving.specs.declared.end.End.TheVariants as ends
 use Rattle.vp_outside.proofs.Passed.{count_none, gave_none, hands_none}
 use Rattle.vp_serving.proofs.Prefixes.{prefix_take}
-use Rattle.vp_serving.proofs.Served.{SoFar, outside, kept_as, safe_all}
+use Rattle.vp_serving.proofs.Served.{SoFar, kept_as, safe_all}
 
 -- ---- the node doesn't start
 

@@ -11,12 +11,12 @@ use Rattle.vp_outside.specs.Output.{SinkState, AppendsPrefix}
 use Rattle.vp_runs.specs.Turns.{end_line}
 use Rattle.vp_runs.specs.Runs.{NodeRun, node_run, recorded}
 use Rattle.vp_node.specs.Nodes.{NodeValue}
-use Rattle.vp_serving.specs.Serving.{Course, IsWhole, HasStopped, HasDone, IsBroken, IsUnwritten, Serves, either}
+use Rattle.vp_serving.specs.Serving.{outside, Course, IsWhole, HasStopped, HasDone, IsBroken, IsUnwritten, Serves, either}
 use Rattle.vp_serving.specs.Telling.{Finishes}
 use Rattle.vp_serving.specs.declared.end.End.{End}
 use Rattle.vp_serving.specs.declared.end.End.TheVariants as ends
 use Rattle.vp_serving.proofs.Prefixes.{prefix_all, prefix_front, prefix_take, prefix_behind}
-use Rattle.vp_serving.proofs.Served.{SoFar, outside, kept_as, safe_all}
+use Rattle.vp_serving.proofs.Served.{SoFar, kept_as, safe_all}
 
 module _ (catalogue : Catalogue) (id turns count : ℕ) (stopped : Bool) (link0 link1 : LinkState) (sink0 sink1 : SinkState) (disk0 disk1 : DiskState) (node : NodeValue)
     (h : SoFar catalogue id count stopped (outside link0 link1 sink0 sink1 disk0 disk1) node) (few : count ≤ turns) where

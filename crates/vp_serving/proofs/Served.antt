@@ -8,8 +8,7 @@ use Rattle.vp_model.specs.Catalogue.{Catalogue}
 use Rattle.vp_model.specs.Durable.{DurableState}
 use Rattle.vp_outside.specs.Causes.{count_after}
 use Rattle.vp_outside.specs.Disk.{Halves, DiskState, Becomes, Steps, Only, log_of}
-use Rattle.vp_outside.specs.Links.{LinkState, Gave}
-use Rattle.vp_outside.specs.Output.{SinkState}
+use Rattle.vp_outside.specs.Links.{Gave}
 use Rattle.vp_outside.specs.declared.datagram.Datagram.{Datagram}
 use Rattle.vp_stable.specs.Halves.{Standing, StandsAt, HaveBatches}
 use Rattle.vp_stable.specs.Moments.{LeavesOthers}
@@ -25,9 +24,6 @@ use Rattle.vp_node.proofs.Kept.{has}
 use Rattle.vp_outside.proofs.Passed.{one_longer}
 use Rattle.vp_serving.proofs.Prefixes.{prefix_all}
 use Rattle.vp_serving.proofs.RunTurns.{left_folds}
-
-abbrev pub outside : LinkState → LinkState → SinkState → SinkState → DiskState → DiskState → Outside
-outside link link' sink sink' disk disk' = record { link = link; link' = link'; sink = sink; sink' = sink'; disk = disk; disk' = disk' }
 
 -- So many datagrams came and were taken, all that their run gives was told and is kept, and no call failed.
 pub record SoFar (catalogue : Catalogue) (id count : ℕ) (stopped : Bool) (o : Outside) (node : NodeValue) : Type 0 where

@@ -18,14 +18,14 @@ use Rattle.vp_runs.specs.Turns.{Turn}
 use Rattle.vp_runs.specs.Runs.{NodeRun, node_run, recorded}
 use Rattle.vp_node.specs.Keeping.{KeepsAt}
 use Rattle.vp_node.specs.Nodes.{NodeValue, turn_of}
-use Rattle.vp_serving.specs.Serving.{Course, IsPrefix, IsSafe, HasTorn, IsBroken, IsUnwritten, Serves}
+use Rattle.vp_serving.specs.Serving.{outside, Course, IsPrefix, IsSafe, HasTorn, IsBroken, IsUnwritten, Serves}
 use Rattle.vp_serving.specs.Telling.{HasTurned, MayHaveTurned, TellsTurn, Takes, lines_of}
 use Rattle.vp_serving.specs.declared.end.End.{End}
 use Rattle.vp_serving.specs.declared.end.End.TheVariants as ends
 use Rattle.vp_outside.proofs.Passed.{count_more, gave_more, hands_none, hands_then, one_longer}
 use Rattle.vp_serving.proofs.Prefixes.{prefix_all, prefix_front, prefix_take, prefix_behind}
 use Rattle.vp_serving.proofs.RunTurns.{site_after, batches_after, datagrams_after, stopped_after, recorded_after}
-use Rattle.vp_serving.proofs.Served.{SoFar, outside, stands_on, safe_all, safe_torn}
+use Rattle.vp_serving.proofs.Served.{SoFar, stands_on, safe_all, safe_torn}
 
 module _ (catalogue : Catalogue) (id turns count : ℕ) (link0 link1 link2 link3 : LinkState) (sink0 sink1 sink2 : SinkState) (disk0 disk1 disk2 : DiskState) (node : NodeValue)
     (h : SoFar catalogue id count false (outside link0 link1 sink0 sink1 disk0 disk1) node) (more : count < turns)

@@ -27,6 +27,10 @@ pub record Outside : Type 1 where
   pub disk : DiskState
   pub disk' : DiskState
 
+-- the same of each of them, before and after
+abbrev pub outside : LinkState → LinkState → SinkState → SinkState → DiskState → DiskState → Outside
+outside link link' sink sink' disk disk' = record { link = link; link' = link'; sink = sink; sink' = sink'; disk = disk; disk' = disk' }
+
 -- ---- which run it was
 
 -- the log that was recovered, and the datagrams that came

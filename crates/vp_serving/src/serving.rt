@@ -6,7 +6,7 @@ ghost use Rattle.vp_model.specs.Catalogue.{sites_of};
 ghost use Rattle.vp_outside.specs.Links.{StaysBound, GivesNone};
 ghost use Rattle.vp_stable.specs.Moments.{LeavesOthers};
 ghost use Rattle.vp_node.specs.Nodes.{IsNode, IsKept};
-ghost use Rattle.vp_serving.specs.Serving.{Serves, either};
+ghost use Rattle.vp_serving.specs.Serving.{Serves, either, outside};
 ghost use Rattle.vp_serving.specs.Telling.{AsksPort, Begins, Finishes, Takes};
 
 use crate::end::End;
@@ -31,15 +31,7 @@ pub fn serve<L: Link, D: Disk, K: Sink>(
     requires attached { IsTrue (D.state disk.old).attached }
     requires id { has (sites_of catalog.now) id ≡ true }
     ensures served { Serves catalog.now id turns
-        (record {
-          link = L.state link.old;
-          link' = L.state link.new;
-          sink = K.state sink.old;
-          sink' = K.state sink.new;
-          disk = D.state disk.old;
-          disk' = D.state disk.new;
-        })
-        result }
+        (outside (L.state link.old) (L.state link.new) (K.state sink.old) (K.state sink.new) (D.state disk.old) (D.state disk.new)) result }
     ensures others { LeavesOthers (D.state disk.old) (D.state disk.new) }
     ensures later { (K.state sink.old).faults ≤ (K.state sink.new).faults }
 {
@@ -61,15 +53,7 @@ fn served<L: Link, D: Disk, K: Sink>(
     requires attached { IsTrue (D.state disk.old).attached }
     requires id { has (sites_of catalog.now) id ≡ true }
     ensures served { Serves catalog.now id turns
-        (record {
-          link = L.state link.old;
-          link' = L.state link.new;
-          sink = K.state sink.old;
-          sink' = K.state sink.new;
-          disk = D.state disk.old;
-          disk' = D.state disk.new;
-        })
-        (either result) }
+        (outside (L.state link.old) (L.state link.new) (K.state sink.old) (K.state sink.new) (D.state disk.old) (D.state disk.new)) (either result) }
     ensures others { LeavesOthers (D.state disk.old) (D.state disk.new) }
     ensures later { (K.state sink.old).faults ≤ (K.state sink.new).faults }
 {

@@ -1,9 +1,8 @@
 -- What is done in the place of a step that is stopped.
-use Rattle.std.proofs.Common.{◌≡◌, ◌∙◌, ap, sym, subst, ℕ, zero, suc, ◌+◌, ◌-◌, ◌≤◌, ◌<◌, Bool, true, false, cond, List, [], ◌∷◌, ◌++◌, length, refl, arith, append_assoc, append-nil}
+use Rattle.std.proofs.Common.{◌≡◌, ◌∙◌, ap, sym, subst, ℕ, zero, suc, ◌+◌, ◌-◌, ◌≤◌, Bool, true, false, cond, List, [], ◌∷◌, ◌++◌, length, refl, arith, append_assoc, append-nil}
 use Rattle.std.specs.Prelude.{Option, Some, None, IsSome, ◌==◌, slice_get, option_map, option_and_then, if◌then◌else◌}
 use Rattle.std.specs.Option.{option_map_or, option_or}
 use Rattle.std.specs.List.{AllByRecursion, range_with_len}
-use Rattle.std.proofs.lemmas.Bool.Decides.{nat_tests}
 use Rattle.std.proofs.lemmas.List.{length-append}
 use Rattle.vp_model.specs.Types.{Event, Sent, Counted}
 use Rattle.vp_model.specs.Types.event
@@ -32,9 +31,6 @@ range_on a (suc n) = ap (λ rest. a ∷ rest) (range_on (a + 1) n ∙ ap (λ k. 
     more : (a n : ℕ) → (a + 1) + n ≡ a + suc n
     more a n = omega arith
 
-pub pass_none : (w : WorldState) → w ≡ pass_over [] w
-pass_none w = ap (λ (d : List ℕ). record w { delivered = d }) (sym (append-nil w.delivered))
-
 pub pass_more : (ns : List ℕ) (k : ℕ) (w : WorldState) → passed_over k (pass_over ns w) ≡ pass_over (ns ++ k ∷ []) w
 pass_more ns k w = ap (λ (d : List ℕ). record w { delivered = d }) (append_assoc w.delivered ns (k ∷ []))
 
@@ -51,21 +47,6 @@ lose_more before i w le =
 
     longer : (before i : ℕ) → before ≤ i → suc (i - before) ≡ (i + 1) - before
     longer before i le = omega (arith, le)
-
-some_there : {A : Type 0} (xs : List A) (i : ℕ) → i < length xs → IsSome (slice_get xs i)
-some_there [] i lt = absurd (omega (arith, lt))
-some_there (x ∷ xs) zero lt = refl
-some_there (x ∷ xs) (suc i) lt = some_there xs i (omega (arith, lt))
-
-pub sent_there : (w : WorldState) (i : ℕ) → i < length w.sent → IsSome (message_at w (i + 1))
-sent_there w i lt = go (i + 1 == 0) refl
-  where
-    less : (i : ℕ) → i ≡ (i + 1) - 1
-    less i = omega arith
-
-    go : (b : Bool) → (i + 1 == 0) ≡ b → IsSome (cond b None (slice_get w.sent ((i + 1) - 1)))
-    go true e = absurd (grind (arith, nat_tests, e))
-    go false e = subst (λ j. IsSome (slice_get w.sent j)) (less i) (some_there w.sent i lt)
 
 -- ---- who takes a step
 

@@ -1,5 +1,5 @@
 -- What a run comes to that was stopped within a step, and went on.
-use Rattle.std.proofs.Common.{◌≡◌, ◌∙◌, ap, sym, subst, ℕ, zero, suc, ◌-◌, Bool, true, false, cond, List, [], ◌∷◌, ◌++◌, take, drop, refl, arith}
+use Rattle.std.proofs.Common.{◌≡◌, ◌∙◌, ap, sym, subst, ℕ, zero, suc, ◌-◌, Bool, false, cond, List, [], ◌∷◌, ◌++◌, take, drop, refl, arith}
 use Rattle.std.specs.Prelude.{Option, Some, None, ◌==◌, slice_get, option_map, option_and_then}
 use Rattle.std.specs.Option.{option_map_or, option_or}
 use Rattle.std.specs.List.{AllByRecursion}
@@ -189,6 +189,3 @@ module _ (s : Schedule) (step : ℕ) (m : Moment) (at : moment_of step (moments_
   limit_of_it none =
       ap (limit_in world_limits) up_to_it ∙ limit_append (take (step - 1) (moments_of s)) (m ∷ [])
       ∙ ap (λ o. option_or o (limit_in world_limits (m ∷ []))) none ∙ limit_one m ∙ ap (λ (y : Moment). exceeded world_limits y.after) moment_is
-
-  pub its_front : Follow s.catalogue (start_world s.catalogue) (take (step - 1) (moments_of s)) m.before
-  its_front = front_along s step true m 0 at

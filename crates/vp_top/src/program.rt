@@ -3,10 +3,11 @@
 ghost use Rattle.std.specs.Prelude.{◌≡◌, ◌≤◌, ◌<◌, ◌↔◌, IfOk, IfSome, IsErrOf, IsTrue, None, ℕ, List, length};
 ghost use Rattle.vp_outside.specs.Causes.{Rose};
 ghost use Rattle.vp_outside.specs.Input.{IsEnded, Took};
+ghost use Rattle.vp_serving.specs.Serving.{outside};
 ghost use Rattle.vp_top.specs.Ends.{Ends, EndsAsNode, EndsInText, LeavesLink};
 ghost use Rattle.vp_top.specs.Plans.{Plans};
 ghost use Rattle.vp_top.specs.Program.{AreOf, Calls, IsForNode, Reads};
-ghost use Rattle.vp_top.specs.declared.program.Stop.TheVariants as stops;
+ghost use Rattle.vp_top.specs.declared.program.PlanFault.TheVariants as plan_faults;
 
 use crate::plan::{Plan, plan_of, too_long, usage};
 use std::alloc::{AllocError, Global};
@@ -21,24 +22,24 @@ pub const MOST_BYTES: usize = 16_777_216;
 
 /// Why there is no plan.
 #[derive(Clone, Copy, Drop)]
-enum Stop {
+enum PlanFault {
     SourceFault,
     NoMemory,
 }
 
-impl From<NoMemory> for Stop {
-    ghost from_gives = { λ _ stop. stop ≡ stops.NoMemory };
+impl From<NoMemory> for PlanFault {
+    ghost from_gives = { λ _ fault. fault ≡ plan_faults.NoMemory };
 
-    fn from(_: NoMemory) -> Stop {
-        Stop::NoMemory
+    fn from(_: NoMemory) -> PlanFault {
+        PlanFault::NoMemory
     }
 }
 
-impl From<AllocError> for Stop {
-    ghost from_gives = { λ _ stop. stop ≡ stops.NoMemory };
+impl From<AllocError> for PlanFault {
+    ghost from_gives = { λ _ fault. fault ≡ plan_faults.NoMemory };
 
-    fn from(_: AllocError) -> Stop {
-        Stop::NoMemory
+    fn from(_: AllocError) -> PlanFault {
+        PlanFault::NoMemory
     }
 }
 
@@ -55,15 +56,7 @@ pub fn run<S: Source, K: Sink, L: Link, D: Disk>(
 ) -> Status
     requires fresh { (L.state link.old).asked ≡ None }
     ensures ends { Ends words.now (S.state source.old) (S.state source.new)
-        (record {
-          link = L.state link.old;
-          link' = L.state link.new;
-          sink = K.state sink.old;
-          sink' = K.state sink.new;
-          disk = D.state disk.old;
-          disk' = D.state disk.new;
-        })
-        result }
+        (outside (L.state link.old) (L.state link.new) (K.state sink.old) (K.state sink.new) (D.state disk.old) (D.state disk.new)) result }
     // Whatever is no node prints a text.
     ensures text { (AreOf IsForNode words.now → ⊥)
         → EndsInText words.now (S.state source.old) (S.state source.new) (L.state link.old) (L.state link.new) (K.state sink.old) (K.state sink.new) result }
@@ -71,15 +64,7 @@ pub fn run<S: Source, K: Sink, L: Link, D: Disk>(
     ensures link_uncalled { (AreOf Calls words.now → ⊥) → link.new ≡ link.old }
     // Unless a node serves.
     ensures disk_uncalled { (EndsAsNode words.now (S.state source.old) (S.state source.new)
-        (record {
-          link = L.state link.old;
-          link' = L.state link.new;
-          sink = K.state sink.old;
-          sink' = K.state sink.new;
-          disk = D.state disk.old;
-          disk' = D.state disk.new;
-        })
-        result → ⊥) → disk.new ≡ disk.old }
+        (outside (L.state link.old) (L.state link.new) (K.state sink.old) (K.state sink.new) (D.state disk.old) (D.state disk.new)) result → ⊥) → disk.new ≡ disk.old }
 {
     match plan(alloc, words, source, link) {
         Ok(Plan::Print(defined)) => defined.print(sink),
@@ -91,8 +76,8 @@ pub fn run<S: Source, K: Sink, L: Link, D: Disk>(
                 turns,
             },
         ) => serve_log(&catalog, site, &log, link, disk, sink, turns),
-        Err(Stop::SourceFault) => Status::SourceFault,
-        Err(Stop::NoMemory) => Status::NoMemory,
+        Err(PlanFault::SourceFault) => Status::SourceFault,
+        Err(PlanFault::NoMemory) => Status::NoMemory,
     }
 }
 
@@ -102,11 +87,11 @@ fn plan<S: Source, L: Link>(
     words: &[Word],
     source: &mut S,
     link: &mut L,
-) -> Result<Plan, Stop>
+) -> Result<Plan, PlanFault>
     requires fresh { (L.state link.old).asked ≡ None }
     ensures plans { IfOk result (Plans words.now (S.state source.old) (S.state source.new) (L.state link.old) (L.state link.new)) }
-    ensures no_memory { IsErrOf result stops.NoMemory → LeavesLink words.now (S.state source.old) (S.state source.new) (L.state link.old) (L.state link.new) }
-    ensures source_fault { IsErrOf result stops.SourceFault → AreOf Reads words.now × Rose (S.state source.old).faults (S.state source.new).faults × (L.state link.new ≡ L.state link.old) }
+    ensures no_memory { IsErrOf result plan_faults.NoMemory → LeavesLink words.now (S.state source.old) (S.state source.new) (L.state link.old) (L.state link.new) }
+    ensures source_fault { IsErrOf result plan_faults.SourceFault → AreOf Reads words.now × Rose (S.state source.old).faults (S.state source.new).faults × (L.state link.new ≡ L.state link.old) }
     ensures source_uncalled { (AreOf Reads words.now → ⊥) → source.new ≡ source.old }
     ensures link_uncalled { (AreOf Calls words.now → ⊥) → link.new ≡ link.old }
 {
@@ -130,17 +115,17 @@ fn reads(command: &Command) -> bool
 }
 
 /// The input, read to its end; none where it is too long.
-fn input_of<S: Source>(alloc: Global, source: &mut S) -> Result<Option<Vec<u8>>, Stop>
+fn input_of<S: Source>(alloc: Global, source: &mut S) -> Result<Option<Vec<u8>>, PlanFault>
     ensures whole { IfOk result (λ found. IfSome found (λ input. (length input.items ≤ 16777216)
         × IsEnded (S.state source.new) × Took input.items (S.state source.old) (S.state source.new))) }
     ensures too_long { IfOk result (λ found. found ≡ None → ((bytes : List ℕ) × (16777216 < length bytes)
         × Took bytes (S.state source.old) (S.state source.new))) }
-    ensures cause { IsErrOf result stops.SourceFault → Rose (S.state source.old).faults (S.state source.new).faults }
+    ensures cause { IsErrOf result plan_faults.SourceFault → Rose (S.state source.old).faults (S.state source.new).faults }
 {
     match read_to_end(alloc, source, MOST_BYTES) {
         Ok(input) => Ok(Some(input)),
-        Err(InputFault::Failed) => Err(Stop::SourceFault),
+        Err(InputFault::Failed) => Err(PlanFault::SourceFault),
         Err(InputFault::TooLong) => Ok(None),
-        Err(InputFault::NoMemory) => Err(Stop::NoMemory),
+        Err(InputFault::NoMemory) => Err(PlanFault::NoMemory),
     }
 }

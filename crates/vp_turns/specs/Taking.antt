@@ -7,15 +7,15 @@ use Rattle.vp_model.specs.Step.{step}
 use Rattle.vp_runs.specs.declared.arrival.Arrival.{Arrival}
 use Rattle.vp_runs.specs.declared.arrival.Arrival.TheVariants.{Gives}
 use Rattle.vp_runs.specs.Turns.{Turn}
-use Rattle.vp_turns.specs.declared.turned.Outcome.{Outcome}
+use Rattle.vp_turns.specs.declared.turned.TurnEffects.{TurnEffects}
 
--- The site took the turn, and gives its outcome.
-pub record Does (turn : Turn) (site : SiteState) (outcome : Outcome) : Type 0 where
+-- The site took the turn, and gives its effects.
+pub record Does (turn : Turn) (site : SiteState) (turn_effects : TurnEffects) : Type 0 where
   pub site_is : site ≡ turn.site
-  pub records_are : outcome.effects.records ≡ turn.batch
-  pub datagrams_are : outcome.datagrams ≡ turn.datagrams
-  pub commits_are : outcome.effects.commits ≡ turn.commits
-  pub stop_is : outcome.stop ≡ turn.stop
+  pub records_are : turn_effects.effects.records ≡ turn.batch
+  pub datagrams_are : turn_effects.datagrams ≡ turn.datagrams
+  pub commits_are : turn_effects.effects.commits ≡ turn.commits
+  pub stop_is : turn_effects.stop ≡ turn.stop
 
 -- Where an input came, the site did its step, and gives the effects of that.
 abbrev pub IsStepOf : Catalogue → SiteState → Arrival → SiteState → Effects → Type 0

@@ -11,4 +11,4 @@ mod turned;
 pub use arrivals::arrival;
 pub use recording::{arrival_line, number_line};
 pub use taking::take;
-pub use turned::{Lines, Outcome, Turned};
+pub use turned::{Lines, TurnEffects, Turned};

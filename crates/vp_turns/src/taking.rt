@@ -9,7 +9,7 @@ ghost use Rattle.vp_runs.specs.Turns.{step_turn, quiet_turn, turn_on};
 ghost use Rattle.vp_turns.specs.Taking.{Does, IsStepOf};
 
 use crate::sending::datagrams_of;
-use crate::turned::Outcome;
+use crate::turned::TurnEffects;
 use std::alloc::Global;
 use vp_base::{Input, NoMemory};
 use vp_catalog::Catalog;
@@ -18,7 +18,7 @@ use vp_runs::Arrival;
 use vp_site::Site;
 
 /// Does the step of an input.
-fn step(site: Site, catalog: &Catalog, input: Input) -> Result<(Site, Outcome), NoMemory>
+fn step(site: Site, catalog: &Catalog, input: Input) -> Result<(Site, TurnEffects), NoMemory>
     requires catalogue { IsCatalogue catalog.now }
     requires site { IsShaped catalog.now site }
     requires input { IsInput input }
@@ -31,24 +31,24 @@ fn step(site: Site, catalog: &Catalog, input: Input) -> Result<(Site, Outcome), 
     let (site, effects) = site.step(catalog, &input)?;
     let messages = effects.messages.as_slice();
     let datagrams = datagrams_of(catalog, id, messages, effects.replies.as_slice())?;
-    let outcome = Outcome {
+    let turn_effects = TurnEffects {
         effects,
         datagrams,
         stop: false,
     };
-    Ok((site, outcome))
+    Ok((site, turn_effects))
 }
 
 /// A turn without a step.
-fn pass(site: Site, alloc: Global, stop: bool) -> (Site, Outcome)
+fn pass(site: Site, alloc: Global, stop: bool) -> (Site, TurnEffects)
     ensures { Does (quiet_turn site stop) result.0 result.1 }
 {
-    (site, Outcome::quiet(alloc, stop))
+    (site, TurnEffects::quiet(alloc, stop))
 }
 
 /// Takes what came: the site after it, and what the turn gives. The records of its step are to be forced.
 #[tactic(auto, unfolding(vp_runs::specs::Turns::turn_on))]
-pub fn take(site: Site, catalog: &Catalog, what: Arrival) -> Result<(Site, Outcome), NoMemory>
+pub fn take(site: Site, catalog: &Catalog, what: Arrival) -> Result<(Site, TurnEffects), NoMemory>
     requires catalogue { IsCatalogue catalog.now }
     requires site { IsShaped catalog.now site }
     requires what { IsArrival what }

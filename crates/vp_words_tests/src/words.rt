@@ -54,7 +54,12 @@ fn text_of(rt: &impl Abort, alloc: Global, command: &Command) -> Vec<u8> {
     match command {
         Command::Node { log, .. } => out.extend_from_slice(log.as_slice()).expect(rt, "memory"),
         Command::Client { call, .. } => print_call(call, &mut out).expect(rt, "memory"),
-        _ => {}
+        Command::Replay
+        | Command::Check
+        | Command::Signal { .. }
+        | Command::Generate { .. }
+        | Command::Soak { .. }
+        | Command::Logs => {}
     }
     out
 }

@@ -57,13 +57,13 @@ step_of (event.Tick site) w = step_at w site input.Tick
 step_of (event.Probe site) w = step_at w site input.Probe
 step_of _ w = None
 
--- whoever does the steps hears of the event, and then does its step
+-- the event is announced to whoever does the steps, who then does its step
 abbrev pub DoesEvent : {S : Type 0} → (Event → S → S → Type 0) → (SiteState → Input → S → S → Type 0) → Event → WorldState → S → S → Type 0
-DoesEvent {S} heard did e w old new = (told : S) × heard e old told × Did (λ it. did it.0 it.1) (step_of e w) told new
+DoesEvent {S} announced did e w old new = (told : S) × announced e old told × Did (λ it. did it.0 it.1) (step_of e w) told new
 
--- it may do the step of the event in this world, once it has heard of that
+-- it may do the step of the event in this world, once that was announced to it
 abbrev pub IsReady : {S : Type 0} → (Event → S → S → Type 0) → (SiteState → Input → S → Type 0) → Event → WorldState → S → Type 0
-IsReady {S} heard may e w old = (told : S) → heard e old told → IfSome (step_of e w) (λ it. may it.0 it.1 told)
+IsReady {S} announced may e w old = (told : S) → announced e old told → IfSome (step_of e w) (λ it. may it.0 it.1 told)
 
 -- the world where this message counts as delivered too
 abbrev pub passed_over : ℕ → WorldState → WorldState

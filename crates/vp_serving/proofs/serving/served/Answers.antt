@@ -3,7 +3,8 @@ use Rattle.vp_stable.proofs.Times.{others_join}
 use Rattle.vp_serving.specs.Ends.{end_of_node}
 use Rattle.vp_serving.specs.declared.end.End.TheVariants as ends
 use Rattle.vp_serving.proofs.Begun.{unstarted, begun, unbegun}
-use Rattle.vp_serving.proofs.Served.{SoFar, outside, as_end}
+use Rattle.vp_serving.specs.Serving.{outside}
+use Rattle.vp_serving.proofs.Served.{SoFar, as_end}
 use Rattle.vp_serving.proofs.Ended.{stops, is_done, is_lost}
 use Rattle.vp_node.proofs.Faults.{gave_err}
 use Rattle.vp_serving.proofs.TurnEnds.{goes_on, turn_ends}

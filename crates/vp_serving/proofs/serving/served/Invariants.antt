@@ -1,6 +1,7 @@
 -- The datagrams that came were taken, and none of them ended the run.
 use Rattle.std.proofs.Common.{false}
-use Rattle.vp_serving.proofs.Served.{SoFar, outside}
+use Rattle.vp_serving.specs.Serving.{outside}
+use Rattle.vp_serving.proofs.Served.{SoFar}
 use Rattle.vp_serving.proofs.serving.served.Given as goal
 
 abbrev pub invariant-loop : goal.invariant-loop

@@ -17,8 +17,8 @@ step-requires-clause-ready c =
     comes_ready c.args.schedule.now c.requires.schedule (c.loop.counter - 1) c.loop.front.steps c.loop.front.nodes c.loop.front.left c.loop.invariant.comes
     c.in-Some.event (sym c.in_ok-next.ensures.next ∙ c.in-Some.is)
 
-pub step-requires-clause-hears : goal.step-requires-clause-hears
-step-requires-clause-hears c =
+pub step-requires-clause-announces : goal.step-requires-clause-announces
+step-requires-clause-announces c =
     comes_formed c.args.schedule.now c.requires.schedule (c.loop.counter - 1) c.loop.front.steps c.loop.front.nodes c.loop.front.left c.loop.invariant.comes
     c.in-Some.event (sym c.in_ok-next.ensures.next ∙ c.in-Some.is)
 

@@ -27,8 +27,8 @@ returns-then-is_empty-clause-stops c =
     let what_is : c.in_ok-what.what ≡ arrival cat c.self.inside.id (as_received letter) = c.in_ok-what.ensures.what ∙ ap (λ (bytes : List ℕ). arrival cat c.self.inside.id (record { port = letter.from; bytes = bytes })) c.deref.ensures in
     let comes = parts_arrival cat _ c.args.self.now c.self.view_is c.args.site (as_received letter) c.in_ok-what.what c.requires.lent what_is in
     subst (λ (log : Option Standing). Stops cat (as_received letter) c.args.site c.args.self.now (host_with c.self.inside.id c.self.inside.port c.self.inside.disk log) None) (sym c.take.ensures.after)
-    (stops_none cat (as_received letter) c.args.site _ c.args.self.now c.self.view_is c.requires.host c.in-Some.log up c.in_ok-what.what comes c.in_ok-outcome.outcome.effects.records c.in_ok-outcome.ensures.does.records_are c.self.inside.disk
-    (shown_none c.in_ok-outcome.outcome.effects.records c.as_slice.result.now c.is_empty.result c.as_slice.ensures c.is_empty.ensures c.if-is_empty.true))
+    (stops_none cat (as_received letter) c.args.site _ c.args.self.now c.self.view_is c.requires.host c.in-Some.log up c.in_ok-what.what comes c.in_ok-turn_effects.turn_effects.effects.records c.in_ok-turn_effects.ensures.does.records_are c.self.inside.disk
+    (shown_none c.in_ok-turn_effects.turn_effects.effects.records c.as_slice.result.now c.is_empty.result c.as_slice.ensures c.is_empty.ensures c.if-is_empty.true))
 
 pub append_stopped-requires-clause-stands : goal.append_stopped-requires-clause-stands
 append_stopped-requires-clause-stands c =
@@ -37,7 +37,7 @@ append_stopped-requires-clause-stands c =
 
 pub append_stopped-requires-clause-batch : goal.append_stopped-requires-clause-batch
 append_stopped-requires-clause-batch c =
-    subst IsBatch (sym c.in_ok-outcome.ensures.does.records_are)
+    subst IsBatch (sym c.in_ok-turn_effects.ensures.does.records_are)
     (turn_shaped c.args.catalog.now c.args.site c.in_ok-what.what c.requires.lent.catalogue_is c.requires.lent.site_is c.in_ok-what.ensures.form).batch_is
 
 pub returns-clause-stops : goal.returns-clause-stops
@@ -50,10 +50,10 @@ returns-clause-stops c =
     let it : StoppedLog = record { log = c.in_ok-log.field-0; kept = c.keeps_batch.result } in
     let log_is = c.in_ok-log.ensures ∙ ap (λ (log : Option Standing). site_log (host_with c.self.inside.id c.self.inside.port c.in_ok-left.left log)) c.take.ensures.after in
     subst (λ (log : Option Standing). Stops cat (as_received letter) c.args.site c.args.self.now (host_with c.self.inside.id c.self.inside.port c.in_ok-left.left log) (Some it)) (sym c.take.ensures.after)
-    (stops_within cat (as_received letter) c.args.site _ c.args.self.now c.self.view_is c.requires.host c.in-Some.log up c.in_ok-what.what comes c.in_ok-outcome.outcome.effects.records c.in_ok-outcome.ensures.does.records_are
+    (stops_within cat (as_received letter) c.args.site _ c.args.self.now c.self.view_is c.requires.host c.in-Some.log up c.in_ok-what.what comes c.in_ok-turn_effects.turn_effects.effects.records c.in_ok-turn_effects.ensures.does.records_are
     c.in_ok-left.left it
-    (shown_some c.in_ok-outcome.outcome.effects.records c.as_slice.result.now c.is_empty.result c.as_slice.ensures c.is_empty.ensures c.if-is_empty.false)
-    log_is (subst (λ (kept : Bool). GainsWhere c.in_ok-outcome.outcome.effects.records c.in-Some.log kept (log_on c.self.inside.disk) (log_on c.in_ok-left.left)) (sym c.keeps_batch.ensures) c.in_ok-left.ensures))
+    (shown_some c.in_ok-turn_effects.turn_effects.effects.records c.as_slice.result.now c.is_empty.result c.as_slice.ensures c.is_empty.ensures c.if-is_empty.false)
+    log_is (subst (λ (kept : Bool). GainsWhere c.in_ok-turn_effects.turn_effects.effects.records c.in-Some.log kept (log_on c.self.inside.disk) (log_on c.in_ok-left.left)) (sym c.keeps_batch.ensures) c.in_ok-left.ensures))
 
 pub invariant_of-self-2 : goal.invariant_of-self-2
 invariant_of-self-2 c =

@@ -28,7 +28,7 @@ returns-in-Ok-clause-takes c =
     let up : c.self.inside.log ≡ Some c.in-Some.log = cc in
     let what_is : c.in_ok-what.what ≡ arrival cat c.self.inside.id (as_received letter) = c.in_ok-what.ensures.what ∙ ap (λ (bytes : List ℕ). arrival cat c.self.inside.id (record { port = letter.from; bytes = bytes })) c.deref.ensures in
     parts_take cat _ c.args.self.now c.self.view_is (as_received letter) c.args.site c.requires.lent c.requires.host c.in-Some.log up c.from_parts-node.result c.from_parts-node.ensures c.in_ok-what.what what_is _ h.others.stays.same_name
-    c.in-Ok.node c.in-Ok.outcome c.into_parts-site.result c.into_parts-site.ensures (h.took, h.stepped, h.saved) h.kept
+    c.in-Ok.node c.in-Ok.turn_effects c.into_parts-site.result c.into_parts-site.ensures (h.took, h.stepped, h.saved) h.kept
 
 pub returns-in-Ok-clause-host : goal.returns-in-Ok-clause-host
 returns-in-Ok-clause-host c = (returns-in-Ok-clause-takes c).stays.host

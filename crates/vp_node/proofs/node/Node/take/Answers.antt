@@ -33,7 +33,7 @@ keep-requires-clause-form g c =
 
 pub keep-requires-clause-batch : goal.keep-requires-clause-batch
 keep-requires-clause-batch g c =
-    let records_are = subst (λ (n : NodeValue). c.in_ok-site.outcome.effects.records ≡ (turn_on c.args.catalog.now n.site c.args.what).batch) c.self.view_is c.in_ok-site.ensures.does.records_are in
+    let records_are = subst (λ (n : NodeValue). c.in_ok-site.turn_effects.effects.records ≡ (turn_on c.args.catalog.now n.site c.args.what).batch) c.self.view_is c.in_ok-site.ensures.does.records_are in
     subst IsBatch (sym records_are)
     (turn_shaped c.args.catalog.now c.args.self.site c.args.what c.requires.node.catalogue_is c.requires.node.site_is c.requires.what).batch_is
 
@@ -55,7 +55,7 @@ returns-in_err-site-clause-any_moment g c honest =
 pub returns-in_err-keep-clause-left : goal.returns-in_err-keep-clause-left
 returns-in_err-keep-clause-left g c honest =
     let site_is = subst (λ (n : NodeValue). c.in_ok-site.site ≡ (turn_on c.args.catalog.now n.site c.args.what).site) c.self.view_is c.in_ok-site.ensures.does.site_is in
-    let records_are = subst (λ (n : NodeValue). c.in_ok-site.outcome.effects.records ≡ (turn_on c.args.catalog.now n.site c.args.what).batch) c.self.view_is c.in_ok-site.ensures.does.records_are in
+    let records_are = subst (λ (n : NodeValue). c.in_ok-site.turn_effects.effects.records ≡ (turn_on c.args.catalog.now n.site c.args.what).batch) c.self.view_is c.in_ok-site.ensures.does.records_are in
     let turn = turn_on c.args.catalog.now c.args.self.site c.args.what in
     let disk = g.D.Disk.state c.args.disk.now in
     let follows = brings c.args.catalog.now c.args.self.site c.args.what c.requires.node.catalogue_is c.requires.node.site_is c.requires.what in
@@ -66,7 +66,7 @@ returns-in_err-keep-clause-left g c honest =
 pub returns-in_err-keep-clause-any_moment : goal.returns-in_err-keep-clause-any_moment
 returns-in_err-keep-clause-any_moment g c honest =
     let site_is = subst (λ (n : NodeValue). c.in_ok-site.site ≡ (turn_on c.args.catalog.now n.site c.args.what).site) c.self.view_is c.in_ok-site.ensures.does.site_is in
-    let records_are = subst (λ (n : NodeValue). c.in_ok-site.outcome.effects.records ≡ (turn_on c.args.catalog.now n.site c.args.what).batch) c.self.view_is c.in_ok-site.ensures.does.records_are in
+    let records_are = subst (λ (n : NodeValue). c.in_ok-site.turn_effects.effects.records ≡ (turn_on c.args.catalog.now n.site c.args.what).batch) c.self.view_is c.in_ok-site.ensures.does.records_are in
     let turn = turn_on c.args.catalog.now c.args.self.site c.args.what in
     let disk = g.D.Disk.state c.args.disk.now in
     let follows = brings c.args.catalog.now c.args.self.site c.args.what c.requires.node.catalogue_is c.requires.node.site_is c.requires.what in
@@ -75,12 +75,12 @@ returns-in_err-keep-clause-any_moment g c honest =
     leaves_saves c.args.catalog.now c.args.self turn follows (disk.may_leave disk.asked) disk (g.D.Disk.state c.keep.new.disk) (log_of disk) (c.requires.kept honest) kept
 
 pub returns-clause-stepped : goal.returns-clause-stepped
-returns-clause-stepped g c = subst (λ (n : NodeValue). IsStepOf c.args.catalog.now n.site c.args.what c.in_ok-site.site c.in_ok-site.outcome.effects) c.self.view_is c.in_ok-site.ensures.stepped
+returns-clause-stepped g c = subst (λ (n : NodeValue). IsStepOf c.args.catalog.now n.site c.args.what c.in_ok-site.site c.in_ok-site.turn_effects.effects) c.self.view_is c.in_ok-site.ensures.stepped
 
 pub returns-clause-saved : goal.returns-clause-saved
 returns-clause-saved g c =
     let site_is = subst (λ (n : NodeValue). c.in_ok-site.site ≡ (turn_on c.args.catalog.now n.site c.args.what).site) c.self.view_is c.in_ok-site.ensures.does.site_is in
-    let records_are = subst (λ (n : NodeValue). c.in_ok-site.outcome.effects.records ≡ (turn_on c.args.catalog.now n.site c.args.what).batch) c.self.view_is c.in_ok-site.ensures.does.records_are in
+    let records_are = subst (λ (n : NodeValue). c.in_ok-site.turn_effects.effects.records ≡ (turn_on c.args.catalog.now n.site c.args.what).batch) c.self.view_is c.in_ok-site.ensures.does.records_are in
     let at_is = ap (λ (n : NodeValue). n.at) c.self.view_is in
     rw (site_is, records_are, at_is) at c.in_ok-keep.ensures.kept_at
 
@@ -93,7 +93,7 @@ returns-clause-short g c =
 pub returns-clause-left : goal.returns-clause-left
 returns-clause-left g c honest =
     let site_is = subst (λ (n : NodeValue). c.in_ok-site.site ≡ (turn_on c.args.catalog.now n.site c.args.what).site) c.self.view_is c.in_ok-site.ensures.does.site_is in
-    let records_are = subst (λ (n : NodeValue). c.in_ok-site.outcome.effects.records ≡ (turn_on c.args.catalog.now n.site c.args.what).batch) c.self.view_is c.in_ok-site.ensures.does.records_are in
+    let records_are = subst (λ (n : NodeValue). c.in_ok-site.turn_effects.effects.records ≡ (turn_on c.args.catalog.now n.site c.args.what).batch) c.self.view_is c.in_ok-site.ensures.does.records_are in
     let turn = turn_on c.args.catalog.now c.args.self.site c.args.what in
     let disk = g.D.Disk.state c.args.disk.now in
     let follows = brings c.args.catalog.now c.args.self.site c.args.what c.requires.node.catalogue_is c.requires.node.site_is c.requires.what in
@@ -106,7 +106,7 @@ returns-clause-left g c honest =
 pub returns-clause-any_moment : goal.returns-clause-any_moment
 returns-clause-any_moment g c honest =
     let site_is = subst (λ (n : NodeValue). c.in_ok-site.site ≡ (turn_on c.args.catalog.now n.site c.args.what).site) c.self.view_is c.in_ok-site.ensures.does.site_is in
-    let records_are = subst (λ (n : NodeValue). c.in_ok-site.outcome.effects.records ≡ (turn_on c.args.catalog.now n.site c.args.what).batch) c.self.view_is c.in_ok-site.ensures.does.records_are in
+    let records_are = subst (λ (n : NodeValue). c.in_ok-site.turn_effects.effects.records ≡ (turn_on c.args.catalog.now n.site c.args.what).batch) c.self.view_is c.in_ok-site.ensures.does.records_are in
     let turn = turn_on c.args.catalog.now c.args.self.site c.args.what in
     let disk = g.D.Disk.state c.args.disk.now in
     let follows = brings c.args.catalog.now c.args.self.site c.args.what c.requires.node.catalogue_is c.requires.node.site_is c.requires.what in
@@ -123,7 +123,7 @@ returns-clause-node g c =
 pub returns-clause-kept : goal.returns-clause-kept
 returns-clause-kept g c honest =
     let site_is = subst (λ (n : NodeValue). c.in_ok-site.site ≡ (turn_on c.args.catalog.now n.site c.args.what).site) c.self.view_is c.in_ok-site.ensures.does.site_is in
-    let records_are = subst (λ (n : NodeValue). c.in_ok-site.outcome.effects.records ≡ (turn_on c.args.catalog.now n.site c.args.what).batch) c.self.view_is c.in_ok-site.ensures.does.records_are in
+    let records_are = subst (λ (n : NodeValue). c.in_ok-site.turn_effects.effects.records ≡ (turn_on c.args.catalog.now n.site c.args.what).batch) c.self.view_is c.in_ok-site.ensures.does.records_are in
     let turn = turn_on c.args.catalog.now c.args.self.site c.args.what in
     let disk = g.D.Disk.state c.args.disk.now in
     let k = c.requires.node.catalogue_is in
