@@ -1,17 +1,16 @@
 #!/usr/bin/env python3
 """Tells the processor minutes of the gate, crate by crate: of its first check, of its tests and of its must-fail edits.
 
-gate_minutes.py [FOLDER [WORD ..]]
+gate_minutes.py [FOLDER]
 
-Runs `rt ci WORD ..` in FOLDER (here, if none is named) and looks at its processes twice a second. What an earlier run kept is not done
-again and so costs nothing: the table is whole where nothing was kept, or where a WORD is --anew. The run's own output goes to standard
-error, the table, in Markdown, to standard output, and behind it each edit with its seconds, the dearest first; so it is where this script
-is ended before the run. The status is the run's. Other work on the machine makes each job dearer: leave the machine to the run.
+Runs `rt ci` in FOLDER (here, if none is named), which does everything from nothing, and looks at its processes twice a second. The run's
+own output goes to standard error, the table, in Markdown, to standard output, and behind it each edit with its seconds, the dearest first;
+so it is where this script is ended before the run. The status is the run's. Other work on the machine makes each job dearer: leave the
+machine to the run.
 """
 
 import os
 import pathlib
-import re
 import signal
 import subprocess
 import sys
@@ -19,6 +18,8 @@ import time
 
 TICKS = os.sysconf("SC_CLK_TCK")
 KINDS = ("check", "tests", "edits")
+# What stands in the name of the folder in which a crate is checked with an edit.
+ROOM = "/rt-edit-"
 
 
 def processes():
@@ -47,7 +48,7 @@ def job_of(number):
     if not words[0].endswith("/rattle") or "--crate-name" not in words:
         return None
     crate = words[words.index("--crate-name") + 1]
-    if re.search(r"/rt-edit-\d+-", folder):
+    if ROOM in folder:
         return crate, "edits"
     return crate, "tests" if "--test" in words else "check"
 
@@ -136,10 +137,10 @@ def list_of_edits(jobs):
 
 
 def main():
-    folder, words = (sys.argv[1:2] or ["."])[0], sys.argv[2:]
+    folder = (sys.argv[1:] or ["."])[0]
     jobs, known, edits = {}, {}, edits_below(folder)
     signal.signal(signal.SIGTERM, signal.default_int_handler)
-    with subprocess.Popen(["rt", "ci", *words], cwd=folder, stdin=subprocess.DEVNULL, stdout=sys.stderr) as run:
+    with subprocess.Popen(["rt", "ci"], cwd=folder, stdin=subprocess.DEVNULL, stdout=sys.stderr) as run:
         try:
             while run.poll() is None:
                 look(run.pid, jobs, known, edits)

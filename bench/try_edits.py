@@ -1,16 +1,17 @@
 #!/usr/bin/env python3
 """Tries the wrong bodies of the folder edits/, which the gate leaves out: the proofs of their crates have to refuse each.
 
-usage: try_edits.py [--apply] [FOLDER] [CRATE ..]
+usage: try_edits.py [--apply] [FOLDER] [CRATE | CRATE/EDIT ..]
 
 First it looks whether each edit of each CRATE can be applied, those of the crate's must-fail/ too, and prints each that can't; if no CRATE
 is named, those of all. With --apply this is all, and nothing is proved. Else it copies the repository FOLDER (the one of this script, if
 none is named) as it stands, with what isn't committed, into a new folder, which is removed in the end. There it puts the edits of
-bench/edits/CRATE beside those of the CRATE's must-fail/, and runs `rt must-fail CRATE ..`, whose output is passed on. What the crates
-stand on is built first, where no checkout on the machine has it.
+bench/edits/CRATE beside those of the CRATE's must-fail/, or leaves only those that are named as CRATE/EDIT, and runs
+`rt must-fail CRATE ..`, whose output is passed on. What the crates stand on is built there first, but for libraries that stand in FOLDER.
 
 The status is the run's: 1 where an edit isn't refused, or can't be applied.
 """
+import os
 import pathlib
 import shutil
 import signal
@@ -67,17 +68,36 @@ def look(top, crates):
     return faults > 0
 
 
+def left_out(folder, names):
+    """What of the repository the copy does without: of what was built it takes the libraries."""
+    return [it for it in names if it != "rlib"] if pathlib.Path(folder).name == "out" else [it for it in names if it == ".git"]
+
+
+def copied(source, target):
+    """Copies a file. A built library, which nothing writes into, gets a second name where it can."""
+    if "/out/rlib/" in source:
+        try:
+            os.link(source, target)
+            return target
+        except OSError:
+            pass
+    return shutil.copy2(source, target)
+
+
 def try_them(top, crates):
-    """Runs `rt must-fail` over the crates in a copy with all their edits, and returns its status."""
+    """Runs `rt must-fail` over the crates in a copy with all their edits, or those that are named, and returns its status."""
     signal.signal(signal.SIGTERM, signal.default_int_handler)
     with tempfile.TemporaryDirectory() as folder:
         copy = pathlib.Path(folder, "copy")
-        shutil.copytree(top, copy, ignore=shutil.ignore_patterns(".git", "out"))
-        for name in crates:
+        shutil.copytree(top, copy, ignore=left_out, copy_function=copied)
+        for name, named in crates.items():
             place = copy / "crates" / name / "must-fail"
             place.mkdir(parents=True, exist_ok=True)
             for edit in edits_of(top, name):
                 shutil.copy(edit, place)
+            for edit in place.glob("*.edit"):
+                if named and edit.stem not in named:
+                    edit.unlink()
         with subprocess.Popen(["rt", "must-fail", *crates], cwd=copy, stdin=subprocess.DEVNULL) as run:
             try:
                 return run.wait()
@@ -92,14 +112,17 @@ def main(words):
     top = TOP
     if words and pathlib.Path(words[0], "crates.txt").is_file():
         top = pathlib.Path(words.pop(0)).resolve()
-    have = {it.parts[-2] for it in top.glob("bench/edits/*/*.edit")}
-    if only_look:
-        have |= {it.parts[-3] for it in top.glob("crates/*/must-fail/*.edit")}
-    lacking = [it for it in words if it not in have]
+    outside = {(it.parts[-2], it.stem) for it in top.glob("bench/edits/*/*.edit")}
+    both = outside | {(it.parts[-3], it.stem) for it in top.glob("crates/*/must-fail/*.edit")}
+    have = {crate for crate, _ in (both if only_look else outside)}
+    lacking = [it for it in words if it not in have and tuple(it.split("/")) not in both]
     if lacking or not have:
         print(f"there are no edits of {' '.join(lacking) or 'any crate'} below {top}", file=sys.stderr)
         return 2
-    crates = words or sorted(have)
+    crates = {}
+    for word in words or sorted(have):
+        crate, _, edit = word.partition("/")
+        crates.setdefault(crate, []).extend([edit] if edit else [])
     is_bad = look(top, crates)
     return is_bad if only_look else try_them(top, crates) or is_bad
 
