@@ -1,12 +1,13 @@
 -- What a run comes to by its words and its input, where nothing fails.
-use Rattle.std.specs.Prelude.{◌≡◌, ◌≤◌, ◌<◌, ◌⊎◌, ℕ, List, [], ◌++◌, length, codes, Option, Some, None, Ok}
+use Rattle.std.specs.Prelude.{◌≡◌, ◌≤◌, ◌<◌, ◌⊎◌, ℕ, List, [], ◌∷◌, ◌++◌, length, take, codes, Option, Some, None, Ok}
 use Rattle.std.specs.Io.KnownBytes.{Appends}
-use Rattle.vp_model.specs.Types.{Counted}
+use Rattle.vp_model.specs.Types.{Answer, Call, Counted}
 use Rattle.vp_model.specs.Words.{value_at}
 use Rattle.vp_model.specs.Catalogue.{Catalogue}
 use Rattle.vp_model.specs.World.{Schedule}
 use Rattle.vp_model.specs.Limits.{world_limits, limit_reached, trace_text_within}
 use Rattle.vp_model.specs.Generated.{made, made_within, limit_made}
+use Rattle.vp_model.specs.Texts.Answers.{answer_text}
 use Rattle.vp_model.specs.Texts.History.{history_text}
 use Rattle.vp_model.specs.Texts.Schedule.{schedule_text}
 use Rattle.vp_model.specs.Texts.Trace.{trace_text}
@@ -19,6 +20,8 @@ use Rattle.vp_outside.specs.Disk.{DiskState}
 use Rattle.vp_outside.specs.Input.{SourceState}
 use Rattle.vp_outside.specs.Links.{LinkState}
 use Rattle.vp_outside.specs.Output.{SinkState}
+use Rattle.vp_outside.specs.declared.datagram.Datagram.{Datagram}
+use Rattle.vp_runs.specs.Asking.{first_answer}
 use Rattle.vp_client.specs.Asked.{HasFailed}
 use Rattle.vp_serving.specs.Serving.{Outside}
 use Rattle.vp_commands.specs.NodeEnds.{IsCalm, DecidedByLog}
@@ -138,6 +141,14 @@ module _ {D : Type 0} (state : D → DiskState) where
       (words : List (List ℕ)) (seed count : ℕ) →
       command_of words ≡ Some (commands.Soak seed count) → limit_made world_limits seed count ≡ None →
       EndsWith words IsUnread status.Done (summary_text (made seed count))
+
+  -- The answer to a call that is among the datagrams that the link had left, as many as are waited for, is printed.
+  abbrev pub AnswersArePrinted : Type 0
+  AnswersArePrinted =
+      (words : List (List ℕ)) (own turns site port : ℕ) (call : Call) (bytes : List ℕ) (catalogue : Catalogue) (left : List Datagram) (a : Answer) →
+      command_of words ≡ Some (commands.Client own turns site call) → Fits bytes → Answered bytes (Ok catalogue) → value_at site catalogue.sites ≡ Some port →
+      first_answer port site call (take turns left) ≡ Some a →
+      EndsWith words (λ source source' o. IsLinked bytes source source' o × (o.link.left ≡ Some left)) status.Done (answer_text a ++ 10 ∷ [])
 
   -- A signal is sent, and nothing is printed.
   abbrev pub SignalsAreSent : Type 0

@@ -2,9 +2,9 @@
 //! rise, and, where the command reads an input, whose source tells its bytes and has no count of failures that rises; and each leaves the
 //! answer that there was no memory.
 
-ghost use Rattle.vp_top.specs.Complete.{HistoriesAreChecked, LimitsAreTold, LogsAreTold, LongInputsAreRefused, MalformedInputsAreRefused, MissingSitesAreRefused, NodesEndByTheirLogs, OtherWordsAreRefused, RunsAreCounted, SchedulesAreGenerated, SchedulesAreReplayed, SignalsAreSent};
+ghost use Rattle.vp_top.specs.Complete.{AnswersArePrinted, HistoriesAreChecked, LimitsAreTold, LogsAreTold, LongInputsAreRefused, MalformedInputsAreRefused, MissingSitesAreRefused, NodesEndByTheirLogs, OtherWordsAreRefused, RunsAreCounted, SchedulesAreGenerated, SchedulesAreReplayed, SignalsAreSent};
 
-use vp_commands::signals_are_done;
+use vp_commands::{answers_are_told, signals_are_done};
 use vp_outside::Disk;
 
 /// Whoever runs `replay` on the text of a schedule within the limits gets its trace and its history.
@@ -31,6 +31,14 @@ pub fn schedules_are_generated<D: Disk>()
 pub fn runs_are_counted<D: Disk>()
     ensures { RunsAreCounted D.state }
 {}
+
+/// Whoever runs `client` at a site of the catalogue, where no call of the link fails, gets the first answer among the datagrams that the link
+/// had left, as many as are waited for.
+pub fn answers_are_printed<D: Disk>()
+    ensures { AnswersArePrinted D.state }
+{
+    answers_are_told();
+}
 
 /// Whoever runs `tick`, `probe` or `stop` at a site of the catalogue, where no call of the link fails, is done, and nothing is printed.
 pub fn signals_are_sent<D: Disk>()
