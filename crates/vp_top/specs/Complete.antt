@@ -47,11 +47,11 @@ pub record IsGiven (bytes : List ℕ) (source source' : SourceState) (o : Outsid
   pub no_source_fault : Rose source.faults source'.faults → ⊥
   pub no_sink_fault : Rose o.sink.faults o.sink'.faults → ⊥
 
--- The sink's count did not rise, whatever the source was.
-abbrev pub IsUnread : SourceState → SourceState → Outside → Type 0
-IsUnread source source' o = Rose o.sink.faults o.sink'.faults → ⊥
+-- The sink's count did not rise.
+abbrev pub CanPrint : SourceState → SourceState → Outside → Type 0
+CanPrint source source' o = Rose o.sink.faults o.sink'.faults → ⊥
 
--- The source told so, and no call of the link failed.
+-- The source told so, neither count rose, and no call of the link failed.
 abbrev pub IsLinked : List ℕ → SourceState → SourceState → Outside → Type 0
 IsLinked bytes source source' o = IsGiven bytes source source' o × (HasFailed o.link o.link' → ⊥)
 
@@ -133,14 +133,14 @@ module _ {D : Type 0} (state : D → DiskState) where
   SchedulesAreGenerated =
       (words : List (List ℕ)) (seed count : ℕ) →
       command_of words ≡ Some (commands.Generate seed count) → limit_made world_limits seed count ≡ None →
-      EndsWith words IsUnread status.Done (schedule_text (made seed count))
+      EndsWith words CanPrint status.Done (schedule_text (made seed count))
 
   -- It is played, and its run is counted.
   abbrev pub RunsAreCounted : Type 0
   RunsAreCounted =
       (words : List (List ℕ)) (seed count : ℕ) →
       command_of words ≡ Some (commands.Soak seed count) → limit_made world_limits seed count ≡ None →
-      EndsWith words IsUnread status.Done (summary_text (made seed count))
+      EndsWith words CanPrint status.Done (summary_text (made seed count))
 
   -- The answer to a call that is among the datagrams that the link had left, as many as are waited for, is printed.
   abbrev pub AnswersArePrinted : Type 0
@@ -170,7 +170,7 @@ module _ {D : Type 0} (state : D → DiskState) where
 
   -- Words that are no command's get the usage line.
   abbrev pub OtherWordsAreRefused : Type 0
-  OtherWordsAreRefused = (words : List (List ℕ)) → command_of words ≡ None → EndsWith words IsUnread status.Usage usage_text
+  OtherWordsAreRefused = (words : List (List ℕ)) → command_of words ≡ None → EndsWith words CanPrint status.Usage usage_text
 
   -- An input that is too long is refused by each command that reads its input.
   abbrev pub LongInputsAreRefused : Type 0
@@ -201,7 +201,7 @@ module _ {D : Type 0} (state : D → DiskState) where
         EndsWith words (IsGiven bytes) status.Limit (limit_text (limit_of counted))
     pub generated : (words : List (List ℕ)) (seed count : ℕ) (counted : Counted) →
         command_of words ≡ Some (commands.Generate seed count) → limit_made world_limits seed count ≡ Some counted →
-        EndsWith words IsUnread status.Limit (schedule_text (made_within world_limits seed count) ++ limit_text (limit_of counted))
+        EndsWith words CanPrint status.Limit (schedule_text (made_within world_limits seed count) ++ limit_text (limit_of counted))
     pub soaked : (words : List (List ℕ)) (seed count : ℕ) (counted : Counted) →
         command_of words ≡ Some (commands.Soak seed count) → limit_made world_limits seed count ≡ Some counted →
-        EndsWith words IsUnread status.Limit (limit_text (limit_of counted))
+        EndsWith words CanPrint status.Limit (limit_text (limit_of counted))

@@ -1,6 +1,6 @@
-//! Functions that do nothing, with what follows from the contract of `run` as theirs. Each is of a run whose sink's count of failures doesn't
-//! rise, and, where the command reads an input, whose source tells its bytes and has no count of failures that rises; and each leaves the
-//! answer that there was no memory.
+//! Functions that do nothing, with what follows from the contract of `run` as theirs, over any kind of disk. Each is of a run whose sink's
+//! count of failures doesn't rise, and, where the command reads an input, whose source tells its bytes and has a count that doesn't rise
+//! either; and each leaves the answer that there was no memory.
 
 ghost use Rattle.vp_top.specs.Complete.{AnswersArePrinted, HistoriesAreChecked, LimitsAreTold, LogsAreTold, LongInputsAreRefused, MalformedInputsAreRefused, MissingSitesAreRefused, NodesEndByTheirLogs, OtherWordsAreRefused, RunsAreCounted, SchedulesAreGenerated, SchedulesAreReplayed, SignalsAreSent};
 
