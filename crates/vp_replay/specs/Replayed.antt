@@ -1,24 +1,37 @@
 -- What the replay of a schedule prints.
 use Rattle.std.specs.Prelude.{◌≡◌, ◌⊎◌, ℕ, List, ◌++◌, Some, None, Ok, Err}
+use Rattle.std.specs.List.{Contains}
 use Rattle.vp_model.specs.Types.{Counted}
-use Rattle.vp_model.specs.World.{Schedule}
+use Rattle.vp_model.specs.World.{Schedule, Moment, run_of, moments_of, journal_of}
 use Rattle.vp_model.specs.Headline.{IsOneCopy}
 use Rattle.vp_model.specs.Limits.{world_limits, limit_reached, trace_text_within}
 use Rattle.vp_model.specs.Texts.Trace.{trace_text}
 use Rattle.vp_model.specs.Texts.History.{history_text}
+use Rattle.vp_laws.specs.Agreement.{ViewsAgree, ViewsGoOn}
+use Rattle.vp_laws.specs.Decisions.{DecisionsAgree}
 use Rattle.vp_schedule.specs.Document.{Answered, IsOnly}
 use Rattle.vp_schedule.specs.declared.fault.ScheduleFault.{ScheduleFault}
 use Rattle.vp_schedule.specs.declared.fault.ScheduleFault.TheVariants as faults
 use Rattle.vp_status.specs.Refused.{bad_line_text, twice_text, limit_text}
 use Rattle.vp_status.specs.declared.status.Status.{Status}
 use Rattle.vp_status.specs.declared.status.Status.TheVariants as status
-use Rattle.vp_world.specs.Limits.{limit_of}
+pub use Rattle.vp_world.specs.Limits.{limit_of}
 
--- No limit is reached, what is printed is the schedule's trace and then its history, and the schedule is one copy.
+-- At each moment of the schedule.
+pub record SitesAgree (s : Schedule) : Type 0 where
+  -- the views agree before the step and after it
+  pub views : (m : Moment) → Contains (moments_of s) m → ViewsAgree m.before × ViewsAgree m.after
+  -- nothing of them goes back, over the step and from there to the end
+  pub onward : (m : Moment) → Contains (moments_of s) m → ViewsGoOn m.before m.after × ViewsGoOn m.after (run_of s).world
+  -- whatever comes next to a site, it ends its doubts as the journal says
+  pub decisions : (m : Moment) → Contains (moments_of s) m → DecisionsAgree s.catalogue (journal_of s) m.before
+
+-- No limit is reached, what is printed is the schedule's trace and then its history, the schedule is one copy, and its sites agree.
 pub record IsDone (s : Schedule) (text : List ℕ) : Type 0 where
   pub whole : limit_reached world_limits s ≡ None
   pub printed : text ≡ trace_text s ++ history_text s
   pub one_copy : IsOneCopy s
+  pub sites_agree : SitesAgree s
 
 -- A limit of the world ends the schedule: what is printed is the trace of the steps before, and the limit.
 pub record IsLimited (s : Schedule) (text : List ℕ) : Type 0 where

@@ -1,16 +1,25 @@
--- A run on an input in its grammar, where nothing fails, is done, or finds no memory.
-use Rattle.std.proofs.Common.{◌≡◌, ◌≢◌, ◌∙◌, ap, sym, subst, refl, arith, ℕ, ◌≤◌, List, ◌++◌, length, append-nil, inl, inr, ◌⊎◌, ⊎_elim}
-use Rattle.std.specs.Prelude.{Option, Some, None, Ok, Err}
-use Rattle.std.proofs.Math.ListN.{length-append}
-use Rattle.std.specs.Io.KnownBytes.{Appends, Consumes, IsAtEnd}
+-- What the answer of each command is, by its input: the one that the input asks for, or its one fault.
+use Rattle.std.proofs.Common.{◌≡◌, ◌≢◌, ◌∙◌, ap, sym, subst, refl, ℕ, List, ◌++◌, inl, inr, ◌⊎◌}
+use Rattle.std.specs.Prelude.{Some, None, Ok, Err}
 use Rattle.vp_model.specs.Types.{Counted}
+use Rattle.vp_model.specs.Catalogue.{Catalogue}
+use Rattle.vp_model.specs.Words.{value_at}
 use Rattle.vp_model.specs.World.{Schedule}
-use Rattle.vp_model.specs.Limits.{world_limits, limit_reached}
+use Rattle.vp_model.specs.Limits.{world_limits, limit_reached, trace_text_within}
+use Rattle.vp_model.specs.Generated.{made, made_within, limit_made}
+use Rattle.vp_model.specs.Texts.Schedule.{schedule_text}
 use Rattle.vp_model.specs.Texts.Trace.{trace_text}
 use Rattle.vp_model.specs.Texts.History.{history_text}
-use Rattle.vp_outside.specs.Input.{SourceState, IsEnded}
+use Rattle.vp_catalog.specs.Document.{Answered}
+use Rattle.vp_catalog.specs.Document.{IsOnly as IsOnlyCatalogue}
+use Rattle.vp_catalog.specs.declared.fault.CatalogFault.{CatalogFault}
+use Rattle.vp_catalog.specs.declared.fault.CatalogFault.TheVariants as catalog_faults
 use Rattle.vp_outside.specs.Links.{LinkState}
-use Rattle.vp_outside.specs.Output.{SinkState}
+use Rattle.vp_outside.specs.Input.{SourceState}
+use Rattle.vp_serving.specs.Serving.{Outside}
+use Rattle.vp_words.specs.Commands.{command_of}
+use Rattle.vp_top.specs.Ends.{EndsAsNode}
+use Rattle.vp_top.proofs.Answering.{node_bytes, same_command}
 use Rattle.vp_schedule.specs.Document.{IsScheduleText}
 use Rattle.vp_schedule.specs.Document.{IsOnly as IsOnlySchedule}
 use Rattle.vp_schedule.specs.declared.fault.ScheduleFault.{ScheduleFault}
@@ -19,191 +28,267 @@ use Rattle.vp_onecopy.specs.Passing.{AnsweredAll, IsOnly}
 use Rattle.vp_onecopy.specs.declared.map.History.{History}
 use Rattle.vp_onecopy.specs.declared.fault.HistoryFault.{HistoryFault}
 use Rattle.vp_onecopy.specs.declared.fault.HistoryFault.TheVariants as history_faults
-use Rattle.vp_replay.specs.Checked.{IsVerdict, IsChecked, IsMisspelled, Finds}
-use Rattle.vp_replay.specs.Replayed.{Gives, IsPlayAnswer, IsPlayed, IsRefused, Tells}
+use Rattle.vp_commands.specs.Asked.{ClientGives, SignalGives}
+use Rattle.vp_replay.specs.Checked.{IsCheckAnswer, IsVerdict, IsChecked, IsMisspelled, Finds}
+use Rattle.vp_replay.specs.Generated.{IsGenerated, IsSoaked}
+use Rattle.vp_replay.specs.Replayed.{Gives, IsPlayAnswer, IsPlayed, IsRefused, Tells, limit_of}
 use Rattle.vp_replay.specs.Logged.{IsLogged, Leaves}
-use Rattle.vp_words.specs.Commands.{command_of}
-use Rattle.vp_top.specs.Complete.{IsGiven}
-use Rattle.vp_top.specs.Ends.{EndsInText}
-use Rattle.vp_top.specs.Program.{HasRead, IsAnswer, IsAnswered, IsTooLong, most_bytes}
+use Rattle.vp_replay.specs.Summary.{summary_text}
+use Rattle.vp_top.specs.Program.{AtSite, Reads, IsAnswer, IsNoCatalogue, TellsFault, usage_text}
+use Rattle.vp_top.specs.Complete.{IsGiven, IsNoTextOf, TellsFaultOf, site_of}
+use Rattle.vp_status.specs.Refused.{limit_text}
 use Rattle.vp_status.specs.declared.status.Status.{Status}
 use Rattle.vp_status.specs.declared.status.Status.TheVariants as status
 use Rattle.vp_words.specs.declared.words.Command.{Command}
 use Rattle.vp_words.specs.declared.words.Command.TheVariants as commands
 
--- ---- the bytes that were taken
+-- ---- a schedule that is played
 
-taken_all : (left after : Option (List ℕ)) (given bytes : List ℕ) → left ≡ Some given → Consumes left after bytes → IsAtEnd after → bytes ≡ given
-taken_all None after given bytes e gone ended = cc
-taken_all (Some xs) None given bytes e gone ended = absurd gone
-taken_all (Some xs) (Some ys) given bytes e gone ended =
-    let same : xs ≡ given = cc in
-    sym (sym same ∙ gone ∙ ap (λ rest. bytes ++ rest) ended ∙ append-nil bytes)
+module _ (bytes : List ℕ) where
+  tells_none : (end : Status) (text : List ℕ) → Tells schedule_faults.NoMemory end text → ⊥
+  tells_none status.BadLine text told = told
+  tells_none status.Limit text told = told
+  tells_none _ text told = told
 
-taken_few : (left after : Option (List ℕ)) (given bytes : List ℕ) → left ≡ Some given → Consumes left after bytes → length bytes ≤ length given
-taken_few None after given bytes e gone = cc
-taken_few (Some xs) None given bytes e gone = absurd gone
-taken_few (Some xs) (Some ys) given bytes e gone =
-    let same : given ≡ xs = cc in
-    let parts = length-append bytes ys in
-    rw (same, gone) (omega (arith, parts))
+  some_fault : (f : ScheduleFault) (end : Status) (text : List ℕ) → Tells f end text → f ≢ schedule_faults.NoMemory
+  some_fault f end text told is = tells_none end text (subst (λ (f : ScheduleFault). Tells f end text) is told)
 
--- what the answer of a command is, which the words are
-command_answers : (words : List (List ℕ)) (bytes : List ℕ) (ended : Type 0) (link link' : LinkState) (end : Status) (text : List ℕ) (c : Command) → IsAnswered words bytes ended link link' end text → command_of words ≡ Some c → HasRead c bytes ended × IsAnswer c bytes link link' end text
-command_answers words bytes ended link link' end text c a w =
-    let some : Some a.command ≡ Some c = sym a.words_are ∙ w in
-    let same : a.command ≡ c = cc in
-    (subst (λ c. HasRead c bytes ended) same a.read, subst (λ c. IsAnswer c bytes link link' end text) same a.answer)
+  no_refusal : (schedule : Schedule) → IsScheduleText schedule bytes → (end : Status) (text : List ℕ) → IsRefused bytes end text → ⊥
+  no_refusal schedule spelled end text r =
+      let same = r.only (Ok schedule) spelled
+      (λ bad. some_fault r.fault end text r.told (let is : Err r.fault ≡ Err schedule_faults.NoMemory = bad in cc))
+      (λ bad. cc) in cc
 
-module _ (words : List (List ℕ)) (source source' : SourceState) (link link' : LinkState) (sink sink' : SinkState) (bytes : List ℕ) (given : IsGiven source source' sink sink' bytes) where
-  no_usage : (c : Command) → command_of words ≡ Some c → command_of words ≡ None → ⊥
-  no_usage c w none = let bad : Some c ≡ None = sym w ∙ none in cc
+  same_schedule : (s t : Schedule) → IsScheduleText s bytes → IsOnlySchedule bytes (Ok t) → t ≡ s
+  same_schedule s t spelled only = let same = only (Ok s) spelled (λ bad. cc) (λ bad. cc) in cc
 
-  -- it is not too long
-  not_long : (text : List ℕ) (d : List ℕ) → Consumes source.left source'.left d → IsTooLong words d text → ⊥
-  not_long text d gone long =
-      let few = taken_few source.left source'.left bytes d given.left gone in
-      let fits = given.fits in
-      let more = long.1 in
-      omega (arith, few, fits, more)
+  module _ (gives : Schedule → Status → List ℕ → Type 0) where
+    play_is : (end : Status) (text : List ℕ) → IsPlayAnswer gives bytes end text → IsPlayed gives bytes end text ⊎ IsRefused bytes end text
+    play_is status.Done text a = inl a
+    play_is status.BadLine text a = inr a
+    play_is status.Limit text a = a
+    play_is _ text a = absurd a
 
-  module _ (schedule : Schedule) (spelled : IsScheduleText schedule bytes) (none : limit_reached world_limits schedule ≡ None) where
-    only_fault : (d : List ℕ) (f : ScheduleFault) → d ≡ bytes → IsOnlySchedule d (Err f) → f ≢ schedule_faults.NoMemory → ⊥
-    only_fault d f e only some =
-        let same = only (Ok schedule) (subst (λ t. IsScheduleText schedule t) (sym e) spelled) (λ bad. some (let q : Err f ≡ Err schedule_faults.NoMemory = bad in cc)) (λ bad. cc) in cc
-
-    tells_none : (end : Status) (text : List ℕ) → Tells schedule_faults.NoMemory end text → ⊥
-    tells_none status.BadLine text told = told
-    tells_none status.Limit text told = told
-    tells_none _ text told = told
-
-    refused : (end : Status) (text d : List ℕ) → d ≡ bytes → IsRefused d end text → ⊥
-    refused end text d e r = go r.fault r.only r.told
+    pub played : (schedule : Schedule) → IsScheduleText schedule bytes → (end : Status) (text : List ℕ) → IsPlayAnswer gives bytes end text → gives schedule end text
+    played schedule spelled end text a = go (play_is end text a)
       where
-        go : (f : ScheduleFault) → IsOnlySchedule d (Err f) → Tells f end text → ⊥
-        go (schedule_faults.BadLine line at) only told = only_fault d (schedule_faults.BadLine line at) e only (λ q. cc)
-        go (schedule_faults.Twice line) only told = only_fault d (schedule_faults.Twice line) e only (λ q. cc)
-        go (schedule_faults.TooMany line limit) only told = only_fault d (schedule_faults.TooMany line limit) e only (λ q. cc)
-        go schedule_faults.NoMemory only told = tells_none end text told
+        go : IsPlayed gives bytes end text ⊎ IsRefused bytes end text → gives schedule end text
+        go (inl p) = subst (λ (s : Schedule). gives s end text) (same_schedule schedule p.schedule spelled p.only) p.gives
+        go (inr r) = absurd (no_refusal schedule spelled end text r)
 
-    same_schedule : (d : List ℕ) (t : Schedule) → d ≡ bytes → IsOnlySchedule d (Ok t) → t ≡ schedule
-    same_schedule d t e only = let same = only (Ok schedule) (subst (λ x. IsScheduleText schedule x) (sym e) spelled) (λ bad. cc) (λ bad. cc) in cc
-
-    no_limit : (counted : Counted) → limit_reached world_limits schedule ≡ Some counted → ⊥
-    no_limit counted reached = let bad : None ≡ Some counted = sym none ∙ reached in cc
-
-    -- a command that plays the schedule
-    module _ (c : Command) (w : command_of words ≡ Some c) (gives : Schedule → Status → List ℕ → Type 0)
-        (reads : (d : List ℕ) (ended : Type 0) → HasRead c d ended → (length d ≤ most_bytes) × ended)
-        (plays : (d : List ℕ) (end : Status) (text : List ℕ) → IsAnswer c d link link' end text → IsPlayAnswer gives d end text)
-        (unlimited : (text : List ℕ) → gives schedule status.Limit text → ⊥) where
-      given_by : (end : Status) (text d : List ℕ) → d ≡ bytes → IsPlayed gives d end text → gives schedule end text
-      given_by end text d e p = subst (λ (s : Schedule). gives s end text) (same_schedule d p.schedule e p.only) p.gives
-
-      answers : (end : Status) (text d : List ℕ) → IsAnswered words d (IsEnded source') link link' end text → IsPlayAnswer gives d end text
-      answers end text d a = plays d end text (command_answers words d (IsEnded source') link link' end text c a w).1
-
-      all_taken : (end : Status) (text d : List ℕ) → Consumes source.left source'.left d → IsAnswered words d (IsEnded source') link link' end text → d ≡ bytes
-      all_taken end text d gone a =
-          taken_all source.left source'.left bytes d given.left gone (reads d (IsEnded source') (command_answers words d (IsEnded source') link link' end text c a w).0).1.1
-
-      pub play_ends : (end : Status) → EndsInText words source source' link link' sink sink' end
-          → ((end ≡ status.Done) × ((text : List ℕ) × gives schedule status.Done text × Appends sink.held sink'.held text)) ⊎ (end ≡ status.NoMemory)
-      play_ends status.NoMemory e = inr refl
-      play_ends status.SourceFault e = absurd (given.no_source_fault e.1)
-      play_ends status.SinkFault e = absurd (given.no_sink_fault e.0)
-      play_ends status.Usage e =
-          let d = e.defines in
-          absurd (⊎_elim (λ none. no_usage c w none.0.0) (λ answered. answers status.Usage e.text d.bytes answered) d.defined)
-      play_ends status.LinkFault e = let d = e.defines in absurd (answers status.LinkFault e.text d.bytes d.defined)
-      play_ends status.DiskFault e = let d = e.defines in absurd (answers status.DiskFault e.text d.bytes d.defined)
-      play_ends status.BadLog e = let d = e.defines in absurd (answers status.BadLog e.text d.bytes d.defined)
-      play_ends status.NoAnswer e = let d = e.defines in absurd (answers status.NoAnswer e.text d.bytes d.defined)
-      play_ends status.LivesSpent e = let d = e.defines in absurd (answers status.LivesSpent e.text d.bytes d.defined)
-      play_ends status.Differs e = let d = e.defines in absurd (answers status.Differs e.text d.bytes d.defined)
-      play_ends status.Done e =
-          let d = e.defines in
-          let all = all_taken status.Done e.text d.bytes d.took.bytes_gone d.defined in
-          inl (refl, (e.text, given_by status.Done e.text d.bytes all (answers status.Done e.text d.bytes d.defined), e.appended))
-      play_ends status.BadLine e =
-          let d = e.defines in
-          absurd (refused status.BadLine e.text d.bytes (all_taken status.BadLine e.text d.bytes d.took.bytes_gone d.defined) (answers status.BadLine e.text d.bytes d.defined))
-      play_ends status.Limit e =
-          let d = e.defines in
-          absurd (⊎_elim (λ long. not_long e.text d.bytes d.took.bytes_gone long.0)
-          (λ answered.
-          let all = all_taken status.Limit e.text d.bytes d.took.bytes_gone answered in
-          ⊎_elim (λ played. unlimited e.text (given_by status.Limit e.text d.bytes all played)) (refused status.Limit e.text d.bytes all)
-          (answers status.Limit e.text d.bytes answered))
-          d.defined)
-
-    pub replay_ends : command_of words ≡ Some commands.Replay → (end : Status) → EndsInText words source source' link link' sink sink' end
-        → ((end ≡ status.Done) × Appends sink.held sink'.held (trace_text schedule ++ history_text schedule)) ⊎ (end ≡ status.NoMemory)
-    replay_ends w end e =
-        ⊎_elim (λ done. inl (done.0, subst (Appends sink.held sink'.held) done.1.1.printed done.1.2)) (λ memory. inr memory)
-        (play_ends commands.Replay w Gives (λ d ended read. read) (λ d end text a. a) (λ text limited. no_limit limited.counted limited.reached) end e)
-
-    pub logs_ends : command_of words ≡ Some commands.Logs → (end : Status) → EndsInText words source source' link link' sink sink' end
-        → ((end ≡ status.Done) × ((text : List ℕ) × IsLogged schedule text × Appends sink.held sink'.held text)) ⊎ (end ≡ status.NoMemory)
-    logs_ends w = play_ends commands.Logs w Leaves (λ d ended read. read) (λ d end text a. a) (λ text limited. no_limit limited.counted limited.reached)
-
-  module _ (history : History) (spelled : AnsweredAll bytes (Ok history)) (w : command_of words ≡ Some commands.Check) where
-    finds_none : (end : Status) (text : List ℕ) → Finds history_faults.NoMemory end text → ⊥
-    finds_none status.BadLine text found = found
-    finds_none _ text found = found
-
-    misspelled : (end : Status) (text d : List ℕ) → d ≡ bytes → IsMisspelled d end text → ⊥
-    misspelled end text d e r = go r.fault r.only r.told
+    refused : ((schedule : Schedule) → IsScheduleText schedule bytes → ⊥) → (end : Status) (text : List ℕ) → IsPlayAnswer gives bytes end text → IsRefused bytes end text
+    refused none end text a = go (play_is end text a)
       where
-        fault : (f : HistoryFault) → IsOnly d (Err f) → f ≢ history_faults.NoMemory → ⊥
-        fault f only some =
-            let same = only (Ok history) (subst (λ t. AnsweredAll t (Ok history)) (sym e) spelled) (λ bad. some (let q : Err f ≡ Err history_faults.NoMemory = bad in cc)) (λ bad. cc) in cc
+        go : IsPlayed gives bytes end text ⊎ IsRefused bytes end text → IsRefused bytes end text
+        go (inl p) = absurd (none p.schedule p.spelled)
+        go (inr r) = r
 
-        go : (f : HistoryFault) → IsOnly d (Err f) → Finds f end text → ⊥
-        go (history_faults.BadLine line at) only told = fault (history_faults.BadLine line at) only (λ q. cc)
-        go (history_faults.Twice line) only told = fault (history_faults.Twice line) only (λ q. cc)
-        go history_faults.NoMemory only told = finds_none end text told
+module _ (schedule : Schedule) where
+  module _ (within : limit_reached world_limits schedule ≡ None) where
+    unlimited : (counted : Counted) → limit_reached world_limits schedule ≡ Some counted → ⊥
+    unlimited counted reached = let bad : None ≡ Some counted = sym within ∙ reached in cc
 
-    same_history : (d : List ℕ) (h : History) → d ≡ bytes → IsOnly d (Ok h) → h ≡ history
-    same_history d h e only = let same = only (Ok history) (subst (λ t. AnsweredAll t (Ok history)) (sym e) spelled) (λ bad. cc) (λ bad. cc) in cc
+    pub replay_within : (end : Status) (text : List ℕ) → Gives schedule end text → (end ≡ status.Done) × (text ≡ trace_text schedule ++ history_text schedule)
+    replay_within status.Done text g = (refl, g.printed)
+    replay_within status.Limit text g = absurd (unlimited g.counted g.reached)
+    replay_within _ text g = absurd g
 
-    verdict : (end : Status) (text d : List ℕ) → d ≡ bytes → IsChecked d end text → IsVerdict history end text
-    verdict end text d e r = subst (λ (h : History). IsVerdict h end text) (same_history d r.history e r.only) r.verdict
+    pub logs_within : (end : Status) (text : List ℕ) → Leaves schedule end text → (end ≡ status.Done) × IsLogged schedule text
+    logs_within status.Done text g = (refl, g)
+    logs_within status.Limit text g = absurd (unlimited g.counted g.reached)
+    logs_within _ text g = absurd g
 
-    pub check_ends : (end : Status) → EndsInText words source source' link link' sink sink' end → ((text : List ℕ) × IsVerdict history end text × Appends sink.held sink'.held text) ⊎ (end ≡ status.NoMemory)
-    check_ends status.NoMemory e = inr refl
-    check_ends status.SourceFault e = absurd (given.no_source_fault e.1)
-    check_ends status.SinkFault e = absurd (given.no_sink_fault e.0)
-    check_ends status.Usage e =
-        let d = e.defines in
-        absurd (⊎_elim (λ none. no_usage commands.Check w none.0.0) (λ answered. (command_answers words d.bytes (IsEnded source') link link' status.Usage e.text commands.Check answered w).1) d.defined)
-    check_ends status.LinkFault e =
-        let d = e.defines in
-        absurd (command_answers words d.bytes (IsEnded source') link link' status.LinkFault e.text commands.Check d.defined w).1
-    check_ends status.DiskFault e =
-        let d = e.defines in
-        absurd (command_answers words d.bytes (IsEnded source') link link' status.DiskFault e.text commands.Check d.defined w).1
-    check_ends status.BadLog e =
-        let d = e.defines in
-        absurd (command_answers words d.bytes (IsEnded source') link link' status.BadLog e.text commands.Check d.defined w).1
-    check_ends status.NoAnswer e =
-        let d = e.defines in
-        absurd (command_answers words d.bytes (IsEnded source') link link' status.NoAnswer e.text commands.Check d.defined w).1
-    check_ends status.LivesSpent e =
-        let d = e.defines in
-        absurd (command_answers words d.bytes (IsEnded source') link link' status.LivesSpent e.text commands.Check d.defined w).1
-    check_ends status.Done e =
-        let d = e.defines in
-        let a = command_answers words d.bytes (IsEnded source') link link' status.Done e.text commands.Check d.defined w in
-        inl (e.text, verdict status.Done e.text d.bytes (taken_all source.left source'.left bytes d.bytes given.left d.took.bytes_gone a.0.1.1) a.1, e.appended)
-    check_ends status.Differs e =
-        let d = e.defines in
-        let a = command_answers words d.bytes (IsEnded source') link link' status.Differs e.text commands.Check d.defined w in
-        inl (e.text, verdict status.Differs e.text d.bytes (taken_all source.left source'.left bytes d.bytes given.left d.took.bytes_gone a.0.1.1) a.1, e.appended)
-    check_ends status.BadLine e =
-        let d = e.defines in
-        let a = command_answers words d.bytes (IsEnded source') link link' status.BadLine e.text commands.Check d.defined w in
-        absurd (misspelled status.BadLine e.text d.bytes (taken_all source.left source'.left bytes d.bytes given.left d.took.bytes_gone a.0.1.1) a.1)
-    check_ends status.Limit e =
-        let d = e.defines in
-        absurd (⊎_elim (λ long. not_long e.text d.bytes d.took.bytes_gone long.0) (λ answered. (command_answers words d.bytes (IsEnded source') link link' status.Limit e.text commands.Check answered w).1) d.defined)
+  module _ (counted : Counted) (beyond : limit_reached world_limits schedule ≡ Some counted) where
+    limited : limit_reached world_limits schedule ≡ None → ⊥
+    limited within = let bad : None ≡ Some counted = sym within ∙ beyond in cc
+
+    same_limit : (other : Counted) → limit_reached world_limits schedule ≡ Some other → other ≡ counted
+    same_limit other reached = let same : Some other ≡ Some counted = sym reached ∙ beyond in cc
+
+    pub replay_limited : (end : Status) (text : List ℕ) → Gives schedule end text → (end ≡ status.Limit) × (text ≡ trace_text_within world_limits schedule ++ limit_text (limit_of counted))
+    replay_limited status.Done text g = absurd (limited g.whole)
+    replay_limited status.Limit text g = (refl, g.printed ∙ ap (λ (c : Counted). trace_text_within world_limits schedule ++ limit_text (limit_of c)) (same_limit g.counted g.reached))
+    replay_limited _ text g = absurd g
+
+    pub logs_limited : (end : Status) (text : List ℕ) → Leaves schedule end text → (end ≡ status.Limit) × (text ≡ limit_text (limit_of counted))
+    logs_limited status.Done text g = absurd (limited g.whole)
+    logs_limited status.Limit text g = (refl, g.printed ∙ ap (λ (c : Counted). limit_text (limit_of c)) (same_limit g.counted g.reached))
+    logs_limited _ text g = absurd g
+
+-- ---- a schedule that is made
+
+module _ (seed count : ℕ) where
+  module _ (within : limit_made world_limits seed count ≡ None) where
+    unbounded : (counted : Counted) → limit_made world_limits seed count ≡ Some counted → ⊥
+    unbounded counted reached = let bad : None ≡ Some counted = sym within ∙ reached in cc
+
+    pub generated_within : (end : Status) (text : List ℕ) → IsGenerated seed count end text → (end ≡ status.Done) × (text ≡ schedule_text (made seed count))
+    generated_within status.Done text g = (refl, g.1)
+    generated_within status.Limit text g = absurd (unbounded g.0 g.1)
+    generated_within _ text g = absurd g
+
+    pub soaked_within : (end : Status) (text : List ℕ) → IsSoaked seed count end text → (end ≡ status.Done) × (text ≡ summary_text (made seed count))
+    soaked_within status.Done text g = (refl, g.2)
+    soaked_within status.Limit text g = absurd (unbounded g.0 g.1)
+    soaked_within _ text g = absurd g
+
+  module _ (counted : Counted) (beyond : limit_made world_limits seed count ≡ Some counted) where
+    bounded : limit_made world_limits seed count ≡ None → ⊥
+    bounded within = let bad : None ≡ Some counted = sym within ∙ beyond in cc
+
+    same_bound : (other : Counted) → limit_made world_limits seed count ≡ Some other → other ≡ counted
+    same_bound other reached = let same : Some other ≡ Some counted = sym reached ∙ beyond in cc
+
+    pub generated_limited : (end : Status) (text : List ℕ) → IsGenerated seed count end text → (end ≡ status.Limit) × (text ≡ schedule_text (made_within world_limits seed count) ++ limit_text (limit_of counted))
+    generated_limited status.Done text g = absurd (bounded g.0)
+    generated_limited status.Limit text g = (refl, g.2 ∙ ap (λ (c : Counted). schedule_text (made_within world_limits seed count) ++ limit_text (limit_of c)) (same_bound g.0 g.1))
+    generated_limited _ text g = absurd g
+
+    pub soaked_limited : (end : Status) (text : List ℕ) → IsSoaked seed count end text → (end ≡ status.Limit) × (text ≡ limit_text (limit_of counted))
+    soaked_limited status.Done text g = absurd (bounded g.0)
+    soaked_limited status.Limit text g = (refl, g.2 ∙ ap (λ (c : Counted). limit_text (limit_of c)) (same_bound g.0 g.1))
+    soaked_limited _ text g = absurd g
+
+-- ---- a history
+
+module _ (bytes : List ℕ) where
+  finds_none : (end : Status) (text : List ℕ) → Finds history_faults.NoMemory end text → ⊥
+  finds_none status.BadLine text found = found
+  finds_none _ text found = found
+
+  check_is : (end : Status) (text : List ℕ) → IsCheckAnswer bytes end text → IsChecked bytes end text ⊎ IsMisspelled bytes end text
+  check_is status.Done text a = inl a
+  check_is status.Differs text a = inl a
+  check_is status.BadLine text a = inr a
+  check_is _ text a = absurd a
+
+  found_some : (f : HistoryFault) (end : Status) (text : List ℕ) → Finds f end text → f ≢ history_faults.NoMemory
+  found_some f end text found is = finds_none end text (subst (λ (f : HistoryFault). Finds f end text) is found)
+
+  no_fault : (history : History) → AnsweredAll bytes (Ok history) → (end : Status) (text : List ℕ) → IsMisspelled bytes end text → ⊥
+  no_fault history spelled end text r =
+      let same = r.only (Ok history) spelled
+      (λ bad. found_some r.fault end text r.told (let is : Err r.fault ≡ Err history_faults.NoMemory = bad in cc))
+      (λ bad. cc) in cc
+
+  same_history : (h k : History) → AnsweredAll bytes (Ok h) → IsOnly bytes (Ok k) → k ≡ h
+  same_history h k spelled only = let same = only (Ok h) spelled (λ bad. cc) (λ bad. cc) in cc
+
+  pub checked : (history : History) → AnsweredAll bytes (Ok history) → (end : Status) (text : List ℕ) → IsCheckAnswer bytes end text → IsVerdict history end text
+  checked history spelled end text a = go (check_is end text a)
+    where
+      go : IsChecked bytes end text ⊎ IsMisspelled bytes end text → IsVerdict history end text
+      go (inl r) = subst (λ (h : History). IsVerdict h end text) (same_history history r.history spelled r.only) r.verdict
+      go (inr r) = absurd (no_fault history spelled end text r)
+
+  misspelled : ((history : History) → AnsweredAll bytes (Ok history) → ⊥) → (end : Status) (text : List ℕ) → IsCheckAnswer bytes end text → IsMisspelled bytes end text
+  misspelled none end text a = go (check_is end text a)
+    where
+      go : IsChecked bytes end text ⊎ IsMisspelled bytes end text → IsMisspelled bytes end text
+      go (inl r) = absurd (none r.history r.spelled)
+      go (inr r) = r
+
+-- ---- a site of a catalogue
+
+module _ (bytes : List ℕ) where
+  tells_no_memory : (end : Status) (text : List ℕ) → TellsFault catalog_faults.NoMemory end text → ⊥
+  tells_no_memory status.BadLine text told = told
+  tells_no_memory status.Limit text told = told
+  tells_no_memory _ text told = told
+
+  told_some : (f : CatalogFault) (end : Status) (text : List ℕ) → TellsFault f end text → f ≢ catalog_faults.NoMemory
+  told_some f end text told is = tells_no_memory end text (subst (λ (f : CatalogFault). TellsFault f end text) is told)
+
+  no_bad_line : (catalogue : Catalogue) → Answered bytes (Ok catalogue) → (end : Status) (text : List ℕ) → IsNoCatalogue bytes end text → ⊥
+  no_bad_line catalogue answered end text r =
+      let same = r.only (Ok catalogue) answered
+      (λ bad. told_some r.fault end text r.tells (let is : Err r.fault ≡ Err catalog_faults.NoMemory = bad in cc))
+      (λ bad. cc) in cc
+
+  pub same_catalogue : (c t : Catalogue) → Answered bytes (Ok c) → IsOnlyCatalogue bytes (Ok t) → t ≡ c
+  same_catalogue c t answered only = let same = only (Ok c) answered (λ bad. cc) (λ bad. cc) in cc
+
+  module _ (site : ℕ) (link link' : LinkState) (gives : ℕ → Status → List ℕ → Type 0) where
+    abbrev Told : Status → List ℕ → Type 0
+    Told end text = AtSite bytes site link link' gives end text
+
+    module _ (catalogue : Catalogue) (answered : Answered bytes (Ok catalogue)) where
+      pub at_port : (port : ℕ) → value_at site catalogue.sites ≡ Some port → (end : Status) (text : List ℕ) → Told end text → gives port end text
+      at_port port there end text (inl (inl none, uncalled)) = absurd (no_bad_line catalogue answered end text none)
+      at_port port there end text (inl (inr missing, uncalled)) =
+          let same = same_catalogue catalogue missing.catalogue answered missing.only in
+          let bad : None ≡ Some port = sym missing.missing ∙ ap (λ (c : Catalogue). value_at site c.sites) same ∙ there in cc
+      at_port port there end text (inr t) =
+          let same = same_catalogue catalogue t.catalogue answered t.placed.only in
+          let ports : Some t.port ≡ Some port = sym t.placed.there ∙ ap (λ (c : Catalogue). value_at site c.sites) same ∙ there in
+          let is : t.port ≡ port = cc in
+          subst (λ (n : ℕ). gives n end text) is t.is
+
+      missing_at : value_at site catalogue.sites ≡ None → (end : Status) (text : List ℕ) → Told end text → (end ≡ status.Usage) × (text ≡ usage_text)
+      missing_at none end text (inl (inl fault, uncalled)) = absurd (no_bad_line catalogue answered end text fault)
+      missing_at none end text (inl (inr missing, uncalled)) = (missing.end_is, missing.text_is)
+      missing_at none end text (inr t) =
+          let same = same_catalogue catalogue t.catalogue answered t.placed.only in
+          let bad : None ≡ Some t.port = sym none ∙ ap (λ (c : Catalogue). value_at site c.sites) (sym same) ∙ t.placed.there in cc
+
+    no_catalogue : ((catalogue : Catalogue) → Answered bytes (Ok catalogue) → ⊥) → (end : Status) (text : List ℕ) → Told end text → IsNoCatalogue bytes end text
+    no_catalogue none end text (inl (inl fault, uncalled)) = fault
+    no_catalogue none end text (inl (inr missing, uncalled)) = absurd (none missing.catalogue missing.answered)
+    no_catalogue none end text (inr t) = absurd (none t.catalogue t.placed.answered)
+
+-- ---- what is refused, of each command
+
+module _ (bytes : List ℕ) (link link' : LinkState) where
+  pub fault_told : (c : Command) → IsNoTextOf c bytes → (end : Status) (text : List ℕ) → IsAnswer c bytes link link' end text → TellsFaultOf c bytes end text
+  fault_told commands.Replay none end text a = refused bytes Gives none end text a
+  fault_told commands.Logs none end text a = refused bytes Leaves none end text a
+  fault_told commands.Check none end text a = misspelled bytes none end text a
+  fault_told (commands.Generate seed count) none end text a = absurd none
+  fault_told (commands.Soak seed count) none end text a = absurd none
+  fault_told (commands.Node site log turns) none end text a = no_catalogue bytes site link link' (λ port end text. ⊥) none end text a
+  fault_told (commands.Client own turns site call) none end text a = no_catalogue bytes site link link' (λ port. ClientGives own turns port site call link link') none end text a
+  fault_told (commands.Signal site given) none end text a = no_catalogue bytes site link link' (λ port. SignalGives port site given link link') none end text a
+
+  module _ (catalogue : Catalogue) (answered : Answered bytes (Ok catalogue)) (site : ℕ) (missing : value_at site catalogue.sites ≡ None) where
+    lacks : (other : ℕ) → Some other ≡ Some site → value_at other catalogue.sites ≡ None
+    lacks other is = let same : other ≡ site = cc in subst (λ (n : ℕ). value_at n catalogue.sites ≡ None) (sym same) missing
+
+    pub missing_told : (c : Command) → site_of c ≡ Some site → (end : Status) (text : List ℕ) → IsAnswer c bytes link link' end text → (end ≡ status.Usage) × (text ≡ usage_text)
+    missing_told (commands.Node s log turns) is end text a = missing_at bytes s link link' (λ port end text. ⊥) catalogue answered (lacks s is) end text a
+    missing_told (commands.Client own turns s call) is end text a = missing_at bytes s link link' (λ port. ClientGives own turns port s call link link') catalogue answered (lacks s is) end text a
+    missing_told (commands.Signal s given) is end text a = missing_at bytes s link link' (λ port. SignalGives port s given link link') catalogue answered (lacks s is) end text a
+    missing_told commands.Replay is end text a = cc
+    missing_told commands.Logs is end text a = cc
+    missing_told commands.Check is end text a = cc
+    missing_told (commands.Generate seed count) is end text a = cc
+    missing_told (commands.Soak seed count) is end text a = cc
+
+pub text_reads : (c : Command) (bytes : List ℕ) → IsNoTextOf c bytes → Reads c
+text_reads (commands.Generate seed count) bytes none = none
+text_reads (commands.Soak seed count) bytes none = none
+text_reads _ bytes none = tt
+
+pub site_reads : (c : Command) (site : ℕ) → site_of c ≡ Some site → Reads c
+site_reads (commands.Generate seed count) site is = cc
+site_reads (commands.Soak seed count) site is = cc
+site_reads _ site is = tt
+
+-- ---- a node does not serve where there is nothing to serve
+
+module _ (words : List (List ℕ)) (source source' : SourceState) (o : Outside) (c : Command) (w : command_of words ≡ Some c) (bytes : List ℕ) (given : IsGiven bytes source source' o) where
+  pub no_node_on : IsNoTextOf c bytes → (end : Status) → EndsAsNode words source source' o end → ⊥
+  no_node_on none end n =
+      let same = same_command words c (commands.Node n.site n.log n.turns) w n.node.words_are in
+      let all = node_bytes words source source' o c w (text_reads c bytes none) bytes given end n in
+      let no : IsNoTextOf (commands.Node n.site n.log n.turns) bytes = subst (λ (c : Command). IsNoTextOf c bytes) (sym same) none in
+      no n.catalogue (subst (λ d. Answered d (Ok n.catalogue)) all n.node.placed.answered)
+
+  pub no_node_at : (site : ℕ) → site_of c ≡ Some site → (catalogue : Catalogue) → Answered bytes (Ok catalogue) → value_at site catalogue.sites ≡ None → (end : Status) → EndsAsNode words source source' o end → ⊥
+  no_node_at site at catalogue answered missing end n =
+      let same = same_command words c (commands.Node n.site n.log n.turns) w n.node.words_are in
+      let all = node_bytes words source source' o c w (site_reads c site at) bytes given end n in
+      let only = subst (λ d. IsOnlyCatalogue d (Ok n.catalogue)) all n.node.placed.only in
+      let sites : Some n.site ≡ Some site = ap site_of same ∙ at in
+      let is : n.site ≡ site = cc in
+      let catalogues = same_catalogue bytes catalogue n.catalogue answered only in
+      let bad : None ≡ Some n.node.port = sym missing ∙ ap (λ (s : ℕ). value_at s catalogue.sites) (sym is) ∙ ap (λ (k : Catalogue). value_at n.site k.sites) (sym catalogues) ∙ n.node.placed.there in cc

@@ -1,5 +1,5 @@
 -- What a run comes to at its ends.
-use Rattle.std.proofs.Common.{◌≡◌, ◌∙◌, ℕ, List, [], true, refl, sym, ap, subst, arith, inl, inr, ⊎_elim, ◌⊎◌, is_some}
+use Rattle.std.proofs.Common.{◌≡◌, ◌∙◌, ℕ, List, [], true, refl, sym, ap, subst, arith, inl, inr, ⊎_elim, is_some}
 use Rattle.std.proofs.KnownBytes.{Consumes-nil}
 use Rattle.std.specs.Prelude.{⊤, Some, Result, Ok, Err}
 use Rattle.std.specs.Io.KnownBytes.{Appends}

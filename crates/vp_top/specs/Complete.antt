@@ -1,53 +1,207 @@
--- What a run on an input in its grammar comes to, where nothing fails.
-use Rattle.std.specs.Prelude.{◌≡◌, ◌≤◌, ◌⊎◌, ℕ, List, ◌++◌, length, Some, None, Ok}
+-- What a run comes to by its words and its input, where nothing fails.
+use Rattle.std.specs.Prelude.{◌≡◌, ◌≤◌, ◌<◌, ◌⊎◌, ℕ, List, [], ◌∷◌, ◌++◌, length, take, codes, Option, Some, None, Ok}
 use Rattle.std.specs.Io.KnownBytes.{Appends}
-use Rattle.vp_outside.specs.Causes.{Rose}
-use Rattle.vp_outside.specs.Input.{SourceState}
-use Rattle.vp_outside.specs.Links.{LinkState}
-use Rattle.vp_outside.specs.Output.{SinkState}
+use Rattle.vp_model.specs.Types.{Answer, Call, Counted}
+use Rattle.vp_model.specs.Words.{value_at}
+use Rattle.vp_model.specs.Catalogue.{Catalogue}
 use Rattle.vp_model.specs.World.{Schedule}
-use Rattle.vp_model.specs.Limits.{world_limits, limit_reached}
-use Rattle.vp_model.specs.Texts.Trace.{trace_text}
+use Rattle.vp_model.specs.Limits.{world_limits, limit_reached, trace_text_within}
+use Rattle.vp_model.specs.Generated.{made, made_within, limit_made}
+use Rattle.vp_model.specs.Texts.Answers.{answer_text}
 use Rattle.vp_model.specs.Texts.History.{history_text}
+use Rattle.vp_model.specs.Texts.Schedule.{schedule_text}
+use Rattle.vp_model.specs.Texts.Trace.{trace_text}
+use Rattle.vp_catalog.specs.Document.{Answered}
 use Rattle.vp_schedule.specs.Document.{IsScheduleText}
 use Rattle.vp_onecopy.specs.Passing.{AnsweredAll}
 use Rattle.vp_onecopy.specs.declared.map.History.{History}
-use Rattle.vp_replay.specs.Checked.{IsVerdict}
+use Rattle.vp_outside.specs.Causes.{Rose}
+use Rattle.vp_outside.specs.Disk.{DiskState}
+use Rattle.vp_outside.specs.Input.{SourceState}
+use Rattle.vp_outside.specs.Links.{LinkState}
+use Rattle.vp_outside.specs.Output.{SinkState}
+use Rattle.vp_outside.specs.declared.datagram.Datagram.{Datagram}
+use Rattle.vp_runs.specs.Asking.{first_answer}
+use Rattle.vp_client.specs.Asked.{HasFailed}
+use Rattle.vp_serving.specs.Serving.{Outside}
+use Rattle.vp_commands.specs.NodeEnds.{IsCalm, DecidedByLog}
+use Rattle.vp_replay.specs.Checked.{IsVerdict, IsMisspelled}
 use Rattle.vp_replay.specs.Logged.{IsLogged}
+use Rattle.vp_replay.specs.Replayed.{IsRefused, limit_of}
+use Rattle.vp_replay.specs.Summary.{summary_text}
 use Rattle.vp_words.specs.Commands.{command_of}
-use Rattle.vp_top.specs.Ends.{EndsInText}
-use Rattle.vp_top.specs.Program.{most_bytes}
+use Rattle.vp_words.specs.declared.words.Command.{Command}
+use Rattle.vp_words.specs.declared.words.Command.TheVariants as commands
+use Rattle.vp_words.specs.declared.words.Signal.{Signal}
+use Rattle.vp_top.specs.Ends.{Ends}
+use Rattle.vp_top.specs.Program.{AreOf, IsNoCatalogue, Reads, most_bytes, usage_text}
+use Rattle.vp_status.specs.Refused.{limit_text}
 use Rattle.vp_status.specs.declared.status.Status.{Status}
 use Rattle.vp_status.specs.declared.status.Status.TheVariants as status
-use Rattle.vp_words.specs.declared.words.Command.TheVariants as commands
 
--- The source told that it had these bytes, which are not too many, and no count rose.
-pub record IsGiven (source source' : SourceState) (sink sink' : SinkState) (bytes : List ℕ) : Type 0 where
+-- ---- what a run is given
+
+-- The source told that it had these bytes, and no count of failures rose, of the source or of the sink.
+pub record IsGiven (bytes : List ℕ) (source source' : SourceState) (o : Outside) : Type 0 where
   pub left : source.left ≡ Some bytes
-  pub fits : length bytes ≤ most_bytes
   pub no_source_fault : Rose source.faults source'.faults → ⊥
-  pub no_sink_fault : Rose sink.faults sink'.faults → ⊥
+  pub no_sink_fault : Rose o.sink.faults o.sink'.faults → ⊥
 
--- A schedule within the limits is replayed, or there was no memory.
-abbrev pub SchedulesAreReplayed : Type 0
-SchedulesAreReplayed =
-    (words : List (List ℕ)) (source source' : SourceState) (link link' : LinkState) (sink sink' : SinkState) (end : Status) (bytes : List ℕ) (schedule : Schedule) →
-    EndsInText words source source' link link' sink sink' end → command_of words ≡ Some commands.Replay → IsGiven source source' sink sink' bytes
-    → IsScheduleText schedule bytes → limit_reached world_limits schedule ≡ None →
-    ((end ≡ status.Done) × Appends sink.held sink'.held (trace_text schedule ++ history_text schedule)) ⊎ (end ≡ status.NoMemory)
+-- The sink's count did not rise.
+abbrev pub CanPrint : SourceState → SourceState → Outside → Type 0
+CanPrint source source' o = Rose o.sink.faults o.sink'.faults → ⊥
 
--- The logs that a schedule within the limits leaves are told, or there was no memory.
-abbrev pub LogsAreTold : Type 0
-LogsAreTold =
-    (words : List (List ℕ)) (source source' : SourceState) (link link' : LinkState) (sink sink' : SinkState) (end : Status) (bytes : List ℕ) (schedule : Schedule) →
-    EndsInText words source source' link link' sink sink' end → command_of words ≡ Some commands.Logs → IsGiven source source' sink sink' bytes
-    → IsScheduleText schedule bytes → limit_reached world_limits schedule ≡ None
-    → ((end ≡ status.Done) × ((text : List ℕ) × IsLogged schedule text × Appends sink.held sink'.held text)) ⊎ (end ≡ status.NoMemory)
+-- The source told so, neither count rose, and no call of the link failed.
+abbrev pub IsLinked : List ℕ → SourceState → SourceState → Outside → Type 0
+IsLinked bytes source source' o = IsGiven bytes source source' o × (HasFailed o.link o.link' → ⊥)
 
--- A history gets its verdict, or there was no memory.
-abbrev pub HistoriesAreChecked : Type 0
-HistoriesAreChecked =
-    (words : List (List ℕ)) (source source' : SourceState) (link link' : LinkState) (sink sink' : SinkState) (end : Status) (bytes : List ℕ) (history : History) →
-    EndsInText words source source' link link' sink sink' end → command_of words ≡ Some commands.Check → IsGiven source source' sink sink' bytes
-    → AnsweredAll bytes (Ok history) →
-    ((text : List ℕ) × IsVerdict history end text × Appends sink.held sink'.held text) ⊎ (end ≡ status.NoMemory)
+-- There are no more bytes than an input has.
+abbrev pub Fits : List ℕ → Type 0
+Fits bytes = length bytes ≤ most_bytes
+
+-- No limit of the world is reached.
+abbrev pub IsWithinLimits : Schedule → Type 0
+IsWithinLimits schedule = limit_reached world_limits schedule ≡ None
+
+-- The bytes are no text that the command takes.
+abbrev pub IsNoTextOf : Command → List ℕ → Type 0
+IsNoTextOf commands.Replay bytes = (schedule : Schedule) → IsScheduleText schedule bytes → ⊥
+IsNoTextOf commands.Logs bytes = (schedule : Schedule) → IsScheduleText schedule bytes → ⊥
+IsNoTextOf commands.Check bytes = (history : History) → AnsweredAll bytes (Ok history) → ⊥
+IsNoTextOf (commands.Generate seed count) bytes = ⊥
+IsNoTextOf (commands.Soak seed count) bytes = ⊥
+IsNoTextOf _ bytes = (catalogue : Catalogue) → Answered bytes (Ok catalogue) → ⊥
+
+-- The one fault of the bytes, as a text of the command's, is told, with its place or with the limit that it exceeds.
+abbrev pub TellsFaultOf : Command → List ℕ → Status → List ℕ → Type 0
+TellsFaultOf commands.Replay bytes end text = IsRefused bytes end text
+TellsFaultOf commands.Logs bytes end text = IsRefused bytes end text
+TellsFaultOf commands.Check bytes end text = IsMisspelled bytes end text
+TellsFaultOf (commands.Generate seed count) bytes end text = ⊥
+TellsFaultOf (commands.Soak seed count) bytes end text = ⊥
+TellsFaultOf _ bytes end text = IsNoCatalogue bytes end text
+
+-- the site at which a command is done
+abbrev pub site_of : Command → Option ℕ
+site_of (commands.Node site log turns) = Some site
+site_of (commands.Client own turns site call) = Some site
+site_of (commands.Signal site given) = Some site
+site_of _ = None
+
+-- ---- the claims, over disks that tell such a state
+
+module _ {D : Type 0} (state : D → DiskState) where
+  abbrev pub outside : LinkState → LinkState → SinkState → SinkState → D → D → Outside
+  outside link link' sink sink' disk disk' = record { link = link; link' = link'; sink = sink; sink' = sink'; disk = state disk; disk' = state disk' }
+
+  -- Each run of the words over such objects prints the whole of a text that is so told with its status, or finds no memory.
+  abbrev pub ComesTo : List (List ℕ) → (SourceState → SourceState → Outside → Type 0) → (Status → List ℕ → Type 0) → Type 0
+  ComesTo words Over Told =
+      (source source' : SourceState) (link link' : LinkState) (sink sink' : SinkState) (disk disk' : D) (end : Status) →
+      Ends words source source' (outside link link' sink sink' disk disk') end → Over source source' (outside link link' sink sink' disk disk') →
+      ((text : List ℕ) × Told end text × Appends sink.held sink'.held text) ⊎ (end ≡ status.NoMemory)
+
+  -- Each such run ends with this status and prints this text, or finds no memory.
+  abbrev pub EndsWith : List (List ℕ) → (SourceState → SourceState → Outside → Type 0) → Status → List ℕ → Type 0
+  EndsWith words Over told printed = ComesTo words Over (λ end text. (end ≡ told) × (text ≡ printed))
+
+  -- ---- what is asked for is done
+
+  -- A schedule within the limits is replayed.
+  abbrev pub SchedulesAreReplayed : Type 0
+  SchedulesAreReplayed =
+      (words : List (List ℕ)) (bytes : List ℕ) (schedule : Schedule) →
+      command_of words ≡ Some commands.Replay → Fits bytes → IsScheduleText schedule bytes → IsWithinLimits schedule →
+      EndsWith words (IsGiven bytes) status.Done (trace_text schedule ++ history_text schedule)
+
+  -- The logs that a schedule within the limits leaves are told.
+  abbrev pub LogsAreTold : Type 0
+  LogsAreTold =
+      (words : List (List ℕ)) (bytes : List ℕ) (schedule : Schedule) →
+      command_of words ≡ Some commands.Logs → Fits bytes → IsScheduleText schedule bytes → IsWithinLimits schedule →
+      ComesTo words (IsGiven bytes) (λ end text. (end ≡ status.Done) × IsLogged schedule text)
+
+  -- A history gets its verdict.
+  abbrev pub HistoriesAreChecked : Type 0
+  HistoriesAreChecked =
+      (words : List (List ℕ)) (bytes : List ℕ) (history : History) →
+      command_of words ≡ Some commands.Check → Fits bytes → AnsweredAll bytes (Ok history) →
+      ComesTo words (IsGiven bytes) (IsVerdict history)
+
+  -- The schedule of a seed and a count is made, where no limit of the world is reached.
+  abbrev pub SchedulesAreGenerated : Type 0
+  SchedulesAreGenerated =
+      (words : List (List ℕ)) (seed count : ℕ) →
+      command_of words ≡ Some (commands.Generate seed count) → limit_made world_limits seed count ≡ None →
+      EndsWith words CanPrint status.Done (schedule_text (made seed count))
+
+  -- It is played, and its run is counted.
+  abbrev pub RunsAreCounted : Type 0
+  RunsAreCounted =
+      (words : List (List ℕ)) (seed count : ℕ) →
+      command_of words ≡ Some (commands.Soak seed count) → limit_made world_limits seed count ≡ None →
+      EndsWith words CanPrint status.Done (summary_text (made seed count))
+
+  -- The answer to a call that is among the datagrams that the link had left, as many as are waited for, is printed.
+  abbrev pub AnswersArePrinted : Type 0
+  AnswersArePrinted =
+      (words : List (List ℕ)) (own turns site port : ℕ) (call : Call) (bytes : List ℕ) (catalogue : Catalogue) (left : List Datagram) (a : Answer) →
+      command_of words ≡ Some (commands.Client own turns site call) → Fits bytes → Answered bytes (Ok catalogue) → value_at site catalogue.sites ≡ Some port →
+      first_answer port site call (take turns left) ≡ Some a →
+      EndsWith words (λ source source' o. IsLinked bytes source source' o × (o.link.left ≡ Some left)) status.Done (answer_text a ++ 10 ∷ [])
+
+  -- A signal is sent, and nothing is printed.
+  abbrev pub SignalsAreSent : Type 0
+  SignalsAreSent =
+      (words : List (List ℕ)) (site port : ℕ) (given : Signal) (bytes : List ℕ) (catalogue : Catalogue) →
+      command_of words ≡ Some (commands.Signal site given) → Fits bytes → Answered bytes (Ok catalogue) → value_at site catalogue.sites ≡ Some port →
+      EndsWith words (IsLinked bytes) status.Done []
+
+  -- A node ends as its log decides.
+  abbrev pub NodesEndByTheirLogs : Type 0
+  NodesEndByTheirLogs =
+      (words : List (List ℕ)) (site port turns : ℕ) (log bytes : List ℕ) (catalogue : Catalogue) →
+      command_of words ≡ Some (commands.Node site log turns) → Fits bytes → Answered bytes (Ok catalogue) → value_at site catalogue.sites ≡ Some port →
+      (source source' : SourceState) (link link' : LinkState) (sink sink' : SinkState) (disk disk' : D) (end : Status) →
+      Ends words source source' (outside link link' sink sink' disk disk') end → IsGiven bytes source source' (outside link link' sink sink' disk disk')
+      → IsCalm (outside link link' sink sink' disk disk') → DecidedByLog catalogue site log (outside link link' sink sink' disk disk') end
+
+  -- ---- what cannot be done is refused
+
+  -- Words that are no command's get the usage line.
+  abbrev pub OtherWordsAreRefused : Type 0
+  OtherWordsAreRefused = (words : List (List ℕ)) → command_of words ≡ None → EndsWith words CanPrint status.Usage usage_text
+
+  -- An input that is too long is refused by each command that reads its input.
+  abbrev pub LongInputsAreRefused : Type 0
+  LongInputsAreRefused =
+      (words : List (List ℕ)) (bytes : List ℕ) → AreOf Reads words → most_bytes < length bytes →
+      EndsWith words (IsGiven bytes) status.Limit (codes "limit bytes 16777216\n")
+
+  -- An input that is no text of the command's gets its fault told.
+  abbrev pub MalformedInputsAreRefused : Type 0
+  MalformedInputsAreRefused =
+      (words : List (List ℕ)) (bytes : List ℕ) (command : Command) → command_of words ≡ Some command → Fits bytes → IsNoTextOf command bytes →
+      ComesTo words (IsGiven bytes) (TellsFaultOf command bytes)
+
+  -- A site that the catalogue lacks gets the usage line.
+  abbrev pub MissingSitesAreRefused : Type 0
+  MissingSitesAreRefused =
+      (words : List (List ℕ)) (site : ℕ) (bytes : List ℕ) (catalogue : Catalogue) (command : Command) →
+      command_of words ≡ Some command → site_of command ≡ Some site → Fits bytes → Answered bytes (Ok catalogue) → value_at site catalogue.sites ≡ None →
+      EndsWith words (IsGiven bytes) status.Usage usage_text
+
+  -- A limit of the world that is reached is told, behind what is printed of the steps before.
+  pub record LimitsAreTold : Type 0 where
+    pub replayed : (words : List (List ℕ)) (bytes : List ℕ) (schedule : Schedule) (counted : Counted) →
+        command_of words ≡ Some commands.Replay → Fits bytes → IsScheduleText schedule bytes → limit_reached world_limits schedule ≡ Some counted →
+        EndsWith words (IsGiven bytes) status.Limit (trace_text_within world_limits schedule ++ limit_text (limit_of counted))
+    pub logged : (words : List (List ℕ)) (bytes : List ℕ) (schedule : Schedule) (counted : Counted) →
+        command_of words ≡ Some commands.Logs → Fits bytes → IsScheduleText schedule bytes → limit_reached world_limits schedule ≡ Some counted →
+        EndsWith words (IsGiven bytes) status.Limit (limit_text (limit_of counted))
+    pub generated : (words : List (List ℕ)) (seed count : ℕ) (counted : Counted) →
+        command_of words ≡ Some (commands.Generate seed count) → limit_made world_limits seed count ≡ Some counted →
+        EndsWith words CanPrint status.Limit (schedule_text (made_within world_limits seed count) ++ limit_text (limit_of counted))
+    pub soaked : (words : List (List ℕ)) (seed count : ℕ) (counted : Counted) →
+        command_of words ≡ Some (commands.Soak seed count) → limit_made world_limits seed count ≡ Some counted →
+        EndsWith words CanPrint status.Limit (limit_text (limit_of counted))

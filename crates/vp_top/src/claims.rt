@@ -1,21 +1,80 @@
-//! Functions that do nothing, with what follows from the contract of `run` as theirs.
+//! Functions that do nothing, with what follows from the contract of `run` as theirs, over any kind of disk. Each is of a run whose sink's
+//! count of failures doesn't rise, and, where the command reads an input, whose source tells its bytes and has a count that doesn't rise
+//! either; and each leaves the answer that there was no memory.
 
-ghost use Rattle.vp_top.specs.Complete.{SchedulesAreReplayed, LogsAreTold, HistoriesAreChecked};
+ghost use Rattle.vp_top.specs.Complete.{AnswersArePrinted, HistoriesAreChecked, LimitsAreTold, LogsAreTold, LongInputsAreRefused, MalformedInputsAreRefused, MissingSitesAreRefused, NodesEndByTheirLogs, OtherWordsAreRefused, RunsAreCounted, SchedulesAreGenerated, SchedulesAreReplayed, SignalsAreSent};
 
-/// Whoever runs `replay` on the text of a schedule within the limits, where no count of failures rises, gets its trace and its history,
-/// or the answer that there was no memory.
-pub fn schedules_are_replayed()
-    ensures { SchedulesAreReplayed }
+use vp_commands::{answers_are_told, signals_are_done};
+use vp_outside::Disk;
+
+/// Whoever runs `replay` on the text of a schedule within the limits gets its trace and its history.
+pub fn schedules_are_replayed<D: Disk>()
+    ensures { SchedulesAreReplayed D.state }
 {}
 
-/// Whoever runs `logs` on the text of a schedule within the limits, where no count of failures rises, gets a line for the log of each site,
-/// or the answer that there was no memory.
-pub fn logs_are_told()
-    ensures { LogsAreTold }
+/// Whoever runs `logs` on the text of a schedule within the limits gets a line for the log of each site.
+pub fn logs_are_told<D: Disk>()
+    ensures { LogsAreTold D.state }
 {}
 
-/// Whoever runs `check` on lines that a history ends, where no count of failures rises, gets the verdict on it, or the answer that there
-/// was no memory.
-pub fn histories_are_checked()
-    ensures { HistoriesAreChecked }
+/// Whoever runs `check` on lines that a history ends gets the verdict on it.
+pub fn histories_are_checked<D: Disk>()
+    ensures { HistoriesAreChecked D.state }
+{}
+
+/// Whoever runs `generate` with a seed and a count whose schedule stays within the limits gets that schedule's text.
+pub fn schedules_are_generated<D: Disk>()
+    ensures { SchedulesAreGenerated D.state }
+{}
+
+/// Whoever runs `soak` with a seed and a count whose schedule stays within the limits gets the counts of its run.
+pub fn runs_are_counted<D: Disk>()
+    ensures { RunsAreCounted D.state }
+{}
+
+/// Whoever runs `client` at a site of the catalogue, where no call of the link fails, gets the first answer among the datagrams that the link
+/// had left, as many as are waited for.
+pub fn answers_are_printed<D: Disk>()
+    ensures { AnswersArePrinted D.state }
+{
+    answers_are_told();
+}
+
+/// Whoever runs `tick`, `probe` or `stop` at a site of the catalogue, where no call of the link fails, is done, and nothing is printed.
+pub fn signals_are_sent<D: Disk>()
+    ensures { SignalsAreSent D.state }
+{
+    signals_are_done();
+}
+
+/// Whoever runs `node` at a site of the catalogue, where no call fails but those that send, gets the end that its log decides.
+pub fn nodes_end_by_their_logs<D: Disk>()
+    ensures { NodesEndByTheirLogs D.state }
+{}
+
+/// Whoever gives words that are no command gets the usage line.
+pub fn other_words_are_refused<D: Disk>()
+    ensures { OtherWordsAreRefused D.state }
+{}
+
+/// Whoever runs a command on an input of more than 16,777,216 bytes is told this limit.
+pub fn long_inputs_are_refused<D: Disk>()
+    ensures { LongInputsAreRefused D.state }
+{}
+
+/// Whoever runs a command on an input that is no text of the command's (a schedule, lines that a history ends, a catalogue) is told the one
+/// fault of the input: its place, the line that repeats a name or a port, or the limit that the line exceeds.
+pub fn malformed_inputs_are_refused<D: Disk>()
+    ensures { MalformedInputsAreRefused D.state }
+{}
+
+/// Whoever runs a command at a site that the catalogue lacks gets the usage line.
+pub fn missing_sites_are_refused<D: Disk>()
+    ensures { MissingSitesAreRefused D.state }
+{}
+
+/// Whoever runs `replay`, `logs`, `generate` or `soak` on a schedule that reaches a limit is told the limit: behind the trace of the steps
+/// before it, alone, behind the events before it, and alone.
+pub fn limits_are_told<D: Disk>()
+    ensures { LimitsAreTold D.state }
 {}

@@ -1,5 +1,9 @@
-use Rattle.vp_top.proofs.Completing.{replay_ends}
+use Rattle.vp_top.proofs.Answering.{answer_told, no_node}
+use Rattle.vp_top.proofs.Completing.{played, replay_within}
+use Rattle.vp_replay.specs.Replayed.{Gives}
+use Rattle.vp_words.specs.declared.words.Command.TheVariants as commands
 use Rattle.vp_top.proofs.claims.schedules_are_replayed.Goals as goal
 
 pub returns : goal.returns
-returns c words source source' link link' sink sink' end bytes schedule e w given spelled none = replay_ends words source source' link link' sink sink' bytes given schedule spelled none w end e
+returns g c words bytes schedule w fits spelled within source source' link link' sink sink' disk disk' end e given =
+    answer_told words source source' _ commands.Replay w tt bytes given fits _ (λ end text a. replay_within schedule within end text (played bytes Gives schedule spelled end text a)) (no_node words source source' _ commands.Replay w (λ is. is)) end e
