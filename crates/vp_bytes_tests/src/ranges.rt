@@ -346,7 +346,7 @@ fn put_two_decisions(out: &mut BytesMut, alloc: Global) -> Result<(), NoMemory> 
     put_decisions(out, &[first, last])
 }
 
-/// What is written of the field.
+/// What is written of the field: a list with two items, and nothing of a field that is no such list.
 fn written(alloc: Global, field: Field) -> Result<BytesMut, NoMemory> {
     let Ok(value) = Value::read(alloc, b"11") else {
         return Err(NoMemory);
@@ -355,7 +355,15 @@ fn written(alloc: Global, field: Field) -> Result<BytesMut, NoMemory> {
     match field {
         Field::Copies => put_two_copies(&mut out, &value)?,
         Field::Doubts => put_two_doubts(&mut out, alloc, &value)?,
-        _ => put_two_decisions(&mut out, alloc)?,
+        Field::Decisions => put_two_decisions(&mut out, alloc)?,
+        Field::View
+        | Field::Txn
+        | Field::U16
+        | Field::U32
+        | Field::TxnBetweenTwo
+        | Field::TxnBetweenOne
+        | Field::Sites
+        | Field::SomeSites => {}
     }
     Ok(out)
 }

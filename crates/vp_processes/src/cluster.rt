@@ -10,12 +10,15 @@ const TRIES: usize = 20;
 
 const SITES: [&str; 3] = ["1", "2", "3"];
 
-/// Calls at site 1, one after the other, and what each is answered.
-const CALLS: [(&str, &str); 4] = [
-    ("begin", "begun 1.1.1 0@0\n"),
-    ("1.1.1 1 write x 11", "written 1.1.1 1\n"),
-    ("1.1.1 2 read x", "value 1.1.1 2 11\n"),
-    ("1.1.1 3 commit", "committed 1.1.1 3\n"),
+/// Sites and calls at them, one after the other, and what each is answered.
+const CALLS: [(&str, &str, &str); 7] = [
+    ("1", "begin", "begun 1.1.1 0@0\n"),
+    ("1", "1.1.1 1 write x 11", "written 1.1.1 1\n"),
+    ("1", "1.1.1 2 read x", "value 1.1.1 2 11\n"),
+    ("1", "1.1.1 3 commit", "committed 1.1.1 3\n"),
+    ("2", "begin", "begun 2.1.1 0@0\n"),
+    ("2", "2.1.1 1 read x", "value 2.1.1 1 11\n"),
+    ("2", "2.1.1 2 commit", "committed 2.1.1 2\n"),
 ];
 
 fn free_socket(rt: &HostRuntime) -> io::Result<UdpSocket> {
@@ -119,17 +122,17 @@ impl Cluster<'_> {
         Ok(process)
     }
 
-    /// Starts a client of this call at site 1.
-    fn client(&self, call: &str) -> io::Result<Child> {
+    /// Starts a client of this call at a site.
+    fn client(&self, site: &'static str, call: &'static str) -> io::Result<Child> {
         let port = free_port(self.rt)?;
         let port = format!(in self.rt.alloc(); "{port}")?;
-        self.start(&[self.by_words(), "client", &port, "16", "1", call])
+        self.start(&[self.by_words(), "client", &port, "16", site, call])
     }
 
-    /// Whether a client's call at site 1 is answered so.
-    fn answers(&self, call: &str, answer: &str) -> io::Result<bool> {
+    /// Whether a client's call at a site is answered so.
+    fn answers(&self, site: &'static str, call: &'static str, answer: &str) -> io::Result<bool> {
         for _ in 0..TRIES {
-            let output = self.client(call)?.wait_with_output(self.rt.alloc())?;
+            let output = self.client(site, call)?.wait_with_output(self.rt.alloc())?;
             if output.status.success() {
                 return Ok(output.stdout.starts_with(answer.as_bytes()));
             }
@@ -189,11 +192,11 @@ impl Cluster<'_> {
         Ok(node.process.wait()?.success() && is_told && has_end)
     }
 
-    /// The first call that isn't answered as it should be.
-    pub fn first_unanswered(&self) -> io::Result<Option<&'static str>> {
-        for (call, answer) in CALLS {
-            if !self.answers(call, answer)? {
-                return Ok(Some(call));
+    /// The site and the first call at it that isn't answered as it should be.
+    pub fn first_unanswered(&self) -> io::Result<Option<(&'static str, &'static str)>> {
+        for (site, call, answer) in CALLS {
+            if !self.answers(site, call, answer)? {
+                return Ok(Some((site, call)));
             }
         }
         Ok(None)

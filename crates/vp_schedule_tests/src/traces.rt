@@ -1,22 +1,17 @@
-//! Each kind of message and of line, as a trace shows it.
+//! Each kind of message, of event and of what is shown of an event, as the lines of a trace.
 
 use std::alloc::Global;
 use std::process::Abort;
 use vp_base::{
-    Answer, Boxed, CallNo, Commit, Commits, Event, Line, Message, Messages, Obstacle, Ops, Owner,
-    RecId, Recs, Replies, Reply, Sent, Shown, SiteId, Sites, Stored, TxnId, Value, ViewId, Writes,
+    Answer, Boxed, Call, CallNo, Commit, Commits, Event, Line, Message, Messages, Obstacle, Ops,
+    Owner, RecId, Replies, Reply, Sent, Seq, Shown, SiteId, Stored, TxnId, Value, ViewId,
 };
 use vp_catalog::Catalog;
-use vp_trace::{print_line, print_message};
+use vp_trace::print_line;
 
 const OPENING: ViewId = ViewId { number: 0, site: 0 };
 
 const VIEW: ViewId = ViewId { number: 1, site: 2 };
-
-fn catalog(rt: &impl Abort, alloc: Global) -> Catalog {
-    let text = b"site 1 7001\nsite 2 7002\nrecord x 10 1:1 2:1\n";
-    Catalog::read(alloc, text).expect(rt, "a catalogue")
-}
 
 fn txn() -> TxnId {
     TxnId {
@@ -34,8 +29,19 @@ fn value(rt: &impl Abort, alloc: Global) -> Value {
     Value::read(alloc, b"11").expect(rt, "a value")
 }
 
+fn boxed<T: Drop>(rt: &impl Abort, alloc: Global, value: T) -> Boxed<T> {
+    Boxed::new(alloc, value).expect(rt, "memory")
+}
+
+/// The list of this item alone.
+fn only<T: Drop>(rt: &impl Abort, alloc: Global, item: T) -> Seq<T> {
+    let mut list = Seq::new(alloc);
+    list.push(item).expect(rt, "memory");
+    list
+}
+
 fn of_views(rt: &impl Abort, alloc: Global, kind: u8) -> Message {
-    let id = VIEW;
+    let (id, view, rec) = (VIEW, VIEW, RecId::new(0));
     match kind {
         0 => Message::Invite { id },
         1 => Message::Accept { id },
@@ -44,159 +50,107 @@ fn of_views(rt: &impl Abort, alloc: Global, kind: u8) -> Message {
             promise: OPENING,
         },
         3 => {
-            let mut members = Sites::new(alloc);
-            members.push(SiteId::of(1)).expect(rt, "memory");
+            let mut members = only(rt, alloc, SiteId::of(1));
             members.push(SiteId::of(2)).expect(rt, "memory");
             Message::ViewCommit { id, members }
         }
-        _ => Message::Probe { view: VIEW },
+        4 => Message::Probe { view },
+        5 => Message::RefreshRequest { view, rec },
+        _ => {
+            let stored = Stored {
+                value: value(rt, alloc),
+                date: OPENING,
+            };
+            let stored = boxed(rt, alloc, stored);
+            Message::RefreshAnswer { view, rec, stored }
+        }
     }
 }
 
-fn of_requests(rt: &impl Abort, alloc: Global, kind: u8) -> Message {
+fn obstacle(kind: u8) -> Obstacle {
+    match kind {
+        11 => Obstacle::Held {
+            owner: Owner::Refresh,
+        },
+        12 => Obstacle::Held {
+            owner: Owner::Txn(txn()),
+        },
+        13 => Obstacle::OtherView { now: Some(VIEW) },
+        _ => Obstacle::OtherView { now: None },
+    }
+}
+
+fn of_calls(rt: &impl Abort, alloc: Global, kind: u8) -> Message {
     let (txn, view, number, rec) = (txn(), OPENING, number(rt), RecId::new(0));
     match kind {
-        0 => Message::ReadRequest {
+        7 => Message::ReadRequest {
             txn,
             view,
             number,
             rec,
         },
-        1 => Message::ReadAnswer {
+        8 => Message::ReadAnswer {
             txn,
             number,
-            value: Boxed::new(alloc, value(rt, alloc)).expect(rt, "memory"),
+            value: boxed(rt, alloc, value(rt, alloc)),
         },
-        2 => Message::WriteRequest {
+        9 => Message::WriteRequest {
             txn,
             view,
             number,
             rec,
         },
-        _ => Message::WriteAnswer { txn, number },
-    }
-}
-
-fn refused(rt: &impl Abort, why: Obstacle) -> Message {
-    Message::Refuse {
-        txn: txn(),
-        number: number(rt),
-        why,
-    }
-}
-
-fn of_refusals(rt: &impl Abort, kind: u8) -> Message {
-    match kind {
-        0 => refused(
-            rt,
-            Obstacle::Held {
-                owner: Owner::Refresh,
-            },
-        ),
-        1 => refused(
-            rt,
-            Obstacle::Held {
-                owner: Owner::Txn(txn()),
-            },
-        ),
-        2 => refused(rt, Obstacle::OtherView { now: Some(VIEW) }),
-        _ => refused(rt, Obstacle::OtherView { now: None }),
+        10 => Message::WriteAnswer { txn, number },
+        _ => Message::Refuse {
+            txn,
+            number,
+            why: obstacle(kind),
+        },
     }
 }
 
 fn prepare(rt: &impl Abort, alloc: Global) -> Message {
-    let mut reads = Recs::new(alloc);
-    reads.push(RecId::new(0)).expect(rt, "memory");
-    let mut writes = Writes::new(alloc);
-    writes
-        .push((RecId::new(0), value(rt, alloc)))
-        .expect(rt, "memory");
+    let reads = only(rt, alloc, RecId::new(0));
+    let writes = only(rt, alloc, (RecId::new(0), value(rt, alloc)));
     Message::Prepare {
         txn: txn(),
         view: OPENING,
         number: number(rt),
-        reads: Boxed::new(alloc, reads).expect(rt, "memory"),
-        writes: Boxed::new(alloc, writes).expect(rt, "memory"),
+        reads: boxed(rt, alloc, reads),
+        writes: boxed(rt, alloc, writes),
     }
 }
 
 fn of_ends(rt: &impl Abort, alloc: Global, kind: u8) -> Message {
     let txn = txn();
     match kind {
-        0 => prepare(rt, alloc),
-        1 => Message::Vote { txn },
-        2 => Message::Outcome { txn, commit: true },
-        3 => Message::Outcome { txn, commit: false },
-        4 => Message::Ack { txn },
+        15 => prepare(rt, alloc),
+        16 => Message::Vote { txn },
+        17 => Message::Outcome { txn, commit: true },
+        18 => Message::Outcome { txn, commit: false },
+        19 => Message::Ack { txn },
         _ => Message::Inquire { txn },
     }
 }
 
-fn of_refreshes(rt: &impl Abort, alloc: Global, kind: u8) -> Message {
-    let (view, rec) = (VIEW, RecId::new(0));
-    match kind {
-        0 => Message::RefreshRequest { view, rec },
-        _ => Message::RefreshAnswer {
-            view,
-            rec,
-            stored: Boxed::new(
-                alloc,
-                Stored {
-                    value: value(rt, alloc),
-                    date: OPENING,
-                },
-            )
-            .expect(rt, "memory"),
-        },
-    }
+fn messages(rt: &impl Abort, alloc: Global, kind: u8) -> Messages {
+    let message = match kind {
+        ..=6 => of_views(rt, alloc, kind),
+        ..=14 => of_calls(rt, alloc, kind),
+        _ => of_ends(rt, alloc, kind),
+    };
+    let (from, to) = (SiteId::of(1), SiteId::of(2));
+    only(rt, alloc, Sent { from, to, message })
 }
 
-/// Appends the message with a newline.
-fn show(rt: &impl Abort, catalog: &Catalog, message: Message, out: &mut Vec<u8>) {
-    print_message(catalog, &message, out).expect(rt, "memory");
-    out.push(b'\n').expect(rt, "memory");
-}
-
-#[test]
-fn messages_of_views_are_printed(rt: HostRuntime) {
-    let catalog = catalog(&rt, rt.alloc());
-    let mut out = Vec::new(rt.alloc());
-    for kind in 0..5u8 {
-        show(&rt, &catalog, of_views(&rt, rt.alloc(), kind), &mut out);
+/// A message of a kind.
+fn sent(rt: &impl Abort, alloc: Global, kind: u8) -> Shown {
+    Shown::Step {
+        commits: Commits::new(alloc),
+        first: 7,
+        messages: messages(rt, alloc, kind),
+        replies: Replies::new(alloc),
     }
-    for kind in 0..2u8 {
-        show(&rt, &catalog, of_refreshes(&rt, rt.alloc(), kind), &mut out);
-    }
-    let wanted =
-        b"invite 1@2\naccept 1@2\nstale 1@2 0@0\nview 1@2 1,2\nprobe 1@2\nrefresh-request 1@2 x\nrefresh-answer 1@2 x 11 0@0\n";
-    assert_eq!(rt; out.as_slice(), wanted.as_slice());
-}
-
-#[test]
-fn messages_of_calls_are_printed(rt: HostRuntime) {
-    let catalog = catalog(&rt, rt.alloc());
-    let mut out = Vec::new(rt.alloc());
-    for kind in 0..4u8 {
-        show(&rt, &catalog, of_requests(&rt, rt.alloc(), kind), &mut out);
-    }
-    for kind in 0..4u8 {
-        show(&rt, &catalog, of_refusals(&rt, kind), &mut out);
-    }
-    let wanted =
-        b"read-request 2.1.3 0@0 4 x\nread-answer 2.1.3 4 11\nwrite-request 2.1.3 0@0 4 x\nwrite-answer 2.1.3 4\nrefuse 2.1.3 4 held refresh\nrefuse 2.1.3 4 held 2.1.3\nrefuse 2.1.3 4 view 1@2\nrefuse 2.1.3 4 view none\n";
-    assert_eq!(rt; out.as_slice(), wanted.as_slice());
-}
-
-#[test]
-fn messages_of_ends_are_printed(rt: HostRuntime) {
-    let catalog = catalog(&rt, rt.alloc());
-    let mut out = Vec::new(rt.alloc());
-    for kind in 0..6u8 {
-        show(&rt, &catalog, of_ends(&rt, rt.alloc(), kind), &mut out);
-    }
-    let wanted =
-        b"prepare 2.1.3 0@0 4 r x w x 11\nvote 2.1.3\noutcome 2.1.3 commit\noutcome 2.1.3 abort\nack 2.1.3\ninquire 2.1.3\n";
-    assert_eq!(rt; out.as_slice(), wanted.as_slice());
 }
 
 fn commits(rt: &impl Abort, alloc: Global) -> Commits {
@@ -205,20 +159,7 @@ fn commits(rt: &impl Abort, alloc: Global) -> Commits {
         view: OPENING,
         ops: Ops::new(alloc),
     };
-    let mut commits = Commits::new(alloc);
-    commits.push(commit).expect(rt, "memory");
-    commits
-}
-
-fn messages(rt: &impl Abort, alloc: Global) -> Messages {
-    let sent = Sent {
-        from: SiteId::of(1),
-        to: SiteId::of(2),
-        message: Message::Ack { txn: txn() },
-    };
-    let mut messages = Messages::new(alloc);
-    messages.push(sent).expect(rt, "memory");
-    messages
+    only(rt, alloc, commit)
 }
 
 fn replies(rt: &impl Abort, alloc: Global) -> Replies {
@@ -226,9 +167,7 @@ fn replies(rt: &impl Abort, alloc: Global) -> Replies {
         to: 0,
         answer: Answer::Unknown { txn: txn() },
     };
-    let mut replies = Replies::new(alloc);
-    replies.push(reply).expect(rt, "memory");
-    replies
+    only(rt, alloc, reply)
 }
 
 /// A commit, a message and a reply.
@@ -236,40 +175,117 @@ fn step(rt: &impl Abort, alloc: Global) -> Shown {
     Shown::Step {
         commits: commits(rt, alloc),
         first: 7,
-        messages: messages(rt, alloc),
+        messages: messages(rt, alloc, 19),
         replies: replies(rt, alloc),
     }
 }
 
 fn shown(rt: &impl Abort, alloc: Global, kind: u8) -> Shown {
-    let site = SiteId::of(2);
+    let (from, site) = (SiteId::of(1), SiteId::of(2));
     match kind {
-        0 => step(rt, alloc),
-        1 => Shown::Nothing,
-        2 => Shown::NoMessage,
-        3 => Shown::Down { site },
-        4 => Shown::Parted {
-            from: SiteId::of(1),
-            to: site,
-        },
-        5 => Shown::Up { site },
-        6 => Shown::Life { life: 5 },
+        ..=20 => sent(rt, alloc, kind),
+        21 => step(rt, alloc),
+        22 => Shown::Nothing,
+        23 => Shown::NoMessage,
+        24 => Shown::Down { site },
+        25 => Shown::Parted { from, to: site },
+        26 => Shown::Up { site },
+        27 => Shown::Life { life: 5 },
         _ => Shown::LivesSpent { life: 5 },
     }
 }
 
+fn event(kind: u8) -> Event {
+    let (other, site) = (SiteId::of(1), SiteId::of(2));
+    match kind {
+        0 => Event::Call {
+            site,
+            call: Call::Begin,
+        },
+        1 => Event::Deliver { k: 9 },
+        2 => Event::Flow { count: 6 },
+        3 => Event::Tick { site },
+        4 => Event::Probe { site },
+        5 => Event::Cut { a: other, b: site },
+        6 => Event::Heal { a: site, b: other },
+        7 => Event::Crash { site },
+        _ => Event::Restart { site },
+    }
+}
+
+const PRINTED: &str = "\
+1 call 2 begin
+ sent 7 1>2 invite 1@2
+2 deliver 9
+ sent 7 1>2 accept 1@2
+3 flow 6
+ sent 7 1>2 stale 1@2 0@0
+4 tick 2
+ sent 7 1>2 view 1@2 1,2
+5 probe 2
+ sent 7 1>2 probe 1@2
+6 cut 1 2
+ sent 7 1>2 refresh-request 1@2 x
+7 heal 2 1
+ sent 7 1>2 refresh-answer 1@2 x 11 0@0
+8 crash 2
+ sent 7 1>2 read-request 2.1.3 0@0 4 x
+9 restart 2
+ sent 7 1>2 read-answer 2.1.3 4 11
+10 call 2 begin
+ sent 7 1>2 write-request 2.1.3 0@0 4 x
+11 deliver 9
+ sent 7 1>2 write-answer 2.1.3 4
+12 flow 6
+ sent 7 1>2 refuse 2.1.3 4 held refresh
+13 tick 2
+ sent 7 1>2 refuse 2.1.3 4 held 2.1.3
+14 probe 2
+ sent 7 1>2 refuse 2.1.3 4 view 1@2
+15 cut 1 2
+ sent 7 1>2 refuse 2.1.3 4 view none
+16 heal 2 1
+ sent 7 1>2 prepare 2.1.3 0@0 4 r x w x 11
+17 crash 2
+ sent 7 1>2 vote 2.1.3
+18 restart 2
+ sent 7 1>2 outcome 2.1.3 commit
+19 call 2 begin
+ sent 7 1>2 outcome 2.1.3 abort
+20 deliver 9
+ sent 7 1>2 ack 2.1.3
+21 flow 6
+ sent 7 1>2 inquire 2.1.3
+22 tick 2
+ commit 2.1.3 0@0
+ sent 7 1>2 ack 2.1.3
+ reply unknown 2.1.3
+23 probe 2
+24 cut 1 2
+ nomessage
+25 heal 2 1
+ down 2
+26 crash 2
+ cut 1 2
+27 restart 2
+ up 2
+28 call 2 begin
+ life 5
+29 deliver 9
+ lives spent 5
+";
+
 #[test]
 fn lines_are_printed(rt: HostRuntime) {
-    let catalog = catalog(&rt, rt.alloc());
+    let text = b"site 1 7001\nsite 2 7002\nrecord x 10 1:1 2:1\n";
+    let catalog = Catalog::read(rt.alloc(), text).expect(&rt, "a catalogue");
     let mut out = Vec::new(rt.alloc());
-    for kind in 0..8u8 {
+    for kind in 0..29u8 {
         let line = Line {
-            event: Event::Deliver { k: 9 },
+            event: event(kind % 9),
             shown: shown(&rt, rt.alloc(), kind),
         };
-        print_line(3, &line, &catalog, &mut out).expect(&rt, "memory");
+        print_line(u32::from(kind) + 1, &line, &catalog, &mut out).expect(&rt, "memory");
     }
-    let wanted =
-        b"3 deliver 9\n commit 2.1.3 0@0\n sent 7 1>2 ack 2.1.3\n reply unknown 2.1.3\n3 deliver 9\n3 deliver 9\n nomessage\n3 deliver 9\n down 2\n3 deliver 9\n cut 1 2\n3 deliver 9\n up 2\n3 deliver 9\n life 5\n3 deliver 9\n lives spent 5\n";
-    assert_eq!(rt; out.as_slice(), wanted.as_slice());
+    assert_eq!(rt; out.as_slice(), PRINTED.as_bytes());
 }

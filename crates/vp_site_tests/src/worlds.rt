@@ -1,4 +1,4 @@
-//! A site that crashes and starts again, and a message between two sites that are cut.
+//! A site that crashes and starts again, a message between two sites that are cut, and a number that no message can have.
 
 use std::alloc::Global;
 use std::process::Abort;
@@ -49,4 +49,15 @@ fn a_cut_pair_waits(rt: HostRuntime) {
     let parted = behind(&rt, inviting, Event::Cut { a, b });
     let line = line_of(&rt, parted, Event::Deliver { k: 1 });
     assert!(rt; matches!(line.shown, Shown::Parted { .. }));
+}
+
+// A world has at most 2,000,000 messages.
+#[test]
+fn no_message_has_a_number_above_the_limit(rt: HostRuntime) {
+    let line = line_of(
+        &rt,
+        new_world(&rt, rt.alloc()),
+        Event::Deliver { k: 2_000_001 },
+    );
+    assert!(rt; matches!(line.shown, Shown::NoMessage));
 }
