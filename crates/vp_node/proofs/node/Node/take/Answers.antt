@@ -86,7 +86,7 @@ returns-clause-saved g c =
 
 pub returns-clause-short : goal.returns-clause-short
 returns-clause-short g c =
-    let records_are = subst (λ (n : NodeValue). c.in_ok-site.outcome.effects.records ≡ (turn_on c.args.catalog.now n.site c.args.what).batch) c.self.view_is c.in_ok-site.ensures.does.records_are in
+    let records_are = subst (λ (n : NodeValue). c.in_ok-site.turn_effects.effects.records ≡ (turn_on c.args.catalog.now n.site c.args.what).batch) c.self.view_is c.in_ok-site.ensures.does.records_are in
     let at_is = ap (λ (n : NodeValue). n.at) c.self.view_is in
     rw (records_are, at_is) at c.in_ok-keep.ensures.short
 
