@@ -9,8 +9,7 @@ use crate::tick::{on_probe, on_tick};
 use crate::views::{on_invite, on_view_commit};
 use vp_base::{Input, Message, NoMemory, SiteId};
 use vp_catalog::Catalog;
-use vp_participant::{Prepare, Request};
-use vp_stepped::{RefreshAnswer, SiteState, Stepped};
+use vp_stepped::{Prepare, RefreshAnswer, Request, SiteState, Stepped};
 
 /// What a message does to the transactions of this site.
 fn answered(

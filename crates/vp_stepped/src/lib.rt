@@ -13,8 +13,8 @@ mod stepped;
 pub use refresh::RefreshAnswer;
 pub use state::SiteState;
 pub use stepped::Stepped;
-// what a site keeps is made of these
+// what a site keeps is made of these, and what other sites ask of its parts
 pub use vp_coordinator::Coordinator;
 pub use vp_endings::{Here, SiteCopies};
-pub use vp_participant::Participant;
+pub use vp_participant::{Participant, Prepare, Request};
 pub use vp_refresh::{Asked, Refresh};
