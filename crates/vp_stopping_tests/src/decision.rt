@@ -4,7 +4,7 @@ ghost use Rattle.std.specs.Prelude.{◌≤◌};
 
 use crate::texts::{DECISION, schedule_text};
 use std::alloc::Global;
-use vp_base::NoMemory;
+use std::process::Abort;
 use vp_hosts::Stop;
 use vp_schedule::read;
 use vp_stopping::run_stopped;
@@ -50,16 +50,14 @@ call 2 2.1.1 2 commit
 ";
 
 /// The text of the schedule that the run comes to; nothing where it can't stop there.
-fn comes_to(alloc: Global, stop: &Stop) -> Result<Vec<u8>, NoMemory>
+fn comes_to(rt: &impl Abort, alloc: Global, stop: &Stop) -> Vec<u8>
     requires { stop.now.calls ≤ 4 }
 {
-    let Ok(schedule) = read(alloc, DECISION.as_bytes()) else {
-        return Err(NoMemory);
-    };
-    match run_stopped(&schedule, stop) {
-        Ok(Some(stopped)) => schedule_text(alloc, &stopped.schedule),
-        Ok(None) => Ok(Vec::new(alloc)),
-        Err(_) => Err(NoMemory),
+    let schedule = read(alloc, DECISION.as_bytes()).expect(rt, "a schedule");
+    let stopped = run_stopped(&schedule, stop).ok();
+    match stopped.expect(rt, "a run") {
+        Some(stopped) => schedule_text(alloc, &stopped.schedule).expect(rt, "memory"),
+        None => Vec::new(alloc),
     }
 }
 
@@ -83,7 +81,7 @@ fn a_decision_is_there_behind_its_last_call(rt: HostRuntime) {
             calls,
             late,
         };
-        let text = comes_to(alloc, &stop).expect(&rt, "memory");
+        let text = comes_to(&rt, alloc, &stop);
         assert!(rt;
             text.as_slice().strip_prefix(HEAD.as_bytes()) == Some(rest.as_bytes()),
             "{calls} {late}"
@@ -100,7 +98,7 @@ fn other_steps_append_nothing(rt: HostRuntime) {
             calls: 2,
             late: true,
         };
-        let text = comes_to(alloc, &stop).expect(&rt, "memory");
+        let text = comes_to(&rt, alloc, &stop);
         assert!(rt; text.is_empty(), "{step}");
     }
 }
