@@ -4,7 +4,7 @@ use Rattle.std.specs.Prelude.{codes}
 use Rattle.std.proofs.lemmas.Bool.{false≢true}
 use Rattle.vp_text.specs.Documents.{IsLine, reached, LinesText}
 use Rattle.vp_text.proofs.Exact.{Exact}
-use Rattle.vp_text.proofs.Lists.{Readable, SoFar, so_far_start, so_far_exact, so_far_shorter, so_far_bad}
+use Rattle.vp_text.proofs.Lists.{Readable, SoFar, so_far_exact, so_far_shorter, so_far_bad}
 use Rattle.vp_text.proofs.Newlines.{key_line}
 use Rattle.vp_model.specs.Catalogue.{Catalogue, sites_of}
 use Rattle.vp_catalog.specs.declared.entry.Entry.{Entry}
@@ -111,14 +111,8 @@ readable most = record {
 
 -- ---- the steps
 
-pub stands_first : (text rest : List ℕ) (d : Draft) → rest ≡ text → d ≡ blank → Stands text rest d 1
-stands_first text rest d e g = subst (λ (d : Draft). Stands text rest d 1) (sym g) (subst (λ (r : List ℕ). Stands text r blank 1) (sym e) (so_far_start blank after LineText Onward line_at text))
-
 pub stands_few : (text rest : List ℕ) (d : Draft) (line : ℕ) → Stands text rest d line → length (sites_said d) ≤ 16
 stands_few text rest d line s = subst (λ (d : Draft). length (sites_said d) ≤ 16) s.state_is (sites_few s.lines s.front s.lines_are)
-
-pub stands_bound : (text rest : List ℕ) (d : Draft) (line : ℕ) → Stands text rest d line → line + length rest ≤ length text + 1
-stands_bound text rest d line s = s.bound
 
 pub stands_room : (text rest : List ℕ) (d : Draft) (line : ℕ) → Stands text rest d line → (left : ℕ) → line_at d rest ≡ Err left → left ≤ length rest
 stands_room text rest d line s left read = (so_far_bad blank after LineText Onward line_at text rest d line left (readable (length text)) s read).0
