@@ -5,7 +5,7 @@ use Rattle.std.specs.Fmt.{decimal}
 use Rattle.std.proofs.lemmas.Bool.{false≢true, and_parts, ltb-true}
 use Rattle.std.proofs.lemmas.List.{length-append, append-nil, nil_from_length}
 use Rattle.vp_text.specs.Documents.{reached, LinesText, IsFaultyLine}
-use Rattle.vp_text.proofs.Lists.{Readable, SoFar, so_far_start, so_far_exact, so_far_shorter, so_far_more, so_far_bad, so_far_faulty}
+use Rattle.vp_text.proofs.Lists.{Readable, SoFar, so_far_exact, so_far_shorter, so_far_more, so_far_bad, so_far_faulty}
 use Rattle.vp_base.specs.Words.{IsName}
 use Rattle.vp_base.specs.Identifiers.{IsView}
 use Rattle.vp_model.specs.Types.{ViewId, Commit}
@@ -103,12 +103,6 @@ stands_names text rest h line s = subst (λ (h : History). AllNames h.names) s.s
 
 pub stands_few : (text rest : List ℕ) (h : History) (line : ℕ) → Stands text rest h line → length h.names ≤ 256
 stands_few text rest h line s = subst (λ (h : History). length h.names ≤ 256) s.state_is (few_ok s.lines s.front s.lines_are)
-
-pub stands_bound : (text rest : List ℕ) (h : History) (line : ℕ) → Stands text rest h line → line + length rest ≤ length text + 1
-stands_bound text rest h line s = s.bound
-
-pub stands_first : (text rest : List ℕ) (h : History) → rest ≡ text → h ≡ empty → Stands text rest h 1
-stands_first text rest h e g = subst (λ (h : History). Stands text rest h 1) (sym g) (subst (λ (r : List ℕ). Stands text r empty 1) (sym e) (so_far_start empty after Allowed Onward reads text))
 
 pub stands_room : (text rest : List ℕ) (h : History) (line : ℕ) → length text < 2 ^ 63 → Stands text rest h line → (left : ℕ) → reads h rest ≡ Err left → left ≤ length rest
 stands_room text rest h line small s left read = (so_far_bad empty after Allowed Onward reads text rest h line left (readable (length text) small) s read).0
