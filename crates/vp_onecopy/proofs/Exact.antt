@@ -22,8 +22,8 @@ use Rattle.vp_base.proofs.Views.{view_from_exact, view_from_goes}
 use Rattle.vp_base.proofs.Among.{among_exact, place_goes}
 use Rattle.vp_model.specs.Types.{ViewId, Op}
 use Rattle.vp_model.specs.Types.op
-use Rattle.vp_onecopy.specs.declared.line.Line.{Line}
-use Rattle.vp_onecopy.specs.declared.line.Line.TheVariants.{Start, Commit, End}
+use Rattle.vp_onecopy.specs.declared.line.HistoryLine.{HistoryLine}
+use Rattle.vp_onecopy.specs.declared.line.HistoryLine.TheVariants.{Start, Commit, End}
 use Rattle.vp_onecopy.specs.Lines.{AllNames, Before, OpText, OpsText, some_names, may_start, LineText}
 use Rattle.vp_onecopy.specs.Reading.{commit_of, read_at, write_at, op_at, ops_at, start_at, commit_at, ending_at, later_at, line_at}
 
@@ -165,7 +165,7 @@ next_shorter names all bytes op rest h =
 
 -- ---- the lines
 
-abbrev StartParts : Line → List ℕ → Type 0
+abbrev StartParts : HistoryLine → List ℕ → Type 0
 StartParts = Then (IsLiteral (codes "start ")) (λ _. Then IsName (λ name. Then (IsLiteral (32 ∷ [])) (λ _. Then IsValue (λ value. Made (IsLiteral (10 ∷ [])) (λ _. Start name value)))))
 
 start_parts_exact : Exact StartParts start_at
@@ -175,7 +175,7 @@ start_parts_exact =
     (λ name. literal_then (32 ∷ []) (word_then (has classes.Value) (most classes.Value) 97 refl (omega arith) (λ value. made_outside (has classes.Value) (10 ∷ []) refl)
     (λ value. made_exact (λ u. Start name value) (literal_exact (10 ∷ []))))))
 
-abbrev CommitParts : List (List ℕ) → ViewId → Line → List ℕ → Type 0
+abbrev CommitParts : List (List ℕ) → ViewId → HistoryLine → List ℕ → Type 0
 CommitParts names last = Then (IsLiteral (codes "commit ")) (λ _. Then IsTxnText (λ txn. Then (IsLiteral (32 ∷ [])) (λ _. Then (IsViewFrom last) (λ view. Made (OpsText names) (λ ops. Commit (commit_of txn view ops))))))
 
 ops_outside : (names : List (List ℕ)) (ops : List Op) (t : List ℕ) → OpsText names ops t → Outside is_digit t
@@ -191,7 +191,7 @@ commit_parts_exact names last all good =
     (λ txn. literal_then (32 ∷ []) (then_exact (follows_from is_digit (view_from_goes last good) (λ view entry t m. ops_outside names m.from t m.spelled)) (view_from_exact last good)
     (λ view. made_exact (λ ops. Commit (commit_of txn view ops)) (ops_exact names all)))))
 
-abbrev EndParts : ℕ → Line → List ℕ → Type 0
+abbrev EndParts : ℕ → HistoryLine → List ℕ → Type 0
 EndParts commits = Then (IsLiteral (codes "end ")) (λ _. Then (IsNumber commits commits) (λ n. Made (IsLiteral (10 ∷ [])) (λ _. End)))
 
 end_parts_exact : (commits : ℕ) → commits < 2 ^ 64 → Exact (EndParts commits) (ending_at commits)
@@ -199,7 +199,7 @@ unfolding ending_at
 end_parts_exact commits fits =
     literal_then (codes "end ") (number_then commits commits (omega arith) fits (λ n. made_outside is_digit (10 ∷ []) refl) (λ n. made_exact (λ u. End) (literal_exact (10 ∷ []))))
 
-abbrev LaterParts : Before → Line → List ℕ → Type 0
+abbrev LaterParts : Before → HistoryLine → List ℕ → Type 0
 LaterParts before = Either (CommitParts before.names before.last) (EndParts before.commits)
 
 opens_start : Opens (codes "start ") StartParts
@@ -224,26 +224,26 @@ clear_start before = clear_or StartParts (CommitParts before.names before.last) 
 clear_later : (before : Before) → IsClear (LaterParts before) StartParts
 clear_later before = or_clear StartParts (CommitParts before.names before.last) (EndParts before.commits) (clear_keys (codes "commit ") (codes "start ") refl (opens_commit before.names before.last) opens_start) (clear_keys (codes "end ") (codes "start ") refl (opens_end before.commits) opens_start)
 
-start_to : (before : Before) → may_start before ≡ true → (e : Line) (t : List ℕ) → StartParts e t → LineText before e t
+start_to : (before : Before) → may_start before ≡ true → (e : HistoryLine) (t : List ℕ) → StartParts e t → LineText before e t
 start_to before on e t h =
     let n = h.after in
     let v = n.after.after in
     let name_is : IsName n.first n.first = subst (λ (x : List ℕ). IsName n.first x) (sym n.before.is) n.before in
     let value_is : IsValue v.first v.first = subst (λ (x : List ℕ). IsValue v.first x) (sym v.before.is) v.before in
-    subst (λ (e : Line). LineText before e t) (sym v.after.is) (record {
+    subst (λ (e : HistoryLine). LineText before e t) (sym v.after.is) (record {
       allowed = on;
       name_is = name_is;
       value_is = value_is;
       parts = rw (h.parts, h.before, n.parts, ← n.before.is, n.after.parts, n.after.before, v.parts, ← v.before.is, v.after.spelled) refl;
     })
 
-later_to : (before : Before) (e : Line) (t : List ℕ) → LaterParts before e t → LineText before e t
+later_to : (before : Before) (e : HistoryLine) (t : List ℕ) → LaterParts before e t → LineText before e t
 later_to before e t h =
     elim h [
       | inl c ↦
           let x = c.after in
           let v = x.after.after in
-          subst (λ (e : Line). LineText before e t) (sym v.after.is) (record {
+          subst (λ (e : HistoryLine). LineText before e t) (sym v.after.is) (record {
             txn = x.front;
             view = v.front;
             ops = v.back;
@@ -255,10 +255,10 @@ later_to before e t h =
       | inr c ↦
           let n = c.after in
           let number : n.front ≡ decimal before.commits = n.before.is ∙ ap decimal (omega (arith, n.before.above, n.before.below)) in
-          subst (λ (e : Line). LineText before e t) (sym n.after.is) (rw (c.parts, c.before, n.parts, number, n.after.spelled) refl)
+          subst (λ (e : HistoryLine). LineText before e t) (sym n.after.is) (rw (c.parts, c.before, n.parts, number, n.after.spelled) refl)
     ]
 
-later_from : (before : Before) (e : Line) (t : List ℕ) → LineText before e t → Either StartParts (LaterParts before) e t
+later_from : (before : Before) (e : HistoryLine) (t : List ℕ) → LineText before e t → Either StartParts (LaterParts before) e t
 later_from before (Start name value) t h = inl (record {
   first = tt;
   front = codes "start ";
@@ -312,15 +312,15 @@ later_from before End t h = inr (inr (record {
   after = record { first = before.commits; front = decimal before.commits; back = 10 ∷ []; before = record { is = refl; above = omega arith; below = omega arith }; parts = refl; after = record { from = tt; spelled = refl; is = refl } };
 }))
 
-no_start : (before : Before) → may_start before ≡ false → (e : Line) (t : List ℕ) → LineText before e t → StartParts e t → ⊥
+no_start : (before : Before) → may_start before ≡ false → (e : HistoryLine) (t : List ℕ) → LineText before e t → StartParts e t → ⊥
 no_start before off (Start name value) t h s = false≢true (sym off ∙ h.allowed)
 no_start before off (Commit commit) t h s = let e : Commit commit ≡ Start s.after.first s.after.after.after.first = s.after.after.after.after.is in cc
 no_start before off End t h s = let e : End ≡ Start s.after.first s.after.after.after.first = s.after.after.after.after.is in cc
 
-line_to : (before : Before) → may_start before ≡ true → (e : Line) (t : List ℕ) → Either StartParts (LaterParts before) e t → LineText before e t
+line_to : (before : Before) → may_start before ≡ true → (e : HistoryLine) (t : List ℕ) → Either StartParts (LaterParts before) e t → LineText before e t
 line_to before on e t h = elim h [ inl s ↦ start_to before on e t s | inr l ↦ later_to before e t l ]
 
-only_later : (before : Before) → may_start before ≡ false → (e : Line) (t : List ℕ) → LineText before e t → LaterParts before e t
+only_later : (before : Before) → may_start before ≡ false → (e : HistoryLine) (t : List ℕ) → LineText before e t → LaterParts before e t
 only_later before off e t h =
     elim (later_from before e t h) [
       | inl s ↦ absurd (no_start before off e t h s)

@@ -8,8 +8,8 @@ use Rattle.vp_base.proofs.Among.{place_is_name}
 use Rattle.vp_base.proofs.Newlines.{name_clean, value_clean, view_clean, txn_clean}
 use Rattle.vp_model.specs.Types.{Op}
 use Rattle.vp_model.specs.Types.op
-use Rattle.vp_onecopy.specs.declared.line.Line.{Line}
-use Rattle.vp_onecopy.specs.declared.line.Line.TheVariants.{Start, Commit, End}
+use Rattle.vp_onecopy.specs.declared.line.HistoryLine.{HistoryLine}
+use Rattle.vp_onecopy.specs.declared.line.HistoryLine.TheVariants.{Start, Commit, End}
 use Rattle.vp_onecopy.specs.Lines.{AllNames, Before, OpText, OpsText, LineText}
 
 op_clean : (names : List (List ℕ)) → AllNames names → (op : Op) (t : List ℕ) → OpText names op t → HasNoNewline t
@@ -20,7 +20,7 @@ ops_line : (names : List (List ℕ)) → AllNames names → (ops : List Op) (t :
 ops_line names all [] t h = subst IsLine (sym h) last_line
 ops_line names all (op ∷ ops) t h = subst IsLine (sym h.5) (line_push h.0 h.1 (op_clean names all op h.0 h.3) (ops_line names all ops h.1 h.4))
 
-pub line_is : (b : Before) → AllNames b.names → b.commits < 2 ^ 64 → (e : Line) (t : List ℕ) → LineText b e t → IsLine t
+pub line_is : (b : Before) → AllNames b.names → b.commits < 2 ^ 64 → (e : HistoryLine) (t : List ℕ) → LineText b e t → IsLine t
 line_is b all fits (Start name value) t h = subst IsLine (sym h.parts) (line_push (codes "start ") (name ++ 32 ∷ (value ++ 10 ∷ [])) (key_clean (codes "start ") refl)
     (line_push name (32 ∷ (value ++ 10 ∷ [])) (name_clean name h.name_is) (line_push (32 ∷ []) (value ++ 10 ∷ []) (λ e. omega arith, tt) (line_push value (10 ∷ []) (value_clean value h.value_is) last_line))))
 line_is b all fits (Commit commit) t h = subst IsLine (sym h.parts) (line_push (codes "commit ") (h.txn ++ 32 ∷ (h.view ++ h.ops)) (key_clean (codes "commit ") refl)

@@ -6,8 +6,8 @@ use Rattle.vp_text.specs.Documents.{HasNoNewline, IsLine, reached, LinesText, Is
 use Rattle.vp_text.proofs.Items.{all_at}
 use Rattle.vp_text.proofs.Newlines.{key_clean}
 use Rattle.vp_text.proofs.Determined.{Plain, plain, Divided, IsLast, Stops, last_same, bad_same, faulty_divided, faulty_last, faulty_same, bad_not_faulty}
-use Rattle.vp_onecopy.specs.declared.line.Line.{Line}
-use Rattle.vp_onecopy.specs.declared.line.Line.TheVariants as kind
+use Rattle.vp_onecopy.specs.declared.line.HistoryLine.{HistoryLine}
+use Rattle.vp_onecopy.specs.declared.line.HistoryLine.TheVariants as kind
 use Rattle.vp_onecopy.specs.declared.map.History.{History}
 use Rattle.vp_onecopy.specs.declared.fault.HistoryFault.{HistoryFault}
 use Rattle.vp_onecopy.specs.declared.fault.HistoryFault.TheVariants as faults
@@ -20,10 +20,10 @@ use Rattle.vp_onecopy.proofs.Steps.{reads, readable}
 abbrev Bad : List ℕ → ℕ → ℕ → Type 0
 Bad = IsBadLine empty after Allowed Onward
 
-abbrev Stopped : (History → Line → Type 0) → List ℕ → ℕ → Type 0
+abbrev Stopped : (History → HistoryLine → Type 0) → List ℕ → ℕ → Type 0
 Stopped = IsFaultyLine empty after Allowed Onward
 
-abbrev IsEnd : History → Line → Type 0
+abbrev IsEnd : History → HistoryLine → Type 0
 IsEnd h line = line ≡ kind.End
 
 end_stops : Stops empty after Allowed Onward IsEnd
@@ -97,7 +97,7 @@ bad_bad text small l m i k a b = elim a [
     | inl bad ↦ absurd (bad_not_faulty empty after Allowed Onward IsEnd end_stops text (lines_plain text small) m (length long.lines + 1) k bad (long_stopped text l i long))
     | inr other ↦
         let same = faulty_same empty after Allowed Onward IsEnd IsEnd end_stops end_stops text (lines_plain text small) (length long.lines + 1) (length other.lines + 1) (long_stopped text l i long) (long_stopped text m k other) in
-        (sym long.number ∙ ap (λ (x : List Line). length x + 2) same.lines ∙ other.number, long.first ∙ sym other.first)
+        (sym long.number ∙ ap (λ (x : List HistoryLine). length x + 2) same.lines ∙ other.number, long.first ∙ sym other.first)
   ]
 ]
 
@@ -110,7 +110,7 @@ bad_twice text small l m i b f = elim b [
 twice_twice : (text : List ℕ) → length text < 2 ^ 63 → (l m : ℕ) → Stopped NamesAgain text l → Stopped NamesAgain text m → l ≡ m
 twice_twice text small l m f g =
     let same = faulty_same empty after Allowed Onward NamesAgain NamesAgain again_stops again_stops text (lines_plain text small) l m f g in
-    sym f.number ∙ ap (λ (x : List Line). length x + 1) same.lines ∙ g.number
+    sym f.number ∙ ap (λ (x : List HistoryLine). length x + 1) same.lines ∙ g.number
 
 abbrev pub answered : History → Result History HistoryFault
 answered h = Ok h

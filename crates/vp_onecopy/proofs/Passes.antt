@@ -1,11 +1,10 @@
 -- Passing over lines.
-use Rattle.std.proofs.Common.{◌≡◌, ℕ, suc, ◌+◌, ◌≤◌, ◌<◌, List, [], ◌∷◌, ◌++◌, length, take, drop, get_or, refl, sym, ap, subst, ◌∙◌, arith, append_assoc, Ok, Err, inl, inr}
-use Rattle.std.proofs.lemmas.List.{length-append, take_more, take-append-drop, length-drop}
+use Rattle.std.proofs.Common.{◌≡◌, ℕ, suc, ◌+◌, ◌≤◌, ◌<◌, List, [], ◌∷◌, ◌++◌, length, take, drop, refl, sym, ap, subst, ◌∙◌, arith, append_assoc, Ok, Err, inl, inr}
+use Rattle.std.proofs.lemmas.List.{length-append, take-append-drop, length-drop}
 use Rattle.vp_text.specs.Reading.{literal_at}
-use Rattle.vp_text.proofs.Items.{all_push}
 use Rattle.vp_text.proofs.Words.{literal_exact}
 use Rattle.vp_text.proofs.Exact.{Apart, at_err}
-use Rattle.vp_text.specs.Documents.{HasNoNewline, IsLine, IsFaultyLine}
+use Rattle.vp_text.specs.Documents.{IsLine, IsFaultyLine}
 use Rattle.vp_onecopy.specs.History.{empty, after, Allowed, Onward, NamesAgain, Answered}
 use Rattle.vp_onecopy.specs.declared.fault.HistoryFault.TheVariants as faults
 use Rattle.vp_onecopy.proofs.Steps.{lines_le}
@@ -16,12 +15,6 @@ pub record PassedSoFar (old new : List ℕ) (n : ℕ) : Type 0 where
   pub passed : Passed n front
   pub parts : old ≡ front ++ new
   pub bound : n + length new ≤ length old
-
-pub no_newline_more : (bytes : List ℕ) (i : ℕ) → i < length bytes → HasNoNewline (take i bytes) → (get_or bytes i 0 ≡ 10 → ⊥) → HasNoNewline (take (i + 1) bytes)
-no_newline_more bytes i lt h k = subst HasNoNewline (sym (take_more bytes i 0 lt)) (all_push (λ c. c ≡ 10 → ⊥) (take i bytes) (get_or bytes i 0) h k)
-
-pub line_at_newline : (bytes : List ℕ) (i : ℕ) → i < length bytes → HasNoNewline (take i bytes) → get_or bytes i 0 ≡ 10 → IsLine (take (i + 1) bytes)
-line_at_newline bytes i lt h k = (take i bytes, h, take_more bytes i 0 lt ∙ ap (λ (c : ℕ). take i bytes ++ c ∷ []) k)
 
 pub read_line : (old new rest : List ℕ) (n : ℕ) → PassedSoFar old new n → literal_at history_line new ≡ Ok (tt, rest) → Passes old rest (Ok n)
 read_line old new rest n s e =

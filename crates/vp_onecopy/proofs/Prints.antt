@@ -10,8 +10,8 @@ use Rattle.vp_base.specs.Identifiers.{txn_text, view_text}
 use Rattle.vp_model.specs.Types.{Op, Commit}
 use Rattle.vp_model.specs.Types.op
 use Rattle.vp_model.specs.Texts.History.{op_text, commit_text, start_text, starts_text, history_lines}
-use Rattle.vp_onecopy.specs.declared.line.Line.{Line}
-use Rattle.vp_onecopy.specs.declared.line.Line.TheVariants as kind
+use Rattle.vp_onecopy.specs.declared.line.HistoryLine.{HistoryLine}
+use Rattle.vp_onecopy.specs.declared.line.HistoryLine.TheVariants as kind
 use Rattle.vp_onecopy.specs.declared.map.History.{History}
 use Rattle.vp_onecopy.specs.declared.fault.HistoryFault.{HistoryFault}
 use Rattle.vp_onecopy.specs.Lines.{Before, OpText, OpsText, CommitText, may_start}
@@ -50,7 +50,7 @@ commit_is b commit t h =
 
 -- ---- the text of lines
 
-pub same_count : (es : List Line) (t : List ℕ) → Lines es t → length (all_said es).names ≡ length (all_said es).start
+pub same_count : (es : List HistoryLine) (t : List ℕ) → Lines es t → length (all_said es).names ≡ length (all_said es).start
 same_count [] t h = refl
 same_count (kind.Start name value ∷ es) t h = omega (arith, same_count es h.0 h.2, length-append (all_said es).names (name ∷ []), length-append (all_said es).start (value ∷ []))
 same_count (kind.Commit commit ∷ es) t h = same_count es h.0 h.2
@@ -66,7 +66,7 @@ flat_map_push f (y ∷ xs) x = flat_map-cons f y (xs ++ x ∷ []) ∙ ap (λ (t 
 abbrev said_text : History → List ℕ
 said_text h = starts_text h.names h.start ++ flat_map (commit_text h.names) h.commits
 
-lines_are : (es : List Line) (t : List ℕ) → Lines es t → t ≡ said_text (all_said es)
+lines_are : (es : List HistoryLine) (t : List ℕ) → Lines es t → t ≡ said_text (all_said es)
 lines_are [] t h = h
 lines_are (kind.Start name value ∷ es) t h =
     let b = all_said es in

@@ -2,13 +2,13 @@
 use Rattle.std.proofs.Common.{◌≡◌, ◌<◌, ◌+◌, ◌-◌, ℕ, ◌∙◌, ap, sym, false, List, [], ◌∷◌, ◌++◌, length, take, drop, refl, arith, get_or, subst}
 use Rattle.std.specs.Prelude.{Some, None, Result, Ok, Err, IfOk, option_and_then}
 use Rattle.std.specs.Str.{bytes_eq}
-use Rattle.std.proofs.lemmas.List.{take-append-drop, drop_more, take_more, length-append}
+use Rattle.std.proofs.lemmas.List.{take-append-drop, drop_more, take_more}
 use Rattle.std.proofs.lemmas.Bool.{false_from_ne_true}
 use Rattle.std.proofs.lemmas.Slice.Eq.{bytes_eq-Decides}
 use Rattle.vp_model.specs.Types.{TxnId, Op, Commit}
 use Rattle.vp_model.specs.OneCopy.{Values, play_one, play, serial}
 use Rattle.vp_onecopy.specs.Playing.{op_record, Misreads, IsFirstMisread, Plays}
-use Rattle.vp_onecopy.specs.Checking.{IsFirstDifference, Decides, IsWithin, Tells}
+use Rattle.vp_onecopy.specs.Checking.{IsFirstDifference, Decides, Tells}
 use Rattle.vp_base.specs.declared.memory.NoMemory.{NoMemory}
 use Rattle.vp_onecopy.specs.declared.playing.PlayFault.{PlayFault}
 use Rattle.vp_onecopy.specs.declared.playing.PlayFault.TheVariants as faults
@@ -59,11 +59,6 @@ first_difference start list i commit mid after txn place rec kept read l is so_f
 at_length : (front : List Op) (x : Op) (back : List Op) (d : Op) → get_or (front ++ x ∷ back) (length front) d ≡ x
 at_length [] x back d = refl
 at_length (y ∷ front) x back d = at_length front x back d
-
-pub within : (before : Values) (ops : List Op) (after : Values) (fault : PlayFault) → Plays before ops after (Err fault) → IsWithin ops fault
-within before ops after (faults.Differs place kept read) (rec, h) =
-    (omega (arith, h.place_is), omega (arith, h.place_is, ap length h.reached.parts, length-append h.front (h.operation ∷ h.back)))
-within before ops after faults.NoMemory h = tt
 
 record_there : (before : Values) (ops : List Op) (after : Values) (place rec : ℕ) (kept read : List ℕ) → IsFirstMisread before ops after place rec kept read
     → (x : Op) → x ≡ get_or ops (place - 1) x → rec ≡ op_record x

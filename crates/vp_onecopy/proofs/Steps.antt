@@ -5,13 +5,13 @@ use Rattle.std.specs.Fmt.{decimal}
 use Rattle.std.proofs.lemmas.Bool.{false≢true, and_parts, ltb-true}
 use Rattle.std.proofs.lemmas.List.{length-append, append-nil, nil_from_length}
 use Rattle.vp_text.specs.Documents.{reached, LinesText, IsFaultyLine}
-use Rattle.vp_text.proofs.Lists.{Readable, SoFar, so_far_start, so_far_exact, so_far_shorter, so_far_more, so_far_bad, so_far_faulty}
+use Rattle.vp_text.proofs.Lists.{Readable, SoFar, so_far_exact, so_far_shorter, so_far_more, so_far_bad, so_far_faulty}
 use Rattle.vp_base.specs.Words.{IsName}
 use Rattle.vp_base.specs.Identifiers.{IsView}
 use Rattle.vp_model.specs.Types.{ViewId, Commit}
 use Rattle.vp_model.specs.Words.{opening}
-use Rattle.vp_onecopy.specs.declared.line.Line.{Line}
-use Rattle.vp_onecopy.specs.declared.line.Line.TheVariants as kind
+use Rattle.vp_onecopy.specs.declared.line.HistoryLine.{HistoryLine}
+use Rattle.vp_onecopy.specs.declared.line.HistoryLine.TheVariants as kind
 use Rattle.vp_onecopy.specs.declared.map.History.{History}
 use Rattle.vp_onecopy.specs.declared.fault.HistoryFault.{HistoryFault}
 use Rattle.vp_onecopy.specs.declared.fault.HistoryFault.TheVariants as faults
@@ -21,14 +21,14 @@ use Rattle.vp_onecopy.specs.History.{last_from, before, empty, after, Allowed, O
 use Rattle.vp_onecopy.proofs.Exact.{line_exact}
 use Rattle.vp_onecopy.proofs.Newlines.{line_is}
 
-abbrev pub reads : History → List ℕ → Result (Line × List ℕ) ℕ
+abbrev pub reads : History → List ℕ → Result (HistoryLine × List ℕ) ℕ
 reads h bytes = line_at (before h) bytes
 
 -- what some lines say
-abbrev pub all_said : List Line → History
+abbrev pub all_said : List HistoryLine → History
 all_said = reached empty after Allowed Onward
 
-abbrev pub Lines : List Line → List ℕ → Type 0
+abbrev pub Lines : List HistoryLine → List ℕ → Type 0
 Lines = LinesText empty after Allowed Onward
 
 -- where the reading stands
@@ -54,13 +54,13 @@ names_push : (names : List (List ℕ)) (name : List ℕ) → AllNames names → 
 names_push [] name all h = (h, tt)
 names_push (n ∷ names) name all h = (all.0, names_push names name all.1 h)
 
-names_ok : (es : List Line) (t : List ℕ) → Lines es t → AllNames (all_said es).names
+names_ok : (es : List HistoryLine) (t : List ℕ) → Lines es t → AllNames (all_said es).names
 names_ok [] t h = tt
 names_ok (kind.Start name value ∷ es) t h = names_push (all_said es).names name (names_ok es h.0 h.2) h.3.name_is
 names_ok (kind.Commit commit ∷ es) t h = names_ok es h.0 h.2
 names_ok (kind.End ∷ es) t h = absurd h.4
 
-pub few_ok : (es : List Line) (t : List ℕ) → Lines es t → length (all_said es).names ≤ 256
+pub few_ok : (es : List HistoryLine) (t : List ℕ) → Lines es t → length (all_said es).names ≤ 256
 few_ok [] t h = omega arith
 few_ok (kind.Start name value ∷ es) t h =
     let b = before (all_said es) in
@@ -69,22 +69,22 @@ few_ok (kind.Start name value ∷ es) t h =
 few_ok (kind.Commit commit ∷ es) t h = few_ok es h.0 h.2
 few_ok (kind.End ∷ es) t h = absurd h.4
 
-view_ok : (es : List Line) (t : List ℕ) → Lines es t → IsView (before (all_said es)).last
+view_ok : (es : List HistoryLine) (t : List ℕ) → Lines es t → IsView (before (all_said es)).last
 view_ok [] t h = record { number_fits = omega arith; site_fits = omega arith; opening = λ e. refl; made = λ e. absurd (omega arith) }
 view_ok (kind.Start name value ∷ es) t h = view_ok es h.0 h.2
 view_ok (kind.Commit commit ∷ es) t h = subst IsView (sym (last_from-push opening (all_said es).commits commit)) h.3.view_is.spelled.allowed
 view_ok (kind.End ∷ es) t h = absurd h.4
 
-pub line_some : (b : Before) (e : Line) (t : List ℕ) → LineText b e t → 0 < length t
+pub line_some : (b : Before) (e : HistoryLine) (t : List ℕ) → LineText b e t → 0 < length t
 line_some b (kind.Start name value) t h = omega (arith, ap length h.parts, length-append (codes "start ") (name ++ 32 ∷ (value ++ 10 ∷ [])))
 line_some b (kind.Commit commit) t h = omega (arith, ap length h.parts, length-append (codes "commit ") (h.txn ++ 32 ∷ (h.view ++ h.ops)))
 line_some b kind.End t h = omega (arith, ap length h, length-append (codes "end ") (decimal b.commits ++ 10 ∷ []))
 
-pub lines_le : (es : List Line) (t : List ℕ) → Lines es t → length es ≤ length t
+pub lines_le : (es : List HistoryLine) (t : List ℕ) → Lines es t → length es ≤ length t
 lines_le [] t h = omega arith
 lines_le (e ∷ es) t h = omega (arith, lines_le es h.0 h.2, line_some (before (all_said es)) e h.1 h.3, ap length h.5, length-append h.0 h.1)
 
-commits_le : (es : List Line) (t : List ℕ) → Lines es t → length (all_said es).commits ≤ length es
+commits_le : (es : List HistoryLine) (t : List ℕ) → Lines es t → length (all_said es).commits ≤ length es
 commits_le [] t h = omega arith
 commits_le (kind.Start name value ∷ es) t h = omega (arith, commits_le es h.0 h.2)
 commits_le (kind.Commit commit ∷ es) t h = omega (arith, commits_le es h.0 h.2, length-append (all_said es).commits (commit ∷ []))
@@ -104,16 +104,10 @@ stands_names text rest h line s = subst (λ (h : History). AllNames h.names) s.s
 pub stands_few : (text rest : List ℕ) (h : History) (line : ℕ) → Stands text rest h line → length h.names ≤ 256
 stands_few text rest h line s = subst (λ (h : History). length h.names ≤ 256) s.state_is (few_ok s.lines s.front s.lines_are)
 
-pub stands_bound : (text rest : List ℕ) (h : History) (line : ℕ) → Stands text rest h line → line + length rest ≤ length text + 1
-stands_bound text rest h line s = s.bound
-
-pub stands_first : (text rest : List ℕ) (h : History) → rest ≡ text → h ≡ empty → Stands text rest h 1
-stands_first text rest h e g = subst (λ (h : History). Stands text rest h 1) (sym g) (subst (λ (r : List ℕ). Stands text r empty 1) (sym e) (so_far_start empty after Allowed Onward reads text))
-
 pub stands_room : (text rest : List ℕ) (h : History) (line : ℕ) → length text < 2 ^ 63 → Stands text rest h line → (left : ℕ) → reads h rest ≡ Err left → left ≤ length rest
 stands_room text rest h line small s left read = (so_far_bad empty after Allowed Onward reads text rest h line left (readable (length text) small) s read).0
 
-pub stands_shorter : (text rest new : List ℕ) (h : History) (line : ℕ) (e : Line) → length text < 2 ^ 63 → Stands text rest h line → reads h rest ≡ Ok (e, new) → length new < length rest
+pub stands_shorter : (text rest new : List ℕ) (h : History) (line : ℕ) (e : HistoryLine) → length text < 2 ^ 63 → Stands text rest h line → reads h rest ≡ Ok (e, new) → length new < length rest
 stands_shorter text rest new h line e small s read = so_far_shorter empty after Allowed Onward reads text rest new h line e (readable (length text) small) s read
 
 stands_done : (text rest new : List ℕ) (h : History) (line : ℕ) → length text < 2 ^ 63 → Stands text rest h line → reads h rest ≡ Ok (kind.End, new) → length new ≡ 0 → IsHistory h text
@@ -154,23 +148,23 @@ answered_next text rest new h line (faults.BadLine l at) small s n =
 answered_next text rest new h line (faults.Twice l) small s n = absurd n
 answered_next text rest new h line faults.NoMemory small s n = tt
 
-pub answered_add : (text rest new : List ℕ) (h k : History) (next : Line) (line : ℕ) (e : HistoryFault) → length text < 2 ^ 63 → Stands text rest h line → reads h rest ≡ Ok (next, new) → Adds h next line k (Err e) → Answered text (Err e)
+pub answered_add : (text rest new : List ℕ) (h k : History) (next : HistoryLine) (line : ℕ) (e : HistoryFault) → length text < 2 ^ 63 → Stands text rest h line → reads h rest ≡ Ok (next, new) → Adds h next line k (Err e) → Answered text (Err e)
 answered_add text rest new h k next line (faults.BadLine l at) small s read n = absurd n
 answered_add text rest new h k next line (faults.Twice l) small s read n =
     subst (IsFaultyLine empty after Allowed Onward NamesAgain text) (sym n.0) (so_far_faulty empty after Allowed Onward reads NamesAgain text rest new h line next (readable (length text) small) s read n.1)
 answered_add text rest new h k next line faults.NoMemory small s read n = tt
 
-pub answered_end : (text rest new : List ℕ) (h k : History) (next : Line) (line : ℕ) (b : Bool) (r : Result History HistoryFault) → length text < 2 ^ 63 → Stands text rest h line → reads h rest ≡ Ok (next, new) → Adds h next line k (Ok b) → b ≡ false → Finishes k line new r → Answered text r
+pub answered_end : (text rest new : List ℕ) (h k : History) (next : HistoryLine) (line : ℕ) (b : Bool) (r : Result History HistoryFault) → length text < 2 ^ 63 → Stands text rest h line → reads h rest ≡ Ok (next, new) → Adds h next line k (Ok b) → b ≡ false → Finishes k line new r → Answered text r
 answered_end text rest new h k next line true r small s read n off f = absurd (false≢true (sym off))
 answered_end text rest new h k next line false (Ok g) small s read n off f =
-    let read_end : reads h rest ≡ Ok (kind.End, new) = read ∙ ap (λ (x : Line). Ok (x, new)) n.1 in
+    let read_end : reads h rest ≡ Ok (kind.End, new) = read ∙ ap (λ (x : HistoryLine). Ok (x, new)) n.1 in
     subst (λ (h : History). IsHistory h text) (sym n.0 ∙ sym f.0) (stands_done text rest new h line small s read_end f.1)
 answered_end text rest new h k next line false (Err (faults.BadLine l at)) small s read n off f =
-    let read_end : reads h rest ≡ Ok (kind.End, new) = read ∙ ap (λ (x : Line). Ok (x, new)) n.1 in
+    let read_end : reads h rest ≡ Ok (kind.End, new) = read ∙ ap (λ (x : HistoryLine). Ok (x, new)) n.1 in
     inr (rw (f.0, f.1) (stands_long text rest new h line small s read_end f.2))
 answered_end text rest new h k next line false (Err (faults.Twice l)) small s read n off f = absurd f
 answered_end text rest new h k next line false (Err faults.NoMemory) small s read n off f = absurd f
 
-pub stands_more : (text rest new : List ℕ) (h k : History) (next : Line) (line : ℕ) (b : Bool) → length text < 2 ^ 63 → Stands text rest h line → reads h rest ≡ Ok (next, new) → Adds h next line k (Ok b) → b ≡ true → Stands text new k (line + 1)
+pub stands_more : (text rest new : List ℕ) (h k : History) (next : HistoryLine) (line : ℕ) (b : Bool) → length text < 2 ^ 63 → Stands text rest h line → reads h rest ≡ Ok (next, new) → Adds h next line k (Ok b) → b ≡ true → Stands text new k (line + 1)
 stands_more text rest new h k next line true small s read n on = subst (λ (k : History). Stands text new k (line + 1)) (sym n.0) (so_far_more empty after Allowed Onward reads text rest new h line next (readable (length text) small) s read n.1)
 stands_more text rest new h k next line false small s read n on = absurd (false≢true on)

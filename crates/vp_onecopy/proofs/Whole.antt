@@ -13,8 +13,8 @@ use Rattle.vp_model.specs.Types.{ViewId, Op, Commit}
 use Rattle.vp_model.specs.Types.op
 use Rattle.vp_model.specs.Words.{opening}
 use Rattle.vp_model.specs.Texts.History.{history_lines}
-use Rattle.vp_onecopy.specs.declared.line.Line.{Line}
-use Rattle.vp_onecopy.specs.declared.line.Line.TheVariants as kind
+use Rattle.vp_onecopy.specs.declared.line.HistoryLine.{HistoryLine}
+use Rattle.vp_onecopy.specs.declared.line.HistoryLine.TheVariants as kind
 use Rattle.vp_onecopy.specs.declared.map.History.{History}
 use Rattle.vp_onecopy.specs.declared.fault.HistoryFault.{HistoryFault}
 use Rattle.vp_onecopy.specs.Playing.{op_record, OpsWithin, CommitsWithin}
@@ -105,7 +105,7 @@ entry_read b commit t h = record {
   values = each_op (λ operation. IsValue (op_value operation) (op_value operation)) b.names (op_valued b.names) commit.ops h.ops h.ops_are;
 }
 
-said_whole : (es : List Line) (t : List ℕ) → Lines es t → IsWhole (all_said es)
+said_whole : (es : List HistoryLine) (t : List ℕ) → Lines es t → IsWhole (all_said es)
 said_whole [] t h = record {
   few = omega arith;
   named = All-nil (λ (name : List ℕ). IsName name name);
@@ -158,12 +158,12 @@ behind_whole n rest (Err e) s = tt
 
 -- some lines say the history
 record Spelled (h : History) : Type 0 where
-  lines : List Line
+  lines : List HistoryLine
   front : List ℕ
   lines_are : Lines lines front
   says : all_said lines ≡ h
 
-line_added : (h : History) (line : Line) (text : List ℕ) → Spelled h → Allowed h line text → Onward h line → Spelled (after h line)
+line_added : (h : History) (line : HistoryLine) (text : List ℕ) → Spelled h → Allowed h line text → Onward h line → Spelled (after h line)
 line_added h line text s allowed onward = record {
   lines = line ∷ s.lines;
   front = s.front ++ text;

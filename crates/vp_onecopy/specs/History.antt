@@ -6,8 +6,8 @@ use Rattle.vp_model.specs.Types.{ViewId, Commit}
 use Rattle.vp_model.specs.Words.{opening}
 use Rattle.vp_onecopy.specs.Lines.{Before, LineText}
 use Rattle.vp_onecopy.specs.Reading.{line_at}
-use Rattle.vp_onecopy.specs.declared.line.Line.{Line}
-use Rattle.vp_onecopy.specs.declared.line.Line.TheVariants as kind
+use Rattle.vp_onecopy.specs.declared.line.HistoryLine.{HistoryLine}
+use Rattle.vp_onecopy.specs.declared.line.HistoryLine.TheVariants as kind
 use Rattle.vp_onecopy.specs.declared.map.History.{History}
 use Rattle.vp_onecopy.specs.declared.fault.HistoryFault.{HistoryFault}
 use Rattle.vp_onecopy.specs.declared.fault.HistoryFault.TheVariants as faults
@@ -24,13 +24,13 @@ abbrev pub empty : History
 empty = record { names = []; start = []; commits = [] }
 
 -- what a line adds
-abbrev pub after : History → Line → History
+abbrev pub after : History → HistoryLine → History
 after h (kind.Start name value) = record { names = h.names ++ name ∷ []; start = h.start ++ value ∷ []; commits = h.commits }
 after h (kind.Commit commit) = record { names = h.names; start = h.start; commits = h.commits ++ commit ∷ [] }
 after h kind.End = h
 
 -- The line is allowed behind what the history says, and this is its text.
-abbrev pub Allowed : History → Line → List ℕ → Type 0
+abbrev pub Allowed : History → HistoryLine → List ℕ → Type 0
 Allowed h line text = LineText (before h) line text
 
 -- Some start line has the name.
@@ -38,20 +38,20 @@ abbrev pub IsNamed : List (List ℕ) → List ℕ → Type 0
 IsNamed names name = (i : ℕ) × IsPlace names i name
 
 -- A line may follow: this is no end line, and no start line of a name that has one.
-abbrev pub Onward : History → Line → Type 0
+abbrev pub Onward : History → HistoryLine → Type 0
 Onward h (kind.Start name value) = IsNamed h.names name → ⊥
 Onward h (kind.Commit commit) = ⊤
 Onward h kind.End = ⊥
 
 -- a start line of a name that has one
-abbrev pub NamesAgain : History → Line → Type 0
+abbrev pub NamesAgain : History → HistoryLine → Type 0
 NamesAgain h (kind.Start name value) = IsNamed h.names name
 NamesAgain h (kind.Commit commit) = ⊥
 NamesAgain h kind.End = ⊥
 
 -- The lines behind the line `history`, and then the end line.
 pub record IsHistory (h : History) (text : List ℕ) : Type 0 where
-  pub lines : List Line
+  pub lines : List HistoryLine
   pub front : List ℕ
   pub last : List ℕ
   pub lines_are : LinesText empty after Allowed Onward lines front
@@ -61,7 +61,7 @@ pub record IsHistory (h : History) (text : List ℕ) : Type 0 where
 
 -- Behind the end line there is more.
 pub record IsTooLong (text : List ℕ) (line at : ℕ) : Type 0 where
-  pub lines : List Line
+  pub lines : List HistoryLine
   pub front : List ℕ
   pub last : List ℕ
   pub rest : List ℕ
@@ -82,14 +82,14 @@ Answered text (Err faults.NoMemory) = ⊤
 -- ---- the steps of the reader
 
 -- the next line was read, or this is its place in the text
-abbrev pub NextLine : History → ℕ → List ℕ → List ℕ → Result Line HistoryFault → Type 0
+abbrev pub NextLine : History → ℕ → List ℕ → List ℕ → Result HistoryLine HistoryFault → Type 0
 NextLine h number old new (Ok line) = line_at (before h) old ≡ Ok (line, new)
 NextLine h number old new (Err (faults.BadLine line at)) = (line ≡ number) × (left : ℕ) × (line_at (before h) old ≡ Err left) × (at ≡ length old - left + 1)
 NextLine h number old new (Err (faults.Twice line)) = ⊥
 NextLine h number old new (Err faults.NoMemory) = ⊤
 
 -- the line was added, or it is the end line, or it names a name again
-abbrev pub Adds : History → Line → ℕ → History → Result Bool HistoryFault → Type 0
+abbrev pub Adds : History → HistoryLine → ℕ → History → Result Bool HistoryFault → Type 0
 Adds old line number new (Ok true) = (new ≡ after old line) × Onward old line
 Adds old line number new (Ok false) = (new ≡ old) × (line ≡ kind.End)
 Adds old line number new (Err (faults.BadLine l at)) = ⊥

@@ -7,8 +7,8 @@ use Rattle.vp_base.specs.Words.{IsName, IsValue, IsPlace}
 use Rattle.vp_base.specs.Identifiers.{IsTxnText, IsViewFrom}
 use Rattle.vp_model.specs.Types.{ViewId, Op, Commit}
 use Rattle.vp_model.specs.Types.op
-use Rattle.vp_onecopy.specs.declared.line.Line.{Line}
-use Rattle.vp_onecopy.specs.declared.line.Line.TheVariants as kind
+use Rattle.vp_onecopy.specs.declared.line.HistoryLine.{HistoryLine}
+use Rattle.vp_onecopy.specs.declared.line.HistoryLine.TheVariants as kind
 
 -- what the lines before said: the names of the start lines, the view of the last commit line, the count of commit lines
 pub record Before : Type 0 where
@@ -53,7 +53,7 @@ pub record CommitText (before : Before) (commit : Commit) (text : List ℕ) : Ty
   pub parts : text ≡ codes "commit " ++ (txn ++ 32 ∷ (view ++ ops))
 
 -- The line is allowed after the lines before it, and this is its text.
-abbrev pub LineText : Before → Line → List ℕ → Type 0
+abbrev pub LineText : Before → HistoryLine → List ℕ → Type 0
 LineText before (kind.Start name value) text = StartText before name value text
 LineText before (kind.Commit commit) text = CommitText before commit text
 LineText before kind.End text = text ≡ codes "end " ++ (decimal before.commits ++ 10 ∷ [])

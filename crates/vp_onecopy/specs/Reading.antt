@@ -6,8 +6,8 @@ use Rattle.vp_text.specs.declared.class.Class.TheVariants as classes
 use Rattle.vp_base.specs.Reading.{among_at, txn_at, view_from_at}
 use Rattle.vp_model.specs.Types.{ViewId, TxnId, Op, Commit}
 use Rattle.vp_model.specs.Types.op
-use Rattle.vp_onecopy.specs.declared.line.Line.{Line}
-use Rattle.vp_onecopy.specs.declared.line.Line.TheVariants as kind
+use Rattle.vp_onecopy.specs.declared.line.HistoryLine.{HistoryLine}
+use Rattle.vp_onecopy.specs.declared.line.HistoryLine.TheVariants as kind
 use Rattle.vp_onecopy.specs.Lines.{Before, some_names, may_start}
 
 unfoldable pub read_at : List (List ℕ) → List ℕ → Result (Op × List ℕ) ℕ
@@ -32,7 +32,7 @@ op_at names bytes = either (read_at names bytes) (write_at names bytes)
 abbrev pub ops_at : List (List ℕ) → ℕ → List ℕ → Result (List Op × List ℕ) ℕ
 ops_at names fuel bytes = items_at (λ (u : Unit {0}). some_names names) (λ u op. u) (λ u. op_at names) (10 ∷ []) fuel tt bytes
 
-unfoldable pub start_at : List ℕ → Result (Line × List ℕ) ℕ
+unfoldable pub start_at : List ℕ → Result (HistoryLine × List ℕ) ℕ
 start_at bytes = do
   key ← literal_at (codes "start ") bytes
   name ← word_at (has classes.Name) (most classes.Name) key.1
@@ -44,7 +44,7 @@ start_at bytes = do
 abbrev pub commit_of : TxnId → ViewId → List Op → Commit
 commit_of txn view ops = record { txn = txn; view = view; ops = ops }
 
-unfoldable pub commit_at : List (List ℕ) → ViewId → List ℕ → Result (Line × List ℕ) ℕ
+unfoldable pub commit_at : List (List ℕ) → ViewId → List ℕ → Result (HistoryLine × List ℕ) ℕ
 commit_at names last bytes = do
   key ← literal_at (codes "commit ") bytes
   txn ← txn_at key.1
@@ -53,15 +53,15 @@ commit_at names last bytes = do
   ops ← ops_at names (suc (length view.1)) view.1
   Ok (kind.Commit (commit_of txn.0 view.0 ops.0), ops.1)
 
-unfoldable pub ending_at : ℕ → List ℕ → Result (Line × List ℕ) ℕ
+unfoldable pub ending_at : ℕ → List ℕ → Result (HistoryLine × List ℕ) ℕ
 ending_at commits bytes = do
   key ← literal_at (codes "end ") bytes
   count ← number_at commits commits key.1
   end ← literal_at (10 ∷ []) count.1
   Ok (kind.End, end.1)
 
-unfoldable pub later_at : Before → List ℕ → Result (Line × List ℕ) ℕ
+unfoldable pub later_at : Before → List ℕ → Result (HistoryLine × List ℕ) ℕ
 later_at before bytes = either (commit_at before.names before.last bytes) (ending_at before.commits bytes)
 
-unfoldable pub line_at : Before → List ℕ → Result (Line × List ℕ) ℕ
+unfoldable pub line_at : Before → List ℕ → Result (HistoryLine × List ℕ) ℕ
 line_at before bytes = cond (may_start before) (either (start_at bytes) (later_at before bytes)) (later_at before bytes)

@@ -10,7 +10,7 @@ ghost use Rattle.vp_onecopy.specs.Whole.{IsWhole};
 ghost use Rattle.vp_onecopy.specs.History.{before, last_from, Answered, NextLine, Adds, Finishes};
 
 use crate::fault::HistoryFault;
-use crate::line::Line;
+use crate::line::HistoryLine;
 use crate::map::History;
 use crate::passing::pass_over;
 use crate::reading::take_line;
@@ -34,7 +34,7 @@ fn next_line(
     cursor: &mut Cursor,
     history: &History,
     line: usize,
-) -> Result<Line, HistoryFault>
+) -> Result<HistoryLine, HistoryFault>
     requires names { AllNames history.now.names }
     requires few { length history.now.names ≤ 256 }
     requires room { (left : ℕ) → line_at (before history.now) cursor.old ≡ Err left → left ≤ length cursor.old }
@@ -61,11 +61,11 @@ fn next_line(
 }
 
 /// Adds what a line says, where it isn't the end line.
-fn add(history: &mut History, line: Line, number: usize) -> Result<bool, HistoryFault>
+fn add(history: &mut History, line: HistoryLine, number: usize) -> Result<bool, HistoryFault>
     ensures { Adds history.old line number history.new result }
 {
     match line {
-        Line::Start { name, value } => {
+        HistoryLine::Start { name, value } => {
             if let Some(_) = place(history.names.as_slice(), name.as_bytes()) {
                 return Err(HistoryFault::Twice { line: number });
             }
@@ -73,11 +73,11 @@ fn add(history: &mut History, line: Line, number: usize) -> Result<bool, History
             history.start.push(value)?;
             Ok(true)
         }
-        Line::Commit(commit) => {
+        HistoryLine::Commit(commit) => {
             history.commits.push(commit)?;
             Ok(true)
         }
-        Line::End => Ok(false),
+        HistoryLine::End => Ok(false),
     }
 }
 

@@ -4,7 +4,7 @@ use vp_base::{Commit, Name, Value};
 
 /// A line behind the line `history`.
 #[derive(Drop)]
-pub enum Line {
+pub enum HistoryLine {
     Start { name: Name, value: Value },
     Commit(Commit),
     End,

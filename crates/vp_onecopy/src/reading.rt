@@ -6,9 +6,9 @@ ghost use Rattle.vp_base.specs.Faults.{line_left};
 ghost use Rattle.vp_base.specs.Reading.{among_at};
 ghost use Rattle.vp_onecopy.specs.Lines.{AllNames, some_names, Before};
 ghost use Rattle.vp_onecopy.specs.Reading.{read_at, write_at, op_at, ops_at, start_at, commit_at, ending_at, later_at, line_at};
-ghost use Rattle.vp_onecopy.specs.declared.line.Line.TheVariants as kind;
+ghost use Rattle.vp_onecopy.specs.declared.line.HistoryLine.TheVariants as kind;
 
-use crate::line::Line;
+use crate::line::HistoryLine;
 use std::alloc::Global;
 use vp_base::{
     Commit, LineFault, MOST_RECORDS, Name, Op, Ops, RecId, TxnId, Value, ViewId, take_place,
@@ -103,7 +103,7 @@ fn take_ops(alloc: Global, cursor: &mut Cursor, names: &[Name]) -> Result<Ops, L
 }
 
 #[tactic(auto, unfolding(crate::specs::Reading::start_at))]
-fn take_start(alloc: Global, cursor: &mut Cursor) -> Result<Line, LineFault>
+fn take_start(alloc: Global, cursor: &mut Cursor) -> Result<HistoryLine, LineFault>
     ensures { Tries (λ line. line) line_left result cursor.new (start_at cursor.old) }
 {
     cursor.literal(b"start ")?;
@@ -111,7 +111,7 @@ fn take_start(alloc: Global, cursor: &mut Cursor) -> Result<Line, LineFault>
     cursor.literal(b" ")?;
     let value = Value::take(alloc, cursor)?;
     cursor.literal(b"\n")?;
-    Ok(Line::Start { name, value })
+    Ok(HistoryLine::Start { name, value })
 }
 
 #[tactic(auto, unfolding(crate::specs::Reading::commit_at))]
@@ -120,7 +120,7 @@ fn take_commit(
     cursor: &mut Cursor,
     names: &[Name],
     last: ViewId,
-) -> Result<Line, LineFault>
+) -> Result<HistoryLine, LineFault>
     requires few { length names.now ≤ 256 }
     requires names { AllNames names.now }
     ensures { Tries (λ line. line) line_left result cursor.new (commit_at names.now last cursor.old) }
@@ -130,7 +130,7 @@ fn take_commit(
     cursor.literal(b" ")?;
     let view = ViewId::take_from(cursor, last)?;
     let ops = take_ops(alloc, cursor, names)?;
-    Ok(Line::Commit(Commit { txn, view, ops }))
+    Ok(HistoryLine::Commit(Commit { txn, view, ops }))
 }
 
 #[tactic(auto, unfolding(crate::specs::Reading::ending_at))]
@@ -150,7 +150,7 @@ fn take_later(
     names: &[Name],
     last: ViewId,
     commits: u64,
-) -> Result<Line, LineFault>
+) -> Result<HistoryLine, LineFault>
     requires few { length names.now ≤ 256 }
     requires names { AllNames names.now }
     ensures { Tries (λ line. line) line_left result cursor.new (later_at (record { names = names.now; last = last; commits = commits }) cursor.old) }
@@ -162,7 +162,7 @@ fn take_later(
         Err(LineFault::Unexpected(first)) => match take_end(&mut other, commits) {
             Ok(()) => {
                 *cursor = other;
-                Ok(Line::End)
+                Ok(HistoryLine::End)
             }
             Err(second) => Err(LineFault::Unexpected(first.farther(second))),
         },
@@ -177,7 +177,7 @@ pub fn take_line(
     names: &[Name],
     last: ViewId,
     commits: u64,
-) -> Result<Line, LineFault>
+) -> Result<HistoryLine, LineFault>
     requires few { length names.now ≤ 256 }
     requires names { AllNames names.now }
     ensures { Tries (λ line. line) line_left result cursor.new (line_at (record { names = names.now; last = last; commits = commits }) cursor.old) }

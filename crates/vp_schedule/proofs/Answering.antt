@@ -6,7 +6,7 @@ use Rattle.vp_text.specs.Documents.{IsFaultyLine}
 use Rattle.vp_text.proofs.Lists.{so_far_more, so_far_bad, so_far_faulty, fault_no_line}
 use Rattle.vp_text.proofs.Determined.{Plain, plain, Divided, IsLast, last_same, whole_divided, ended_last}
 use Rattle.vp_model.specs.World.{Schedule}
-use Rattle.vp_schedule.specs.declared.line.Line.{Line}
+use Rattle.vp_schedule.specs.declared.line.ScheduleLine.{ScheduleLine}
 use Rattle.vp_schedule.specs.declared.draft.Draft.{Draft}
 use Rattle.vp_schedule.specs.declared.fault.ScheduleFault.{ScheduleFault}
 use Rattle.vp_schedule.specs.declared.fault.ScheduleFault.TheVariants as faults
@@ -66,7 +66,7 @@ answered_next text rest new d line (faults.Twice l) s owed n = absurd n
 answered_next text rest new d line (faults.TooMany l limit) s owed n = absurd n
 answered_next text rest new d line faults.NoMemory s owed n = tt
 
-pub answered_add : (text rest new : List ℕ) (d k : Draft) (next : Line) (line : ℕ) (e : ScheduleFault) → Stands text rest d line → line_at d rest ≡ Ok (next, new) → Adds d next line k (Err e) → Answered text (Err e)
+pub answered_add : (text rest new : List ℕ) (d k : Draft) (next : ScheduleLine) (line : ℕ) (e : ScheduleFault) → Stands text rest d line → line_at d rest ≡ Ok (next, new) → Adds d next line k (Err e) → Answered text (Err e)
 answered_add text rest new d k next line (faults.BadLine l at) s read n = absurd n
 answered_add text rest new d k next line (faults.Twice l) s read n =
     subst (IsFaultyLine blank after LineText Onward Repeats text) (sym n.1) (so_far_faulty blank after LineText Onward line_at Repeats text rest new d line next (readable (length text)) s read n.2)
@@ -81,5 +81,5 @@ answered_end text rest d line s owed =
     let spelled = lines_spell s.lines s.front s.lines_are (ap (λ (d : Draft). d.opened) s.state_is ∙ end.1) in
     subst (λ (d : Draft). IsScheduleText d.schedule text) s.state_is (subst (IsScheduleText (said s.lines).schedule) (sym whole) spelled)
 
-pub stands_more : (text rest new : List ℕ) (d k : Draft) (next : Line) (line : ℕ) (u : Unit {0}) → Stands text rest d line → line_at d rest ≡ Ok (next, new) → Adds d next line k (Ok u) → Stands text new k (line + 1)
+pub stands_more : (text rest new : List ℕ) (d k : Draft) (next : ScheduleLine) (line : ℕ) (u : Unit {0}) → Stands text rest d line → line_at d rest ≡ Ok (next, new) → Adds d next line k (Ok u) → Stands text new k (line + 1)
 stands_more text rest new d k next line u s read n = subst (λ (k : Draft). Stands text new k (line + 1)) (sym n.0) (so_far_more blank after LineText Onward line_at text rest new d line next (readable (length text)) s read n.1)

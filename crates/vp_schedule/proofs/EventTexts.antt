@@ -15,8 +15,8 @@ use Rattle.vp_model.specs.Types.event
 use Rattle.vp_model.specs.Texts.Calls.{event_text, call_text}
 use Rattle.vp_catalog.specs.Sites.{AllSites, IsSiteIn, site_at}
 use Rattle.vp_catalog.proofs.Sites.{site_exact, site_goes, site_range}
-use Rattle.vp_schedule.specs.declared.kind.Kind.{Kind}
-use Rattle.vp_schedule.specs.declared.kind.Kind.TheVariants.{Call, Deliver, Flow, Tick, Probe, Crash, Restart, Cut, Heal}
+use Rattle.vp_schedule.specs.declared.kind.EventKind.{EventKind}
+use Rattle.vp_schedule.specs.declared.kind.EventKind.TheVariants.{Call, Deliver, Flow, Tick, Probe, Crash, Restart, Cut, Heal}
 use Rattle.vp_schedule.specs.Grammar.{IsCallText}
 use Rattle.vp_schedule.specs.Kinds.{word, single_kinds, all_kinds, kinds_over, kind_at}
 use Rattle.vp_schedule.specs.Events.{IsListed, IsPair, IsEvent, IsEventText}
@@ -42,7 +42,7 @@ Counted most make = Made (IsNumber 1 most) make
 abbrev Paired : List ℕ → (ℕ → ℕ → Event) → Event → List ℕ → Type 0
 Paired sites make = Made (Pair sites) (λ p. make p.0 p.1)
 
-abbrev Fields : List ℕ → Kind → Event → List ℕ → Type 0
+abbrev Fields : List ℕ → EventKind → Event → List ℕ → Type 0
 Fields sites Call = Called sites
 Fields sites Deliver = Counted 2000000 (λ k. event.Deliver k)
 Fields sites Flow = Counted 100000 (λ count. event.Flow count)
@@ -84,7 +84,7 @@ unfolding called_at
 called_exact sites h = then_exact (spaced (λ site. Made IsCallText (λ words. event.Call site words)) sites h) (listed_exact sites h)
     (λ site. literal_then (32 ∷ []) (made_exact (λ words. event.Call site words) call_exact))
 
-fields_exact : (sites : List ℕ) → IsSites sites → 2 ≤ length sites → (kind : Kind) → Exact (Fields sites kind) (fields_at sites kind)
+fields_exact : (sites : List ℕ) → IsSites sites → 2 ≤ length sites → (kind : EventKind) → Exact (Fields sites kind) (fields_at sites kind)
 unfolding fields_at
 fields_exact sites h two Call = called_exact sites h
 fields_exact sites h two Deliver = made_exact (λ k. event.Deliver k) (number_exact 1 2000000 (omega arith) (omega arith))
@@ -98,7 +98,7 @@ fields_exact sites h two Heal = made_exact (λ p. event.Heal p.0 p.1) (pair_exac
 
 -- ---- the same without two sites: what stands behind the word of a pair is never asked
 
-abbrev names_pair : Kind → Bool
+abbrev names_pair : EventKind → Bool
 names_pair Call = false
 names_pair Deliver = false
 names_pair Flow = false
@@ -109,10 +109,10 @@ names_pair Restart = false
 names_pair Cut = true
 names_pair Heal = true
 
-abbrev Single : List ℕ → Kind → Event → List ℕ → Type 0
+abbrev Single : List ℕ → EventKind → Event → List ℕ → Type 0
 Single sites kind e text = cond (names_pair kind) (text ≡ []) (Fields sites kind e text)
 
-single_exact : (sites : List ℕ) → IsSites sites → (kind : Kind) → names_pair kind ≡ false → Exact (Single sites kind) (fields_at sites kind)
+single_exact : (sites : List ℕ) → IsSites sites → (kind : EventKind) → names_pair kind ≡ false → Exact (Single sites kind) (fields_at sites kind)
 unfolding fields_at
 single_exact sites h Call off = called_exact sites h
 single_exact sites h Deliver off = made_exact (λ k. event.Deliver k) (number_exact 1 2000000 (omega arith) (omega arith))
@@ -124,24 +124,24 @@ single_exact sites h Restart off = made_exact (λ site. event.Restart site) (lis
 single_exact sites h Cut off = absurd (false≢true (sym off))
 single_exact sites h Heal off = absurd (false≢true (sym off))
 
-single_has : (sites : List ℕ) → IsSites sites → (kind : Kind) (b : Bool) → names_pair kind ≡ b → Begins (Single sites kind) []
+single_has : (sites : List ℕ) → IsSites sites → (kind : EventKind) (b : Bool) → names_pair kind ≡ b → Begins (Single sites kind) []
 single_has sites h kind false off = inhabited (single_exact sites h kind off)
 single_has sites h kind true on = record { value = event.Flow 1; more = []; spelled = rw on refl }
 
-all_single : (kinds : List Kind) → AllByRecursion (λ kind. names_pair kind ≡ false) kinds → (kind : Kind) → Among kinds kind → names_pair kind ≡ false
+all_single : (kinds : List EventKind) → AllByRecursion (λ kind. names_pair kind ≡ false) kinds → (kind : EventKind) → Among kinds kind → names_pair kind ≡ false
 all_single [] all kind among = absurd among
 all_single (k ∷ kinds) all kind among = elim among [
   | inl same ↦ ap names_pair same ∙ all.0
   | inr more ↦ all_single kinds all.1 kind more
 ]
 
-single_only : (kind : Kind) → Among single_kinds kind → names_pair kind ≡ false
+single_only : (kind : EventKind) → Among single_kinds kind → names_pair kind ≡ false
 single_only = all_single single_kinds (refl, (refl, (refl, (refl, (refl, (refl, (refl, tt)))))))
 
-words_end : (M : Kind → Event → List ℕ → Type 0) (kinds : List Kind) → all_apart kinds ≡ true → Follows (IsKind kinds) M
+words_end : (M : EventKind → Event → List ℕ → Type 0) (kinds : List EventKind) → all_apart kinds ≡ true → Follows (IsKind kinds) M
 words_end M kinds apart = λ a a2 text x r b t before longer after. absurd (kinds_end kinds apart a a2 text x r before longer)
 
-abbrev read_by : List ℕ → List Kind → List ℕ → Result (Event × List ℕ) ℕ
+abbrev read_by : List ℕ → List EventKind → List ℕ → Result (Event × List ℕ) ℕ
 read_by sites kinds bytes = kind_at kinds bytes >>= λ x. fields_at sites x.0 x.1
 
 all_parts_exact : (sites : List ℕ) → IsSites sites → 2 ≤ length sites → Exact (Then (IsKind all_kinds) (Fields sites)) (read_by sites all_kinds)
@@ -155,7 +155,7 @@ single_parts_exact sites h =
 
 -- ---- the parts are the event's text
 
-abbrev Said : List ℕ → Kind → Event → List ℕ → Type 0
+abbrev Said : List ℕ → EventKind → Event → List ℕ → Type 0
 Said sites kind e back = IsEvent sites e × (word kind ++ back ≡ event_text e)
 
 pair_to : (sites : List ℕ) (p : ℕ × ℕ) (back : List ℕ) → Pair sites p back → IsPair sites p.0 p.1 × (back ≡ decimal p.0 ++ 32 ∷ decimal p.1)
@@ -167,7 +167,7 @@ pair_to sites p back h =
     subst (λ (p : ℕ × ℕ). IsPair sites p.0 p.1 × (back ≡ decimal p.0 ++ 32 ∷ decimal p.1)) (sym m.is)
     ((h.before.stands, other.0, other.1), h.parts ∙ rw (h.before.is, h.after.parts, h.after.before, m.spelled.is) refl)
 
-fields_to : (sites : List ℕ) (kind : Kind) (e : Event) (back : List ℕ) → Fields sites kind e back → Said sites kind e back
+fields_to : (sites : List ℕ) (kind : EventKind) (e : Event) (back : List ℕ) → Fields sites kind e back → Said sites kind e back
 fields_to sites Call e back h =
     let m = h.after.after in
     let text : back ≡ decimal h.first ++ 32 ∷ call_text m.from = h.parts ∙ rw (h.before.is, h.after.parts, h.after.before, m.spelled.is) refl in
@@ -205,7 +205,7 @@ pair_from sites all a b h = record {
   };
 }
 
-abbrev kind_of : Event → Kind
+abbrev kind_of : Event → EventKind
 kind_of (event.Call site words) = Call
 kind_of (event.Deliver k) = Deliver
 kind_of (event.Flow count) = Flow
@@ -244,7 +244,7 @@ fields_from sites all (event.Restart site) h = record { back = decimal site; is 
 fields_from sites all (event.Cut a b) h = record { back = decimal a ++ 32 ∷ decimal b; is = refl; fields = record { from = (a, b); spelled = pair_from sites all a b h; is = refl } }
 fields_from sites all (event.Heal a b) h = record { back = decimal a ++ 32 ∷ decimal b; is = refl; fields = record { from = (a, b); spelled = pair_from sites all a b h; is = refl } }
 
-all_among : (kind : Kind) → Among all_kinds kind
+all_among : (kind : EventKind) → Among all_kinds kind
 all_among Call = inl refl
 all_among Deliver = inr (inl refl)
 all_among Flow = inr (inr (inl refl))
@@ -255,7 +255,7 @@ all_among Restart = inr (inr (inr (inr (inr (inr (inl refl))))))
 all_among Cut = inr (inr (inr (inr (inr (inr (inr (inl refl)))))))
 all_among Heal = inr (inr (inr (inr (inr (inr (inr (inr (inl refl))))))))
 
-single_among : (kind : Kind) → names_pair kind ≡ false → Among single_kinds kind
+single_among : (kind : EventKind) → names_pair kind ≡ false → Among single_kinds kind
 single_among Call off = inl refl
 single_among Deliver off = inr (inl refl)
 single_among Flow off = inr (inr (inl refl))
@@ -285,7 +285,7 @@ no_pair sites few (event.Heal a b) h = absurd (h.2 (few_same sites a b few h.0 h
 no_pair sites few (event.Crash site) h = refl
 no_pair sites few (event.Restart site) h = refl
 
-event_to : (sites : List ℕ) (kind : Kind) (e : Event) (front back t : List ℕ) → front ≡ word kind → Fields sites kind e back → t ≡ front ++ back → IsEventText sites e t
+event_to : (sites : List ℕ) (kind : EventKind) (e : Event) (front back t : List ℕ) → front ≡ word kind → Fields sites kind e back → t ≡ front ++ back → IsEventText sites e t
 event_to sites kind e front back t is h parts =
     let f = fields_to sites kind e back h in
     record { is = parts ∙ ap (λ (x : List ℕ). x ++ back) is ∙ f.1; allowed = f.0 }
@@ -312,8 +312,8 @@ unfolding event_at
 event_exact sites h = elim (cases_lt (length sites) 2) [
   | inl few ↦
       let kinds : kinds_over sites ≡ single_kinds = rw (lt-ltb (length sites) 2 few) refl in
-      subst (λ (kinds : List Kind). Exact (IsEventText sites) (read_by sites kinds)) (sym kinds) (exact_as (single_to sites) (single_from sites h.all few) (single_parts_exact sites h))
+      subst (λ (kinds : List EventKind). Exact (IsEventText sites) (read_by sites kinds)) (sym kinds) (exact_as (single_to sites) (single_from sites h.all few) (single_parts_exact sites h))
   | inr two ↦
       let kinds : kinds_over sites ≡ all_kinds = rw (le-ltb (length sites) 2 two) refl in
-      subst (λ (kinds : List Kind). Exact (IsEventText sites) (read_by sites kinds)) (sym kinds) (exact_as (all_to sites) (all_from sites h.all) (all_parts_exact sites h two))
+      subst (λ (kinds : List EventKind). Exact (IsEventText sites) (read_by sites kinds)) (sym kinds) (exact_as (all_to sites) (all_from sites h.all) (all_parts_exact sites h two))
 ]

@@ -1,21 +1,20 @@
 -- Calls are read exactly, and none goes on to another with a newline.
-use Rattle.std.proofs.Common.{◌≡◌, ℕ, ◌-◌, ◌^◌, ◌<◌, Bool, true, false, not, eqb, List, [], ◌∷◌, ◌++◌, length, refl, sym, ap, subst, ◌∙◌, append_assoc, arith, inl, inr}
+use Rattle.std.proofs.Common.{◌≡◌, ℕ, ◌-◌, ◌^◌, ◌<◌, Bool, true, false, not, eqb, List, [], ◌∷◌, ◌++◌, length, refl, sym, subst, ◌∙◌, append_assoc, arith, inl, inr}
 use Rattle.std.specs.Prelude.{codes}
 use Rattle.std.specs.List.{AllByRecursion}
 use Rattle.std.specs.Fmt.{decimal}
 use Rattle.std.proofs.lemmas.Fmt.{decimal_nonempty}
-use Rattle.std.proofs.lemmas.List.{length-append}
-use Rattle.std.proofs.lemmas.Bool.{false≢true, cases_eq, ne_eqb, and_from, le-leb}
+use Rattle.std.proofs.lemmas.Bool.{false≢true, and_from, le-leb}
 use Rattle.vp_text.specs.Tokens.{IsLiteral, IsWord, IsNumber, Either}
 use Rattle.vp_text.specs.Reading.{is_digit}
 use Rattle.vp_text.specs.Classes.{has, most}
 use Rattle.vp_text.specs.declared.class.Class.TheVariants as classes
-use Rattle.vp_text.proofs.Exact.{Exact, Then, Made, made_exact, then_exact, exact_as, one_value}
+use Rattle.vp_text.proofs.Exact.{Exact, Then, Made, made_exact, then_exact, exact_as}
 use Rattle.vp_text.proofs.Words.{literal_exact}
 use Rattle.vp_text.proofs.Classes.{class_exact}
 use Rattle.vp_text.proofs.Numbers.{decimal_digits, IsDigit}
 use Rattle.vp_text.proofs.Fields.{Outside, IsOutside, literal_then, word_then, number_then, literal_outside, made_outside}
-use Rattle.vp_text.proofs.Choices.{IsClear, Opens, GoesOn, either_exact, clear_keys, clear_or, or_clear, literal_opens, made_opens, goes_as, then_goes, literal_goes, made_goes, either_goes, word_goes, number_goes, number_one, follows_from}
+use Rattle.vp_text.proofs.Choices.{IsClear, Opens, either_exact, clear_keys, clear_or, or_clear, literal_opens, made_opens, follows_from}
 use Rattle.vp_base.specs.Words.{IsName, IsValue}
 use Rattle.vp_base.specs.Identifiers.{IsTxnText, txn_text}
 use Rattle.vp_base.proofs.Txns.{txn_exact, txn_goes}
@@ -328,50 +327,6 @@ pub call_exact : Exact IsCallText call_at
 unfolding call_at
 call_exact = exact_as call_to call_from (either_exact clear_bare clear_numbered bare_exact numbered_exact)
 
--- ---- no text goes on to another with a newline
-
+-- any byte but a newline
 abbrev pub in_line : ℕ → Bool
 in_line c = not (eqb c 10)
-
-stays : {A : Type 0} {L : A → List ℕ → Type 0} (test : ℕ → Bool) → test 10 ≡ false → GoesOn test L → GoesOn in_line L
-stays test none goes = λ a a2 text x r before longer. elim (cases_eq x 10) [
-  | inl same ↦ absurd (false≢true (sym none ∙ ap test (sym same) ∙ goes a a2 text x r before longer))
-  | inr other ↦ rw (ne_eqb x 10 other) refl
-]
-
-literal_ends : {A : Type 0} {make : Unit {0} → A} (literal : List ℕ) → GoesOn in_line (Made (IsLiteral literal) make)
-literal_ends literal = λ a a2 text x r before longer. absurd (omega (arith, ap length before.spelled, ap length longer.spelled, length-append text (x ∷ r)))
-
-name_goes : GoesOn in_line IsName
-name_goes = stays (has classes.Name) refl (word_goes (has classes.Name) (most classes.Name))
-
-value_goes : GoesOn in_line IsValue
-value_goes = stays (has classes.Value) refl (word_goes (has classes.Value) (most classes.Value))
-
-bare_goes : GoesOn in_line BareParts
-bare_goes = either_goes in_line clear_begin clear_regroup (literal_ends (codes "begin")) (literal_ends (codes "regroup"))
-
-read_goes : (txn : TxnId) (number : ℕ) → GoesOn in_line (ReadParts txn number)
-read_goes txn number = literal_goes in_line (codes " read ") (made_goes in_line name_goes)
-
-write_goes : (txn : TxnId) (number : ℕ) → GoesOn in_line (WriteParts txn number)
-write_goes txn number =
-    literal_goes in_line (codes " write ") (then_goes in_line (one_value (class_exact classes.Name))
-    (follows_from (has classes.Name) (word_goes (has classes.Name) (most classes.Name)) (λ name. literal_outside (has classes.Name) (32 ∷ []) refl))
-    (λ name. literal_goes in_line (32 ∷ []) (made_goes in_line value_goes)))
-
-deed_goes : (txn : TxnId) (number : ℕ) → GoesOn in_line (DeedParts txn number)
-deed_goes txn number =
-    either_goes in_line (clear_read txn number) (clear_change txn number) (read_goes txn number)
-    (either_goes in_line (clear_write txn number) (clear_ending txn number) (write_goes txn number)
-    (either_goes in_line (clear_commit txn number) (clear_abort txn number) (literal_ends (codes " commit")) (literal_ends (codes " abort"))))
-
-numbered_goes : GoesOn in_line NumberedParts
-numbered_goes =
-    then_goes in_line (one_value txn_exact) (follows_from is_digit txn_goes (λ txn. literal_outside is_digit (32 ∷ []) refl))
-    (λ txn. literal_goes in_line (32 ∷ []) (then_goes in_line (number_one 1 (2 ^ 32 - 1) (omega arith) (omega arith))
-    (follows_from is_digit (number_goes 1 (2 ^ 32 - 1) (omega arith)) (λ number. deed_outside txn number))
-    (λ number. deed_goes txn number)))
-
-pub call_goes : GoesOn in_line IsCallText
-call_goes = goes_as in_line call_from (either_goes in_line clear_bare clear_numbered bare_goes numbered_goes)

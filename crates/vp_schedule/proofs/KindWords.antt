@@ -8,7 +8,7 @@ use Rattle.vp_text.proofs.Exact.{IsRight, Exact, exact_from, exact_as, right, Ma
 use Rattle.vp_text.proofs.Words.{literal_exact}
 use Rattle.vp_text.proofs.Choices.{IsClear, Opens, made_opens, clear_keys, either_exact, differ}
 use Rattle.vp_text.proofs.Whole.{fault_left}
-use Rattle.vp_schedule.specs.declared.kind.Kind.{Kind}
+use Rattle.vp_schedule.specs.declared.kind.EventKind.{EventKind}
 use Rattle.vp_schedule.specs.Kinds.{word, kind_at}
 
 -- ---- the loop over the kinds
@@ -24,43 +24,43 @@ still_first size (Err m) (Err n) e =
     ap (λ (k : ℕ). Err k) (omega (arith, less))
 
 -- no fault lies before the place
-pub kinds_start : (kinds : List Kind) (bytes : List ℕ) → either (Err (length bytes)) (kind_at kinds bytes) ≡ kind_at kinds bytes
+pub kinds_start : (kinds : List EventKind) (bytes : List ℕ) → either (Err (length bytes)) (kind_at kinds bytes) ≡ kind_at kinds bytes
 kinds_start [] bytes = ap (λ (k : ℕ). Err k) (omega arith)
 kinds_start (kind ∷ kinds) bytes = still_first (length bytes) (literal_at (word kind) bytes >>= λ u. Ok (kind, u.1)) (kind_at kinds bytes) (kinds_start kinds bytes)
 
 -- ---- which words stand there
 
-abbrev pub Among : List Kind → Kind → Type 0
+abbrev pub Among : List EventKind → EventKind → Type 0
 Among [] kind = ⊥
 Among (k ∷ kinds) kind = (kind ≡ k) ⊎ Among kinds kind
 
 -- the word of one of the kinds
-pub record IsKind (kinds : List Kind) (kind : Kind) (text : List ℕ) : Type 0 where
+pub record IsKind (kinds : List EventKind) (kind : EventKind) (text : List ℕ) : Type 0 where
   pub is : text ≡ word kind
   pub among : Among kinds kind
 
 -- no word of the kinds begins as the key does, nor the key as one of them
-abbrev apart_from : List ℕ → List Kind → Bool
+abbrev apart_from : List ℕ → List EventKind → Bool
 apart_from key [] = true
 apart_from key (k ∷ kinds) = (differ key (word k) && differ (word k) key) && apart_from key kinds
 
-abbrev pub all_apart : List Kind → Bool
+abbrev pub all_apart : List EventKind → Bool
 all_apart [] = true
 all_apart (k ∷ kinds) = apart_from (word k) kinds && all_apart kinds
 
-abbrev Word : Kind → Kind → List ℕ → Type 0
+abbrev Word : EventKind → EventKind → List ℕ → Type 0
 Word kind = Made (IsLiteral (word kind)) (λ u. kind)
 
-opens_word : (kind : Kind) → Opens (word kind) (Word kind)
+opens_word : (kind : EventKind) → Opens (word kind) (Word kind)
 opens_word kind = made_opens (word kind)
 
-clear_two : (j k : Kind) → differ (word j) (word k) ≡ true → IsClear (Word j) (Word k)
+clear_two : (j k : EventKind) → differ (word j) (word k) ≡ true → IsClear (Word j) (Word k)
 clear_two j k d = clear_keys (word j) (word k) d (opens_word j) (opens_word k)
 
-one_word : (kind k : Kind) (t : List ℕ) → t ≡ word kind → kind ≡ k → Word k kind t
+one_word : (kind k : EventKind) (t : List ℕ) → t ≡ word kind → kind ≡ k → Word k kind t
 one_word kind k t is same = record { from = tt; spelled = is ∙ ap word same; is = same }
 
-clear_on : (kind : Kind) (kinds : List Kind) → apart_from (word kind) kinds ≡ true → IsClear (Word kind) (IsKind kinds)
+clear_on : (kind : EventKind) (kinds : List EventKind) → apart_from (word kind) kinds ≡ true → IsClear (Word kind) (IsKind kinds)
 clear_on kind [] e a b t r l m = m.among
 clear_on kind (k ∷ kinds) e a b t r l m =
     let both = and_parts (differ (word kind) (word k) && differ (word k) (word kind)) (apart_from (word kind) kinds) e in
@@ -70,7 +70,7 @@ clear_on kind (k ∷ kinds) e a b t r l m =
       | inr more ↦ clear_on kind kinds both.1 a b t r l (record { is = m.is; among = more })
     ]
 
-clear_back : (kind : Kind) (kinds : List Kind) → apart_from (word kind) kinds ≡ true → IsClear (IsKind kinds) (Word kind)
+clear_back : (kind : EventKind) (kinds : List EventKind) → apart_from (word kind) kinds ≡ true → IsClear (IsKind kinds) (Word kind)
 clear_back kind [] e a b t r l m = l.among
 clear_back kind (k ∷ kinds) e a b t r l m =
     let both = and_parts (differ (word kind) (word k) && differ (word k) (word kind)) (apart_from (word kind) kinds) e in
@@ -81,7 +81,7 @@ clear_back kind (k ∷ kinds) e a b t r l m =
     ]
 
 -- the word of a kind doesn't go on to another
-pub kinds_end : (kinds : List Kind) → all_apart kinds ≡ true → (a b : Kind) (t : List ℕ) (x : ℕ) (r : List ℕ) → IsKind kinds a t → IsKind kinds b (t ++ x ∷ r) → ⊥
+pub kinds_end : (kinds : List EventKind) → all_apart kinds ≡ true → (a b : EventKind) (t : List ℕ) (x : ℕ) (r : List ℕ) → IsKind kinds a t → IsKind kinds b (t ++ x ∷ r) → ⊥
 kinds_end [] e a b t x r l m = l.among
 kinds_end (k ∷ kinds) e a b t x r l m =
     let both = and_parts (apart_from (word k) kinds) (all_apart kinds) e in
@@ -98,14 +98,14 @@ kinds_end (k ∷ kinds) e a b t x r l m =
 
 -- ---- it is read exactly
 
-word_exact : (kind : Kind) → Exact (Word kind) (λ bytes. literal_at (word kind) bytes >>= λ u. Ok (kind, u.1))
+word_exact : (kind : EventKind) → Exact (Word kind) (λ bytes. literal_at (word kind) bytes >>= λ u. Ok (kind, u.1))
 word_exact kind = made_exact (λ u. kind) (literal_exact (word kind))
 
-last_word : (bytes : List ℕ) (r : Result (Kind × List ℕ) ℕ) → ((left : ℕ) → r ≡ Err left → left ≤ length bytes) → either r (Err (length bytes)) ≡ r
+last_word : (bytes : List ℕ) (r : Result (EventKind × List ℕ) ℕ) → ((left : ℕ) → r ≡ Err left → left ≤ length bytes) → either r (Err (length bytes)) ≡ r
 last_word bytes (Ok x) le = refl
 last_word bytes (Err m) le = let less = le m refl in ap (λ (k : ℕ). Err k) (omega (arith, less))
 
-pub kinds_exact : (kind : Kind) (kinds : List Kind) → all_apart (kind ∷ kinds) ≡ true → Exact (IsKind (kind ∷ kinds)) (kind_at (kind ∷ kinds))
+pub kinds_exact : (kind : EventKind) (kinds : List EventKind) → all_apart (kind ∷ kinds) ≡ true → Exact (IsKind (kind ∷ kinds)) (kind_at (kind ∷ kinds))
 kinds_exact kind [] e =
     let w = word_exact kind in
     let alone : Exact (Word kind) (kind_at (kind ∷ [])) = exact_from (λ bytes.

@@ -16,8 +16,8 @@ use Rattle.vp_catalog.specs.declared.entry.Entry.{Entry}
 use Rattle.vp_catalog.specs.declared.entry.Entry.TheVariants as entry
 use Rattle.vp_catalog.specs.Entries.{EntryText}
 use Rattle.vp_catalog.specs.EntryReading.{entry_at}
-use Rattle.vp_schedule.specs.declared.line.Line.{Line}
-use Rattle.vp_schedule.specs.declared.line.Line.TheVariants as kind
+use Rattle.vp_schedule.specs.declared.line.ScheduleLine.{ScheduleLine}
+use Rattle.vp_schedule.specs.declared.line.ScheduleLine.TheVariants as kind
 use Rattle.vp_schedule.specs.declared.draft.Draft.{Draft}
 use Rattle.vp_schedule.specs.Events.{IsEventText}
 use Rattle.vp_schedule.specs.Drafts.{sites_said, LineText}
@@ -28,7 +28,7 @@ use Rattle.vp_schedule.proofs.EventTexts.{IsSites, event_exact}
 
 -- ---- behind the line `events`
 
-abbrev EventParts : List ℕ → Line → List ℕ → Type 0
+abbrev EventParts : List ℕ → ScheduleLine → List ℕ → Type 0
 EventParts sites = Then (IsEventText sites) (λ event. Made (IsLiteral (10 ∷ [])) (λ u. kind.Event event))
 
 event_parts_exact : (sites : List ℕ) → IsSites sites → Exact (EventParts sites) (event_line_at sites)
@@ -37,11 +37,11 @@ event_parts_exact sites h =
     then_exact (follows_from in_line (event_goes sites h.all) (λ event. made_outside in_line (10 ∷ []) refl)) (event_exact sites h)
     (λ event. made_exact (λ u. kind.Event event) (literal_exact (10 ∷ [])))
 
-event_to : (d : Draft) → d.opened ≡ true → (e : Line) (t : List ℕ) → EventParts (sites_said d) e t → LineText d e t
+event_to : (d : Draft) → d.opened ≡ true → (e : ScheduleLine) (t : List ℕ) → EventParts (sites_said d) e t → LineText d e t
 event_to d on e t h =
-    subst (λ (e : Line). LineText d e t) (sym h.after.is) (on, h.before.allowed, h.parts ∙ rw (h.before.is, h.after.spelled) refl)
+    subst (λ (e : ScheduleLine). LineText d e t) (sym h.after.is) (on, h.before.allowed, h.parts ∙ rw (h.before.is, h.after.spelled) refl)
 
-event_from : (d : Draft) → d.opened ≡ true → (e : Line) (t : List ℕ) → LineText d e t → EventParts (sites_said d) e t
+event_from : (d : Draft) → d.opened ≡ true → (e : ScheduleLine) (t : List ℕ) → LineText d e t → EventParts (sites_said d) e t
 event_from d on (kind.Entry entry) t h = absurd (false≢true (sym h.0 ∙ on))
 event_from d on kind.Events t h = absurd (false≢true (sym h.0 ∙ on))
 event_from d on (kind.Event event) t h = record {
@@ -55,10 +55,10 @@ event_from d on (kind.Event event) t h = record {
 
 -- ---- before it
 
-abbrev EntryLine : Catalogue → Line → List ℕ → Type 0
+abbrev EntryLine : Catalogue → ScheduleLine → List ℕ → Type 0
 EntryLine c = Made (EntryText c) (λ e. kind.Entry e)
 
-abbrev Opening : Line → List ℕ → Type 0
+abbrev Opening : ScheduleLine → List ℕ → Type 0
 Opening = Made (IsLiteral (codes "events\n")) (λ u. kind.Events)
 
 -- a line of a catalogue begins otherwise
@@ -93,21 +93,21 @@ opening_exact : Exact Opening opening_at
 unfolding opening_at
 opening_exact = made_exact (λ u. kind.Events) (literal_exact (codes "events\n"))
 
-head_to : (d : Draft) → d.opened ≡ false → (e : Line) (t : List ℕ) → EntryLine d.schedule.catalogue e t → LineText d e t
-head_to d off e t h = subst (λ (e : Line). LineText d e t) (sym h.is) (off, h.spelled)
+head_to : (d : Draft) → d.opened ≡ false → (e : ScheduleLine) (t : List ℕ) → EntryLine d.schedule.catalogue e t → LineText d e t
+head_to d off e t h = subst (λ (e : ScheduleLine). LineText d e t) (sym h.is) (off, h.spelled)
 
-either_to : (d : Draft) → d.opened ≡ false → 0 < length d.schedule.catalogue.sites → (e : Line) (t : List ℕ) → Either (EntryLine d.schedule.catalogue) Opening e t → LineText d e t
+either_to : (d : Draft) → d.opened ≡ false → 0 < length d.schedule.catalogue.sites → (e : ScheduleLine) (t : List ℕ) → Either (EntryLine d.schedule.catalogue) Opening e t → LineText d e t
 either_to d off some e t h = elim h [
   | inl x ↦ head_to d off e t x
-  | inr x ↦ subst (λ (e : Line). LineText d e t) (sym x.is) (off, some, x.spelled)
+  | inr x ↦ subst (λ (e : ScheduleLine). LineText d e t) (sym x.is) (off, some, x.spelled)
 ]
 
-either_from : (d : Draft) → d.opened ≡ false → (e : Line) (t : List ℕ) → LineText d e t → Either (EntryLine d.schedule.catalogue) Opening e t
+either_from : (d : Draft) → d.opened ≡ false → (e : ScheduleLine) (t : List ℕ) → LineText d e t → Either (EntryLine d.schedule.catalogue) Opening e t
 either_from d off (kind.Entry entry) t h = inl (record { from = entry; spelled = h.1; is = refl })
 either_from d off kind.Events t h = inr (record { from = tt; spelled = h.2; is = refl })
 either_from d off (kind.Event event) t h = absurd (false≢true (sym off ∙ h.0))
 
-head_from : (d : Draft) → d.opened ≡ false → ltb 0 (length d.schedule.catalogue.sites) ≡ false → (e : Line) (t : List ℕ) → LineText d e t → EntryLine d.schedule.catalogue e t
+head_from : (d : Draft) → d.opened ≡ false → ltb 0 (length d.schedule.catalogue.sites) ≡ false → (e : ScheduleLine) (t : List ℕ) → LineText d e t → EntryLine d.schedule.catalogue e t
 head_from d off none (kind.Entry entry) t h = record { from = entry; spelled = h.1; is = refl }
 head_from d off none kind.Events t h = absurd (false≢true (sym none ∙ lt-ltb 0 (length d.schedule.catalogue.sites) h.1))
 head_from d off none (kind.Event event) t h = absurd (false≢true (sym off ∙ h.0))

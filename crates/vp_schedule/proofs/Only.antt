@@ -5,8 +5,8 @@ use Rattle.vp_text.specs.Documents.{IsFaultyLine}
 use Rattle.vp_text.proofs.Determined.{Stops, whole_same, bad_same, faulty_same, bad_not_faulty, whole_not_faulty}
 use Rattle.vp_model.specs.World.{Schedule}
 use Rattle.vp_catalog.specs.declared.entry.Entry.TheVariants as entry
-use Rattle.vp_schedule.specs.declared.line.Line.{Line}
-use Rattle.vp_schedule.specs.declared.line.Line.TheVariants as kind
+use Rattle.vp_schedule.specs.declared.line.ScheduleLine.{ScheduleLine}
+use Rattle.vp_schedule.specs.declared.line.ScheduleLine.TheVariants as kind
 use Rattle.vp_schedule.specs.declared.draft.Draft.{Draft}
 use Rattle.vp_schedule.specs.declared.fault.ScheduleFault.{ScheduleFault}
 use Rattle.vp_schedule.specs.declared.fault.ScheduleFault.TheVariants as faults
@@ -15,7 +15,7 @@ use Rattle.vp_schedule.specs.Document.{IsScheduleText, Answered, IsOnly, IsTaken
 use Rattle.vp_schedule.proofs.Steps.{said}
 use Rattle.vp_schedule.proofs.Answering.{lines_plain, spelled_lines}
 
-abbrev Stopped : (Draft → Line → Type 0) → List ℕ → ℕ → Type 0
+abbrev Stopped : (Draft → ScheduleLine → Type 0) → List ℕ → ℕ → Type 0
 Stopped = IsFaultyLine blank after LineText Onward
 
 repeats_stop : Stops blank after LineText Onward Repeats
@@ -30,13 +30,13 @@ exceeds_stop limit d (kind.Entry (entry.Record placed)) f o = false≢true (sym 
 exceeds_stop limit d kind.Events f o = f
 exceeds_stop limit d (kind.Event event) f o = omega (arith, f.1, o)
 
-not_both : (limit : ℕ) (d : Draft) (e : Line) → Repeats d e → Exceeds limit d e → ⊥
+not_both : (limit : ℕ) (d : Draft) (e : ScheduleLine) → Repeats d e → Exceeds limit d e → ⊥
 not_both limit d (kind.Entry (entry.Site site port)) f g = g.1
 not_both limit d (kind.Entry (entry.Record placed)) f g = false≢true (sym f.0 ∙ g.1)
 not_both limit d kind.Events f g = f
 not_both limit d (kind.Event event) f g = f
 
-one_limit : (a b : ℕ) (d : Draft) (e : Line) → Exceeds a d e → Exceeds b d e → a ≡ b
+one_limit : (a b : ℕ) (d : Draft) (e : ScheduleLine) → Exceeds a d e → Exceeds b d e → a ≡ b
 one_limit a b d (kind.Entry entry) f g = f.0 ∙ sym g.0
 one_limit a b d kind.Events f g = absurd f
 one_limit a b d (kind.Event event) f g = f.0 ∙ sym g.0
@@ -47,7 +47,7 @@ ok_ok text s r h k =
     let b = spelled_lines r text k in
     ap (λ (d : Draft). d.schedule) (sym a.says ∙ ap said (whole_same blank after LineText Onward text (lines_plain text) a.lines b.lines a.lines_are b.lines_are) ∙ b.says)
 
-ok_stopped : (F : Draft → Line → Type 0) → Stops blank after LineText Onward F → (text : List ℕ) (s : Schedule) (line : ℕ) → IsScheduleText s text → Stopped F text line → ⊥
+ok_stopped : (F : Draft → ScheduleLine → Type 0) → Stops blank after LineText Onward F → (text : List ℕ) (s : Schedule) (line : ℕ) → IsScheduleText s text → Stopped F text line → ⊥
 ok_stopped F stops text s line h f =
     let a = spelled_lines s text h in
     whole_not_faulty blank after LineText Onward F stops text (lines_plain text) a.lines a.lines_are line f
@@ -55,18 +55,18 @@ ok_stopped F stops text s line h f =
 twice_twice : (text : List ℕ) (l m : ℕ) → Stopped Repeats text l → Stopped Repeats text m → l ≡ m
 twice_twice text l m f g =
     let same = faulty_same blank after LineText Onward Repeats Repeats repeats_stop repeats_stop text (lines_plain text) l m f g in
-    sym f.number ∙ ap (λ (x : List Line). length x + 1) same.lines ∙ g.number
+    sym f.number ∙ ap (λ (x : List ScheduleLine). length x + 1) same.lines ∙ g.number
 
 twice_many : (text : List ℕ) (l m limit : ℕ) → Stopped Repeats text l → Stopped (Exceeds limit) text m → ⊥
 twice_many text l m limit f g =
     let same = faulty_same blank after LineText Onward Repeats (Exceeds limit) repeats_stop (exceeds_stop limit) text (lines_plain text) l m f g in
-    not_both limit (said g.lines) g.entry (subst (Repeats (said g.lines)) same.entry (subst (λ (x : List Line). Repeats (said x) f.entry) same.lines f.fault)) g.fault
+    not_both limit (said g.lines) g.entry (subst (Repeats (said g.lines)) same.entry (subst (λ (x : List ScheduleLine). Repeats (said x) f.entry) same.lines f.fault)) g.fault
 
 many_many : (text : List ℕ) (l m a b : ℕ) → Stopped (Exceeds a) text l → Stopped (Exceeds b) text m → (l ≡ m) × (a ≡ b)
 many_many text l m a b f g =
     let same = faulty_same blank after LineText Onward (Exceeds a) (Exceeds b) (exceeds_stop a) (exceeds_stop b) text (lines_plain text) l m f g in
-    let here = subst (Exceeds a (said g.lines)) same.entry (subst (λ (x : List Line). Exceeds a (said x) f.entry) same.lines f.fault) in
-    (sym f.number ∙ ap (λ (x : List Line). length x + 1) same.lines ∙ g.number, one_limit a b (said g.lines) g.entry here g.fault)
+    let here = subst (Exceeds a (said g.lines)) same.entry (subst (λ (x : List ScheduleLine). Exceeds a (said x) f.entry) same.lines f.fault) in
+    (sym f.number ∙ ap (λ (x : List ScheduleLine). length x + 1) same.lines ∙ g.number, one_limit a b (said g.lines) g.entry here g.fault)
 
 abbrev NoMemory : Result Schedule ScheduleFault
 NoMemory = Err faults.NoMemory

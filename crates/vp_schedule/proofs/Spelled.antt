@@ -12,8 +12,8 @@ use Rattle.vp_model.specs.World.{Schedule}
 use Rattle.vp_model.specs.Texts.Schedule.{event_line, catalogue_text, schedule_text}
 use Rattle.vp_catalog.specs.declared.entry.Entry.{Entry}
 use Rattle.vp_catalog.specs.Document.{IsCatalogue}
-use Rattle.vp_schedule.specs.declared.line.Line.{Line}
-use Rattle.vp_schedule.specs.declared.line.Line.TheVariants as kind
+use Rattle.vp_schedule.specs.declared.line.ScheduleLine.{ScheduleLine}
+use Rattle.vp_schedule.specs.declared.line.ScheduleLine.TheVariants as kind
 use Rattle.vp_schedule.specs.declared.draft.Draft.{Draft}
 use Rattle.vp_schedule.specs.Events.{IsEvent}
 use Rattle.vp_schedule.specs.Drafts.{LineText, after, Onward}
@@ -47,7 +47,7 @@ event_spelled s event front h allowed room =
       ap (λ (x : List ℕ). before ++ x) more ∙ sym (append_assoc before (codes "events\n" ++ lines) (event_line event)) ∙ ap (λ (x : List ℕ). x ++ event_line event) h.1,
     )
 
-pub lines_spell : (es : List Line) (t : List ℕ) → Lines es t → (said es).opened ≡ true → IsScheduleText (said es).schedule t
+pub lines_spell : (es : List ScheduleLine) (t : List ℕ) → Lines es t → (said es).opened ≡ true → IsScheduleText (said es).schedule t
 lines_spell [] t h on = absurd (false≢true on)
 lines_spell (kind.Entry entry ∷ es) t h on = absurd (false≢true (sym h.3.0 ∙ on))
 lines_spell (kind.Events ∷ es) t h on =
@@ -67,11 +67,11 @@ lines_spell (kind.Event event ∷ es) t h on =
 
 -- some lines that say the draft
 pub record LinesOf (d : Draft) (text : List ℕ) : Type 0 where
-  pub lines : List Line
+  pub lines : List ScheduleLine
   pub lines_are : Lines lines text
   pub says : said lines ≡ d
 
-abbrev as_lines : List Entry → List Line
+abbrev as_lines : List Entry → List ScheduleLine
 as_lines [] = []
 as_lines (entry ∷ es) = kind.Entry entry ∷ as_lines es
 
@@ -86,7 +86,7 @@ head_lines (entry ∷ es) t h =
     (h.0, h.1, head_lines es h.0 h.2, subst (λ (d : Draft). LineText d (kind.Entry entry) h.1) back (refl, h.3), subst (λ (d : Draft). Onward d (kind.Entry entry)) back h.4, h.5)
 
 -- one more line
-line_more : (d : Draft) (text line : List ℕ) (e : Line) → LinesOf d text → LineText d e line → Onward d e → LinesOf (after d e) (text ++ line)
+line_more : (d : Draft) (text line : List ℕ) (e : ScheduleLine) → LinesOf d text → LineText d e line → Onward d e → LinesOf (after d e) (text ++ line)
 line_more d text line e l h onward =
     let back = sym l.says in
     record {

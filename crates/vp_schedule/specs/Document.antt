@@ -6,7 +6,7 @@ use Rattle.vp_model.specs.Catalogue.{sites_of}
 use Rattle.vp_model.specs.World.{Schedule}
 use Rattle.vp_model.specs.Texts.Schedule.{schedule_text}
 use Rattle.vp_catalog.specs.Document.{IsCatalogue}
-use Rattle.vp_schedule.specs.declared.line.Line.{Line}
+use Rattle.vp_schedule.specs.declared.line.ScheduleLine.{ScheduleLine}
 use Rattle.vp_schedule.specs.declared.draft.Draft.{Draft}
 use Rattle.vp_schedule.specs.declared.fault.ScheduleFault.{ScheduleFault}
 use Rattle.vp_schedule.specs.declared.fault.ScheduleFault.TheVariants as faults
@@ -43,7 +43,7 @@ IsTaken text result = (s : Schedule) → IsScheduleText s text → result ≢ Er
 
 -- the next line was read, or this is its place in the text
 
-abbrev pub NextLine : Draft → ℕ → List ℕ → List ℕ → Result Line ScheduleFault → Type 0
+abbrev pub NextLine : Draft → ℕ → List ℕ → List ℕ → Result ScheduleLine ScheduleFault → Type 0
 NextLine draft number old new (Ok line) = line_at draft old ≡ Ok (line, new)
 NextLine draft number old new (Err (faults.BadLine line at)) = (line ≡ number) × (left : ℕ) × (line_at draft old ≡ Err left) × (at ≡ length old - left + 1)
 NextLine draft number old new (Err (faults.Twice line)) = ⊥

@@ -5,8 +5,8 @@ use Rattle.vp_catalog.specs.Sites.{site_at}
 use Rattle.vp_model.specs.Types.{Event}
 use Rattle.vp_model.specs.Types.event
 use Rattle.vp_schedule.specs.Reading.{call_at}
-use Rattle.vp_schedule.specs.declared.kind.Kind.{Kind}
-use Rattle.vp_schedule.specs.declared.kind.Kind.TheVariants.{Call, Deliver, Flow, Tick, Probe, Crash, Restart, Cut, Heal}
+use Rattle.vp_schedule.specs.declared.kind.EventKind.{EventKind}
+use Rattle.vp_schedule.specs.declared.kind.EventKind.TheVariants.{Call, Deliver, Flow, Tick, Probe, Crash, Restart, Cut, Heal}
 use Rattle.vp_schedule.specs.Kinds.{kinds_over, kind_at}
 
 -- the sites of the list but this one
@@ -28,7 +28,7 @@ called_at sites bytes = do
   Ok (event.Call site.0 words.0, words.1)
 
 -- what stands behind the word
-unfoldable pub fields_at : List ℕ → Kind → List ℕ → Result (Event × List ℕ) ℕ
+unfoldable pub fields_at : List ℕ → EventKind → List ℕ → Result (Event × List ℕ) ℕ
 fields_at sites Call bytes = called_at sites bytes
 fields_at sites Deliver bytes = do
   k ← number_at 1 2000000 bytes

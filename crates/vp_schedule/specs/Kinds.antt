@@ -1,10 +1,10 @@
 -- The words that event lines begin with.
 use Rattle.std.specs.Prelude.{ℕ, List, [], ◌∷◌, length, codes, nat_lt, if◌then◌else◌, Result, Ok, Err}
 use Rattle.vp_text.specs.Reading.{◌>>=◌, literal_at, either}
-use Rattle.vp_schedule.specs.declared.kind.Kind.{Kind}
-use Rattle.vp_schedule.specs.declared.kind.Kind.TheVariants.{Call, Deliver, Flow, Tick, Probe, Crash, Restart, Cut, Heal}
+use Rattle.vp_schedule.specs.declared.kind.EventKind.{EventKind}
+use Rattle.vp_schedule.specs.declared.kind.EventKind.TheVariants.{Call, Deliver, Flow, Tick, Probe, Crash, Restart, Cut, Heal}
 
-abbrev pub word : Kind → List ℕ
+abbrev pub word : EventKind → List ℕ
 word Call = codes "call "
 word Deliver = codes "deliver "
 word Flow = codes "flow "
@@ -16,19 +16,19 @@ word Cut = codes "cut "
 word Heal = codes "heal "
 
 -- the kinds that name no pair of sites
-abbrev pub single_kinds : List Kind
+abbrev pub single_kinds : List EventKind
 single_kinds = Call ∷ Deliver ∷ Flow ∷ Tick ∷ Probe ∷ Crash ∷ Restart ∷ []
 
-abbrev pub all_kinds : List Kind
+abbrev pub all_kinds : List EventKind
 all_kinds = Call ∷ Deliver ∷ Flow ∷ Tick ∷ Probe ∷ Crash ∷ Restart ∷ Cut ∷ Heal ∷ []
 
 -- A pair of sites that differ needs two sites.
-abbrev pub kinds_over : List ℕ → List Kind
+abbrev pub kinds_over : List ℕ → List EventKind
 kinds_over sites = if nat_lt (length sites) 2 then single_kinds else all_kinds
 
 -- ---- reading
 
 -- the word of one of the kinds
-abbrev pub kind_at : List Kind → List ℕ → Result (Kind × List ℕ) ℕ
+abbrev pub kind_at : List EventKind → List ℕ → Result (EventKind × List ℕ) ℕ
 kind_at [] bytes = Err (length bytes)
 kind_at (kind ∷ kinds) bytes = either (literal_at (word kind) bytes >>= λ u. Ok (kind, u.1)) (kind_at kinds bytes)

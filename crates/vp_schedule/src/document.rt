@@ -7,7 +7,7 @@ ghost use Rattle.vp_schedule.specs.Document.{Answered, IsOnly, IsTaken, NextLine
 
 use crate::draft::Draft;
 use crate::fault::ScheduleFault;
-use crate::line::Line;
+use crate::line::ScheduleLine;
 use crate::line_reading::take_line;
 use crate::schedule::Schedule;
 use std::alloc::Global;
@@ -20,7 +20,7 @@ fn next_line(
     cursor: &mut Cursor,
     draft: &Draft,
     line: usize,
-) -> Result<Line, ScheduleFault>
+) -> Result<ScheduleLine, ScheduleFault>
     requires few { length (sites_said draft.now) ≤ 16 }
     requires room { (left : ℕ) → line_at draft.now cursor.old ≡ Err left → left ≤ length cursor.old }
     requires small { length cursor.old < 2 ^ 63 }

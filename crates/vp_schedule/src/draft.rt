@@ -4,7 +4,7 @@ ghost use Rattle.std.specs.Prelude.{◌≡◌};
 ghost use Rattle.vp_schedule.specs.Drafts.{blank, IsAllowed, Adds};
 
 use crate::fault::ScheduleFault;
-use crate::line::Line;
+use crate::line::ScheduleLine;
 use crate::schedule::Schedule;
 use std::alloc::Global;
 use vp_base::{Events, MOST_EVENTS};
@@ -32,14 +32,14 @@ impl Draft {
     }
 
     /// Adds what the line of this number says. After an `Err` nothing is added.
-    pub fn add(&mut self, line: Line, number: usize) -> Result<(), ScheduleFault>
+    pub fn add(&mut self, line: ScheduleLine, number: usize) -> Result<(), ScheduleFault>
         requires { IsAllowed self.old line }
         ensures { Adds self.old line number self.new result }
     {
         match line {
-            Line::Entry(entry) => self.schedule.catalog.add(entry, number)?,
-            Line::Events => self.opened = true,
-            Line::Event(event) => {
+            ScheduleLine::Entry(entry) => self.schedule.catalog.add(entry, number)?,
+            ScheduleLine::Events => self.opened = true,
+            ScheduleLine::Event(event) => {
                 if self.schedule.events.as_slice().len() >= MOST_EVENTS as usize {
                     return Err(ScheduleFault::TooMany {
                         line: number,

@@ -7,7 +7,7 @@ ghost use Rattle.vp_catalog.specs.Sites.{site_at};
 ghost use Rattle.vp_schedule.specs.Kinds.{kinds_over};
 ghost use Rattle.vp_schedule.specs.EventReading.{other_sites, pair_at, called_at, fields_at, event_at};
 
-use crate::kind::{Kind, take_kind};
+use crate::kind::{EventKind, take_kind};
 use crate::reading::take_call;
 use std::alloc::Global;
 use vp_base::{Event, LAST_SITE, LineFault, MOST_MESSAGES, MOST_STEPS, SiteId};
@@ -15,30 +15,30 @@ use vp_catalog::take_site;
 use vp_text::{Cursor, Unexpected};
 
 /// The kinds of event lines over these sites: only where there are two sites does a line name a pair of them.
-fn kinds_over(sites: &[SiteId]) -> &'static [Kind]
+fn kinds_over(sites: &[SiteId]) -> &'static [EventKind]
     ensures { result.now ≡ kinds_over sites.now }
 {
     if sites.len() < 2 {
         &[
-            Kind::Call,
-            Kind::Deliver,
-            Kind::Flow,
-            Kind::Tick,
-            Kind::Probe,
-            Kind::Crash,
-            Kind::Restart,
+            EventKind::Call,
+            EventKind::Deliver,
+            EventKind::Flow,
+            EventKind::Tick,
+            EventKind::Probe,
+            EventKind::Crash,
+            EventKind::Restart,
         ]
     } else {
         &[
-            Kind::Call,
-            Kind::Deliver,
-            Kind::Flow,
-            Kind::Tick,
-            Kind::Probe,
-            Kind::Crash,
-            Kind::Restart,
-            Kind::Cut,
-            Kind::Heal,
+            EventKind::Call,
+            EventKind::Deliver,
+            EventKind::Flow,
+            EventKind::Tick,
+            EventKind::Probe,
+            EventKind::Crash,
+            EventKind::Restart,
+            EventKind::Cut,
+            EventKind::Heal,
         ]
     }
 }
@@ -87,37 +87,37 @@ fn take_called(alloc: Global, cursor: &mut Cursor, sites: &[SiteId]) -> Result<E
 fn take_fields(
     alloc: Global,
     cursor: &mut Cursor,
-    kind: Kind,
+    kind: EventKind,
     sites: &[SiteId],
 ) -> Result<Event, LineFault>
     requires { length sites.now ≤ 16 }
     ensures { Tries (λ event. event) line_left result cursor.new (fields_at sites.now kind cursor.old) }
 {
     let event = match kind {
-        Kind::Call => take_called(alloc, cursor, sites)?,
-        Kind::Deliver => Event::Deliver {
+        EventKind::Call => take_called(alloc, cursor, sites)?,
+        EventKind::Deliver => Event::Deliver {
             k: cursor.number_u32(1, MOST_MESSAGES)?,
         },
-        Kind::Flow => Event::Flow {
+        EventKind::Flow => Event::Flow {
             count: cursor.number_u32(1, MOST_STEPS)?,
         },
-        Kind::Tick => Event::Tick {
+        EventKind::Tick => Event::Tick {
             site: take_site(cursor, sites, 0)?,
         },
-        Kind::Probe => Event::Probe {
+        EventKind::Probe => Event::Probe {
             site: take_site(cursor, sites, 0)?,
         },
-        Kind::Crash => Event::Crash {
+        EventKind::Crash => Event::Crash {
             site: take_site(cursor, sites, 0)?,
         },
-        Kind::Restart => Event::Restart {
+        EventKind::Restart => Event::Restart {
             site: take_site(cursor, sites, 0)?,
         },
-        Kind::Cut => {
+        EventKind::Cut => {
             let (a, b) = take_pair(cursor, sites)?;
             Event::Cut { a, b }
         }
-        Kind::Heal => {
+        EventKind::Heal => {
             let (a, b) = take_pair(cursor, sites)?;
             Event::Heal { a, b }
         }

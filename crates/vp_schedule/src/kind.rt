@@ -7,7 +7,7 @@ ghost use Rattle.vp_schedule.specs.Kinds.{word, kind_at};
 use vp_text::{Cursor, Unexpected};
 
 #[derive(Clone, Copy)]
-pub enum Kind {
+pub enum EventKind {
     Call,
     Deliver,
     Flow,
@@ -19,27 +19,27 @@ pub enum Kind {
     Heal,
 }
 
-impl Kind {
+impl EventKind {
     /// The word that a line of this kind begins with, and the blank behind it.
     fn word(self) -> &'static [u8]
         ensures { result.now ≡ word self }
     {
         match self {
-            Kind::Call => b"call ",
-            Kind::Deliver => b"deliver ",
-            Kind::Flow => b"flow ",
-            Kind::Tick => b"tick ",
-            Kind::Probe => b"probe ",
-            Kind::Crash => b"crash ",
-            Kind::Restart => b"restart ",
-            Kind::Cut => b"cut ",
-            Kind::Heal => b"heal ",
+            EventKind::Call => b"call ",
+            EventKind::Deliver => b"deliver ",
+            EventKind::Flow => b"flow ",
+            EventKind::Tick => b"tick ",
+            EventKind::Probe => b"probe ",
+            EventKind::Crash => b"crash ",
+            EventKind::Restart => b"restart ",
+            EventKind::Cut => b"cut ",
+            EventKind::Heal => b"heal ",
         }
     }
 }
 
 /// Takes the word of one of the kinds. Where none stands there, the fault is where what went farthest goes wrong.
-pub fn take_kind(cursor: &mut Cursor, kinds: &[Kind]) -> Result<Kind, Unexpected>
+pub fn take_kind(cursor: &mut Cursor, kinds: &[EventKind]) -> Result<EventKind, Unexpected>
     ensures { Reads (λ kind. kind) (λ e. e.left) result cursor.new (kind_at kinds.now cursor.old) }
 {
     let mut fault = Unexpected {

@@ -4,7 +4,7 @@ use vp_base::Event;
 use vp_catalog::Entry;
 
 #[derive(Drop)]
-pub enum Line {
+pub enum ScheduleLine {
     /// A line of the catalogue.
     Entry(Entry),
     /// The line `events`.

@@ -8,7 +8,7 @@ ghost use Rattle.vp_schedule.specs.LineReading.{catalogue_line_at, opening_at, h
 
 use crate::draft::Draft;
 use crate::event_reading::take_event;
-use crate::line::Line;
+use crate::line::ScheduleLine;
 use std::alloc::Global;
 use vp_base::{LineFault, SiteId};
 use vp_catalog::{Catalog, take_entry};
@@ -19,25 +19,29 @@ fn take_catalogue_line(
     alloc: Global,
     cursor: &mut Cursor,
     catalog: &Catalog,
-) -> Result<Line, LineFault>
+) -> Result<ScheduleLine, LineFault>
     ensures { Tries (λ line. line) line_left result cursor.new (catalogue_line_at catalog.now cursor.old) }
 {
     let entry = take_entry(alloc, cursor, catalog)?;
-    Ok(Line::Entry(entry))
+    Ok(ScheduleLine::Entry(entry))
 }
 
 /// The line `events`.
 #[tactic(auto, unfolding(crate::specs::LineReading::opening_at))]
-fn take_opening(cursor: &mut Cursor) -> Result<Line, Unexpected>
+fn take_opening(cursor: &mut Cursor) -> Result<ScheduleLine, Unexpected>
     ensures { Reads (λ line. line) (λ e. e.left) result cursor.new (opening_at cursor.old) }
 {
     cursor.literal(b"events\n")?;
-    Ok(Line::Events)
+    Ok(ScheduleLine::Events)
 }
 
 /// A line of the catalogue or, where there is a site, the line `events`.
 #[tactic(auto, unfolding(crate::specs::LineReading::head_at))]
-fn take_head(alloc: Global, cursor: &mut Cursor, catalog: &Catalog) -> Result<Line, LineFault>
+fn take_head(
+    alloc: Global,
+    cursor: &mut Cursor,
+    catalog: &Catalog,
+) -> Result<ScheduleLine, LineFault>
     ensures { Tries (λ line. line) line_left result cursor.new (head_at catalog.now cursor.old) }
 {
     if catalog.sites().as_slice().is_empty() {
@@ -58,18 +62,26 @@ fn take_head(alloc: Global, cursor: &mut Cursor, catalog: &Catalog) -> Result<Li
 }
 
 #[tactic(auto, unfolding(crate::specs::LineReading::event_line_at))]
-fn take_event_line(alloc: Global, cursor: &mut Cursor, sites: &[SiteId]) -> Result<Line, LineFault>
+fn take_event_line(
+    alloc: Global,
+    cursor: &mut Cursor,
+    sites: &[SiteId],
+) -> Result<ScheduleLine, LineFault>
     requires { length sites.now ≤ 16 }
     ensures { Tries (λ line. line) line_left result cursor.new (event_line_at sites.now cursor.old) }
 {
     let event = take_event(alloc, cursor, sites)?;
     cursor.literal(b"\n")?;
-    Ok(Line::Event(event))
+    Ok(ScheduleLine::Event(event))
 }
 
 /// Takes a line that is allowed where the lines before it say so much.
 #[tactic(auto, unfolding(crate::specs::LineReading::line_at))]
-pub fn take_line(alloc: Global, cursor: &mut Cursor, draft: &Draft) -> Result<Line, LineFault>
+pub fn take_line(
+    alloc: Global,
+    cursor: &mut Cursor,
+    draft: &Draft,
+) -> Result<ScheduleLine, LineFault>
     requires { length (sites_said draft.now) ≤ 16 }
     ensures { Tries (λ line. line) line_left result cursor.new (line_at draft.now cursor.old) }
 {
