@@ -38,10 +38,15 @@ fn the_answer_is_told(rt: HostRuntime) {
 
 #[test]
 fn as_many_datagrams_without_the_answer_are_told(rt: HostRuntime) {
-    let datagrams = two_answers(rt.alloc()).expect(&rt, "memory");
-    let mut link = MemLink::new(rt.alloc(), datagrams, Vec::new(rt.alloc()));
-    let defined = begin(rt.alloc(), &mut link, 1).expect(&rt, "memory");
-    assert!(rt; is_defined(&defined, Status::NoAnswer, b"no answer\n"));
+    for turns in [0, 1] {
+        let datagrams = two_answers(rt.alloc()).expect(&rt, "memory");
+        let mut link = MemLink::new(rt.alloc(), datagrams, Vec::new(rt.alloc()));
+        let defined = begin(rt.alloc(), &mut link, turns).expect(&rt, "memory");
+        assert!(rt;
+            is_defined(&defined, Status::NoAnswer, b"no answer\n") && is_all(link.handed(), BEGIN),
+            "after {turns}"
+        );
+    }
 }
 
 /// Whether the link's fault is told where its call with this number fails. The frame was handed over, unless the port wasn't bound.

@@ -14,5 +14,7 @@ mod running;
 #[cfg(test)]
 mod signals;
 
-pub use fixtures::{BEGIN, BEGUN, COMMIT, PORT, STOP, WRITE, datagram};
+pub use fixtures::{
+    BEGIN, BEGUN, COMMIT, PORT, REGROUP, STARTED, STARTED_TWICE, STOP, WRITE, datagram, long_half,
+};
 pub use running::{Ended, Failing, NONE, Setup, said};

@@ -1,27 +1,13 @@
 //! A node whose log becomes long.
 
-use crate::{Ended, STOP, Setup, said};
-use std::alloc::{AllocError, Global};
+use crate::{Ended, REGROUP, STOP, Setup, long_half, said};
+use std::alloc::Global;
 use std::process::Abort;
 use vp_status::Status;
-
-/// The call to regroup, to site 1.
-const REGROUP: &[u8] = b"\x56\x01\x20\0\x01\x02";
-
-/// A batch of no record, and where a batch of 65,490 bytes begins.
-const HEAD: &[u8] = b"\x01\0\0\0\0\0\0\0\0\x01\0\0\0\0\0\0\xff\xd2";
 
 /// A checkpoint of the life 16,843,010, with the promise 1@1 and the copy of x.
 const CHECKPOINT: &[u8] = b"\x01\0\0\0\0\0\0\0\x35\x08\0\0\0\0\0\0\0\x01\x01\x01\x01\x02\
     \0\0\0\0\0\0\0\x01\x01\0\x01\0\x02\x31\x30\0\0\0\0\0\0\0\0\0\0\0\0\0\0\0\0\0\0\0\0\0\0\0\0\0\0";
-
-/// 65,509 bytes: no record, and then 13,098 times Start of life 16,843,009.
-fn long_half(alloc: Global) -> Result<Vec<u8>, AllocError> {
-    let mut half = HEAD.to_vec(alloc)?;
-    half.extend_from_slice(&vec![in alloc; 1; 65_490]?)?;
-    half.push(0)?;
-    Ok(half)
-}
 
 /// What is printed where the node regroups.
 const REGROUPED: &[u8] =
@@ -39,7 +25,6 @@ fn goes_on(rt: &impl Abort, alloc: Global, ended: &Ended) -> bool {
         && ended.disk.half(1).len() == 77
 }
 
-// The start of the life makes it 65,523 bytes long, and the promise 65,542.
 #[test]
 fn a_log_that_becomes_long_leaves_a_checkpoint(rt: HostRuntime) {
     let alloc = rt.alloc();

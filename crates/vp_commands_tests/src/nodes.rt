@@ -1,6 +1,6 @@
-//! A node's command: the logs on which it doesn't start, and the datagrams that are no inputs.
+//! A node's command: the logs on which it doesn't start, the turns after which it ends, and the datagrams that are no inputs.
 
-use crate::{BEGIN, BEGUN, PORT, Setup, datagram, said};
+use crate::{BEGIN, BEGUN, PORT, STARTED, STARTED_TWICE, Setup, datagram, said};
 use std::alloc::{AllocError, Global};
 use std::process::Abort;
 use vp_outside::Datagram;
@@ -8,9 +8,6 @@ use vp_status::Status;
 
 /// The log's first half with Start of the last life.
 const LAST_LIFE: &[u8] = b"\x01\0\0\0\0\0\0\0\x05\x01\xff\xff\xff\xff\0";
-
-/// The log's first half after Start of life 1.
-const STARTED: &[u8] = b"\x01\0\0\0\0\0\0\0\x05\x01\0\0\0\x01\0";
 
 /// Whether the node doesn't start on a log with these bytes, which it leaves, but ends with this status and prints this text.
 fn is_refused(rt: &impl Abort, alloc: Global, half: &[u8], status: Status, text: &[u8]) -> bool {
@@ -25,6 +22,33 @@ fn a_log_that_cannot_be_started_on_is_told(rt: HostRuntime) {
     let alloc = rt.alloc();
     assert!(rt; is_refused(&rt, alloc, b"\x01\0", Status::BadLog, b"bad log 0 at 0\n"));
     assert!(rt; is_refused(&rt, alloc, LAST_LIFE, Status::LivesSpent, b"lives spent\n"));
+}
+
+/// Logs, the turns of a node on them to which two calls to begin come, what it prints, and the log that it leaves.
+const TURNS: [(&[u8], u64, &[u8], &[u8]); 3] = [
+    (
+        b"",
+        1,
+        b"start 1\nin 560120000101\nout 560121010001010000000100000001000000000000000000\nend\n",
+        STARTED,
+    ),
+    (b"", 0, b"start 1\nend\n", STARTED),
+    (STARTED, 0, b"start 2\nend\n", STARTED_TWICE),
+];
+
+#[test]
+fn a_node_ends_behind_its_turns(rt: HostRuntime) {
+    let alloc = rt.alloc();
+    for (half, turns, text, log) in TURNS {
+        let setup = Setup {
+            turns,
+            ..Setup::alone(half)
+        };
+        let datagrams = said(alloc, &[BEGIN, BEGIN]).expect(&rt, "memory");
+        let ended = setup.run(alloc, datagrams).expect(&rt, "a run");
+        assert!(rt; ended.is(Status::Done, text) && ended.link.handed().len() as u64 == turns);
+        assert!(rt; ended.disk.half(0) == log && ended.disk.half(1).is_empty());
+    }
 }
 
 /// Bytes that are no inputs, and the call to begin from the port of the site itself.

@@ -12,8 +12,8 @@ use vp_status::Status;
 /// Site 1 alone.
 const ALONE: &[u8] = b"site 1 7001\nrecord x 10 1:1\n";
 
-/// As many datagrams as no test has.
-const TURNS: u64 = 100;
+/// As many turns as no node takes that is stopped, or gets nothing more.
+const MANY: u64 = 100;
 
 /// Which call of each object fails; no call has number 0.
 #[derive(Clone, Copy, Drop)]
@@ -37,6 +37,8 @@ pub struct Setup<'a> {
     pub site: SiteId,
     /// The halves of its log.
     pub halves: [&'a [u8]; 2],
+    /// The most datagrams that it takes.
+    pub turns: u64,
     pub failing: Failing,
 }
 
@@ -56,6 +58,7 @@ impl Setup<'_> {
             catalogue: ALONE,
             site: SiteId::of(1),
             halves: [half, b""],
+            turns: MANY,
             failing: NONE,
         }
     }
@@ -81,7 +84,7 @@ impl Setup<'_> {
         let mut link = MemLink::new(alloc, datagrams, planned(alloc, self.failing.link).ok()?);
         let mut sink = TextSink::new(alloc, planned(alloc, self.failing.sink).ok()?);
         let status = serve_log(
-            &catalog, self.site, &name, &mut link, &mut disk, &mut sink, TURNS,
+            &catalog, self.site, &name, &mut link, &mut disk, &mut sink, self.turns,
         );
         Some(Ended {
             status,

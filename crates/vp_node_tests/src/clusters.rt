@@ -3,7 +3,7 @@
 use std::alloc::{AllocError, Global};
 use std::process::Abort;
 use vp_base::SiteId;
-use vp_commands_tests::{BEGIN, BEGUN, COMMIT, Ended, NONE, PORT, Setup, WRITE, datagram};
+use vp_commands_tests::{BEGIN, BEGUN, COMMIT, Ended, PORT, Setup, WRITE, datagram};
 use vp_outside::Datagram;
 
 const THREE: &[u8] = b"site 1 7001\nsite 2 7002\nsite 3 7003\nrecord x 10 1:1 2:1 3:1\n";
@@ -71,8 +71,7 @@ impl Member {
         let setup = Setup {
             catalogue: THREE,
             site: self.site,
-            halves: [b"", b""],
-            failing: NONE,
+            ..Setup::alone(b"")
         };
         let datagrams = copied(alloc, &self.arrived).expect(rt, "memory");
         setup.run(alloc, datagrams).expect(rt, "a run")

@@ -1,8 +1,12 @@
-//! A node that serves one transaction and is stopped: each call of its link, its disk and its sink fails in turn.
+//! A node that serves one transaction and is stopped, of which each call of its link, its disk and its sink fails in turn; and one whose log
+//! becomes long, of which some calls of its disk do.
 
 use std::alloc::Global;
 use std::process::Abort;
-use vp_commands_tests::{BEGIN, COMMIT, Ended, Failing, NONE, STOP, Setup, WRITE, said};
+use vp_commands_tests::{
+    BEGIN, COMMIT, Ended, Failing, NONE, REGROUP, STARTED, STARTED_TWICE, STOP, Setup, WRITE,
+    long_half, said,
+};
 use vp_status::Status;
 
 /// What it prints where no call fails.
@@ -16,18 +20,33 @@ out 56012101000401000000010000000100000002\n\
 in 5601240001\n\
 end\n";
 
-/// The length of its log after the start of its life, and with the commit.
-const STARTED: usize = 15;
+/// Calls of the link, the disk and the sink that fail, and what they end in: the status, how many lines of the recording are printed, how many
+/// datagrams were handed over, and how long the log is: 15 bytes with the start of its life, 49 with the commit.
+const FAULTS: [(u64, u64, u64, Status, usize, usize, usize); 17] = [
+    // Call 1 of the link binds; then each turn receives, and each turn but the last sends. What isn't sent is lost. There is no call 9.
+    (1, 0, 0, Status::LinkFault, 0, 0, 15),
+    (2, 0, 0, Status::LinkFault, 1, 0, 15),
+    (3, 0, 0, Status::Done, 9, 3, 49),
+    (4, 0, 0, Status::LinkFault, 3, 1, 15),
+    (5, 0, 0, Status::Done, 9, 3, 49),
+    (6, 0, 0, Status::LinkFault, 5, 2, 15),
+    (7, 0, 0, Status::Done, 9, 3, 49),
+    (8, 0, 0, Status::LinkFault, 7, 3, 49),
+    (9, 0, 0, Status::Done, 9, 3, 49),
+    // The first line, the lines of each turn and the last line are put by a call of the sink each; the datagrams of a turn are sent behind
+    // its lines, and its records are kept before them.
+    (0, 0, 1, Status::SinkFault, 0, 0, 15),
+    (0, 0, 2, Status::SinkFault, 1, 0, 15),
+    (0, 0, 3, Status::SinkFault, 3, 1, 15),
+    (0, 0, 4, Status::SinkFault, 5, 2, 49),
+    (0, 0, 5, Status::SinkFault, 7, 3, 49),
+    (0, 0, 6, Status::SinkFault, 8, 3, 49),
+    // The line of a fault that is not printed is a fault of the sink.
+    (0, 1, 1, Status::SinkFault, 0, 0, 0),
+    (2, 0, 2, Status::SinkFault, 1, 0, 15),
+];
 
-const COMMITTED: usize = 49;
-
-/// How its log begins once another life has started on it: that life alone, both, and both with the commit between them. The closed gate
-/// behind the batches ends it.
-const ONE_LIFE: &[u8] = b"\x01\0\0\0\0\0\0\0\x05\x01\0\0\0\x01\0";
-
-const TWO_LIVES: &[u8] =
-    b"\x01\0\0\0\0\0\0\0\x05\x01\0\0\0\x01\x01\0\0\0\0\0\0\0\x05\x01\0\0\0\x02\0";
-
+/// How its log begins once another life has started on it, where it has the commit: the closed gate behind the batches ends it.
 const COMMIT_BETWEEN: &[u8] = b"\x01\0\0\0\0\0\0\0\x05\x01\0\0\0\x01\
     \x01\0\0\0\0\0\0\0\x19\x05\x01\0\0\0\x01\0\0\0\x01\0\0\0\0\0\0\0\0\0\x01\0\x02\x31\x31\0\
     \x01\0\0\0\0\0\0\0\x05\x01\0\0\0\x02\0";
@@ -55,37 +74,33 @@ fn first_lines(text: &[u8], count: usize) -> &[u8] {
     text
 }
 
-/// Whether it ended with this status, and printed so many lines of the recording and then this one.
-fn ends(ended: &Ended, status: Status, lines: usize, last: &[u8]) -> bool {
-    let recorded = first_lines(RECORDING.as_bytes(), lines);
-    ended.status == status && ended.sink.bytes().strip_prefix(recorded) == Some(last)
-}
-
-/// Whether the call of the link with this number ends it behind so many lines.
-fn link_fault_is_told(rt: &impl Abort, alloc: Global, link: u64, lines: usize) -> bool {
-    let ended = run(rt, alloc, Failing { link, ..NONE });
-    ends(&ended, Status::LinkFault, lines, b"link fault\n")
-}
-
-/// Whether it goes on to its end where the call of the link with this number fails.
-fn loss_is_passed(rt: &impl Abort, alloc: Global, link: u64) -> bool {
-    let ended = run(rt, alloc, Failing { link, ..NONE });
-    ends(&ended, Status::Done, 9, b"")
-        && ended.link.handed().len() == 3
-        && ended.disk.half(0).len() == COMMITTED
-}
-
-// Call 1 binds; then each turn receives, and each turn but the last sends. What isn't sent is lost. There is no call 9.
-#[test]
-fn a_call_of_the_link_that_fails_is_told_unless_it_sends(rt: HostRuntime) {
-    for (link, lines) in [(1, 0), (2, 1), (4, 3), (6, 5), (8, 7)] {
-        assert!(rt;
-            link_fault_is_told(&rt, rt.alloc(), link, lines),
-            "at {link}"
-        );
+/// What is printed behind the recording.
+fn last_line(status: Status) -> &'static [u8] {
+    match status {
+        Status::LinkFault => b"link fault\n",
+        Status::DiskFault => b"disk fault\n",
+        _ => b"",
     }
-    for link in [3, 5, 7, 9] {
-        assert!(rt; loss_is_passed(&rt, rt.alloc(), link), "at {link}");
+}
+
+/// Whether it ended with this status, printed so many lines of the recording and the line of the status, and handed over so many datagrams.
+fn ends(ended: &Ended, status: Status, lines: usize, sent: usize) -> bool {
+    let recorded = first_lines(RECORDING.as_bytes(), lines);
+    ended.status == status
+        && ended.sink.bytes().strip_prefix(recorded) == Some(last_line(status))
+        && ended.link.handed().len() == sent
+}
+
+#[test]
+fn a_fault_of_the_link_is_told_unless_it_sends_and_one_of_the_sink_ends_the_recording(
+    rt: HostRuntime,
+) {
+    for (link, disk, sink, status, lines, sent, kept) in FAULTS {
+        let ended = run(&rt, rt.alloc(), Failing { link, disk, sink });
+        assert!(rt;
+            ends(&ended, status, lines, sent) && ended.disk.half(0).len() == kept,
+            "at {link} {disk} {sink}"
+        );
     }
 }
 
@@ -100,8 +115,8 @@ fn goes_on(rt: &impl Abort, alloc: Global, ended: &Ended, log: &[u8]) -> bool {
 /// How the log begins on which the next life starts, where the call of the disk with this number failed.
 fn log_behind(disk: u64) -> &'static [u8] {
     match disk {
-        ..=9 => ONE_LIFE,
-        ..=13 => TWO_LIVES,
+        ..=9 => STARTED,
+        ..=13 => STARTED_TWICE,
         _ => COMMIT_BETWEEN,
     }
 }
@@ -110,9 +125,7 @@ fn log_behind(disk: u64) -> &'static [u8] {
 fn disk_fault_is_told(rt: &impl Abort, alloc: Global, disk: u64) -> bool {
     let ended = run(rt, alloc, Failing { disk, ..NONE });
     let (lines, sent) = if disk <= 10 { (0, 0) } else { (5, 2) };
-    ends(&ended, Status::DiskFault, lines, b"disk fault\n")
-        && ended.link.handed().len() == sent
-        && goes_on(rt, alloc, &ended, log_behind(disk))
+    ends(&ended, Status::DiskFault, lines, sent) && goes_on(rt, alloc, &ended, log_behind(disk))
 }
 
 // Call 1 attaches; recovery syncs, asks for both lengths, writes and syncs; the start of the life writes, syncs, writes and syncs, and so
@@ -124,38 +137,58 @@ fn a_call_of_the_disk_that_fails_is_told(rt: HostRuntime) {
     }
 }
 
-/// Whether the call of the sink with this number ends it behind so many lines, when so many datagrams were sent.
-fn sink_fault_ends(rt: &impl Abort, alloc: Global, sink: u64, lines: usize, sent: usize) -> bool {
-    let ended = run(rt, alloc, Failing { sink, ..NONE });
-    let length = if sink < 4 { STARTED } else { COMMITTED };
-    ends(&ended, Status::SinkFault, lines, b"")
-        && ended.link.handed().len() == sent
-        && ended.disk.half(0).len() == length
+/// Two sites.
+const TWO: &[u8] = b"site 1 7001\nsite 2 7002\nrecord x 10 1:1 2:1\n";
+
+/// What the next life prints that regroups: it starts again in the life that failed to start, starts in the next one, or knows of the view
+/// that was promised.
+const STARTED_AGAIN: &[u8] = b"start 16843010\nin 560120000102\n\
+    out 5601010102000000000000000101\nout 560121010006000000000000000101\nlink fault\n";
+
+const STARTED_NEXT: &[u8] = b"start 16843011\nin 560120000102\n\
+    out 5601010102000000000000000101\nout 560121010006000000000000000101\nlink fault\n";
+
+const PROMISED: &[u8] = b"start 16843011\nin 560120000102\n\
+    out 5601010102000000000000000201\nout 560121010006000000000000000201\nlink fault\n";
+
+/// A node on this log that regroups, whose call of the disk with this number fails.
+fn regroup(rt: &impl Abort, alloc: Global, halves: [&[u8]; 2], disk: u64) -> Ended {
+    let setup = Setup {
+        catalogue: TWO,
+        halves,
+        failing: Failing { disk, ..NONE },
+        ..Setup::alone(b"")
+    };
+    let datagrams = said(alloc, &[REGROUP]).expect(rt, "memory");
+    setup.run(alloc, datagrams).expect(rt, "a run")
 }
 
-// The first line, the lines of each turn and the last line are put by a call each; the datagrams of a turn are sent behind its lines, and
-// its records are kept before them.
-#[test]
-fn a_call_of_the_sink_that_fails_ends_the_recording(rt: HostRuntime) {
-    for (sink, lines, sent) in [
-        (1, 0, 0),
-        (2, 1, 0),
-        (3, 3, 1),
-        (4, 5, 2),
-        (5, 7, 3),
-        (6, 8, 3),
-    ] {
-        assert!(rt;
-            sink_fault_ends(&rt, rt.alloc(), sink, lines, sent),
-            "at {sink}"
-        );
+/// What is printed where the call of the disk with this number fails, and then by the next life.
+fn printed(disk: u64) -> (&'static [u8], &'static [u8]) {
+    match disk {
+        ..=8 => (b"disk fault\n", STARTED_AGAIN),
+        9 => (b"disk fault\n", STARTED_NEXT),
+        ..=12 => (b"start 16843010\ndisk fault\n", STARTED_NEXT),
+        _ => (b"start 16843010\ndisk fault\n", PROMISED),
     }
 }
 
+/// Whether the call of the disk with this number ends it before it hands over anything, and the next life goes on with what is kept.
+fn long_log_goes_on(rt: &impl Abort, alloc: Global, half: &[u8], disk: u64) -> bool {
+    let (last, next) = printed(disk);
+    let ended = regroup(rt, alloc, [half, b""], disk);
+    let halves = [ended.disk.half(0), ended.disk.half(1)];
+    ended.is(Status::DiskFault, last)
+        && ended.link.handed().is_empty()
+        && regroup(rt, alloc, halves, 0).is(Status::LinkFault, next)
+}
+
+// Recovery reads the half by call 4; call 9 is the last sync of the start of the life, call 12 opens the gate of the promise; the checkpoint
+// cuts the other half by call 14, and its last sync is call 21.
 #[test]
-fn the_line_of_a_fault_that_is_not_printed_is_a_fault_of_the_sink(rt: HostRuntime) {
-    for (link, disk, sink, lines) in [(0, 1, 1, 0), (2, 0, 2, 1)] {
-        let ended = run(&rt, rt.alloc(), Failing { link, disk, sink });
-        assert!(rt; ends(&ended, Status::SinkFault, lines, b""), "at {sink}");
+fn a_call_of_the_disk_that_fails_on_a_long_log_is_told(rt: HostRuntime) {
+    let half = long_half(rt.alloc()).expect(&rt, "memory");
+    for disk in [4, 9, 12, 14, 21] {
+        assert!(rt; long_log_goes_on(&rt, rt.alloc(), &half, disk), "at {disk}");
     }
 }

@@ -2,7 +2,7 @@
 
 use std::alloc::{AllocError, Global};
 use vp_base::SiteId;
-use vp_commands_tests::{NONE, Setup, datagram};
+use vp_commands_tests::{Setup, datagram};
 use vp_outside::Datagram;
 use vp_status::Status;
 
@@ -33,8 +33,7 @@ fn each_beginning_of_a_frame_is_bad_where_it_ends(rt: HostRuntime) {
     let setup = Setup {
         catalogue: CATALOGUE,
         site: SiteId::of(2),
-        halves: [b"", b""],
-        failing: NONE,
+        ..Setup::alone(b"")
     };
     let datagrams = beginnings(rt.alloc(), COPY).expect(&rt, "memory");
     let ended = setup.run(rt.alloc(), datagrams).expect(&rt, "a run");

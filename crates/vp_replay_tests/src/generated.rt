@@ -1,72 +1,100 @@
-//! Schedules of the generator, and soaks: each takes nothing of the source.
+//! Schedules of the generator, and soaks.
 
-use std::alloc::{AllocError, Global};
-use vp_base::Word;
-use vp_outside::{SureSink, SureSource};
 use vp_replay::generate;
 use vp_status::Status;
-use vp_top_tests::run_alone;
+use vp_top_tests::answers;
 
-/// What the program prints for the words, where it is done.
-fn printed(alloc: Global, command: &str, seed: &str, count: &str) -> Result<SureSink, AllocError> {
-    let mut words = Vec::new(alloc);
-    for text in [command, seed, count] {
-        words.push(Word::from_vec(Vec::from_slice(alloc, text.as_bytes())?))?;
-    }
-    let mut source = SureSource::new(Vec::from_slice(alloc, b"left alone")?);
-    let mut sink = SureSink::new(alloc);
-    if run_alone(alloc, &words, &mut source, &mut sink) != Status::Done {
-        return Ok(SureSink::new(alloc));
-    }
-    Ok(sink)
-}
+/// The catalogue of each schedule that is generated, and the first event of seed 1.
+const ONE_EVENT: &str = "\
+site 1 7001
+site 2 7002
+site 3 7003
+site 4 7004
+site 5 7005
+record r0 100 1:1 2:1 3:1
+record r1 100 2:1 3:1 4:1
+record r2 100 3:1 4:1 5:1
+record r3 100 1:1 4:1 5:1
+record r4 100 1:1 2:1 5:1
+record r5 100 1:1 2:1 3:1
+record r6 100 2:1 3:1 4:1
+record r7 100 3:1 4:1 5:1
+record r8 100 1:1 4:1 5:1
+record r9 100 1:1 2:1 5:1
+record r10 100 1:1 2:1 3:1
+record r11 100 2:1 3:1 4:1
+record r12 100 3:1 4:1 5:1
+record r13 100 1:1 4:1 5:1
+record r14 100 1:1 2:1 5:1
+record r15 100 1:1 2:1 3:1
+record r16 100 2:1 3:1 4:1
+record r17 100 3:1 4:1 5:1
+record r18 100 1:1 4:1 5:1
+record r19 100 1:1 2:1 5:1
+record r20 100 1:1 2:1 3:1
+record r21 100 2:1 3:1 4:1
+record r22 100 3:1 4:1 5:1
+record r23 100 1:1 4:1 5:1
+record r24 100 1:1 2:1 5:1
+record r25 100 1:1 2:1 3:1
+record r26 100 2:1 3:1 4:1
+record r27 100 3:1 4:1 5:1
+record r28 100 1:1 4:1 5:1
+record r29 100 1:1 2:1 5:1
+record r30 100 1:1 2:1 3:1
+record r31 100 2:1 3:1 4:1
+record r32 100 3:1 4:1 5:1
+record r33 100 1:1 4:1 5:1
+record r34 100 1:1 2:1 5:1
+record r35 100 1:1 2:1 3:1
+record r36 100 2:1 3:1 4:1
+record r37 100 3:1 4:1 5:1
+record r38 100 1:1 4:1 5:1
+record r39 100 1:1 2:1 5:1
+events
+call 4 begin
+";
 
 #[test]
-fn a_schedule_is_its_catalogue_and_its_events(rt: HostRuntime) {
-    let sink = printed(rt.alloc(), "generate", "1", "2").expect(&rt, "memory");
-    let text = sink.bytes();
-    assert!(rt;
-        text.starts_with(
-            b"site 1 7001\nsite 2 7002\nsite 3 7003\nsite 4 7004\nsite 5 7005\nrecord r0 100 1:1 2:1 3:1\n"
-        )
-    );
-    assert!(rt;
-        text.ends_with(b"record r39 100 1:1 2:1 5:1\nevents\ncall 4 begin\ncall 1 begin\n")
-    );
-}
-
-#[test]
-fn soaks_are_counted(rt: HostRuntime) {
-    for (seed, count, text) in [
+fn schedules_are_generated_and_soaks_are_counted(rt: HostRuntime) {
+    for (line, text) in [
+        ("generate 1 1", ONE_EVENT),
         (
-            "1",
-            "0",
+            "soak 1 0",
             "events 0\nmessages 0\nbegun 0\ncommitted 0\nrefused 0\nserial 0\n",
         ),
         (
-            "1",
-            "2",
+            "soak 1 1",
+            "events 1\nmessages 0\nbegun 1\ncommitted 0\nrefused 0\nserial 0\n",
+        ),
+        (
+            "soak 1 2",
             "events 2\nmessages 0\nbegun 2\ncommitted 0\nrefused 0\nserial 0\n",
         ),
         (
-            "7",
-            "300",
-            "events 300\nmessages 58\nbegun 6\ncommitted 0\nrefused 33\nserial 0\n",
+            "soak 7 1500",
+            "events 1500\nmessages 752\nbegun 20\ncommitted 0\nrefused 322\nserial 0\n",
+        ),
+        (
+            "soak 398 2400",
+            "events 2400\nmessages 1674\nbegun 30\ncommitted 2\nrefused 673\nserial 2\n",
         ),
     ] {
-        let sink = printed(rt.alloc(), "soak", seed, count).expect(&rt, "memory");
-        assert!(rt; sink.bytes() == text.as_bytes(), "{seed} {count}");
+        assert!(rt;
+            answers(rt.alloc(), line, "", Status::Done, text).expect(&rt, "memory"),
+            "{line}"
+        );
     }
 }
 
 #[test]
 fn a_schedule_is_appended(rt: HostRuntime) {
-    let mut text = Vec::from_slice(rt.alloc(), b"before\n").expect(&rt, "memory");
-    let end = match generate(1, 1, &mut text) {
+    let alloc = rt.alloc();
+    let mut text = Vec::from_slice(alloc, b"before\n").expect(&rt, "memory");
+    let end = match generate(1, 2, &mut text) {
         Ok(end) => end.is_none(),
         Err(_) => false,
     };
-    assert!(rt; end);
-    assert!(rt; text.starts_with(b"before\nsite 1 7001\n"));
-    assert!(rt; text.ends_with(b"events\ncall 4 begin\n"));
+    let wanted = format!(in alloc; "before\n{ONE_EVENT}call 1 begin\n").expect(&rt, "memory");
+    assert!(rt; end && text.as_slice() == wanted.as_bytes());
 }

@@ -1,8 +1,8 @@
 //! What schedules leave in the logs of their sites.
 
-use vp_outside::{SureSink, SureSource};
+use vp_outside::SureSink;
 use vp_status::Status;
-use vp_top_tests::{answers, run_alone, words};
+use vp_top_tests::{answers, run_on};
 
 const HEAD: &str = "site 1 7001\nrecord x 10 1:1\nevents\n";
 
@@ -71,17 +71,13 @@ fn other_texts_leave_no_logs(rt: HostRuntime) {
 #[test]
 fn a_long_log_gets_a_checkpoint(rt: HostRuntime) {
     let alloc = rt.alloc();
-    let mut text = Vec::from_slice(alloc, HEAD.as_bytes()).expect(&rt, "memory");
-    for _ in 0..5000 {
-        text.extend_from_slice(b"crash 1\nrestart 1\n")
-            .expect(&rt, "memory");
-    }
-    text.extend_from_slice(b"call 1 regroup\n")
+    let lives = "crash 1\nrestart 1\n"
+        .repeat(alloc, 5000)
         .expect(&rt, "memory");
-    let words = words(alloc, &["logs"]).expect(&rt, "memory");
-    let mut source = SureSource::new(text);
+    let schedule = format!(in alloc; "{HEAD}{lives}call 1 regroup\n").expect(&rt, "memory");
     let mut sink = SureSink::new(alloc);
-    assert!(rt; run_alone(alloc, &words, &mut source, &mut sink) == Status::Done);
+    let end = run_on(alloc, "logs", &schedule, &mut sink).expect(&rt, "memory");
+    assert!(rt; end == Status::Done);
     assert!(rt;
         sink.bytes().ends_with(
             b" 010000000000000035080000000000000001000013890000000000000001010001000231300000000000000000000000000000000000000000000000000000\n"

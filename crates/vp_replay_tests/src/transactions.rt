@@ -575,8 +575,49 @@ start x 10
 end 0
 ";
 
+const A_RECORD_IS_READ_AT_ANOTHER_SITE: &str = "\
+site 1 7001
+site 2 7002
+site 3 7003
+record y 5 2:1 3:1
+events
+call 1 begin
+call 1 1.1.1 1 read y
+deliver 1
+deliver 2
+call 1 1.1.1 2 commit
+flow 9
+";
+
+const A_RECORD_IS_READ_AT_ANOTHER_SITE_PRINTED: &str = "\
+1 call 1 begin
+ reply begun 1.1.1 0@0
+2 call 1 1.1.1 1 read y
+ sent 1 1>2 read-request 1.1.1 0@0 1 y
+3 deliver 1
+ sent 2 2>1 read-answer 1.1.1 1 5
+4 deliver 2
+ reply value 1.1.1 1 5
+5 call 1 1.1.1 2 commit
+ sent 3 1>2 prepare 1.1.1 0@0 2 r y
+6 flow 9
+6 deliver 3
+ sent 4 2>1 vote 1.1.1
+6 deliver 4
+ commit 1.1.1 0@0
+ sent 5 1>2 outcome 1.1.1 commit
+ reply committed 1.1.1 2
+6 deliver 5
+ sent 6 2>1 ack 1.1.1
+6 deliver 6
+history
+start y 5
+commit 1.1.1 0@0 r y 5
+end 1
+";
+
 /// The worked schedules of transactions, and what is printed of each.
-const WORKED: [(&str, &str, &str); 9] = [
+const WORKED: [(&str, &str, &str); 10] = [
     (
         "a held lock is named",
         A_HELD_LOCK_IS_NAMED,
@@ -617,6 +658,11 @@ const WORKED: [(&str, &str, &str); 9] = [
         "calls are refused",
         CALLS_ARE_REFUSED,
         CALLS_ARE_REFUSED_PRINTED,
+    ),
+    (
+        "a record is read at another site",
+        A_RECORD_IS_READ_AT_ANOTHER_SITE,
+        A_RECORD_IS_READ_AT_ANOTHER_SITE_PRINTED,
     ),
 ];
 

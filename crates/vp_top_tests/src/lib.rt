@@ -7,4 +7,4 @@ mod running;
 #[cfg(test)]
 mod runs;
 
-pub use running::{answers, is_printed, run_alone, words};
+pub use running::{answers, is_printed, run_alone, run_on, words};

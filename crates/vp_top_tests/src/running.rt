@@ -7,6 +7,15 @@ use vp_outside::{Sink, Source, SureLink, SureSink, SureSource};
 use vp_status::Status;
 use vp_top::run;
 
+/// The words of a command line, which blanks part.
+pub fn words(alloc: Global, line: &str) -> Result<Vec<Word>, AllocError> {
+    let mut words = Vec::new(alloc);
+    for text in line.split_ascii_whitespace() {
+        words.push(Word::from_vec(Vec::from_slice(alloc, text.as_bytes())?))?;
+    }
+    Ok(words)
+}
+
 /// A run beside a link that has nothing to give and an empty log.
 pub fn run_alone<S: Source, K: Sink>(
     alloc: Global,
@@ -19,37 +28,28 @@ pub fn run_alone<S: Source, K: Sink>(
     run(alloc, words, source, sink, &mut link, &mut disk)
 }
 
-/// The words of a command line.
-pub fn words(alloc: Global, texts: &[&str]) -> Result<Vec<Word>, AllocError> {
-    let mut words = Vec::new(alloc);
-    for text in texts {
-        words.push(Word::from_vec(Vec::from_slice(alloc, text.as_bytes())?))?;
-    }
-    Ok(words)
-}
-
-/// Runs the command on the input.
-fn run_on(
+/// Runs the command line on the input.
+pub fn run_on(
     alloc: Global,
-    command: &str,
+    line: &str,
     input: &str,
     sink: &mut SureSink,
 ) -> Result<Status, AllocError> {
     let mut source = SureSource::new(Vec::from_slice(alloc, input.as_bytes())?);
-    let words = words(alloc, &[command])?;
+    let words = words(alloc, line)?;
     Ok(run_alone(alloc, &words, &mut source, sink))
 }
 
-/// Whether the command answers the input with this status, and prints this text.
+/// Whether the command line answers the input with this status, and prints this text.
 pub fn answers(
     alloc: Global,
-    command: &str,
+    line: &str,
     input: &str,
     status: Status,
     text: &str,
 ) -> Result<bool, AllocError> {
     let mut sink = SureSink::new(alloc);
-    let end = run_on(alloc, command, input, &mut sink)?;
+    let end = run_on(alloc, line, input, &mut sink)?;
     Ok(end == status && sink.bytes() == text.as_bytes())
 }
 

@@ -1,10 +1,10 @@
 //! Runs of the program over sources and sinks in memory.
 
 use crate::{answers, is_printed, run_alone, words};
-use std::alloc::{AllocError, Global};
-use vp_outside::{Sink, SureSink, SureSource, TextSink, TextSource};
+use std::alloc::Global;
+use std::process::Abort;
+use vp_outside::{TextSink, TextSource};
 use vp_status::Status;
-use vp_text::print_number;
 use vp_top::MOST_BYTES;
 
 const HEAD: &str = "site 1 7001\nrecord x 10 1:1\nevents\n";
@@ -81,185 +81,196 @@ start y 5
 end 0
 ";
 
-/// Whether the input is no schedule, and this is told.
-fn is_bad(alloc: Global, input: &str, text: &str) -> Result<bool, AllocError> {
-    answers(alloc, "replay", input, Status::BadLine, text)
-}
+const USAGE: &str = "usage: vpdb replay|check|node|client|tick|probe|stop|generate|soak|logs\n";
+
+/// Command lines, their inputs, and what they are answered.
+const ANSWERED: [(&str, &str, Status, &str); 17] = [
+    ("replay", HEAD, Status::Done, "history\nstart x 10\nend 0\n"),
+    (
+        "replay",
+        TWO_TRANSACTIONS,
+        Status::Done,
+        TWO_TRANSACTIONS_PRINTED,
+    ),
+    ("replay", NO_SUCH_CALL, Status::Done, NO_SUCH_CALL_PRINTED),
+    // Other texts are no schedules.
+    ("replay", "", Status::BadLine, "bad line 1 at 1\n"),
+    (
+        "replay",
+        "site 1 7001\nrecord x 10 1:1\n",
+        Status::BadLine,
+        "bad line 3 at 1\n",
+    ),
+    (
+        "replay",
+        "site 1 7001\nsite 2 7001\nevents\n",
+        Status::BadLine,
+        "twice line 2\n",
+    ),
+    (
+        "replay",
+        "site 1 7001\nevents\ncall 9 begin\n",
+        Status::BadLine,
+        "bad line 3 at 6\n",
+    ),
+    (
+        "replay",
+        "site 1 7001\nevents\ncall 1 beg",
+        Status::BadLine,
+        "bad line 3 at 11\n",
+    ),
+    (
+        "replay",
+        "site 1 7001\nevents\nflew 1\n",
+        Status::BadLine,
+        "bad line 3 at 3\n",
+    ),
+    // Histories have their verdict.
+    (
+        "check",
+        "history\nstart x 10\ncommit 1.1.1 0@0 r x 10 w x 11\ncommit 1.1.2 0@0 r x 11\nend 2\n",
+        Status::Done,
+        "serial 2\nx 11\n",
+    ),
+    (
+        "check",
+        "history\nstart x 10\ncommit 1.1.1 0@0 w x 11\ncommit 1.1.2 0@0 r x 10\nend 2\n",
+        Status::Differs,
+        "differs 1.1.2 1 x kept 11 read 10\n",
+    ),
+    (
+        "check",
+        "history\nstart x 10\ncommit 1.1.1 1@2\ncommit 2.1.1 0@0\n",
+        Status::BadLine,
+        "bad line 4 at 14\n",
+    ),
+    // Other words are no command, and a site that the catalogue lacks has no node.
+    ("", "", Status::Usage, USAGE),
+    ("replay - --", "", Status::Usage, USAGE),
+    ("replay --help", "", Status::Usage, USAGE),
+    ("Replay", "", Status::Usage, USAGE),
+    (
+        "node 2 a 1",
+        "site 1 7001\nrecord x 10 1:1\n",
+        Status::Usage,
+        USAGE,
+    ),
+];
 
 #[test]
-fn schedules_of_one_site_are_replayed(rt: HostRuntime) {
-    for (input, text) in [
-        (HEAD, "history\nstart x 10\nend 0\n"),
-        (TWO_TRANSACTIONS, TWO_TRANSACTIONS_PRINTED),
-        (NO_SUCH_CALL, NO_SUCH_CALL_PRINTED),
-    ] {
+fn command_lines_are_answered(rt: HostRuntime) {
+    for (line, input, status, text) in ANSWERED {
         assert!(rt;
-            is_printed(rt.alloc(), input, text).expect(&rt, "memory"),
-            "{input}"
+            answers(rt.alloc(), line, input, status, text).expect(&rt, "memory"),
+            "{line} on {input}"
         );
     }
 }
 
-#[test]
-fn other_texts_are_no_schedules(rt: HostRuntime) {
-    for (input, text) in [
-        ("", "bad line 1 at 1\n"),
-        ("site 1 7001\nrecord x 10 1:1\n", "bad line 3 at 1\n"),
-        ("site 1 7001\nsite 2 7001\nevents\n", "twice line 2\n"),
-        ("site 1 7001\nevents\ncall 9 begin\n", "bad line 3 at 6\n"),
-        ("site 1 7001\nevents\ncall 1 beg", "bad line 3 at 11\n"),
-        ("site 1 7001\nevents\nflew 1\n", "bad line 3 at 3\n"),
-    ] {
-        assert!(rt;
-            is_bad(rt.alloc(), input, text).expect(&rt, "memory"),
-            "{input}"
-        );
+/// The line once for each number from 1 up to the end, with the number in the place of `#`, and the next one in the place of `+`.
+fn numbered(rt: &impl Abort, alloc: Global, line: &str, end: u32) -> String {
+    let mut lines = String::new(alloc);
+    for number in 1..end {
+        let next = number + 1;
+        let number = format!(in alloc; "{number}").expect(rt, "memory");
+        let next = format!(in alloc; "{next}").expect(rt, "memory");
+        let line = line.replace(alloc, '#', &number).expect(rt, "memory");
+        let line = line.replace(alloc, '+', &next).expect(rt, "memory");
+        lines.push_str(&line).expect(rt, "memory");
     }
-}
-
-fn replay(text: Vec<u8>, sink: &mut SureSink) -> Result<Status, AllocError> {
-    let alloc = *text.allocator();
-    let words = words(alloc, &["replay"])?;
-    let mut source = SureSource::new(text);
-    Ok(run_alone(alloc, &words, &mut source, sink))
-}
-
-/// Appends the line so many times.
-fn repeat(text: &mut Vec<u8>, line: &[u8], count: usize) -> Result<(), AllocError> {
-    for _ in 0..count {
-        text.extend_from_slice(line)?;
-    }
-    Ok(())
+    lines
 }
 
 #[test]
 fn a_transaction_has_64_operations(rt: HostRuntime) {
-    let mut text = Vec::from_slice(rt.alloc(), HEAD.as_bytes()).expect(&rt, "memory");
-    text.extend_from_slice(b"call 1 begin\n")
-        .expect(&rt, "memory");
-    for number in 1..66 {
-        text.extend_from_slice(b"call 1 1.1.1 ")
-            .expect(&rt, "memory");
-        print_number(&mut text, number).expect(&rt, "memory");
-        text.extend_from_slice(b" read x\n").expect(&rt, "memory");
-    }
-    text.extend_from_slice(b"call 1 1.1.1 65 commit\n")
-        .expect(&rt, "memory");
-    let mut sink = SureSink::new(rt.alloc());
-    assert!(rt; replay(text, &mut sink).expect(&rt, "memory") == Status::Done);
-    let mut end = Vec::from_slice(
-        rt.alloc(),
-        b"\n66 call 1 1.1.1 65 read x\n reply toomanyops 1.1.1 65\n67 call 1 1.1.1 65 commit\n commit 1.1.1 0@0\n reply committed 1.1.1 65\nhistory\nstart x 10\ncommit 1.1.1 0@0",
+    let alloc = rt.alloc();
+    let calls = numbered(&rt, alloc, "call 1 1.1.1 # read x\n", 66);
+    let schedule = format!(in alloc; "{HEAD}call 1 begin\n{calls}call 1 1.1.1 65 commit\n").expect(
+        &rt, "memory",
+    );
+    let values = numbered(
+        &rt,
+        alloc,
+        "+ call 1 1.1.1 # read x\n reply value 1.1.1 # 10\n",
+        65,
+    );
+    let reads = " r x 10".repeat(alloc, 64).expect(&rt, "memory");
+    let printed = format!(in alloc;
+        "\
+1 call 1 begin
+ reply begun 1.1.1 0@0
+{values}66 call 1 1.1.1 65 read x
+ reply toomanyops 1.1.1 65
+67 call 1 1.1.1 65 commit
+ commit 1.1.1 0@0
+ reply committed 1.1.1 65
+history
+start x 10
+commit 1.1.1 0@0{reads}
+end 1
+"
     )
     .expect(&rt, "memory");
-    repeat(&mut end, b" r x 10", 64).expect(&rt, "memory");
-    end.extend_from_slice(b"\nend 1\n").expect(&rt, "memory");
-    assert!(rt; sink.bytes().ends_with(&end));
+    assert!(rt; is_printed(alloc, &schedule, &printed).expect(&rt, "memory"));
 }
 
 #[test]
 fn a_site_has_1024_live_transactions(rt: HostRuntime) {
-    let mut text = Vec::from_slice(rt.alloc(), HEAD.as_bytes()).expect(&rt, "memory");
-    repeat(&mut text, b"call 1 begin\n", 1025).expect(&rt, "memory");
-    let mut sink = SureSink::new(rt.alloc());
-    assert!(rt; replay(text, &mut sink).expect(&rt, "memory") == Status::Done);
-    assert!(rt;
-        sink.bytes().ends_with(
-            b" reply begun 1.1.1024 0@0\n1025 call 1 begin\n reply toomanylive 1024\nhistory\nstart x 10\nend 0\n"
-        )
-    );
+    let alloc = rt.alloc();
+    let calls = "call 1 begin\n".repeat(alloc, 1025).expect(&rt, "memory");
+    let schedule = format!(in alloc; "{HEAD}{calls}").expect(&rt, "memory");
+    let begun = numbered(&rt, alloc, "# call 1 begin\n reply begun 1.1.# 0@0\n", 1025);
+    let printed = format!(in alloc;
+        "\
+{begun}1025 call 1 begin
+ reply toomanylive 1024
+history
+start x 10
+end 0
+"
+    )
+    .expect(&rt, "memory");
+    assert!(rt; is_printed(alloc, &schedule, &printed).expect(&rt, "memory"));
 }
 
 #[test]
-fn too_many_records_are_refused(rt: HostRuntime) {
-    let mut text = Vec::from_slice(rt.alloc(), b"site 1 7001\n").expect(&rt, "memory");
-    for number in 0..257 {
-        text.extend_from_slice(b"record r").expect(&rt, "memory");
-        print_number(&mut text, number).expect(&rt, "memory");
-        text.extend_from_slice(b" 10 1:1\n").expect(&rt, "memory");
-    }
-    text.extend_from_slice(b"events\n").expect(&rt, "memory");
-    let mut sink = SureSink::new(rt.alloc());
-    assert!(rt; replay(text, &mut sink).expect(&rt, "memory") == Status::Limit);
-    assert!(rt; sink.bytes() == b"limit records 256\n".as_slice());
-}
-
-#[test]
-fn too_many_events_are_refused(rt: HostRuntime) {
-    let mut text = Vec::from_slice(rt.alloc(), HEAD.as_bytes()).expect(&rt, "memory");
-    repeat(&mut text, b"tick 1\n", 100_001).expect(&rt, "memory");
-    let mut sink = SureSink::new(rt.alloc());
-    assert!(rt; replay(text, &mut sink).expect(&rt, "memory") == Status::Limit);
-    assert!(rt; sink.bytes() == b"limit events 100000\n".as_slice());
-}
-
-#[test]
-fn histories_give_their_verdict(rt: HostRuntime) {
-    for (history, status, text) in [
-        (
-            "history\nstart x 10\ncommit 1.1.1 0@0 r x 10 w x 11\ncommit 1.1.2 0@0 r x 11\nend 2\n",
-            Status::Done,
-            "serial 2\nx 11\n",
-        ),
-        (
-            "history\nstart x 10\ncommit 1.1.1 0@0 w x 11\ncommit 1.1.2 0@0 r x 10\nend 2\n",
-            Status::Differs,
-            "differs 1.1.2 1 x kept 11 read 10\n",
-        ),
-        (
-            "history\nstart x 10\ncommit 1.1.1 1@2\ncommit 2.1.1 0@0\n",
-            Status::BadLine,
-            "bad line 4 at 14\n",
-        ),
+fn too_many_records_events_and_bytes_are_refused(rt: HostRuntime) {
+    let alloc = rt.alloc();
+    let lines = numbered(&rt, alloc, "record r# 10 1:1\n", 258);
+    let records = format!(in alloc; "site 1 7001\n{lines}events\n").expect(&rt, "memory");
+    let lines = "tick 1\n".repeat(alloc, 100_001).expect(&rt, "memory");
+    let events = format!(in alloc; "{HEAD}{lines}").expect(&rt, "memory");
+    let bytes = "a".repeat(alloc, MOST_BYTES + 1).expect(&rt, "memory");
+    for (input, text) in [
+        (records.as_str(), "limit records 256\n"),
+        (events.as_str(), "limit events 100000\n"),
+        (bytes.as_str(), "limit bytes 16777216\n"),
     ] {
         assert!(rt;
-            answers(rt.alloc(), "check", history, status, text).expect(&rt, "memory"),
-            "{history}"
+            answers(alloc, "replay", input, Status::Limit, text).expect(&rt, "memory"),
+            "{text}"
         );
     }
 }
 
-fn is_refused(alloc: Global, texts: &[&str]) -> Result<bool, AllocError> {
-    let words = words(alloc, texts)?;
-    let mut source = SureSource::new(Vec::new(alloc));
-    let mut sink = SureSink::new(alloc);
-    let end = run_alone(alloc, &words, &mut source, &mut sink);
-    Ok(end == Status::Usage && sink.bytes().starts_with(b"usage: vpdb replay|"))
-}
-
-#[test]
-fn other_words_are_no_command(rt: HostRuntime) {
-    assert!(rt; is_refused(rt.alloc(), &[]).expect(&rt, "memory"));
-    assert!(rt; is_refused(rt.alloc(), &["replay", "-", "--"]).expect(&rt, "memory"));
-    assert!(rt; is_refused(rt.alloc(), &["replay", "--help"]).expect(&rt, "memory"));
-    assert!(rt; is_refused(rt.alloc(), &["Replay"]).expect(&rt, "memory"));
+/// A replay whose call of the source and whose call of the sink with these numbers fail; no call has number 0. The sink takes 5 bytes a call.
+fn failing(rt: &impl Abort, alloc: Global, source_call: u64, sink_call: u64) -> (Status, TextSink) {
+    let text = Vec::from_slice(alloc, HEAD.as_bytes()).expect(rt, "memory");
+    let words = words(alloc, "replay --").expect(rt, "memory");
+    let mut source = TextSource::new(text, vec![in alloc; source_call].expect(rt, "memory"));
+    let mut sink = TextSink::new(alloc, vec![in alloc; sink_call].expect(rt, "memory"));
+    sink.most = 5;
+    let status = run_alone(alloc, &words, &mut source, &mut sink);
+    (status, sink)
 }
 
 #[test]
 fn failures_are_told(rt: HostRuntime) {
-    let alloc = rt.alloc();
-    let words = words(alloc, &["replay", "--"]).expect(&rt, "memory");
-    let text = Vec::from_slice(alloc, HEAD.as_bytes()).expect(&rt, "memory");
-    let mut source = TextSource::new(text, Vec::from_slice(alloc, &[2]).expect(&rt, "memory"));
-    let mut sink = TextSink::new(alloc, Vec::new(alloc));
-    assert!(rt; run_alone(alloc, &words, &mut source, &mut sink) == Status::SourceFault);
-    assert!(rt; sink.bytes().is_empty());
-    let text = Vec::from_slice(alloc, HEAD.as_bytes()).expect(&rt, "memory");
-    let mut source = TextSource::new(text, Vec::new(alloc));
-    let mut sink = TextSink::new(alloc, Vec::from_slice(alloc, &[2]).expect(&rt, "memory"));
-    sink.most = 5;
-    assert!(rt; run_alone(alloc, &words, &mut source, &mut sink) == Status::SinkFault);
-    assert!(rt; sink.bytes() == b"histo".as_slice());
-}
-
-#[test]
-fn too_many_bytes_are_refused(rt: HostRuntime) {
-    let alloc = rt.alloc();
-    let words = words(alloc, &["replay"]).expect(&rt, "memory");
-    let mut bytes = Vec::new(alloc);
-    bytes.resize(MOST_BYTES + 1, b'a').expect(&rt, "memory");
-    let mut source = SureSource::new(bytes);
-    let mut sink = SureSink::new(alloc);
-    assert!(rt; run_alone(alloc, &words, &mut source, &mut sink) == Status::Limit);
-    assert!(rt; sink.bytes() == b"limit bytes 16777216\n".as_slice());
+    for (source_call, sink_call, status, text) in [
+        (2, 0, Status::SourceFault, ""),
+        (0, 2, Status::SinkFault, "histo"),
+    ] {
+        let (end, sink) = failing(&rt, rt.alloc(), source_call, sink_call);
+        assert!(rt; end == status && sink.bytes() == text.as_bytes(), "{text}");
+    }
 }
