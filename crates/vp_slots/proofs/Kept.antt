@@ -3,7 +3,7 @@ use Rattle.std.proofs.Common.{◌≡◌, ◌≢◌, ℕ, zero, suc, ◌+◌, ◌
 use Rattle.std.specs.Prelude.{slice_get}
 use Rattle.std.specs.List.{remove, cons_option, AllByRecursion}
 use Rattle.std.proofs.lemmas.Bool.{cases_eq, cases_lt}
-use Rattle.std.proofs.lemmas.List.{length-append, set_past}
+use Rattle.std.proofs.lemmas.List.{length-append}
 use Rattle.std.proofs.lemmas.List.Elements.{filter_map-append}
 use Rattle.std.proofs.lemmas.List.Sums.{sum_by-set}
 use Rattle.std.proofs.lemmas.Option.{slice_get_past, slice_get_read}
@@ -186,9 +186,6 @@ module _ {T : Type 0} where
 
   pub none_at : (s : Slab T) (keys : List ℕ) (i : ℕ) → length keys ≤ i → AreKeys s keys → slice_get (items_at s keys) i ≡ None
   none_at s keys i past k = slice_get_past _ i (omega (arith, past, length_is s keys k))
-
-  pub set_none : (s : Slab T) (keys : List ℕ) (i : ℕ) (item : T) → length keys ≤ i → AreKeys s keys → set (items_at s keys) i item ≡ items_at s keys
-  set_none s keys i item past k = set_past _ i item (omega (arith, past, length_is s keys k))
 
   pub remove_none : (s : Slab T) (keys : List ℕ) (i : ℕ) → length keys ≤ i → AreKeys s keys → remove (items_at s keys) i ≡ items_at s keys
   remove_none s keys i past k = remove_past _ i (omega (arith, past, length_is s keys k))
