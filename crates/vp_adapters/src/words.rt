@@ -5,8 +5,8 @@ use std::env::Env;
 use std::{env, io};
 use vp_base::{NoMemory, Word};
 
-/// The words behind the first ones, of which the very first is the program's name. Where a word isn't text there are none, which is no
-/// command.
+/// The words of the command line but for the `first` ones, the program's name among them. Where a word isn't UTF-8 the list is empty,
+/// which is no command.
 pub fn words_behind<R: Env + Alloc<A = Global>>(
     rt: &R,
     first: usize,

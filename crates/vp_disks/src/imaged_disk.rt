@@ -32,8 +32,7 @@ impl Images {
         })
     }
 
-    // The calls below make of the images of a disk those of that disk after its call.
-
+    /// Makes them those of the disk after the log of this name is attached.
     fn attach_log(&mut self, name: &Word) -> Result<(), NoMemory>
         ensures { OnOk result (Mirror (Attached name.now) self.old self.new) }
     {
@@ -42,6 +41,7 @@ impl Images {
         Ok(())
     }
 
+    /// Makes them those of the disk after the piece is written.
     fn write_piece(&mut self, half: u8, at: u64, piece: &[u8]) -> Result<(), NoMemory>
         requires { at + length piece.now ≤ 2 ^ 62 }
         ensures { OnOk result (Mirror (Wrote half at piece.now) self.old self.new) }
@@ -51,6 +51,7 @@ impl Images {
         Ok(())
     }
 
+    /// Makes them those of the disk after the half is cut.
     fn cut_half(&mut self, half: u8, length: u64) -> Result<(), NoMemory>
         ensures { OnOk result (Mirror (Cut half length) self.old self.new) }
     {
@@ -59,6 +60,7 @@ impl Images {
         Ok(())
     }
 
+    /// Makes them those of the disk after the attached log is synced.
     fn mark_synced(&mut self) -> Result<(), NoMemory>
         ensures { OnOk result (Mirror Synced self.old self.new) }
     {
@@ -66,6 +68,7 @@ impl Images {
         Ok(())
     }
 
+    /// Makes them those of the disk after this log is laid.
     fn lay(&mut self, log: &LogBytes) -> Result<(), NoMemory>
         ensures { OnOk result (Mirror (Laid log.now.0 log.now.1) self.old self.new) }
     {
@@ -118,7 +121,7 @@ impl ImagedDisk {
         self.disk.half(half)
     }
 
-    // both images once more
+    /// Both images once more.
     fn images(&self) -> Result<Images, NoMemory>
         ensures { IfOk result (AreImages self.now) }
     {
@@ -128,8 +131,7 @@ impl ImagedDisk {
         }
     }
 
-    // The calls below are those of the disk.
-
+    /// Attaches the log of this name.
     pub fn attach_log(&mut self, name: &Word) -> Result<(), NoMemory>
         ensures ok { OnOk result (self.new ≡ Attached name.now ∷ self.old) }
         ensures err { OnErr result (self.new ≡ self.old) }
@@ -141,6 +143,7 @@ impl ImagedDisk {
         Ok(())
     }
 
+    /// Writes the piece from this byte of the half on.
     pub fn write_piece(&mut self, half: u8, at: u64, piece: &[u8]) -> Result<(), NoMemory>
         requires { at + length piece.now ≤ 2 ^ 62 }
         ensures ok { OnOk result (self.new ≡ Wrote half at piece.now ∷ self.old) }
@@ -153,6 +156,7 @@ impl ImagedDisk {
         Ok(())
     }
 
+    /// Cuts the half to this length.
     pub fn cut_half(&mut self, half: u8, length: u64) -> Result<(), NoMemory>
         ensures ok { OnOk result (self.new ≡ Cut half length ∷ self.old) }
         ensures err { OnErr result (self.new ≡ self.old) }
@@ -164,6 +168,7 @@ impl ImagedDisk {
         Ok(())
     }
 
+    /// Marks both halves of the attached log as synced.
     pub fn mark_synced(&mut self) -> Result<(), NoMemory>
         ensures ok { OnOk result (self.new ≡ Synced ∷ self.old) }
         ensures err { OnErr result (self.new ≡ self.old) }
@@ -175,6 +180,7 @@ impl ImagedDisk {
         Ok(())
     }
 
+    /// Lays these halves in place of those of the attached log, as synced.
     pub fn lay(&mut self, first: Vec<u8>, second: Vec<u8>) -> Result<(), NoMemory>
         ensures ok { OnOk result (self.new ≡ Laid first.items second.items ∷ self.old) }
         ensures err { OnErr result (self.new ≡ self.old) }

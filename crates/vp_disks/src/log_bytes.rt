@@ -112,7 +112,7 @@ fn place_of(logs: &[NamedLog], name: &Word) -> Option<usize>
     logs.iter().position(|log| log.is_of(name))
 }
 
-// Writes over what is there, and past the end. What lies between the old end and that place is 0.
+/// Writes over what is there, and past the end. What lies between the old end and that place is 0.
 fn write_over(half: &mut Vec<u8>, at: usize, piece: &[u8]) -> Result<(), NoMemory>
     requires { at + length piece.now ≤ 2 ^ 62 }
     ensures ok { OnOk result (half.new.items ≡ written at piece.now half.old.items) }
@@ -123,7 +123,7 @@ fn write_over(half: &mut Vec<u8>, at: usize, piece: &[u8]) -> Result<(), NoMemor
     Ok(())
 }
 
-// Puts 0 behind the end, up to that length.
+/// Puts 0 behind the end, up to that length.
 fn lengthen(half: &mut Vec<u8>, length: usize) -> Result<(), NoMemory>
     ensures ok { OnOk result (half.new.items ≡ half.old.items ++ replicate (length - vec_len half.old) 0) }
     ensures err { OnErr result (half.new.items ≡ half.old.items) }

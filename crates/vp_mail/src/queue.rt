@@ -16,7 +16,8 @@ struct Numbered {
     delivered: bool,
 }
 
-/// The messages in the order of their numbers. One that is delivered is marked, and leaves with those before it or behind it.
+/// The messages by ascending number. One that is delivered is marked; it leaves the queue once all before it, or all behind it, are
+/// delivered too.
 #[derive(Drop)]
 pub struct Queue {
     messages: VecDeque<Numbered>,

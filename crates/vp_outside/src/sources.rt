@@ -7,7 +7,7 @@ ghost use Rattle.vp_outside.specs.Plans.{CountsCall, unstarted};
 use crate::fault_plan::FaultPlan;
 use crate::source::{Failed, Source};
 
-// Bytes that are given from the first one on.
+/// Bytes that are given from the first one on.
 #[derive(Drop)]
 struct Text {
     bytes: Vec<u8>,
@@ -29,7 +29,7 @@ impl Text {
         }
     }
 
-    // Gives what is left, as far as there is room and no more than `most` bytes.
+    /// Gives what is left, as far as there is room and no more than `most` bytes.
     fn give(&mut self, buf: &mut [u8], most: usize) -> usize
         ensures count { result ≡ min (min (length buf.old) most) (length self.old.bytes.items - self.old.at) }
         ensures given { buf.new ≡ take result (drop self.old.at self.old.bytes.items) ++ drop result buf.old }

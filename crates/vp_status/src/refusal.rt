@@ -6,6 +6,7 @@ ghost use Rattle.vp_status.specs.Refused.{bad_line_text, twice_text, limited, li
 use vp_base::{MOST_MESSAGES, MOST_RECORDS, NoMemory};
 use vp_text::print_number;
 
+/// Tells which line of the input is at fault, and at which byte.
 pub fn print_bad_line(line: usize, at: usize, out: &mut Vec<u8>) -> Result<(), NoMemory>
     ensures { OnOk result (out.new.items ≡ out.old.items ++ bad_line_text line at) }
 {
@@ -17,6 +18,7 @@ pub fn print_bad_line(line: usize, at: usize, out: &mut Vec<u8>) -> Result<(), N
     Ok(())
 }
 
+/// Tells which line of the input has a port or a name for the second time.
 pub fn print_twice(line: usize, out: &mut Vec<u8>) -> Result<(), NoMemory>
     ensures { OnOk result (out.new.items ≡ out.old.items ++ twice_text line) }
 {
@@ -39,6 +41,7 @@ fn limited(limit: u32) -> &'static [u8]
     }
 }
 
+/// Tells a limit: how many records, messages or events there may be.
 pub fn print_limit(limit: u32, out: &mut Vec<u8>) -> Result<(), NoMemory>
     ensures { OnOk result (out.new.items ≡ out.old.items ++ limit_text limit) }
 {

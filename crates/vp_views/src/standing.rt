@@ -11,7 +11,7 @@ use vp_lists::put_in;
 #[derive(Drop)]
 pub enum Standing {
     Apart,
-    /// The sites heard since the last probes are there once a probe was made in this view.
+    /// `heard` are the sites whose probes have come since this site probed last; none before it probes in this view.
     Holding { view: View, heard: Option<Sites> },
     Waiting,
     Inviting { accepted: Sites },

@@ -94,6 +94,7 @@ impl Views {
         self.promise
     }
 
+    /// The view that the site is in, if it is in one.
     pub fn held(&self) -> Option<&View>
         ensures view { option_copied result ≡ self.now.held }
         ensures promised { IfSome self.now.held (λ view. view.id ≡ self.now.promise) }

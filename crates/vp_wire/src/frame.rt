@@ -1,8 +1,8 @@
-//! Frames, which are the datagrams of sites and clients.
+//! Frames: what the datagrams of sites and clients hold.
 
 use vp_base::{Answer, Call, CopyOf, Message, NoMemory};
 
-/// A datagram. A message goes from site to site, each a number from 1 to 16. A reply goes from a site to 0, and everything else
+/// What a datagram holds. A message goes from site to site, each a number from 1 to 16. A reply goes from a site to 0, and everything else
 /// from 0 to a site.
 #[derive(Drop)]
 pub struct Frame {
@@ -11,12 +11,14 @@ pub struct Frame {
     pub body: Body,
 }
 
+/// What a frame says. Those without a field are orders to a node.
 #[derive(Drop)]
 pub enum Body {
     Message(Message),
     Call(Call),
     Reply(Answer),
     Tick,
+    /// The node is to probe the other sites, to which its site then sends a `Message::Probe`.
     ProbeNow,
     Stop,
 }

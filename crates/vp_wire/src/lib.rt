@@ -1,4 +1,4 @@
-//! Frames, which are the datagrams of sites and clients: each one has one spelling in bytes, and here it is written.
+//! Frames, which are what the datagrams of sites and clients hold: each one has one spelling in bytes, and here it is written.
 #![tactic(auto)]
 
 mod answers;

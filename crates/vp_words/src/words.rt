@@ -66,7 +66,7 @@ pub enum Command {
 pub enum Signal {
     /// Time has passed: calls that wait are late.
     Tick,
-    /// The monitor asks the other sites of the view.
+    /// The site probes every other site of the catalogue, or invites them to a new view.
     Probe,
     /// The node ends.
     Stop,
