@@ -13,6 +13,7 @@ use crate::seq::CopyOf;
 use crate::text::{Name, Value};
 use std::alloc::Global;
 
+/// What a client asks of a site. The number of a call counts those of its transaction, from 1.
 #[derive(Drop)]
 pub enum Call {
     Begin,
@@ -51,10 +52,13 @@ pub enum Input {
 #[derive(Drop)]
 pub enum Event {
     Call { site: SiteId, call: Call },
+    /// The message that was sent as number `k` is delivered; the first one of the run is 1.
     Deliver { k: u32 },
+    /// At most `count` messages are delivered.
     Flow { count: u32 },
     Tick { site: SiteId },
     Probe { site: SiteId },
+    /// Nothing is delivered between the sites `a` and `b` until they are healed.
     Cut { a: SiteId, b: SiteId },
     Heal { a: SiteId, b: SiteId },
     Crash { site: SiteId },
