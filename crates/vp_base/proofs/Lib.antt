@@ -1,4 +1,3 @@
-pub mod Words
 pub mod Newlines
 pub mod Views
 pub mod Txns

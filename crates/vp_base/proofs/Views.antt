@@ -124,12 +124,6 @@ view_from_exact last good = exact_as (from_to last good) (from_from last) (numbe
 sites_go : (least number : ℕ) → GoesOn is_digit (Then (IsLiteral (64 ∷ [])) (λ _. Made (IsNumber least (most_site number)) (view_of number)))
 sites_go least number = literal_goes is_digit (64 ∷ []) (made_goes is_digit (number_goes least (most_site number) (site_range number).1))
 
-pub view_goes : GoesOn is_digit IsViewText
-view_goes =
-    goes_as is_digit view_from (then_goes is_digit (number_one 0 (2 ^ 64 - 1) (omega arith) (omega arith))
-    (follows_from is_digit (number_goes 0 (2 ^ 64 - 1) (omega arith)) (λ number. literal_outside is_digit (64 ∷ []) refl))
-    (λ number. sites_go (least_site number) number))
-
 pub view_from_goes : (last : ViewId) → IsView last → GoesOn is_digit (IsViewFrom last)
 view_from_goes last good =
     goes_as is_digit (from_from last) (then_goes is_digit (number_one last.number (2 ^ 64 - 1) (omega (arith, good.number_fits)) (omega arith))

@@ -1,9 +1,9 @@
 -- Numbers in a fixed count of bytes are read exactly: any number, or any but 0.
-use Rattle.std.proofs.Common.{◌≡◌, ℕ, zero, suc, ◌+◌, ◌*◌, List, [], ◌∷◌, ◌++◌, length, Bool, true, Err, refl, sym, ap, ◌∙◌, arith, not, nat_lt}
+use Rattle.std.proofs.Common.{◌≡◌, ℕ, zero, suc, ◌+◌, ◌*◌, List, [], ◌∷◌, length, Bool, true, Err, refl, sym, ap, arith, not, nat_lt}
 use Rattle.std.proofs.lemmas.Bool.{lt-ltb, or_right}
 use Rattle.vp_text.proofs.Exact.{Apart, Exact, Then, done, ok_value}
 use Rattle.vp_bytes.specs.Reading.{digit_fits, digits_at}
-use Rattle.vp_bytes.proofs.Free.{IsFree, IsByteOf, byte_free, byte_exact, free_then, even_free}
+use Rattle.vp_bytes.proofs.Free.{IsByteOf, byte_free, byte_exact, free_then}
 
 -- The text is n bytes, and with the front of its number before them they make the number x.
 abbrev pub HasDigits : Bool → ℕ → ℕ → ℕ → List ℕ → Type 0
@@ -32,13 +32,3 @@ pub digits_exact : (some : Bool) (n front : ℕ) → Exact (HasDigits some n fro
 digits_exact some zero front = nothing_exact some front
 digits_exact some (suc n) front =
     free_then (byte_free {has = digit_fits some n front}) (byte_exact (digit_fits some n front) 255 (greatest_fits some n front)) (λ c. digits_exact some n (front * 256 + c))
-
-pub digits_length : (some : Bool) (n front x : ℕ) (text : List ℕ) → HasDigits some n front x text → length text ≡ n
-digits_length some zero front x text h = ap length h.0
-digits_length some (suc n) front x text h =
-    let back = digits_length some n (front * 256 + h.first) x h.back h.after in
-    let whole : length text ≡ suc (length h.back) = ap length (h.parts ∙ ap (λ (t : List ℕ). t ++ h.back) h.before.is) in
-    omega (arith, back, whole)
-
-pub digits_free : (some : Bool) (n front : ℕ) → IsFree (HasDigits some n front)
-digits_free some n front = even_free {L = HasDigits some n front} n (λ x t h. digits_length some n front x t h)

@@ -11,14 +11,7 @@ pub onto : {X : Type 0} (front : List X) (x : X) (read : Result (List X × List 
 onto {X = X} front x (Ok y) = ap (λ (xs : List X). Ok (xs, y.1)) (sym (append_assoc front (x ∷ []) y.0))
 onto front x (Err n) = refl
 
-pub from_nothing : {X : Type 0} (read : Result (List X × List ℕ) ℕ) → with_front [] read ≡ read
-from_nothing (Ok y) = refl
-from_nothing (Err n) = refl
-
 module _ {X : Type 0} (key : X → ℕ) (item : ℕ → ℕ → List ℕ → Result (X × List ℕ) ℕ) where
-  pub run_starts : (n least : ℕ) (bytes : List ℕ) → with_front [] (run_at key item n least bytes) ≡ run_at key item n least bytes
-  run_starts n least bytes = from_nothing (run_at key item n least bytes)
-
   pub run_goes : (front : List X) (n least : ℕ) (bytes : List ℕ) (x : X) (rest : List ℕ) (total : Result (List X × List ℕ) ℕ) → item n least bytes ≡ Ok (x, rest)
       → with_front front (run_at key item (suc n) least bytes) ≡ total → with_front (front ++ x ∷ []) (run_at key item n (suc (key x)) rest) ≡ total
   unfolding run_at

@@ -53,14 +53,6 @@ begun_part old front part more text new e h =
 at_item : {X : Type 0} (xs : List X) (i : ℕ) (x : X) → i < length xs → x ≡ get_or xs i x → xs ≡ take i xs ++ (x ∷ drop (suc i) xs)
 at_item xs i x within is = sym (take-append-drop i xs) ∙ ap (λ (r : List _). take i xs ++ r) (drop-cons xs i x within ∙ ap (λ (y : _). y ∷ drop (suc i) xs) (sym is))
 
--- the items before one of them
-pub begun_before : {X : Type 0} (f : X → List ℕ) (old front : List ℕ) (xs : List X) (i : ℕ) (new : List ℕ) → new ≡ old ++ (front ++ flat_map f (take i xs)) → is_begun old (front ++ flat_map f xs) new ≡ true
-begun_before f old front xs i new e =
-    let parts : flat_map f xs ≡ flat_map f (take i xs) ++ flat_map f (drop i xs) = ap (flat_map f) (sym (take-append-drop i xs)) ∙ flat_map-append f (take i xs) (drop i xs) in
-    let all : front ++ flat_map f xs ≡ (front ++ flat_map f (take i xs)) ++ flat_map f (drop i xs) =
-    ap (λ (t : List ℕ). front ++ t) parts ∙ sym (append_assoc front (flat_map f (take i xs)) (flat_map f (drop i xs))) in
-    subst (λ (t : List ℕ). is_begun old t new ≡ true) (sym all) (begun_first old (front ++ flat_map f (take i xs)) (flat_map f (drop i xs)) new (begun_whole old (front ++ flat_map f (take i xs)) new e))
-
 -- the items before one of them, and a beginning of that one
 pub begun_item : {X : Type 0} (f : X → List ℕ) (old front : List ℕ) (xs : List X) (i : ℕ) (x : X) (new : List ℕ) → i < length xs → x ≡ get_or xs i x
     → is_begun (old ++ (front ++ flat_map f (take i xs))) (f x) new ≡ true → is_begun old (front ++ flat_map f xs) new ≡ true

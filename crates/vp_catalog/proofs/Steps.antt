@@ -8,7 +8,7 @@ use Rattle.std.proofs.lemmas.List.{length-append, append-nil, nil_from_length}
 use Rattle.std.proofs.lemmas.List.Concat.{flat_map-cons}
 use Rattle.vp_text.specs.Documents.{reached, LinesText, IsFaultyLine}
 use Rattle.vp_text.proofs.Items.{all_push}
-use Rattle.vp_text.proofs.Lists.{Readable, SoFar, so_far_start, so_far_exact, so_far_shorter, so_far_more, so_far_bad, so_far_faulty, fault_no_line, longest_in_line}
+use Rattle.vp_text.proofs.Lists.{Readable, SoFar, so_far_exact, so_far_shorter, so_far_more, so_far_bad, so_far_faulty, fault_no_line, longest_in_line}
 use Rattle.vp_text.proofs.Whole.{fault_longest}
 use Rattle.vp_model.specs.Words.{keys}
 use Rattle.vp_model.specs.Catalogue.{Catalogue, RecordEntry, sites_of}
@@ -136,12 +136,6 @@ said_text (kind.Record entry ∷ es) t h =
     ∙ ap (λ (x : List ℕ). sites ++ x) (sym (flat_map_push record_line c.records entry))
 
 -- ---- the steps of the reader
-
-pub stands_first : (text rest : List ℕ) (c : Catalogue) → rest ≡ text → c ≡ nothing → Stands text rest c 1
-stands_first text rest c e g = subst (λ (c : Catalogue). Stands text rest c 1) (sym g) (subst (λ (r : List ℕ). Stands text r nothing 1) (sym e) (so_far_start nothing after EntryText Onward entry_at text))
-
-pub stands_bound : (text rest : List ℕ) (c : Catalogue) (line : ℕ) → Stands text rest c line → line + length rest ≤ length text + 1
-stands_bound text rest c line s = s.bound
 
 pub stands_room : (text rest : List ℕ) (c : Catalogue) (line : ℕ) → Stands text rest c line → (left : ℕ) → entry_at c rest ≡ Err left → left ≤ length rest
 stands_room text rest c line s left read = (so_far_bad nothing after EntryText Onward entry_at text rest c line left (readable (length text)) s read).0

@@ -12,9 +12,6 @@ has_push (d ∷ D) k j = let rest = has_push D k j in grind (arith, nat_tests, r
 pub has_other : (D : List ℕ) (k j : ℕ) → (k == j) ≡ false → has (D ++ k ∷ []) j ≡ has D j
 has_other D k j e = let p = has_push D k j in grind (arith, nat_tests, p, e)
 
-has_same : (D : List ℕ) (k : ℕ) → has (D ++ k ∷ []) k ≡ true
-has_same D k = let p = has_push D k k in grind (arith, nat_tests, p)
-
 module _ (pair : ℕ) where
   -- one more message
   pub sent_push : (D : List ℕ) (n : ℕ) (xs : List Sent) (s : Sent) → waiting pair D n (xs ++ s ∷ []) ≡ waiting pair D n xs ++ waiting pair D (n + length xs) (s ∷ [])

@@ -11,7 +11,7 @@ use Rattle.vp_text.proofs.Exact.{Apart, Parts, IsFault, Exact, cut, bind_ok, bin
 use Rattle.vp_text.proofs.Repeats.{with_front}
 use Rattle.vp_bytes.specs.Fields.{Spelled}
 use Rattle.vp_bytes.proofs.Free.{IsFree}
-use Rattle.vp_bytes.proofs.Turns.{onto, from_nothing}
+use Rattle.vp_bytes.proofs.Turns.{onto}
 use Rattle.vp_records.specs.Reading.{each_at}
 
 -- ---- plain facts
@@ -24,10 +24,6 @@ apart_on : (r more rest : List ℕ) → Parts r rest → Apart (r ++ more) rest
 apart_on [] more rest h = absurd h
 apart_on (x ∷ r) more [] h = tt
 apart_on (x ∷ r) more (c ∷ rest) h = h
-
-apart_same : (rest : List ℕ) → 0 < length rest → Apart rest rest → ⊥
-apart_same [] some h = omega (arith, some)
-apart_same (c ∷ rest) some h = h refl
 
 nothing_front : (a b : List ℕ) → [] ≡ a ++ b → b ≡ []
 nothing_front [] b e = sym e
@@ -212,9 +208,6 @@ module _ {X : Type 0} (f : X → List ℕ) (F : X → Type 0) (item : List ℕ �
     pub fuel : ℕ
     pub enough : length bytes ≤ fuel
     pub so_far : with_front front (each_at item fuel bytes) ≡ total
-
-  pub turn_first : (fuel : ℕ) (bytes : List ℕ) → length bytes ≤ fuel → Turn [] bytes (each_at item fuel bytes)
-  turn_first fuel bytes le = record { fuel = fuel; enough = le; so_far = from_nothing (each_at item fuel bytes) }
 
   pub turn_next : Items → (front : List X) (bytes : List ℕ) (total : Result (List X × List ℕ) ℕ) (x : X) (rest : List ℕ) → 0 < length bytes → item bytes ≡ Ok (x, rest) → Turn front bytes total → Turn (front ++ x ∷ []) rest total
   unfolding each_at

@@ -10,10 +10,6 @@ use Rattle.vp_stable.proofs.Opened.{opened-push, length-opened-push, all_push, l
 
 -- ---- any write
 
--- a write that does nothing
-pub torn_same : (at n : ℕ) (old : List ℕ) → Torn at n old old
-torn_same at n old = record { before = take_min at old; after = refl; no_shorter = omega arith; no_longer = omega arith }
-
 -- a write that is done
 pub torn_written : (at : ℕ) (bytes old new : List ℕ) → Written at bytes old new → Torn at (length bytes) old new
 torn_written at bytes old new written =

@@ -1,5 +1,5 @@
 -- How calls of a disk go on from each other.
-use Rattle.std.proofs.Common.{◌≡◌, inl, inr, ⊎_elim, ℕ, List, refl, ◌∙◌, subst, arith}
+use Rattle.std.proofs.Common.{◌≡◌, inl, inr, ⊎_elim, ℕ, List, ◌∙◌, subst, arith}
 use Rattle.std.specs.declared.option.Option.{Option}
 use Rattle.vp_outside.specs.Disk.{Halves, DiskState, log_of, StaysAttached, Untouched, Elapses}
 use Rattle.vp_outside.specs.DiskCalls.{GoesOn, LeavesLogs}
@@ -38,14 +38,6 @@ untouched_then log a b c first second = record { same = second.same ∙ first.sa
 
 -- ---- calls that change no log
 
-pub quiet_none : (disk : DiskState) → Quiet disk disk
-quiet_none disk = record {
-  stays = record { same_name = refl; same_attached = refl };
-  as_honest = (λ h. h, λ h. h);
-  untouched = λ log. record { same = refl; no_other = λ image left. left };
-  time = λ log. elapses_none log disk (disk.may_leave log);
-}
-
 pub quiet_join : {a b c : DiskState} → Quiet a b → Quiet b c → Quiet a c
 quiet_join {a = a} {b = b} {c = c} first second = record {
   stays = stays_then a b c first.stays second.stays;
@@ -75,9 +67,6 @@ told_before {old = old} {new = new} P quiet h =
 
 pub others_quiet : {old new : DiskState} → Quiet old new → LeavesOthers old new
 others_quiet quiet = record { stays = quiet.stays; honest = quiet.as_honest; elsewhere = λ log other. quiet.untouched log; any_moment = λ log other. quiet.time log }
-
-pub others_none : (disk : DiskState) → LeavesOthers disk disk
-others_none disk = others_quiet (quiet_none disk)
 
 -- a call of the disk
 pub others_one : {old new : DiskState} → StaysAttached old new → GoesOn old new → ((log : Option (List ℕ)) → (log ≡ old.asked → ⊥) → Untouched log old new) → LeavesOthers old new

@@ -126,9 +126,6 @@ literal_opens literal = λ b t m. (m.back, m.parts ∙ ap (λ (x : List ℕ). x 
 pub made_opens : {B : Type 0} {make : Unit {0} → B} (literal : List ℕ) → Opens literal (Made (IsLiteral literal) make)
 made_opens literal = λ b t m. ([], m.spelled ∙ sym (append-nil literal))
 
-pub either_opens : {A : Type 0} {L M : A → List ℕ → Type 0} (key : List ℕ) → Opens key L → Opens key M → Opens key (Either L M)
-either_opens key opens other = λ a t w. elim w [ inl l ↦ opens a t l | inr m ↦ other a t m ]
-
 -- ---- with which bytes a text goes on to another
 
 abbrev pub GoesOn : {A : Type 0} → (ℕ → Bool) → (A → List ℕ → Type 0) → Type 0

@@ -107,9 +107,6 @@ module _ {S E : Type 0} (first : S) (after : S → E → S) (Line : S → E → 
     pub number : length lines + 1 ≡ line
     pub bound : line + length rest ≤ length text + 1
 
-  pub so_far_start : (text : List ℕ) → SoFar text text first 1
-  so_far_start text = record { lines = []; front = []; lines_are = refl; state_is = refl; parts = refl; number = refl; bound = omega arith }
-
   pub so_far_exact : (text rest : List ℕ) (s : S) (line : ℕ) → Readable (length text) → SoFar text rest s line → Exact (Line s) (read s)
   so_far_exact text rest s line r f =
       subst (λ (s : S). Exact (Line s) (read s)) f.state_is (r.exact f.lines f.front (omega (arith, ap length f.parts, length-append f.front rest)) f.lines_are)

@@ -41,9 +41,6 @@ message_found messages.RefreshRequest = refl
 message_found messages.RefreshAnswer = refl
 message_found messages.Probe = refl
 
-pub message_codes : Codes message_code message_kind
-message_codes = record { found = message_found; only = coded_only message_code message_kinds; some = messages.Invite }
-
 call_found : (kind : CallKind) → call_kind (call_code kind) ≡ Some kind
 call_found calls.Begin = refl
 call_found calls.Regroup = refl

@@ -1,5 +1,5 @@
 -- An event leaves the count of steps, and what that says of the limits.
-use Rattle.std.proofs.Common.{◌≡◌, ◌≤◌, ◌+◌, ◌-◌, ◌^◌, ◌==◌, ℕ, Bool, true, false, nat_lt, if◌then◌else◌, is_some, List, length, Option, Some, None, Result, Ok, Err, OnOk, IfOk, refl, ap, ◌∙◌, arith}
+use Rattle.std.proofs.Common.{◌≡◌, ◌≤◌, ◌+◌, ◌-◌, ◌^◌, ◌==◌, ℕ, Bool, true, false, nat_lt, if◌then◌else◌, is_some, List, length, Option, Some, None, Result, Ok, Err, OnOk, refl, ap, ◌∙◌, arith}
 use Rattle.std.specs.Option.{option_map_or}
 use Rattle.std.proofs.lemmas.Bool.Decides.{nat_tests}
 use Rattle.vp_model.specs.Types.{Sent, Counted, Input, Event, Shown}
@@ -92,7 +92,3 @@ module _ (catalogue : Catalogue) (e : Event) (w : WorldState) where
         let counted : (next catalogue e w).world.steps ≡ w.steps + 1 = happens_steps catalogue (record w { steps = w.steps + 1 }) e in
         rw moved (record { steps = rw counted (few_steps (w.steps + 1) few); messages = few_messages (next catalogue e w).world.sent h.1 })
     happens_within (Err why) h = tt
-
-    pub happens_shown : (r : Result Shown WorldEnd) → Does (next catalogue e w) new r → IfOk r (λ line. shows new line ≡ next catalogue e w)
-    happens_shown (Ok line) h = h.0
-    happens_shown (Err why) h = tt

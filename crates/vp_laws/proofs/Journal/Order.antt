@@ -7,7 +7,7 @@ use Rattle.std.proofs.lemmas.List.Elements.{filter-append}
 use Rattle.vp_model.specs.Types.{ViewId, Commit}
 use Rattle.vp_model.specs.Words.{same_view, view_before, put_view, for_each}
 use Rattle.vp_model.specs.OneCopy.{views_of, in_view, order}
-use Rattle.vp_laws.proofs.Lists.Members.{Has, has_none, has_first, has_more, has_cons, has_cases, has_left, has_right, filter_has, filter_keeps}
+use Rattle.vp_laws.proofs.Lists.Members.{Has, has_none, has_first, has_more, has_cons, has_cases, has_left, has_right, filter_has}
 use Rattle.vp_laws.proofs.Lists.Changes.{put_has, put_new, put_old}
 use Rattle.vp_laws.proofs.Lists.Views.{AtMost, Precedes, AtMost-same, from_before, same_is, same_from, not_itself, above_from}
 
@@ -80,9 +80,6 @@ has_flat f (a ∷ xs) x y h k = ⊎_elim (λ (one : a ≡ x). has_left (f a) (fl
 -- the order has the entries of the journal
 pub order_has : (journal : List Commit) (f : Commit) → Has (order journal) f → Has journal f
 order_has journal f h = let r = flat_has (in_view journal) (views_of journal) f h in (filter_has (λ (e : Commit). same_view e.view r.0) journal f r.2).0
-
-pub has_order : (journal : List Commit) (f : Commit) → Has journal f → Has (order journal) f
-has_order journal f h = has_flat (in_view journal) (views_of journal) f.view f (view_there journal f h) (filter_keeps (λ (e : Commit). same_view e.view f.view) journal f h (same_from f.view f.view refl))
 
 -- a list with an entry put in, behind those of views up to its own
 pub record Split (e : Commit) (old new : List Commit) : Type 0 where

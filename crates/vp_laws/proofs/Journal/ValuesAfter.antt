@@ -14,7 +14,7 @@ use Rattle.vp_laws.proofs.Lists.Changes.{mapped_has}
 use Rattle.vp_laws.proofs.Lists.Views.{AtMost, Precedes}
 use Rattle.vp_laws.proofs.Journal.UpTo.{filter_all}
 use Rattle.vp_laws.proofs.Journal.Acts.{IsQuiet, after, after_upto, after_own, after_between, after_more, after_added}
-use Rattle.vp_laws.proofs.Lists.Pairs.{not_copied, value_key}
+use Rattle.vp_laws.proofs.Lists.Pairs.{value_key}
 
 -- the entry wrote the record
 abbrev pub Wrote : Commit → ℕ → Type 0
@@ -59,13 +59,6 @@ leaves_value e rec n start = let z = unwritten_value e rec n in rw z refl
 -- one that has leaves what it wrote
 takes_value : (e : Commit) (rec : ℕ) (value before : List ℕ) → value_at rec (last_changes e) ≡ Some value → writes_over rec e before ≡ value
 takes_value e rec value before w = ap (λ (o : Option (List ℕ)). option_map_or (λ value. value) o before) w
-
-pub written_value : (e : Commit) (rec : ℕ) → Wrote e rec → (value : List ℕ) × (value_at rec (last_changes e) ≡ Some value)
-written_value e rec h = go (value_at rec (last_changes e)) refl
-  where
-    go : (o : Option (List ℕ)) → value_at rec (last_changes e) ≡ o → (value : List ℕ) × (value_at rec (last_changes e) ≡ Some value)
-    go None q = absurd (not_copied rec (last_changes e) q h)
-    go (Some v) q = (v, q)
 
 -- where no entry between two views wrote the record, its value after both is the same
 pub value_between : (rec : ℕ) (start : List ℕ) (journal : List Commit) (c d : ViewId) → AtMost c d → ((f : Commit) → Has journal f → Precedes c f.view → AtMost f.view d → Wrote f rec → ⊥) → value_up_to rec start journal d ≡ value_up_to rec start journal c

@@ -1,20 +1,18 @@
 -- When a refusal is justified by the moments so far, and that it stays so.
-use Rattle.std.proofs.Common.{◌≡◌, ◌≢◌, ℕ, ◌≤◌, Bool, true, false, List, ◌++◌, refl, arith}
+use Rattle.std.proofs.Common.{◌≡◌, ◌≢◌, ℕ, Bool, true, false, List, ◌++◌, refl, arith}
 use Rattle.std.specs.Prelude.{Option, None, is_some, not, ◌==◌, ◌&&◌, if◌then◌else◌}
 use Rattle.std.specs.List.{list_any}
 use Rattle.std.proofs.lemmas.Bool.Decides.{nat_tests}
-use Rattle.vp_model.specs.Types.{TxnId, ViewId, Answer, Ending}
-use Rattle.vp_base.specs.declared.site.Ending.TheVariants.{Committed, Aborted, LockHeld, ViewChanged, TimedOut}
+use Rattle.vp_model.specs.Types.{TxnId, ViewId, Answer}
 use Rattle.vp_model.specs.Types.answer
 use Rattle.vp_model.specs.Words.{is_view}
 use Rattle.vp_model.specs.Catalogue.{Catalogue}
-use Rattle.vp_model.specs.Transactions.{answer_of}
 use Rattle.vp_model.specs.World.{Moment}
 use Rattle.vp_model.specs.Told.{answers_in}
 use Rattle.vp_model.specs.Justified.{was_blocked, held_other, left_and_closed, is_begun, begun_in, refused_once, justified}
 use Rattle.vp_laws.proofs.Replies.RefusedCalls.{Refusal, refusal_is, refusal_more}
 use Rattle.vp_laws.proofs.Lists.Members.{Has, has_left, any_of}
-use Rattle.vp_laws.proofs.Lists.Numbers.{eq_not, at_most_trans}
+use Rattle.vp_laws.proofs.Lists.Numbers.{eq_not}
 
 -- the transaction was begun in the view
 pub record WasBegun (past : List Moment) (txn : TxnId) (view : ViewId) : Type 0 where
@@ -54,21 +52,6 @@ fair_more catalogue past more (answer.LockHeld txn number name at holder) h = re
 fair_more catalogue past more (answer.ViewChanged txn number at held now) h = (begun_more past more txn held h.0, other_more catalogue past more txn number at held now h.1)
 fair_more catalogue past more (answer.Inaccessible txn number name inside total) h = h
 fair_more catalogue past more a h = tt
-
--- a later call is refused for the same
-refusal_larger : (past : List Moment) (txn : TxnId) (k n : ℕ) (test : ℕ → Moment → Bool) → k ≤ n → Refusal past txn k test → Refusal past txn n test
-refusal_larger past txn k n test h r = record { refused = r.refused; first = r.first; up_to = at_most_trans r.refused k n r.up_to h; once = r.once }
-
-pub fair_larger : (catalogue : Catalogue) (past : List Moment) (txn : TxnId) (k n : ℕ) (why : Ending) → k ≤ n → Fair catalogue past (answer_of txn k why) → Fair catalogue past (answer_of txn n why)
-fair_larger catalogue past txn k n Committed h f = tt
-fair_larger catalogue past txn k n Aborted h f = tt
-fair_larger catalogue past txn k n (LockHeld name at holder) h f = refusal_larger past txn k n (λ refused. was_blocked catalogue txn refused name at holder) h f
-fair_larger catalogue past txn k n (ViewChanged at held now) h f = (f.0, go now f.1)
-  where
-    go : (now : Option ViewId) → OtherView catalogue past txn k at held now → OtherView catalogue past txn n at held now
-    go now (OtherView.left here o) = OtherView.left here o
-    go now (OtherView.other w not_here e r) = OtherView.other w not_here e (refusal_larger past txn k n (λ refused. held_other catalogue txn refused at held w) h r)
-fair_larger catalogue past txn k n (TimedOut at) h f = tt
 
 any_once : (past : List Moment) (test : Moment → Bool) → Once past test → list_any test past ≡ true
 any_once past test o = any_of test past o.moment o.has o.passes

@@ -123,9 +123,6 @@ module _ (catalogue : Catalogue) (x : SiteState) (given : Input) where
   left_doubts : (o : Stepped) → Left x o → o.site.doubts ≡ x.doubts
   left_doubts o l = ap (λ (p : ParticipantState). p.doubts) l.participant
 
-  left_held : (o : Stepped) → Left x o → o.site.held ≡ None
-  left_held o l = ap (λ (v : ViewState). v.held) l.views
-
   above : Precedes x.promise (next_view x)
   above = omega arith
 

@@ -26,10 +26,6 @@ use Rattle.vp_laws.proofs.Invariant.Known.{Known}
 abbrev AreOpening : List Commit → Type 0
 AreOpening journal = (e : Commit) → Has journal e → e.view ≡ opening
 
--- one view has all entries
-put_again : put_view opening (opening ∷ []) ≡ opening ∷ []
-put_again = refl
-
 one_view : (e : Commit) (journal : List Commit) → AreOpening (e ∷ journal) → views_of (e ∷ journal) ≡ opening ∷ []
 one_view e journal all = ap (λ (v : ViewId). for_each journal (λ (c : Commit). put_view c.view) (put_view v [])) (all e (has_first e journal)) ∙ rest journal (λ c h. all c (has_more e journal c h))
   where
