@@ -23,7 +23,7 @@ use Rattle.vp_outside.specs.Output.{SinkState}
 use Rattle.vp_outside.specs.declared.datagram.Datagram.{Datagram}
 use Rattle.vp_runs.specs.Asking.{first_answer}
 use Rattle.vp_client.specs.Asked.{HasFailed}
-use Rattle.vp_serving.specs.Serving.{Outside}
+use Rattle.vp_serving.specs.Serving.{Outside, outside}
 use Rattle.vp_commands.specs.NodeEnds.{IsCalm, DecidedByLog}
 use Rattle.vp_replay.specs.Checked.{IsVerdict, IsMisspelled}
 use Rattle.vp_replay.specs.Logged.{IsLogged}
@@ -91,14 +91,11 @@ site_of _ = None
 -- ---- the claims, over disks that tell such a state
 
 module _ {D : Type 0} (state : D → DiskState) where
-  abbrev pub outside : LinkState → LinkState → SinkState → SinkState → D → D → Outside
-  outside link link' sink sink' disk disk' = record { link = link; link' = link'; sink = sink; sink' = sink'; disk = state disk; disk' = state disk' }
-
   -- Each run of the words over such objects prints the whole of a text that is so told with its status, or finds no memory.
   abbrev pub ComesTo : List (List ℕ) → (SourceState → SourceState → Outside → Type 0) → (Status → List ℕ → Type 0) → Type 0
   ComesTo words Over Told =
       (source source' : SourceState) (link link' : LinkState) (sink sink' : SinkState) (disk disk' : D) (end : Status) →
-      Ends words source source' (outside link link' sink sink' disk disk') end → Over source source' (outside link link' sink sink' disk disk') →
+      Ends words source source' (outside link link' sink sink' (state disk) (state disk')) end → Over source source' (outside link link' sink sink' (state disk) (state disk')) →
       ((text : List ℕ) × Told end text × Appends sink.held sink'.held text) ⊎ (end ≡ status.NoMemory)
 
   -- Each such run ends with this status and prints this text, or finds no memory.
@@ -163,8 +160,8 @@ module _ {D : Type 0} (state : D → DiskState) where
       (words : List (List ℕ)) (site port turns : ℕ) (log bytes : List ℕ) (catalogue : Catalogue) →
       command_of words ≡ Some (commands.Node site log turns) → Fits bytes → Answered bytes (Ok catalogue) → value_at site catalogue.sites ≡ Some port →
       (source source' : SourceState) (link link' : LinkState) (sink sink' : SinkState) (disk disk' : D) (end : Status) →
-      Ends words source source' (outside link link' sink sink' disk disk') end → IsGiven bytes source source' (outside link link' sink sink' disk disk')
-      → IsCalm (outside link link' sink sink' disk disk') → DecidedByLog catalogue site log (outside link link' sink sink' disk disk') end
+      Ends words source source' (outside link link' sink sink' (state disk) (state disk')) end → IsGiven bytes source source' (outside link link' sink sink' (state disk) (state disk'))
+      → IsCalm (outside link link' sink sink' (state disk) (state disk')) → DecidedByLog catalogue site log (outside link link' sink sink' (state disk) (state disk')) end
 
   -- ---- what cannot be done is refused
 

@@ -1,4 +1,4 @@
-use Rattle.vp_top.specs.Complete.{outside}
+use Rattle.vp_serving.specs.Serving.{outside}
 use Rattle.std.proofs.Common.{◌≡◌, ℕ, List, sym, subst, inl, inr, ◌⊎◌}
 use Rattle.std.specs.Prelude.{Some, Ok}
 use Rattle.vp_model.specs.Words.{value_at}
@@ -43,8 +43,8 @@ module _ (words : List (List ℕ)) (site port turns : ℕ) (log bytes : List ℕ
 
 pub returns : goal.returns
 returns g c words site port turns log bytes catalogue w fits answered there source source' link link' sink sink' disk disk' end (inl text) given calm =
-    let o = outside g.D.Disk.state link link' sink sink' disk disk' in
+    let o = outside link link' sink sink' (g.D.Disk.state disk) (g.D.Disk.state disk') in
     text_ends words site port turns log bytes catalogue w answered there source source' o given calm fits end (printed words source source' o end text (λ reads. given.no_source_fault) given.no_sink_fault)
 returns g c words site port turns log bytes catalogue w fits answered there source source' link link' sink sink' disk disk' end (inr node) given calm =
-    let o = outside g.D.Disk.state link link' sink sink' disk disk' in
+    let o = outside link link' sink sink' (g.D.Disk.state disk) (g.D.Disk.state disk') in
     node_ends words site port turns log bytes catalogue w answered there source source' o given calm end node
