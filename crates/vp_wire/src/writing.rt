@@ -12,7 +12,7 @@ use crate::answers::{put_answer, put_numbered_value};
 use crate::calls::put_call;
 use crate::frame::{Body, Frame};
 use crate::kind::{Kind, MessageKind};
-use bytes::BytesMut;
+use bytes::{BufMut, BytesMut};
 use vp_base::{
     Answer, CallNo, Message, NoMemory, Obstacle, RecId, SiteId, Stored, TxnId, Value, ViewId,
 };
@@ -62,11 +62,8 @@ pub fn encode_reply(from: SiteId, answer: &Answer, out: &mut BytesMut) -> Result
 fn put_head(out: &mut BytesMut, kind: Kind, from: u8, to: u8) -> Result<(), NoMemory>
     ensures { Appends result out.old.items (86 ∷ 1 ∷ frame_code kind ∷ from ∷ to ∷ []) out.new.items }
 {
-    put_byte(out, 0x56)?;
-    put_byte(out, 1)?;
-    put_byte(out, kind.code())?;
-    put_byte(out, from)?;
-    put_byte(out, to)
+    out.put_slice(&[0x56, 1, kind.code(), from, to])?;
+    Ok(())
 }
 
 #[tactic(auto, using(vp_bytes::proofs::Writing::writing))]
