@@ -210,12 +210,14 @@ fn put_prepare(
     put_writes(out, writes)
 }
 
-#[tactic(auto, using(vp_bytes::proofs::Writing::writing))]
+/// Most messages of a large run are of this kind, so its fields are put down at once.
+#[tactic(auto, using(vp_bytes::proofs::Writing::writing), unfolding(vp_bytes::specs::Fields::view_bytes, vp_bytes::specs::Fields::number_bytes))]
 fn put_refresh_request(out: &mut BytesMut, view: &ViewId, rec: RecId) -> Result<(), NoMemory>
     ensures { Appends result out.old.items (view_bytes view.now ++ rec ∷ []) out.new.items }
 {
-    put_view(out, view)?;
-    put_byte(out, rec.get())
+    let [a, b, c, d, e, f, g, h] = view.number.to_be_bytes();
+    out.put_slice(&[a, b, c, d, e, f, g, h, view.site, rec.get()])?;
+    Ok(())
 }
 
 #[tactic(auto, using(vp_bytes::proofs::Writing::writing))]
