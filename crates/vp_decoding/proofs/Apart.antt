@@ -7,8 +7,8 @@ use Rattle.vp_wire.specs.declared.kind.CallKind.{CallKind}
 use Rattle.vp_wire.specs.declared.kind.CallKind.TheVariants as calls
 use Rattle.vp_wire.specs.declared.kind.AnswerKind.{AnswerKind}
 use Rattle.vp_wire.specs.declared.kind.AnswerKind.TheVariants as answers
-use Rattle.vp_wire.specs.declared.kind.Kind.{Kind}
-use Rattle.vp_wire.specs.declared.kind.Kind.TheVariants as kinds
+use Rattle.vp_wire.specs.declared.kind.FrameKind.{FrameKind}
+use Rattle.vp_wire.specs.declared.kind.FrameKind.TheVariants as kinds
 use Rattle.vp_wire.specs.declared.frame.Body.TheVariants as body
 use Rattle.vp_wire.specs.Grammar.{IsSpelling}
 use Rattle.vp_wire.specs.Kinds.{call_code, call_kind, answer_code, answer_kind, frame_code, frame_kind}
@@ -76,7 +76,7 @@ answer_free answers.TimedOut = made_free (pair_free (one_value numbered_exact) n
 answer_free answers.Spent = made_free number8_free
 answer_free answers.TooManyLive = nothing_free _
 
-body_free : (kind : Kind) → IsFree (BodyOf kind)
+body_free : (kind : FrameKind) → IsFree (BodyOf kind)
 body_free (kinds.Message kind) = made_free (message_free kind)
 body_free kinds.Call = then_free {M = λ kind. Made (CallOf kind) (λ call. body.Call call)} (code_one call_code call_kind call_codes) (code_free call_code call_kind) (λ kind. made_free (call_free kind))
 body_free kinds.Reply = then_free {M = λ kind. Made (AnswerOf kind) (λ answer. body.Reply answer)} (code_one answer_code answer_kind answer_codes) (code_free answer_code answer_kind) (λ kind. made_free (answer_free kind))

@@ -5,8 +5,8 @@ use Rattle.vp_wire.specs.declared.frame.Frame.{Frame}
 use Rattle.vp_wire.specs.declared.frame.Body.{Body}
 use Rattle.vp_wire.specs.declared.frame.Body.TheVariants as body
 use Rattle.vp_wire.specs.declared.kind.MessageKind.{MessageKind}
-use Rattle.vp_wire.specs.declared.kind.Kind.{Kind}
-use Rattle.vp_wire.specs.declared.kind.Kind.TheVariants as kinds
+use Rattle.vp_wire.specs.declared.kind.FrameKind.{FrameKind}
+use Rattle.vp_wire.specs.declared.kind.FrameKind.TheVariants as kinds
 use Rattle.vp_wire.specs.Grammar.{IsSpelling, IsBody, call_fields, answer_fields, frame_of, fields}
 use Rattle.vp_wire.specs.Kinds.{call_code, call_kind, kind_of_call, answer_code, answer_kind, kind_of_answer, frame_code, frame_kind, kind_of_body}
 use Rattle.vp_bytes.specs.Reading.{within}
@@ -37,7 +37,7 @@ answer_parts_exact = free_then (code_free answer_code answer_kind) (code_exact a
 
 -- ---- bodies
 
-abbrev pub BodyOf : Kind → Body → List ℕ → Type 0
+abbrev pub BodyOf : FrameKind → Body → List ℕ → Type 0
 BodyOf (kinds.Message kind) = Made (MessageOf kind) (λ message. body.Message message)
 BodyOf kinds.Call = CallParts
 BodyOf kinds.Reply = AnswerParts
@@ -45,7 +45,7 @@ BodyOf kinds.Tick = Nothing body.Tick
 BodyOf kinds.ProbeNow = Nothing body.ProbeNow
 BodyOf kinds.Stop = Nothing body.Stop
 
-body_exact : (kind : Kind) → Exact (BodyOf kind) (body_at kind)
+body_exact : (kind : FrameKind) → Exact (BodyOf kind) (body_at kind)
 unfolding body_at
 body_exact (kinds.Message kind) = made_exact (λ message. body.Message message) (message_fields_exact kind)
 body_exact kinds.Call = call_parts_exact
@@ -55,14 +55,14 @@ body_exact kinds.ProbeNow = nothing_exact body.ProbeNow
 body_exact kinds.Stop = nothing_exact body.Stop
 
 -- The body is one of the kind, and stands between these numbers.
-abbrev IsBodyOf : ℕ → ℕ → Kind → Body → List ℕ → Type 0
+abbrev IsBodyOf : ℕ → ℕ → FrameKind → Body → List ℕ → Type 0
 IsBodyOf from to k body text = (kind_of_body body ≡ k) × (text ≡ fields body) × IsBody from to body
 
 -- codes of one kind, and the same fields behind them
 coded_behind : {K : Type 0} (code : K → ℕ) (a b : K) (s t : List ℕ) → a ≡ b → s ≡ t → code a ∷ s ≡ code b ∷ t
 coded_behind code a b s t kinds fields = rw (kinds, fields) refl
 
-body_to : (from to : ℕ) (k : Kind) (b : Body) (t : List ℕ) → (least_from k ≤ from) × (from ≤ most_from k) → (least_to k ≤ to) × (to ≤ most_to k) → BodyOf k b t → IsBodyOf from to k b t
+body_to : (from to : ℕ) (k : FrameKind) (b : Body) (t : List ℕ) → (least_from k ≤ from) × (from ≤ most_from k) → (least_to k ≤ to) × (to ≤ most_to k) → BodyOf k b t → IsBodyOf from to k b t
 body_to from to (kinds.Message kind) b t f g h =
     let m = message_to kind h.from t h.spelled in
     subst (λ (b : Body). IsBodyOf from to (kinds.Message kind) b t) (sym h.is) (ap (λ (k : MessageKind). kinds.Message k) m.0, m.1, (f, g, m.2))
@@ -167,7 +167,7 @@ frame_from f t h =
       parts = h.is;
     }
 
-range_from : (k : Kind) → least_from k ≤ most_from k
+range_from : (k : FrameKind) → least_from k ≤ most_from k
 range_from (kinds.Message kind) = omega arith
 range_from kinds.Call = omega arith
 range_from kinds.Reply = omega arith
@@ -175,7 +175,7 @@ range_from kinds.Tick = omega arith
 range_from kinds.ProbeNow = omega arith
 range_from kinds.Stop = omega arith
 
-range_to : (k : Kind) → least_to k ≤ most_to k
+range_to : (k : FrameKind) → least_to k ≤ most_to k
 range_to (kinds.Message kind) = omega arith
 range_to kinds.Call = omega arith
 range_to kinds.Reply = omega arith

@@ -5,8 +5,8 @@ use Rattle.vp_wire.specs.declared.frame.Frame.{Frame}
 use Rattle.vp_wire.specs.Grammar.{frame_of}
 use Rattle.vp_wire.specs.declared.frame.Body.{Body}
 use Rattle.vp_wire.specs.declared.frame.Body.TheVariants as body
-use Rattle.vp_wire.specs.declared.kind.Kind.{Kind}
-use Rattle.vp_wire.specs.declared.kind.Kind.TheVariants as kinds
+use Rattle.vp_wire.specs.declared.kind.FrameKind.{FrameKind}
+use Rattle.vp_wire.specs.declared.kind.FrameKind.TheVariants as kinds
 use Rattle.vp_bytes.specs.Codes.{code_at}
 use Rattle.vp_wire.specs.Kinds.{frame_kind, call_kind, answer_kind}
 use Rattle.vp_bytes.specs.Reading.{byte_at, within}
@@ -15,7 +15,7 @@ use Rattle.vp_decoding.specs.Calls.{call_at}
 use Rattle.vp_decoding.specs.Answers.{answer_at}
 
 -- From whom a frame of the kind comes: messages and replies come from sites, and the rest from number 0.
-abbrev pub least_from : Kind → ℕ
+abbrev pub least_from : FrameKind → ℕ
 least_from (kinds.Message kind) = 1
 least_from kinds.Call = 0
 least_from kinds.Reply = 1
@@ -23,7 +23,7 @@ least_from kinds.Tick = 0
 least_from kinds.ProbeNow = 0
 least_from kinds.Stop = 0
 
-abbrev pub most_from : Kind → ℕ
+abbrev pub most_from : FrameKind → ℕ
 most_from (kinds.Message kind) = 16
 most_from kinds.Call = 0
 most_from kinds.Reply = 16
@@ -32,7 +32,7 @@ most_from kinds.ProbeNow = 0
 most_from kinds.Stop = 0
 
 -- To whom it goes: replies to number 0, and the rest to sites.
-abbrev pub least_to : Kind → ℕ
+abbrev pub least_to : FrameKind → ℕ
 least_to (kinds.Message kind) = 1
 least_to kinds.Call = 1
 least_to kinds.Reply = 0
@@ -40,7 +40,7 @@ least_to kinds.Tick = 1
 least_to kinds.ProbeNow = 1
 least_to kinds.Stop = 1
 
-abbrev pub most_to : Kind → ℕ
+abbrev pub most_to : FrameKind → ℕ
 most_to (kinds.Message kind) = 16
 most_to kinds.Call = 16
 most_to kinds.Reply = 0
@@ -62,7 +62,7 @@ coded_answer_at bytes = do
   answer ← answer_at kind.0 kind.1
   Ok (body.Reply answer.0, answer.1)
 
-unfoldable pub body_at : Kind → List ℕ → Result (Body × List ℕ) ℕ
+unfoldable pub body_at : FrameKind → List ℕ → Result (Body × List ℕ) ℕ
 body_at (kinds.Message kind) bytes = message_at kind bytes >>= λ message. Ok (body.Message message.0, message.1)
 body_at kinds.Call bytes = coded_call_at bytes
 body_at kinds.Reply bytes = coded_answer_at bytes

@@ -16,7 +16,7 @@ use std::alloc::Global;
 use vp_base::{LAST_SITE, LineFault};
 use vp_bytes::{take_byte, take_coded};
 use vp_text::{Cursor, Unexpected};
-use vp_wire::{AnswerKind, Body, CallKind, Frame, Kind};
+use vp_wire::{AnswerKind, Body, CallKind, Frame, FrameKind};
 
 /// The frame that the bytes are the spelling of. `BadFrame` says how many of them begin one.
 pub fn decode(alloc: Global, bytes: &[u8]) -> Result<Frame, WireFault>
@@ -46,7 +46,7 @@ fn take_frame(alloc: Global, cursor: &mut Cursor) -> Result<Frame, LineFault>
 {
     take_byte(cursor, 0x56, 0x56)?;
     take_byte(cursor, 1, 1)?;
-    let kind: Kind = take_coded(cursor)?;
+    let kind: FrameKind = take_coded(cursor)?;
     let from = take_from(cursor, kind)?;
     let to = take_to(cursor, kind)?;
     let body = take_body(alloc, cursor, kind)?;
@@ -54,41 +54,45 @@ fn take_frame(alloc: Global, cursor: &mut Cursor) -> Result<Frame, LineFault>
 }
 
 /// Takes the number from which a frame of the kind comes.
-fn take_from(cursor: &mut Cursor, kind: Kind) -> Result<u8, Unexpected>
+fn take_from(cursor: &mut Cursor, kind: FrameKind) -> Result<u8, Unexpected>
     ensures { Reads (λ x. x) (λ e. e.left) result cursor.new (byte_at (within (least_from kind) (most_from kind)) cursor.old) }
 {
     match kind {
-        Kind::Message(_) | Kind::Reply => take_byte(cursor, 1, LAST_SITE),
-        Kind::Call | Kind::Tick | Kind::ProbeNow | Kind::Stop => take_byte(cursor, 0, 0),
+        FrameKind::Message(_) | FrameKind::Reply => take_byte(cursor, 1, LAST_SITE),
+        FrameKind::Call | FrameKind::Tick | FrameKind::ProbeNow | FrameKind::Stop => take_byte(
+            cursor, 0, 0,
+        ),
     }
 }
 
 /// Takes the number to which a frame of the kind goes.
-fn take_to(cursor: &mut Cursor, kind: Kind) -> Result<u8, Unexpected>
+fn take_to(cursor: &mut Cursor, kind: FrameKind) -> Result<u8, Unexpected>
     ensures { Reads (λ x. x) (λ e. e.left) result cursor.new (byte_at (within (least_to kind) (most_to kind)) cursor.old) }
 {
     match kind {
-        Kind::Reply => take_byte(cursor, 0, 0),
-        Kind::Message(_) | Kind::Call | Kind::Tick | Kind::ProbeNow | Kind::Stop => {
-            take_byte(cursor, 1, LAST_SITE)
-        }
+        FrameKind::Reply => take_byte(cursor, 0, 0),
+        FrameKind::Message(_)
+        | FrameKind::Call
+        | FrameKind::Tick
+        | FrameKind::ProbeNow
+        | FrameKind::Stop => { take_byte(cursor, 1, LAST_SITE) }
     }
 }
 
 #[tactic(auto, unfolding(crate::specs::Frames::body_at))]
-fn take_body(alloc: Global, cursor: &mut Cursor, kind: Kind) -> Result<Body, LineFault>
+fn take_body(alloc: Global, cursor: &mut Cursor, kind: FrameKind) -> Result<Body, LineFault>
     ensures { Tries (λ b. b) line_left result cursor.new (body_at kind cursor.old) }
 {
     match kind {
-        Kind::Message(kind) => {
+        FrameKind::Message(kind) => {
             let message = take_message(alloc, cursor, kind)?;
             Ok(Body::Message(message))
         }
-        Kind::Call => take_coded_call(alloc, cursor),
-        Kind::Reply => take_coded_answer(alloc, cursor),
-        Kind::Tick => Ok(Body::Tick),
-        Kind::ProbeNow => Ok(Body::ProbeNow),
-        Kind::Stop => Ok(Body::Stop),
+        FrameKind::Call => take_coded_call(alloc, cursor),
+        FrameKind::Reply => take_coded_answer(alloc, cursor),
+        FrameKind::Tick => Ok(Body::Tick),
+        FrameKind::ProbeNow => Ok(Body::ProbeNow),
+        FrameKind::Stop => Ok(Body::Stop),
     }
 }
 

@@ -21,7 +21,7 @@ Follow catalogue w [] v = w ≡ v
 Follow catalogue w (m ∷ moments) v = (m ≡ moment m.number w m.line.event (next catalogue m.line.event w)) × Follow catalogue m.after moments v
 
 module _ (catalogue : Catalogue) where
-  one_more : (number : ℕ) (e : Event) (moments : List Moment) (w v : WorldState) → Follow catalogue w moments v → Follow catalogue w (moments ++ moment number v e (next catalogue e v) ∷ []) (next catalogue e v).world
+  pub one_more : (number : ℕ) (e : Event) (moments : List Moment) (w v : WorldState) → Follow catalogue w moments v → Follow catalogue w (moments ++ moment number v e (next catalogue e v) ∷ []) (next catalogue e v).world
   one_more number e [] w v h = subst (λ (w : WorldState). Follow catalogue w (moment number v e (next catalogue e v) ∷ []) (next catalogue e v).world) (sym h) (refl, refl)
   one_more number e (m ∷ moments) w v h = (h.0, one_more number e moments m.after v h.1)
 

@@ -171,7 +171,7 @@ impl Node {
     {
         let alloc = catalog.sites().allocator();
         let what = arrival(alloc, catalog, self.site.id(), port, bytes)?;
-        let line = arrival_line(alloc, port, bytes, &what)?;
+        let line = arrival_line(alloc, bytes, &what)?;
         let (node, turn_effects) = self.take(catalog, disk, what)?;
         Ok((node, turn_effects.recorded(line)?))
     }

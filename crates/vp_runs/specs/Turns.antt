@@ -66,17 +66,18 @@ turn_on catalogue site (Gives given) = step_turn catalogue site.id (step catalog
 abbrev pub worded : List ℕ → List ℕ → List ℕ
 worded word text = word ++ (text ++ 10 ∷ [])
 
-abbrev pub arrival_line : Datagram → Arrival → List ℕ
-arrival_line d (Bad at) = worded (codes "bad ") (decimal at)
-arrival_line d Stray = worded (codes "stray ") (encode_lower d.bytes)
-arrival_line d Stops = worded (codes "in ") (encode_lower d.bytes)
-arrival_line d (Gives given) = worded (codes "in ") (encode_lower d.bytes)
+-- the line of the bytes that came, and of what they are
+abbrev pub arrival_line : List ℕ → Arrival → List ℕ
+arrival_line bytes (Bad at) = worded (codes "bad ") (decimal at)
+arrival_line bytes Stray = worded (codes "stray ") (encode_lower bytes)
+arrival_line bytes Stops = worded (codes "in ") (encode_lower bytes)
+arrival_line bytes (Gives given) = worded (codes "in ") (encode_lower bytes)
 
 abbrev pub out_line : Datagram → List ℕ
 out_line d = worded (codes "out ") (encode_lower d.bytes)
 
 abbrev pub turn_lines : Datagram → Arrival → Turn → List (List ℕ)
-turn_lines d what turn = arrival_line d what ∷ map out_line turn.datagrams
+turn_lines d what turn = arrival_line d.bytes what ∷ map out_line turn.datagrams
 
 abbrev pub start_line : ℕ → List ℕ
 start_line life = worded (codes "start ") (decimal life)

@@ -1,5 +1,5 @@
 -- The moments of a run are single steps that follow each other, so the schedule of them ends where the run does.
-use Rattle.std.proofs.Common.{◌≡◌, ◌∙◌, ap, sym, subst, ℕ, zero, suc, ◌+◌, List, [], ◌∷◌, ◌++◌, refl, take}
+use Rattle.std.proofs.Common.{◌≡◌, ◌∙◌, ap, sym, subst, ℕ, zero, suc, ◌+◌, List, [], ◌∷◌, refl, take}
 use Rattle.std.specs.Prelude.{Option, Some, None, slice_get}
 use Rattle.std.specs.List.{AllByRecursion}
 use Rattle.vp_text.proofs.Items.{all_push}
@@ -9,6 +9,7 @@ use Rattle.vp_model.specs.Words.{for_some}
 use Rattle.vp_model.specs.Catalogue.{Catalogue}
 use Rattle.vp_model.specs.World.{WorldState, Run, Moment, Schedule, next, moment, flowing, start_world, start_run, one_step, flow, one_event, run_from, run_of}
 use Rattle.vp_kept.proofs.Through.{Follow}
+pub use Rattle.vp_kept.proofs.Through.{one_more}
 use Rattle.vp_stops.specs.Stopped.{run_in, singles}
 use Rattle.vp_stops.proofs.Delivered.{IsSingle, steps_to}
 
@@ -22,14 +23,10 @@ pub record Goes (catalogue : Catalogue) (w : WorldState) (run : Run) : Type 0 wh
   pub single : AreSingle run.moments
 
 module _ (catalogue : Catalogue) where
-  pub one_more : (number : ℕ) (e : Event) (moments : List Moment) (w v : WorldState) → Follow catalogue w moments v → Follow catalogue w (moments ++ moment number v e (next catalogue e v) ∷ []) (next catalogue e v).world
-  one_more number e [] w v h = subst (λ (w : WorldState). Follow catalogue w (moment number v e (next catalogue e v) ∷ []) (next catalogue e v).world) (sym h) (refl, refl)
-  one_more number e (m ∷ moments) w v h = (h.0, one_more number e moments m.after v h.1)
-
   step_goes : (w : WorldState) (number : ℕ) (e : Event) (run : Run) → IsSingle e → Goes catalogue w run → Goes catalogue w (one_step catalogue number e run)
   unfolding one_step
   step_goes w number e run single h = record {
-    follow = one_more number e run.moments w run.world h.follow;
+    follow = one_more catalogue number e run.moments w run.world h.follow;
     single = all_push (λ (m : Moment). IsSingle m.line.event) run.moments (moment number run.world e (next catalogue e run.world)) h.single single;
   }
 

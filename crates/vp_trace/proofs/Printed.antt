@@ -1,11 +1,9 @@
--- Printers that end with a call: what it leaves, behind what stands before it.
-use Rattle.std.proofs.Common.{◌≡◌, ℕ, true, List, [], ◌∷◌, ◌++◌, ◌+◌, ◌<◌, ◌≤◌, length, get_or, take, refl, sym, ap, subst, ◌∙◌, append_assoc}
-use Rattle.std.specs.Prelude.{⊤, Result, Ok, Err, OnOk, OnErr, IsErr, flat_map}
-use Rattle.std.proofs.lemmas.List.{append-nil, take_all, take_more}
-use Rattle.std.proofs.lemmas.Bool.{false≢true}
-use Rattle.std.proofs.lemmas.Grind.{flat_map-append}
-use Rattle.vp_text.specs.Printing.{is_begun, Appends}
-use Rattle.vp_text.proofs.Printing.{begun_none, begun_whole, begun_first, begun_then, begun_item}
+-- Printers that put down all of a text, or nothing.
+use Rattle.std.proofs.Common.{◌≡◌, ℕ, List, [], ◌++◌, refl, sym, ap, ◌∙◌}
+use Rattle.std.specs.Prelude.{⊤, Result, Ok, Err, OnOk, OnErr}
+use Rattle.std.proofs.lemmas.List.{append-nil}
+use Rattle.vp_text.specs.Printing.{Appends}
+use Rattle.vp_text.proofs.Printing.{begun_none, begun_whole}
 
 -- all of the text, or after an error none of it
 pub all_or_none : {E : Type 0} (result : Result ⊤ E) (old text new : List ℕ) → OnOk result (new ≡ old ++ text) → OnErr result (new ≡ old) → Appends result old text new
@@ -15,44 +13,3 @@ all_or_none (Err e) old text new ok err = record { whole = ok; begun = begun_non
 -- where there is nothing to print
 pub no_text : {E : Type 0} (old text : List ℕ) → text ≡ [] → Appends {E = E} (Ok tt) old text old
 no_text old text none = record { whole = sym (ap (λ (x : List ℕ). old ++ x) none ∙ append-nil old); begun = begun_none old text old refl }
-
--- all of the text
-pub all_of : {E : Type 0} (old text new : List ℕ) → new ≡ old ++ text → Appends {E = E} (Ok tt) old text new
-all_of old text new e = record { whole = e; begun = begun_whole old text new e }
-
--- after an error a beginning of the text
-pub begun_err : {E : Type 0} (result : Result ⊤ E) (old text new : List ℕ) → IsErr result → is_begun old text new ≡ true → Appends result old text new
-begun_err (Ok x) old text new err begun = absurd (false≢true err)
-begun_err (Err e) old text new err begun = record { whole = tt; begun = begun }
-
--- after an error none of the text
-pub none_of : {E : Type 0} (result : Result ⊤ E) (old text new : List ℕ) → IsErr result → new ≡ old → Appends result old text new
-none_of result old text new err same = begun_err result old text new err (begun_none old text new same)
-
--- after an error a beginning of the first part
-pub within : {E : Type 0} (result : Result ⊤ E) (old first more new : List ℕ) → IsErr result → is_begun old first new ≡ true → Appends result old (first ++ more) new
-within result old first more new err begun = begun_err result old (first ++ more) new err (begun_first old first more new begun)
-
--- one text behind another
-pub joined : (old first more mid new : List ℕ) → mid ≡ old ++ first → new ≡ mid ++ more → new ≡ old ++ (first ++ more)
-joined old first more mid new e whole = whole ∙ ap (λ (t : List ℕ). t ++ more) e ∙ append_assoc old first more
-
-pub behind : {E : Type 0} (result : Result ⊤ E) (old first more mid new : List ℕ) → mid ≡ old ++ first → Appends result mid more new → Appends result old (first ++ more) new
-behind (Ok x) old first more mid new e a =
-    record { whole = joined old first more mid new e a.whole; begun = begun_then old first more new (subst (λ (t : List ℕ). is_begun t more new ≡ true) e a.begun) }
-behind (Err x) old first more mid new e a = record { whole = a.whole; begun = begun_then old first more new (subst (λ (t : List ℕ). is_begun t more new ≡ true) e a.begun) }
-
--- the texts of a list's items in turn: one more of them, after an error a beginning of one more, and all
-module _ {X : Type 0} (f : X → List ℕ) (xs : List X) (i : ℕ) where
-  pub item_behind : (x : X) (old mid new : List ℕ) → i < length xs → x ≡ get_or xs i x → mid ≡ old ++ flat_map f (take i xs) → new ≡ mid ++ f x → new ≡ old ++ flat_map f (take (i + 1) xs)
-  item_behind x old mid new lt is before e =
-      let one : flat_map f (x ∷ []) ≡ f x = append-nil (f x) in
-      let more : flat_map f (take (i + 1) xs) ≡ flat_map f (take i xs) ++ f x =
-      ap (λ (t : List X). flat_map f t) (take_more xs i x lt ∙ ap (λ (y : X). take i xs ++ y ∷ []) (sym is)) ∙ flat_map-append f (take i xs) (x ∷ []) ∙ ap (λ (t : List ℕ). flat_map f (take i xs) ++ t) one in
-      joined old (flat_map f (take i xs)) (f x) mid new before e ∙ ap (λ (t : List ℕ). old ++ t) (sym more)
-
-  pub item_begun : {E : Type 0} (result : Result ⊤ E) (x : X) (old mid new : List ℕ) → i < length xs → x ≡ get_or xs i x → mid ≡ old ++ flat_map f (take i xs) → IsErr result → Appends result mid (f x) new → Appends result old (flat_map f xs) new
-  item_begun result x old mid new lt is before err a = begun_err result old (flat_map f xs) new err (begun_item f xs i x old mid new lt is before a.begun)
-
-  pub all_items : {E : Type 0} (old new : List ℕ) → length xs ≤ i → new ≡ old ++ flat_map f (take i xs) → Appends {E = E} (Ok tt) old (flat_map f xs) new
-  all_items old new le e = all_of old (flat_map f xs) new (e ∙ ap (λ (t : List X). old ++ flat_map f t) (take_all i xs le))

@@ -38,13 +38,8 @@ pub fn number_line(alloc: Global, word: &[u8], number: u64) -> Result<Seq<u8>, N
 }
 
 /// The line of what came.
-pub fn arrival_line(
-    alloc: Global,
-    port: u16,
-    bytes: &[u8],
-    what: &Arrival,
-) -> Result<Seq<u8>, NoMemory>
-    ensures { IfOk result (λ line. line ≡ arrival_line (record { port = port; bytes = bytes.now }) what.now) }
+pub fn arrival_line(alloc: Global, bytes: &[u8], what: &Arrival) -> Result<Seq<u8>, NoMemory>
+    ensures { IfOk result (λ line. line ≡ arrival_line bytes.now what.now) }
 {
     match what {
         Arrival::Bad { at } => number_line(alloc, b"bad ", *at as u64),

@@ -9,8 +9,8 @@ use Rattle.vp_wire.specs.declared.kind.CallKind.{CallKind}
 use Rattle.vp_wire.specs.declared.kind.CallKind.TheVariants as calls
 use Rattle.vp_wire.specs.declared.kind.AnswerKind.{AnswerKind}
 use Rattle.vp_wire.specs.declared.kind.AnswerKind.TheVariants as answers
-use Rattle.vp_wire.specs.declared.kind.Kind.{Kind}
-use Rattle.vp_wire.specs.declared.kind.Kind.TheVariants as frames
+use Rattle.vp_wire.specs.declared.kind.FrameKind.{FrameKind}
+use Rattle.vp_wire.specs.declared.kind.FrameKind.TheVariants as frames
 
 -- what is found by a code has this code
 module _ {K : Type 0} (code : K → ℕ) where
@@ -75,7 +75,7 @@ answer_found answers.TooManyLive = refl
 pub answer_codes : Codes answer_code answer_kind
 answer_codes = record { found = answer_found; only = coded_only answer_code answer_kinds; some = answers.Begun }
 
-frame_found : (kind : Kind) → frame_kind (frame_code kind) ≡ Some kind
+frame_found : (kind : FrameKind) → frame_kind (frame_code kind) ≡ Some kind
 frame_found (frames.Message kind) = ap (λ (found : Option MessageKind). or_other found (coded frame_code other_kinds (message_code kind))) (message_found kind)
 frame_found frames.Call = refl
 frame_found frames.Reply = refl
@@ -83,8 +83,8 @@ frame_found frames.Tick = refl
 frame_found frames.ProbeNow = refl
 frame_found frames.Stop = refl
 
-frame_only : (c : ℕ) (kind : Kind) (found : Option MessageKind) → message_kind c ≡ found → or_other found (coded frame_code other_kinds c) ≡ Some kind → frame_code kind ≡ c
-frame_only c kind (Some message) same e = let is : frames.Message message ≡ kind = cc in subst (λ (k : Kind). frame_code k ≡ c) is (coded_only message_code message_kinds c message same)
+frame_only : (c : ℕ) (kind : FrameKind) (found : Option MessageKind) → message_kind c ≡ found → or_other found (coded frame_code other_kinds c) ≡ Some kind → frame_code kind ≡ c
+frame_only c kind (Some message) same e = let is : frames.Message message ≡ kind = cc in subst (λ (k : FrameKind). frame_code k ≡ c) is (coded_only message_code message_kinds c message same)
 frame_only c kind None same e = coded_only frame_code other_kinds c kind e
 
 pub frame_codes : Codes frame_code frame_kind

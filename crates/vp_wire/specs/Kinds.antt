@@ -15,8 +15,8 @@ use Rattle.vp_wire.specs.declared.kind.CallKind.{CallKind}
 use Rattle.vp_wire.specs.declared.kind.CallKind.TheVariants as calls
 use Rattle.vp_wire.specs.declared.kind.AnswerKind.{AnswerKind}
 use Rattle.vp_wire.specs.declared.kind.AnswerKind.TheVariants as answers
-use Rattle.vp_wire.specs.declared.kind.Kind.{Kind}
-use Rattle.vp_wire.specs.declared.kind.Kind.TheVariants as frames
+use Rattle.vp_wire.specs.declared.kind.FrameKind.{FrameKind}
+use Rattle.vp_wire.specs.declared.kind.FrameKind.TheVariants as frames
 
 -- the first of these kinds that has this code
 abbrev pub coded : {K : Type 0} → (K → ℕ) → List K → ℕ → Option K
@@ -142,7 +142,7 @@ kind_of_answer answer.TooManyLive = answers.TooManyLive
 
 -- ---- frames: messages by their codes, and what else is a frame
 
-abbrev pub frame_code : Kind → ℕ
+abbrev pub frame_code : FrameKind → ℕ
 frame_code (frames.Message kind) = message_code kind
 frame_code frames.Call = 32
 frame_code frames.Reply = 33
@@ -150,18 +150,18 @@ frame_code frames.Tick = 34
 frame_code frames.ProbeNow = 35
 frame_code frames.Stop = 36
 
-abbrev pub other_kinds : List Kind
+abbrev pub other_kinds : List FrameKind
 other_kinds = frames.Call ∷ frames.Reply ∷ frames.Tick ∷ frames.ProbeNow ∷ frames.Stop ∷ []
 
 -- the message of this kind, or what else it is
-abbrev pub or_other : Option MessageKind → Option Kind → Option Kind
+abbrev pub or_other : Option MessageKind → Option FrameKind → Option FrameKind
 or_other (Some kind) other = Some (frames.Message kind)
 or_other None other = other
 
-abbrev pub frame_kind : ℕ → Option Kind
+abbrev pub frame_kind : ℕ → Option FrameKind
 frame_kind c = or_other (message_kind c) (coded frame_code other_kinds c)
 
-abbrev pub kind_of_body : Body → Kind
+abbrev pub kind_of_body : Body → FrameKind
 kind_of_body (body.Message message) = frames.Message (kind_of_message message)
 kind_of_body (body.Call call) = frames.Call
 kind_of_body (body.Reply answer) = frames.Reply

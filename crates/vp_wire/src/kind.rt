@@ -240,7 +240,7 @@ impl Coded for AnswerKind {
 
 /// Which frame.
 #[derive(Clone, Copy, Drop)]
-pub enum Kind {
+pub enum FrameKind {
     Message(MessageKind),
     Call,
     Reply,
@@ -249,27 +249,27 @@ pub enum Kind {
     Stop,
 }
 
-impl Kind {
+impl FrameKind {
     /// Those that are no messages.
-    const OTHERS: [Kind; 5] = [
-        Kind::Call,
-        Kind::Reply,
-        Kind::Tick,
-        Kind::ProbeNow,
-        Kind::Stop,
+    const OTHERS: [FrameKind; 5] = [
+        FrameKind::Call,
+        FrameKind::Reply,
+        FrameKind::Tick,
+        FrameKind::ProbeNow,
+        FrameKind::Stop,
     ];
 
     /// The kind of a frame with this body.
-    pub fn of_body(body: &Body) -> Kind
+    pub fn of_body(body: &Body) -> FrameKind
         ensures { result ≡ kind_of_body body.now }
     {
         match body {
-            Body::Message(message) => Kind::Message(MessageKind::of_message(message)),
-            Body::Call(_) => Kind::Call,
-            Body::Reply(_) => Kind::Reply,
-            Body::Tick => Kind::Tick,
-            Body::ProbeNow => Kind::ProbeNow,
-            Body::Stop => Kind::Stop,
+            Body::Message(message) => FrameKind::Message(MessageKind::of_message(message)),
+            Body::Call(_) => FrameKind::Call,
+            Body::Reply(_) => FrameKind::Reply,
+            Body::Tick => FrameKind::Tick,
+            Body::ProbeNow => FrameKind::ProbeNow,
+            Body::Stop => FrameKind::Stop,
         }
     }
 
@@ -278,33 +278,33 @@ impl Kind {
         ensures { result ≡ frame_code self }
     {
         match self {
-            Kind::Message(kind) => kind.code(),
-            Kind::Call => 32,
-            Kind::Reply => 33,
-            Kind::Tick => 34,
-            Kind::ProbeNow => 35,
-            Kind::Stop => 36,
+            FrameKind::Message(kind) => kind.code(),
+            FrameKind::Call => 32,
+            FrameKind::Reply => 33,
+            FrameKind::Tick => 34,
+            FrameKind::ProbeNow => 35,
+            FrameKind::Stop => 36,
         }
     }
 
     /// The kind of this code that is no message.
-    fn other_of(code: u8) -> Option<Kind>
+    fn other_of(code: u8) -> Option<FrameKind>
         ensures { result ≡ coded frame_code other_kinds code }
     {
-        Kind::OTHERS
+        FrameKind::OTHERS
             .iter()
             .copied()
             .find(|kind| kind.code() == code)
     }
 }
 
-impl Coded for Kind {
+impl Coded for FrameKind {
     ghost kind = { frame_kind };
 
-    fn of(code: u8) -> Option<Kind> {
+    fn of(code: u8) -> Option<FrameKind> {
         match MessageKind::of(code) {
-            Some(kind) => Some(Kind::Message(kind)),
-            None => Kind::other_of(code),
+            Some(kind) => Some(FrameKind::Message(kind)),
+            None => FrameKind::other_of(code),
         }
     }
 }

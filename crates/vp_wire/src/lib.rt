@@ -8,5 +8,5 @@ mod kind;
 mod writing;
 
 pub use frame::{Body, Frame};
-pub use kind::{AnswerKind, CallKind, Kind, MessageKind};
+pub use kind::{AnswerKind, CallKind, FrameKind, MessageKind};
 pub use writing::{encode, encode_message, encode_reply};

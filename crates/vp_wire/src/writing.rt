@@ -11,7 +11,7 @@ ghost use Rattle.vp_wire.specs.declared.frame.Body.TheVariants as body;
 use crate::answers::{put_answer, put_numbered_value};
 use crate::calls::put_call;
 use crate::frame::{Body, Frame};
-use crate::kind::{Kind, MessageKind};
+use crate::kind::{FrameKind, MessageKind};
 use bytes::{BufMut, BytesMut};
 use vp_base::{
     Answer, CallNo, Message, NoMemory, Obstacle, RecId, SiteId, Stored, TxnId, Value, ViewId,
@@ -27,7 +27,7 @@ pub fn encode(frame: &Frame, out: &mut BytesMut) -> Result<(), NoMemory>
     requires { IsFrame frame.now }
     ensures { Appends result out.old.items (frame_bytes frame.now) out.new.items }
 {
-    put_head(out, Kind::of_body(&frame.body), frame.from, frame.to)?;
+    put_head(out, FrameKind::of_body(&frame.body), frame.from, frame.to)?;
     put_fields(out, frame)
 }
 
@@ -42,7 +42,7 @@ pub fn encode_message(
     requires { IsFrame (frame_of from to (body.Message message.now)) }
     ensures { Appends result out.old.items (frame_bytes (frame_of from to (body.Message message.now))) out.new.items }
 {
-    let kind = Kind::Message(MessageKind::of_message(message));
+    let kind = FrameKind::Message(MessageKind::of_message(message));
     put_head(out, kind, from.get(), to.get())?;
     put_message(out, message)
 }
@@ -53,13 +53,13 @@ pub fn encode_reply(from: SiteId, answer: &Answer, out: &mut BytesMut) -> Result
     requires { IsFrame (frame_of from 0 (body.Reply answer.now)) }
     ensures { Appends result out.old.items (frame_bytes (frame_of from 0 (body.Reply answer.now))) out.new.items }
 {
-    put_head(out, Kind::Reply, from.get(), 0)?;
+    put_head(out, FrameKind::Reply, from.get(), 0)?;
     put_answer(out, answer)
 }
 
 /// What every frame begins with.
 #[tactic(auto, using(vp_bytes::proofs::Writing::writing))]
-fn put_head(out: &mut BytesMut, kind: Kind, from: u8, to: u8) -> Result<(), NoMemory>
+fn put_head(out: &mut BytesMut, kind: FrameKind, from: u8, to: u8) -> Result<(), NoMemory>
     ensures { Appends result out.old.items (86 ∷ 1 ∷ frame_code kind ∷ from ∷ to ∷ []) out.new.items }
 {
     out.put_slice(&[0x56, 1, kind.code(), from, to])?;

@@ -8,6 +8,7 @@ use Rattle.vp_model.specs.Words.{keys, value_at}
 use Rattle.vp_model.specs.Catalogue.{Catalogue, holders, accessible}
 use Rattle.vp_model.specs.Refresh.{is_open, is_usable_in, other_holders_in}
 use Rattle.vp_model.specs.Site.{SiteState}
+use Rattle.vp_laws.specs.Entries.{record_in}
 use Rattle.vp_laws.proofs.Lists.Members.{Has}
 use Rattle.vp_laws.proofs.Lists.Changes.{mapped_has}
 use Rattle.vp_laws.proofs.Lists.LockTables.{HasLock}
@@ -16,7 +17,7 @@ use Rattle.vp_laws.proofs.Table.Led.{IsOf}
 use Rattle.vp_laws.proofs.Table.Copies.{value_pair}
 use Rattle.vp_laws.proofs.Table.Unlisted.{IsUnlisted}
 use Rattle.vp_laws.proofs.Worlds.Scenes.{Scene, plain_at}
-use Rattle.vp_laws.proofs.Invariant.Ops.{op_used, written_used, HasUsed, record_of, HasWritten}
+use Rattle.vp_laws.proofs.Invariant.Ops.{op_used, written_used, HasUsed, HasWritten}
 use Rattle.vp_laws.proofs.Invariant.Answers.{HasRead}
 use Rattle.vp_laws.proofs.Invariant.Entered.{AgreedAs}
 use Rattle.vp_laws.proofs.Invariant.Used.{HasAnswered}
@@ -92,7 +93,7 @@ module _ (catalogue : Catalogue) (w : Scene) (k : Known catalogue w) (copies : I
               (λ (r : (q : ℕ) × HasRead w q t.txn rec). refresh.used s r.0 rec false x t v up live (HasAnswered.read r.1) agreed)
               (reads rec value h e)
 
-      op_closed : (operation : Op) → Has t.ops operation → Open catalogue w (record_of operation) v
+      op_closed : (operation : Op) → Has t.ops operation → Open catalogue w (record_in operation) v
       op_closed (op.Read rec value) h = read_closed rec value h
       op_closed (op.Write rec value) h = written_closed rec (value, h)
 

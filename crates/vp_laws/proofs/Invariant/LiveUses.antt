@@ -8,10 +8,11 @@ use Rattle.vp_model.specs.Site.{SiteState, Lent}
 use Rattle.vp_model.specs.Refresh.{is_usable_in, other_holders}
 use Rattle.vp_model.specs.Calls.{begun}
 use Rattle.vp_model.specs.Step.{mark}
+use Rattle.vp_laws.specs.Entries.{record_in}
 use Rattle.vp_laws.proofs.Lists.Members.{Has, has_none, has_one_is, has_cases}
 use Rattle.vp_laws.proofs.Moves.Table.{Reads, Writes, remaining, Completes}
 use Rattle.vp_laws.proofs.Table.Steps.{LiveNow}
-use Rattle.vp_laws.proofs.Invariant.Ops.{HasUsed, record_of}
+use Rattle.vp_laws.proofs.Invariant.Ops.{HasUsed}
 use Rattle.vp_laws.proofs.Moves.Calls.{waiting, done, reading, writing, read_not_write, reads_same, writes_same, unmarked, no_commit_reads, no_commit_writes}
 
 pub record LiveUses (catalogue : Catalogue) (held : Option View) (t : Live) : Type 0 where
@@ -41,17 +42,17 @@ module _ (catalogue : Catalogue) (x : SiteState) (given : Input) (all : (u : Liv
     writing = λ a rec value e r. let is : record p { missing = sites } ≡ a = (let z = sym now ∙ e in cc) in writes rec value (record { txn = r.txn; number = r.number; name = r.name; words = ap (λ (p : Pending). p.call) is ∙ r.words; found = r.found });
   }
 
-  done_uses : (u : Live) (operation : Op) (words : Answer) → LiveUses catalogue x.held u → Usable (record_of operation) → LiveUses catalogue x.held (done u operation words)
+  done_uses : (u : Live) (operation : Op) (words : Answer) → LiveUses catalogue x.held u → Usable (record_in operation) → LiveUses catalogue x.held (done u operation words)
   done_uses u operation words h usable = record {
-    usable = λ rec k. ⊎_elim (λ old. h.usable rec (k.0, old, k.2)) (λ new. subst Usable (ap record_of (has_one_is operation k.0 new) ∙ k.2) usable) (has_cases u.ops (operation ∷ []) k.0 k.1);
+    usable = λ rec k. ⊎_elim (λ old. h.usable rec (k.0, old, k.2)) (λ new. subst Usable (ap record_in (has_one_is operation k.0 new) ∙ k.2) usable) (has_cases u.ops (operation ∷ []) k.0 k.1);
     reading = λ p rec e r. cc;
     writing = λ p rec value e r. cc;
   }
 
-  usable_read : (operation : Op) (rec : ℕ) (value : List ℕ) → operation ≡ op.Read rec value → Usable rec → Usable (record_of operation)
+  usable_read : (operation : Op) (rec : ℕ) (value : List ℕ) → operation ≡ op.Read rec value → Usable rec → Usable (record_in operation)
   usable_read operation rec value e h = rw e h
 
-  usable_write : (operation : Op) (rec : ℕ) (value : List ℕ) → operation ≡ op.Write rec value → Usable rec → Usable (record_of operation)
+  usable_write : (operation : Op) (rec : ℕ) (value : List ℕ) → operation ≡ op.Write rec value → Usable rec → Usable (record_in operation)
   usable_write operation rec value e h = rw e h
 
   completed_uses : (u : Live) (p : Pending) (operation : Op) (words : Answer) (l : Lent) → LiveUses catalogue x.held u → Completes catalogue x given u p operation words l → LiveUses catalogue x.held (done u operation words)

@@ -7,20 +7,16 @@ use Rattle.vp_model.specs.Types.op
 use Rattle.vp_model.specs.Catalogue.{Catalogue}
 use Rattle.vp_model.specs.Site.{SiteState}
 use Rattle.vp_model.specs.Refresh.{other_holders_in}
+use Rattle.vp_laws.specs.Entries.{record_in}
 use Rattle.vp_laws.proofs.Lists.Members.{Has}
 use Rattle.vp_laws.proofs.Moves.Table.{Writes}
 use Rattle.vp_laws.proofs.Worlds.Scenes.{Scene, plain_at}
 
--- the record of an operation
-abbrev pub record_of : Op → ℕ
-record_of (op.Read rec value) = rec
-record_of (op.Write rec value) = rec
-
 -- an operation among these is on the record
 abbrev pub HasUsed : List Op → ℕ → Type 0
-HasUsed ops rec = (operation : Op) × Has ops operation × (record_of operation ≡ rec)
+HasUsed ops rec = (operation : Op) × Has ops operation × (record_in operation ≡ rec)
 
-pub op_used : (ops : List Op) (operation : Op) → Has ops operation → HasUsed ops (record_of operation)
+pub op_used : (ops : List Op) (operation : Op) → Has ops operation → HasUsed ops (record_in operation)
 op_used ops operation h = (operation, h, refl)
 
 pub written_used : (ops : List Op) (rec : ℕ) → (value : List ℕ) × Has ops (op.Write rec value) → HasUsed ops rec

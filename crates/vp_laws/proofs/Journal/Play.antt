@@ -12,6 +12,7 @@ use Rattle.vp_model.specs.Types.op
 use Rattle.vp_model.specs.Words.{put_at, value_at}
 use Rattle.vp_model.specs.Transactions.{with_op, last_writes}
 use Rattle.vp_model.specs.OneCopy.{Values, play_one, play}
+use Rattle.vp_laws.specs.Entries.{record_in}
 
 -- a map after one write
 pub get_set : (m : Values) (r : ℕ) (v : List ℕ) → slice_get (slice_set m r v) r ≡ option_map (λ (old : List ℕ). v) (slice_get m r)
@@ -122,11 +123,6 @@ value_put {V} n k v (y ∷ ws) = go (k == y.0) (nat_lt k y.0) (k == n) (y.0 == n
     go false false false true e f g i = rw g refl
     go false false false false e f g i = rw g i
 
--- an operation that is on one of the records, and one that writes
-abbrev pub op_record : Op → ℕ
-op_record (op.Read rec value) = rec
-op_record (op.Write rec value) = rec
-
 above_not : (n : ℕ) (ws : List Write) → AllByRecursion (λ (x : Write). n < x.0) ws → value_at n ws ≡ None
 above_not n [] h = refl
 above_not n (w ∷ ws) h = go (w.0 == n) refl (above_not n ws h.1)
@@ -215,7 +211,7 @@ set_agrees P m n r v h q k p = go (cases_eq r k)
     go (inl e) = rw (← e) (get_set m r v ∙ ap (option_map (λ (old : List ℕ). v)) (h r q) ∙ sym (get_set n r v))
     go (inr e) = get_other m r k v e ∙ h k p ∙ sym (get_other n r k v e)
 
-play_one-agrees : (P : ℕ → Type 0) (m n : Values) (operation : Op) (m2 : Values) → P (op_record operation) → AgreeOn P m n → play_one m operation ≡ Some m2 → (n2 : Values) × (play_one n operation ≡ Some n2) × AgreeOn P m2 n2
+play_one-agrees : (P : ℕ → Type 0) (m n : Values) (operation : Op) (m2 : Values) → P (record_in operation) → AgreeOn P m n → play_one m operation ≡ Some m2 → (n2 : Values) × (play_one n operation ≡ Some n2) × AgreeOn P m2 n2
 play_one-agrees P m n (op.Read rec value) m2 q h e = go (option_map_or (bytes_eq value) (slice_get m rec) false) refl e
   where
     go : (a : Bool) → option_map_or (bytes_eq value) (slice_get m rec) false ≡ a → cond a (Some m) None ≡ Some m2 → (n2 : Values) × (play_one n (op.Read rec value) ≡ Some n2) × AgreeOn P m2 n2
@@ -223,7 +219,7 @@ play_one-agrees P m n (op.Read rec value) m2 q h e = go (option_map_or (bytes_eq
     go false t s = cc
 play_one-agrees P m n (op.Write rec value) m2 q h e = let same : slice_set m rec value ≡ m2 = cc in (slice_set n rec value, refl, rw (← same) (set_agrees P m n rec value h q))
 
-pub play_agrees : (P : ℕ → Type 0) (ops : List Op) (m n m2 : Values) → AllByRecursion (λ operation. P (op_record operation)) ops → AgreeOn P m n → play m ops ≡ Some m2 → (n2 : Values) × (play n ops ≡ Some n2) × AgreeOn P m2 n2
+pub play_agrees : (P : ℕ → Type 0) (ops : List Op) (m n m2 : Values) → AllByRecursion (λ operation. P (record_in operation)) ops → AgreeOn P m n → play m ops ≡ Some m2 → (n2 : Values) × (play n ops ≡ Some n2) × AgreeOn P m2 n2
 play_agrees P [] m n m2 all h e = let same : m ≡ m2 = cc in (n, refl, rw (← same) h)
 play_agrees P (operation ∷ ops) m n m2 all h e =
     let t = and_then (play_one m operation) (λ next. play next ops) m2 e in

@@ -9,7 +9,8 @@ use Rattle.vp_model.specs.Catalogue.{Catalogue, start_values}
 use Rattle.vp_model.specs.Transactions.{last_changes}
 use Rattle.vp_model.specs.OneCopy.{Values, play, serial, order, content}
 use Rattle.vp_model.proofs.PlayedInParts.{serial-append}
-use Rattle.vp_laws.proofs.Journal.Play.{Write, op_record, set_all, get_set, get_other, get_all, get_all-other, play_sets, last_ascending, AgreeOn, play_agrees, and_then}
+use Rattle.vp_laws.specs.Entries.{record_in}
+use Rattle.vp_laws.proofs.Journal.Play.{Write, set_all, get_set, get_other, get_all, get_all-other, play_sets, last_ascending, AgreeOn, play_agrees, and_then}
 use Rattle.vp_laws.proofs.Lists.Members.{Has, has_first, has_more, has_right, all_of}
 use Rattle.vp_laws.proofs.Lists.Views.{Precedes, AtMost-refl, same_site, not_before}
 use Rattle.vp_laws.proofs.Journal.Order.{Split, order_has, order_more}
@@ -55,7 +56,7 @@ content_value catalogue journal view m rec h = serial_value rec (upto view (orde
 -- operations that use nothing that an entry wrote
 
 abbrev pub WritesNone : Commit → List Op → Type 0
-WritesNone e ops = (operation : Op) → Has ops operation → Wrote e (op_record operation) → ⊥
+WritesNone e ops = (operation : Op) → Has ops operation → Wrote e (record_in operation) → ⊥
 
 abbrev unwritten : Commit → ℕ → Type 0
 unwritten e rec = value_at rec (last_changes e) ≡ None
@@ -63,8 +64,8 @@ unwritten e rec = value_at rec (last_changes e) ≡ None
 pub agrees_behind : (e : Commit) (m n : Values) → play m e.ops ≡ Some n → AgreeOn (unwritten e) m n
 agrees_behind e m n h rec none = sym (ap (λ (k : Values). slice_get k rec) (play_sets e.ops m n h) ∙ get_all-other rec (last_changes e) m none)
 
-all_unwritten : (e : Commit) (ops : List Op) → WritesNone e ops → AllByRecursion (λ (operation : Op). unwritten e (op_record operation)) ops
-all_unwritten e ops h = all_of (λ (operation : Op). unwritten e (op_record operation)) ops (λ operation q. unwritten_value e (op_record operation) (h operation q))
+all_unwritten : (e : Commit) (ops : List Op) → WritesNone e ops → AllByRecursion (λ (operation : Op). unwritten e (record_in operation)) ops
+all_unwritten e ops h = all_of (λ (operation : Op). unwritten e (record_in operation)) ops (λ operation q. unwritten_value e (record_in operation) (h operation q))
 
 -- they play after it where they did before it
 pub plays_behind : (e : Commit) (ops : List Op) (a b n : Values) → play a e.ops ≡ Some b → play a ops ≡ Some n → WritesNone e ops → (k : Values) × (play b ops ≡ Some k)

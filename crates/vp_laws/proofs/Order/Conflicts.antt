@@ -8,6 +8,7 @@ use Rattle.vp_model.specs.Words.{value_at}
 use Rattle.vp_model.specs.Catalogue.{Catalogue, holders, accessible}
 use Rattle.vp_model.specs.Refresh.{is_usable_in, other_holders_in}
 use Rattle.vp_model.specs.Site.{SiteState}
+use Rattle.vp_laws.specs.Entries.{record_in}
 use Rattle.vp_laws.proofs.Lists.Members.{Has}
 use Rattle.vp_laws.proofs.Lists.Changes.{mapped_has}
 use Rattle.vp_laws.proofs.Lists.Views.{same_site}
@@ -17,7 +18,7 @@ use Rattle.vp_laws.proofs.Table.Copies.{value_pair}
 use Rattle.vp_laws.proofs.Table.Leaves.{Uses}
 use Rattle.vp_laws.proofs.Worlds.Scenes.{Scene, plain_at}
 use Rattle.vp_laws.proofs.Invariant.Shares.{HasRequest}
-use Rattle.vp_laws.proofs.Invariant.Ops.{written_used, HasUsed, record_of, HasWritten}
+use Rattle.vp_laws.proofs.Invariant.Ops.{written_used, HasUsed, HasWritten}
 use Rattle.vp_laws.proofs.Invariant.Answers.{HasRead}
 use Rattle.vp_laws.proofs.Invariant.Entered.{AgreedAs}
 use Rattle.vp_laws.proofs.Invariant.HasLeft.{HasLeft}
@@ -117,7 +118,7 @@ module _ (catalogue : Catalogue) (w : Scene) (k : Known catalogue w) (copies : I
             }
         go None e = ⊎_elim (λ wrote. wrote_some rec wrote) (λ r. elsewhere r.0 r.1) (reading.done j y t rec value up live h e)
 
-    op_some : (operation : Op) → Has t.ops operation → UsedSome catalogue w t v (record_of operation)
+    op_some : (operation : Op) → Has t.ops operation → UsedSome catalogue w t v (record_in operation)
     op_some (op.Read rec value) h = read_some rec value h
     op_some (op.Write rec value) h = wrote_some rec (value, h)
 

@@ -1,13 +1,12 @@
 -- The entries by view stay a serial run, on which the live transactions play.
-use Rattle.std.proofs.Common.{◌≡◌, ◌≢◌, ◌∙◌, ap, sym, subst, ℕ, true, false, List, [], ◌∷◌, ◌++◌, refl, ⊎_elim}
+use Rattle.std.proofs.Common.{◌≡◌, ◌≢◌, ◌∙◌, ap, sym, subst, ℕ, true, false, List, [], ◌∷◌, ◌++◌, ⊎_elim}
 use Rattle.std.specs.Prelude.{Some}
 use Rattle.vp_model.specs.Types.{ViewId, TxnId, View, Commit, Input, Op, Live}
 use Rattle.vp_model.specs.Types.message
-use Rattle.vp_model.specs.Types.op
 use Rattle.vp_model.specs.Catalogue.{Catalogue, holders, accessible, start_values}
 use Rattle.vp_model.specs.OneCopy.{Values, play, serial, order, content}
 use Rattle.vp_model.specs.Site.{SiteState, Stepped}
-use Rattle.vp_laws.proofs.Journal.Play.{op_record}
+use Rattle.vp_laws.specs.Entries.{record_in}
 use Rattle.vp_laws.proofs.Lists.Members.{Has, has_none}
 use Rattle.vp_laws.proofs.Lists.Views.{AtMost, Precedes, not_both, three_ways}
 use Rattle.vp_laws.proofs.Moves.LocalViews.{letter}
@@ -15,7 +14,7 @@ use Rattle.vp_laws.proofs.Table.Led.{IsOf}
 use Rattle.vp_laws.proofs.Worlds.Scenes.{Scene, plain_at, scene_of}
 use Rattle.vp_laws.proofs.Worlds.Sites.{NowIs, now_is, quiet_is, start_journal, started_idle, live_still, Quiet}
 use Rattle.vp_laws.proofs.Invariant.Shares.{HasRequest}
-use Rattle.vp_laws.proofs.Invariant.Ops.{op_used, record_of, HasWritten}
+use Rattle.vp_laws.proofs.Invariant.Ops.{op_used, HasWritten}
 use Rattle.vp_laws.proofs.Invariant.Answers.{HasRead}
 use Rattle.vp_laws.proofs.Invariant.Entered.{AgreedAs}
 use Rattle.vp_laws.proofs.Invariant.Used.{HasAnswered}
@@ -37,10 +36,6 @@ use Rattle.vp_laws.proofs.Invariant.Known.{Known}
 use Rattle.vp_laws.proofs.Lists.Pairs.{written_op}
 use Rattle.vp_model.specs.World.{start_world}
 
-same_record : (operation : Op) → op_record operation ≡ record_of operation
-same_record (op.Read rec value) = refl
-same_record (op.Write rec value) = refl
-
 module _ (catalogue : Catalogue) (w new : Scene) (s : ℕ) (x : SiteState) (given : Input) (o : Stepped) (k : Known catalogue w) (n : Known catalogue new) (d : Does catalogue w new s x given o) (copies : InvCopies catalogue w) (refresh : InvRefresh catalogue w) (reading : InvReading catalogue w) (inv : InvOrder catalogue w) where
   abbrev first : Values
   first = start_values catalogue
@@ -56,8 +51,8 @@ module _ (catalogue : Catalogue) (w new : Scene) (s : ℕ) (x : SiteState) (give
     above_none : (g : Commit) → Has w.journal g → Precedes e.view g.view → WritesNone e g.ops
     above_none g there above operation did wrote =
         let v = k.led.entry g there in
-        stops catalogue w new s x given o k n d refresh e v.0 (record_of operation) h (subst (Wrote e) (same_record operation) wrote) (subst (Precedes e.view) (sym v.2) above)
-        (refresh.entry g v.0 (record_of operation) there (v.1, v.2) (op_used g.ops operation did))
+        stops catalogue w new s x given o k n d refresh e v.0 (record_in operation) h wrote (subst (Precedes e.view) (sym v.2) above)
+        (refresh.entry g v.0 (record_in operation) there (v.1, v.2) (op_used g.ops operation did))
 
     has_written : (rec : ℕ) → Wrote e rec → HasWritten f.was rec
     has_written rec wrote = let did = written_op e.ops rec wrote in (did.0, rw f.done did.1)
@@ -73,12 +68,12 @@ module _ (catalogue : Catalogue) (w new : Scene) (s : ℕ) (x : SiteState) (give
       agreed = ((k.views.site j y up).held of.0 of.1, of.2)
 
       same_view_none : e.view ≡ t.view → WritesNone e t.ops
-      same_view_none same operation did wrote = other (sym (no_conflict catalogue w k copies refresh reading s j x y f.was t d.up f.live up live f.view its_view (f.viewed ∙ same) (record_of operation) (op_used t.ops operation did) (has_written (record_of operation) (subst (Wrote e) (same_record operation) wrote))) ∙ f.named)
+      same_view_none same operation did wrote = other (sym (no_conflict catalogue w k copies refresh reading s j x y f.was t d.up f.live up live f.view its_view (f.viewed ∙ same) (record_in operation) (op_used t.ops operation did) (has_written (record_in operation) wrote)) ∙ f.named)
 
       higher_none : Precedes e.view t.view → WritesNone e t.ops
       higher_none below operation did wrote =
-          stops catalogue w new s x given o k n d refresh e of.0 (record_of operation) h (subst (Wrote e) (same_record operation) wrote) (subst (Precedes e.view) (sym of.2) below)
-          (used_closed catalogue w k copies j y t up live refresh of.0 agreed (λ rec value there none. reading.done j y t rec value up live there none) (record_of operation) (op_used t.ops operation did))
+          stops catalogue w new s x given o k n d refresh e of.0 (record_in operation) h wrote (subst (Precedes e.view) (sym of.2) below)
+          (used_closed catalogue w k copies j y t up live refresh of.0 agreed (λ rec value there none. reading.done j y t rec value up live there none) (record_in operation) (op_used t.ops operation did))
 
       plays_grow : Plays (content first (w.journal ++ e ∷ []) t.view) t.ops
       plays_grow = go (inv.live j y t up live)

@@ -13,7 +13,8 @@ use Rattle.vp_model.specs.Transactions.{answer_of}
 use Rattle.vp_model.specs.World.{Moment}
 use Rattle.vp_model.specs.Told.{answers_in}
 use Rattle.vp_model.specs.Justified.{refused_number, refused_in, refused_once}
-use Rattle.vp_laws.proofs.Lists.Members.{Has, has_none, has_first, has_more, has_cons, or_left}
+use Rattle.vp_catalog.proofs.Sites.{or_left}
+use Rattle.vp_laws.proofs.Lists.Members.{Has, has_none, has_first, has_more, has_cons}
 use Rattle.vp_model.proofs.SameTxn.{same_txn-is}
 
 -- the first of two lists

@@ -12,7 +12,8 @@ use Rattle.vp_model.specs.Durable.{without_doubt}
 use Rattle.vp_model.specs.Locks.{with_lock, with_guard, without_guard, without_owner}
 use Rattle.vp_model.specs.Site.{ParticipantState}
 use Rattle.vp_model.specs.Views.{has_part, has_doubt, outlasts_for, outlasts}
-use Rattle.vp_laws.proofs.Lists.Members.{Has, has_none, has_first, has_more, has_cons, filter_has, filter_keeps, any_true, any_false, or_right}
+use Rattle.vp_catalog.proofs.Sites.{or_right}
+use Rattle.vp_laws.proofs.Lists.Members.{Has, has_none, has_first, has_more, has_cons, filter_has, filter_keeps, any_true, any_false}
 use Rattle.vp_model.proofs.SameTxn.{same_txn-is, same_txn-not, same_txn-self, same_txn-other, same_txn-clash}
 use Rattle.vp_laws.proofs.Lists.Names.{Apart, named, without_gone}
 use Rattle.vp_laws.proofs.Lists.Changes.{without_first_has}

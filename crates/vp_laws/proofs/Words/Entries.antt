@@ -1,12 +1,10 @@
 -- The laws of entries and doubts in the words of the contracts.
-use Rattle.std.proofs.Common.{◌≡◌, ◌≢◌, ◌∙◌, sym, ℕ, false, List, [], ◌∷◌, refl, arith, ap}
+use Rattle.std.proofs.Common.{◌≡◌, ◌≢◌, ◌∙◌, sym, ℕ, false, List, [], ◌∷◌, refl, arith}
 use Rattle.std.specs.Prelude.{Option, Some, None}
 use Rattle.std.proofs.lemmas.Bool.Decides.{nat_tests}
 use Rattle.std.proofs.lemmas.List.Kept.{AllPairs-cons}
 use Rattle.std.proofs.lemmas.List.Elements.{All-from_recursion}
-use Rattle.vp_model.specs.Types.{Change, ViewId, TxnId, Commit, Op, Doubt}
-use Rattle.vp_model.specs.Types.op
-use Rattle.vp_model.specs.Catalogue.{accessible}
+use Rattle.vp_model.specs.Types.{Change, ViewId, TxnId, Commit, Doubt}
 use Rattle.vp_model.specs.Types.message
 use Rattle.vp_model.specs.Words.{same_txn}
 use Rattle.vp_model.specs.World.{Place, Schedule, run_of, journal_of, place_of}
@@ -14,7 +12,7 @@ use Rattle.vp_model.specs.Headline.{IsOnce}
 use Rattle.vp_laws.specs.Entries.{doubts_in, VotesLeaveDoubts, record_in, EntriesAreAccessible}
 use Rattle.vp_laws.proofs.Lists.Members.{has_of, contains, all_of}
 use Rattle.vp_laws.proofs.Worlds.Scenes.{kept_in}
-use Rattle.vp_laws.proofs.Invariant.Ops.{op_used, record_of}
+use Rattle.vp_laws.proofs.Invariant.Ops.{op_used}
 use Rattle.vp_laws.proofs.Worlds.Events.{in_last}
 use Rattle.vp_laws.proofs.Invariant.Invariant.{Invariant}
 use Rattle.vp_laws.proofs.Invariant.Known.{Known}
@@ -51,10 +49,6 @@ doubted s from to txn x t sent up live same some =
     doubt_is : (d : Doubt) (txn : TxnId) (view : ViewId) (writes : List (ℕ × Change)) → d.txn ≡ txn → view ≡ d.view → writes ≡ d.writes → d ≡ (record { txn = txn; view = view; writes = writes })
     doubt_is d txn view writes a b c = rw (← a, b, c) refl
 
-same_record : (operation : Op) → record_of operation ≡ record_in operation
-same_record (op.Read rec value) = refl
-same_record (op.Write rec value) = refl
-
 pub entered : (s : Schedule) → EntriesAreAccessible s.catalogue (run_of s).world
 entered s e h =
     let w = (run_of s).world in
@@ -65,5 +59,5 @@ entered s e h =
       contains w.agreed q.0 q.1,
       q.2,
       contains q.0.members e.txn.site q.3,
-      (λ operation k. ap (λ (n : ℕ). accessible s.catalogue n q.0.members) (sym (same_record operation)) ∙ (inv.refresh.entry e q.0 (record_of operation) there (q.1, q.2) (op_used e.ops operation (has_of e.ops operation k))).usable),
+      (λ operation k. (inv.refresh.entry e q.0 (record_in operation) there (q.1, q.2) (op_used e.ops operation (has_of e.ops operation k))).usable),
     )

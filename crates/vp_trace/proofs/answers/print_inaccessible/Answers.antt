@@ -1,6 +1,6 @@
 use Rattle.std.specs.Prelude.{codes}
 use Rattle.vp_model.specs.Texts.Answers.{numbered_text}
-use Rattle.vp_trace.proofs.Printed.{behind, within}
+use Rattle.vp_catalog.proofs.Printed.{behind, within}
 use Rattle.vp_trace.proofs.answers.print_inaccessible.Goals as goal
 
 pub returns-in_err-print_numbered : goal.returns-in_err-print_numbered

@@ -1,6 +1,6 @@
 use Rattle.std.proofs.Common.{[], ◌∷◌}
 use Rattle.std.specs.Fmt.{decimal}
-use Rattle.vp_trace.proofs.Printed.{behind, none_of, within}
+use Rattle.vp_catalog.proofs.Printed.{behind, none_of, within}
 use Rattle.vp_trace.proofs.answers.print_weights.Goals as goal
 
 pub returns-in_err-push : goal.returns-in_err-push

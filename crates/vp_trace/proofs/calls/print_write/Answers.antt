@@ -1,6 +1,6 @@
 use Rattle.std.specs.Prelude.{codes}
 use Rattle.vp_model.specs.Texts.Fields.{call_name_text}
-use Rattle.vp_trace.proofs.Printed.{behind, none_of, within}
+use Rattle.vp_catalog.proofs.Printed.{behind, none_of, within}
 use Rattle.vp_trace.proofs.calls.print_write.Goals as goal
 
 pub returns-in_err-print_call_name : goal.returns-in_err-print_call_name

@@ -1,6 +1,6 @@
 use Rattle.std.proofs.Common.{[], ◌∷◌}
 use Rattle.vp_model.specs.Texts.Fields.{later_site_text}
-use Rattle.vp_trace.proofs.Printed.{all_items, behind, item_begun, item_behind, joined, none_of}
+use Rattle.vp_catalog.proofs.Printed.{all_items, behind, item_begun, item_behind, joined, none_of}
 use Rattle.vp_trace.proofs.fields.print_later_sites.Goals as goal
 
 pub loop-site-preserved : goal.loop-site-preserved

@@ -1,5 +1,5 @@
 use Rattle.std.proofs.Common.{[], ◌∷◌}
-use Rattle.vp_trace.proofs.Printed.{behind, none_of}
+use Rattle.vp_catalog.proofs.Printed.{behind, none_of}
 use Rattle.vp_trace.proofs.fields.print_record_behind.Goals as goal
 
 pub returns-in_err-push : goal.returns-in_err-push

@@ -1,4 +1,4 @@
-use Rattle.vp_trace.proofs.Printed.{behind, none_of}
+use Rattle.vp_catalog.proofs.Printed.{behind, none_of}
 use Rattle.vp_trace.proofs.fields.print_view.Goals as goal
 
 pub returns-in_err-print_word : goal.returns-in_err-print_word

@@ -1,6 +1,6 @@
 use Rattle.std.proofs.Common.{[], ◌∷◌}
 use Rattle.vp_model.specs.Catalogue.{name_of}
-use Rattle.vp_trace.proofs.Printed.{behind, none_of, within}
+use Rattle.vp_catalog.proofs.Printed.{behind, none_of, within}
 use Rattle.vp_trace.proofs.messages.print_copy.Goals as goal
 
 pub returns-in_err-print_record_behind : goal.returns-in_err-print_record_behind

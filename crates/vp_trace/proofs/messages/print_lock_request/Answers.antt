@@ -1,5 +1,5 @@
 use Rattle.vp_model.specs.Texts.Messages.{request_text}
-use Rattle.vp_trace.proofs.Printed.{behind, within}
+use Rattle.vp_catalog.proofs.Printed.{behind, within}
 use Rattle.vp_trace.proofs.messages.print_lock_request.Goals as goal
 
 pub returns-in_err-print_request : goal.returns-in_err-print_request

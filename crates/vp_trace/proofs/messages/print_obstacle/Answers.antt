@@ -1,5 +1,5 @@
 use Rattle.std.specs.Prelude.{codes}
-use Rattle.vp_trace.proofs.Printed.{none_of, behind}
+use Rattle.vp_catalog.proofs.Printed.{behind, none_of}
 use Rattle.vp_trace.proofs.messages.print_obstacle.Goals as goal
 
 pub returns-in_err-print_word-in-Held : goal.returns-in_err-print_word-in-Held

@@ -1,7 +1,7 @@
 use Rattle.std.proofs.Common.{◌++◌}
 use Rattle.std.specs.Prelude.{codes}
 use Rattle.vp_model.specs.Texts.Fields.{txn_text}
-use Rattle.vp_trace.proofs.Printed.{behind, within}
+use Rattle.vp_catalog.proofs.Printed.{behind, within}
 use Rattle.vp_trace.proofs.messages.print_outcome.Goals as goal
 
 pub returns-in_err-print_txn : goal.returns-in_err-print_txn

@@ -1,6 +1,6 @@
 use Rattle.std.specs.Prelude.{codes, flat_map}
 use Rattle.vp_model.specs.Texts.Messages.{read_text, request_text}
-use Rattle.vp_trace.proofs.Printed.{behind, within}
+use Rattle.vp_catalog.proofs.Printed.{behind, within}
 use Rattle.vp_trace.proofs.messages.print_prepare.Goals as goal
 
 pub returns-in_err-print_request : goal.returns-in_err-print_request

@@ -1,7 +1,7 @@
 use Rattle.std.proofs.Common.{◌++◌}
 use Rattle.std.specs.Prelude.{codes}
 use Rattle.vp_model.specs.Texts.Fields.{call_name_text}
-use Rattle.vp_trace.proofs.Printed.{behind, within}
+use Rattle.vp_catalog.proofs.Printed.{behind, within}
 use Rattle.vp_trace.proofs.messages.print_read_answer.Goals as goal
 
 pub returns-in_err-print_numbered : goal.returns-in_err-print_numbered

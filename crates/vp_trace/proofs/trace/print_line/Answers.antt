@@ -1,7 +1,7 @@
 use Rattle.std.proofs.Common.{[], ◌∷◌}
 use Rattle.std.specs.Fmt.{decimal}
 use Rattle.vp_model.specs.Texts.Calls.{event_text}
-use Rattle.vp_trace.proofs.Printed.{behind, none_of, within}
+use Rattle.vp_catalog.proofs.Printed.{behind, none_of, within}
 use Rattle.vp_trace.proofs.trace.print_line.Goals as goal
 
 pub returns-in_err-print_count : goal.returns-in_err-print_count

@@ -1,5 +1,5 @@
 use Rattle.vp_model.specs.Texts.Trace.{reply_line}
-use Rattle.vp_trace.proofs.Printed.{all_items, begun_err, item_begun, item_behind}
+use Rattle.vp_catalog.proofs.Printed.{all_items, begun_err, item_begun, item_behind}
 use Rattle.vp_trace.proofs.trace.print_replies.Goals as goal
 
 pub loop-reply-preserved : goal.loop-reply-preserved

@@ -1,7 +1,7 @@
 use Rattle.std.proofs.Common.{[], ◌∷◌}
 use Rattle.std.specs.Fmt.{decimal}
 use Rattle.std.specs.Prelude.{codes}
-use Rattle.vp_trace.proofs.Printed.{all_of, begun_err, behind, none_of}
+use Rattle.vp_catalog.proofs.Printed.{all_of, begun_err, behind, none_of}
 use Rattle.vp_trace.proofs.trace.print_sent.Goals as goal
 
 pub returns-in_err-print_word : goal.returns-in_err-print_word
