@@ -1,8 +1,6 @@
 -- What a contract sees of the messages.
-use Rattle.std.specs.Prelude.{◌≡◌, ℕ, ◌-◌, ◌==◌, nat_lt, Bool, true, false, if◌then◌else◌, List, ◌++◌, length, slice_get, Option, None, Result, Ok, Err}
+use Rattle.std.specs.Prelude.{ℕ, ◌+◌, ◌-◌, ◌==◌, nat_lt, Bool, if◌then◌else◌, List, ◌++◌, length, slice_get, Option, Some, None}
 use Rattle.vp_model.specs.Types.{Sent}
-use Rattle.vp_mail.specs.declared.fault.SendFault.{SendFault}
-use Rattle.vp_mail.specs.declared.fault.SendFault.TheVariants as fault
 
 -- the messages that were sent, and the numbers of those that were delivered
 pub record Posted : Type 0 where
@@ -21,8 +19,6 @@ message_in k sent = if k == 0 then None else slice_get sent (k - 1)
 abbrev pub are_too_many : List Sent → Bool
 are_too_many sent = nat_lt 2000000 (length sent)
 
--- the messages are refused exactly where there would be too many
-abbrev pub Refuses : {A : Type 0} → Bool → Result A SendFault → Type 0
-Refuses too_many (Ok a) = too_many ≡ false
-Refuses too_many (Err fault.TooMany) = too_many ≡ true
-Refuses too_many (Err fault.NoMemory) = Unit {0}
+-- the number of the first of these messages, which are sent behind those; none where there would be too many
+abbrev pub first_number : List Sent → List Sent → Option ℕ
+first_number messages sent = if are_too_many (sent ++ messages) then None else Some (length sent + 1)

@@ -6,10 +6,8 @@
 #![tactic(auto)]
 
 mod cuts;
-mod fault;
 mod mail;
 mod queue;
 
 pub use cuts::Cuts;
-pub use fault::SendFault;
 pub use mail::{Mail, PAIRS, SITES};

@@ -1,16 +1,14 @@
 //! The messages between the sites.
 
-ghost use Rattle.std.specs.Prelude.{◌≡◌, ◌≤◌, ◌<◌, ◌+◌, ◌++◌, ◌∷◌, ℕ, [], OnOk, OnErr, IfOk, Err, Some, slice_index_or, nat_lt, map, length, if◌then◌else◌, option_copied};
+ghost use Rattle.std.specs.Prelude.{◌≡◌, ◌≤◌, ◌<◌, ◌+◌, ◌++◌, ◌∷◌, ℕ, [], OnOk, OnErr, IfOk, Some, slice_index_or, nat_lt, map, length, if◌then◌else◌, option_copied};
 ghost use Rattle.vp_model.specs.Words.{first};
-ghost use Rattle.vp_mail.specs.declared.fault.SendFault.TheVariants as fault;
 ghost use Rattle.vp_mail.specs.Queues.{pair_of, waiting, AreBelow, AreSites, AreSited};
-ghost use Rattle.vp_mail.specs.Posted.{message_in, posted, are_too_many, Refuses};
+ghost use Rattle.vp_mail.specs.Posted.{message_in, posted, first_number};
 
-use crate::fault::SendFault;
 use crate::queue::Queue;
 use std::alloc::Global;
 use std::marker::Model;
-use vp_base::{CopyOf, LAST_SITE, MOST_MESSAGES, NoMemory, Sent, SiteId};
+use vp_base::{CopyOf, LAST_SITE, MOST_MESSAGES, Messages, NoMemory, Sent, SiteId};
 
 /// How many sites there are at most.
 pub const SITES: usize = LAST_SITE as usize;
@@ -157,28 +155,24 @@ impl Mail {
         Ok(())
     }
 
-    /// Sends the messages, and answers the number of the first one. None is sent where they are too many; without memory the
-    /// mail may only be dropped.
-    pub fn send_all(&mut self, messages: &[Sent]) -> Result<u32, SendFault>
-        ensures first { IfOk result (λ first. first ≡ length self.old.sent + 1) }
-        ensures sent { OnOk result (self.new ≡ posted messages.now self.old) }
-        ensures unsent { result ≡ Err fault.TooMany → self.new ≡ self.old }
-        ensures refused { Refuses (are_too_many (self.old.sent ++ messages.now)) result }
+    /// The number that the first of these messages is sent under; none where they are too many.
+    pub fn first_number(&self, messages: &[Sent]) -> Option<u32>
+        ensures { result ≡ first_number messages.now self.now.sent }
     {
         let count = self.sent.len();
         if messages.len() > MOST_MESSAGES as usize - count {
-            return Err(SendFault::TooMany);
+            return None;
         }
-        self.post_all(messages)?;
-        Ok(count as u32 + 1)
+        Some(count as u32 + 1)
     }
 
-    fn post_all(&mut self, messages: &[Sent]) -> Result<(), NoMemory>
-        requires { length self.old.sent + length messages.now ≤ 2000000 }
-        ensures { OnOk result (self.new ≡ posted messages.now self.old) }
+    /// Sends the messages. Without memory the mail may only be dropped.
+    pub fn send(&mut self, messages: Messages) -> Result<(), NoMemory>
+        requires { length self.old.sent + length messages ≤ 2000000 }
+        ensures { OnOk result (self.new ≡ posted messages self.old) }
     {
-        for sent in messages {
-            self.post(sent.copy_of()?)?;
+        for message in messages.into_vec() {
+            self.post(message)?;
         }
         Ok(())
     }

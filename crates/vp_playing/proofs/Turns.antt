@@ -482,6 +482,13 @@ step_is_left {S} sees begins catalogue n e w line old new none line_is begun =
     (subst (λ (lines : List (ℕ × Line)). SeesSome (sees catalogue) (begins catalogue) lines old new) (sym (step_lines catalogue n e w))
     (inr (inl (subst (λ (l : Line). begins catalogue (n, l) old new) line_is begun))))
 
+-- it was seen, and there is no memory for the world to go on
+pub step_was_seen : {S : Type 0} (sees begins : Catalogue → ℕ × Line → S → S → Type 0) (catalogue : Catalogue) (n : ℕ) (e : Event) (w : WorldState) (line : Line) (old new : S) → refused world_limits catalogue e w ≡ None → line ≡ line_of catalogue e w → sees catalogue (n, line) old new → Sees sees begins catalogue [] (stepped catalogue n e w) (Err end.NoMemory) old new
+step_was_seen {S} sees begins catalogue n e w line old new none line_is seen =
+    subst (λ (ms : List Moment). SeesSome (sees catalogue) (begins catalogue) (lines_in ms) old new) (sym (none_before (stepped catalogue n e w).moments (step_within catalogue n e w none)))
+    (subst (λ (lines : List (ℕ × Line)). SeesSome (sees catalogue) (begins catalogue) lines old new) (sym (step_lines catalogue n e w))
+    (inr (inr (new, subst (λ (l : Line). sees catalogue (n, l) old new) line_is seen, refl))))
+
 pub step_shows : {S : Type 0} (sees begins : Catalogue → ℕ × Line → S → S → Type 0) (catalogue : Catalogue) (n : ℕ) (e : Event) (w : WorldState) (known : Known) (line : Line) (old new : S) → refused world_limits catalogue e w ≡ None → known ≡ record { catalogue = catalogue; world = (next catalogue e w).world } → line ≡ line_of catalogue e w → sees catalogue (n, line) old new → Sees sees begins catalogue [] (stepped catalogue n e w) (Ok known) old new
 step_shows sees begins catalogue n e w known line old new none is line_is seen = (
   step_within catalogue n e w none,

@@ -26,9 +26,9 @@ fn play_step<S: Stepper, O: Observer>(
 {
     match world.next_by(event, stepper) {
         Err(end) => Err(end),
-        Ok((world, line)) => {
-            observer.see(number, &line, world.catalog())?;
-            Ok(world)
+        Ok(happened) => {
+            observer.see(number, happened.line(), happened.catalog())?;
+            Ok(happened.into_world()?)
         }
     }
 }

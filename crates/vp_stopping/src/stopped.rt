@@ -74,7 +74,7 @@ impl Steps {
         ensures did { OnOk result (DoesEvent S.announced S.did event self.world.world stepper.old stepper.new) }
     {
         let Steps { world, mut done } = self;
-        let (world, _) = world.next_by(&event, stepper)?;
+        let world = world.next_by(&event, stepper)?.into_world()?;
         done.push(event)?;
         Ok(Steps { world, done })
     }

@@ -1,5 +1,5 @@
 -- An event leaves the count of steps, and what that says of the limits.
-use Rattle.std.proofs.Common.{◌≡◌, ◌≤◌, ◌+◌, ◌-◌, ◌^◌, ◌==◌, ℕ, Bool, true, false, nat_lt, if◌then◌else◌, is_some, List, length, Option, Some, None, Result, Ok, Err, OnOk, refl, ap, ◌∙◌, arith}
+use Rattle.std.proofs.Common.{◌≡◌, ◌≤◌, ◌+◌, ◌-◌, ◌^◌, ◌==◌, ℕ, Bool, true, false, nat_lt, if◌then◌else◌, is_some, List, length, Option, Some, None, Result, Ok, Err, IfOk, refl, ap, ◌∙◌, arith}
 use Rattle.std.specs.Option.{option_map_or}
 use Rattle.std.proofs.lemmas.Bool.Decides.{nat_tests}
 use Rattle.vp_model.specs.Types.{Sent, Counted, Input, Event, Shown}
@@ -12,7 +12,7 @@ use Rattle.vp_model.specs.Limits.{world_limits, refused}
 use Rattle.vp_model.specs.World.{WorldState, Moved, shows, site_of, place_of, message_at, is_cut, site_step, at_site, deliver, crash, restart, restart_from, happens, next}
 use Rattle.vp_world.specs.declared.end.WorldEnd.{WorldEnd}
 use Rattle.vp_world.specs.declared.end.WorldEnd.TheVariants as end
-use Rattle.vp_world.specs.Limits.{Ends, Does, too_many, too_many_steps}
+use Rattle.vp_world.specs.Limits.{Ends, Does, too_many, too_many_steps, with_line}
 use Rattle.vp_world.specs.Known.{IsWithinLimits}
 
 option_steps : {A : Type 0} (f : A → Moved) (o : Option A) (d : Moved) (n : ℕ) → ((a : A) → (f a).world.steps ≡ n) → d.world.steps ≡ n → (option_map_or f o d).world.steps ≡ n
@@ -86,9 +86,9 @@ module _ (catalogue : Catalogue) (e : Event) (w : WorldState) where
     happens_end (Err end.NoMemory) h = tt
     happens_end (Err (end.Limit what limit)) h = (refused_is ∙ not_steps (nat_lt 100000 (w.steps + 1)) few ∙ h.0, h.1)
 
-    pub happens_within : (r : Result Shown WorldEnd) → Does (next catalogue e w) new r → OnOk r (IsWithinLimits new)
+    pub happens_within : (r : Result Shown WorldEnd) → Does (next catalogue e w) new r → IfOk r (λ line. IsWithinLimits (with_line line new))
     happens_within (Ok line) h =
-        let moved : new ≡ (next catalogue e w).world = ap (λ (m : Moved). m.world) h.0 in
+        let moved : with_line line new ≡ (next catalogue e w).world = ap (λ (m : Moved). m.world) h.0 in
         let counted : (next catalogue e w).world.steps ≡ w.steps + 1 = happens_steps catalogue (record w { steps = w.steps + 1 }) e in
         rw moved (record { steps = rw counted (few_steps (w.steps + 1) few); messages = few_messages (next catalogue e w).world.sent h.1 })
     happens_within (Err why) h = tt

@@ -1,5 +1,5 @@
 -- The moves of the definitions, as the code makes them.
-use Rattle.std.proofs.Common.{◌≡◌, ◌≤◌, ◌==◌, ◌-◌, ◌^◌, ◌++◌, ℕ, Bool, true, false, if◌then◌else◌, is_some, List, [], ◌∷◌, length, find, Option, Some, None, option_map, option_and_then, option_to_list, Result, Ok, Err, OnOk, IfOk, refl, sym, ap, subst, ◌∙◌, arith}
+use Rattle.std.proofs.Common.{◌≡◌, ◌≤◌, ◌==◌, ◌+◌, ◌-◌, ◌^◌, ◌++◌, ℕ, Bool, true, false, if◌then◌else◌, is_some, List, [], ◌∷◌, length, find, Option, Some, None, option_map, option_and_then, option_to_list, Result, Ok, Err, OnOk, IfOk, refl, sym, ap, subst, ◌∙◌, arith}
 use Rattle.std.specs.Option.{option_map_or}
 use Rattle.std.proofs.lemmas.Bool.Decides.{nat_tests}
 use Rattle.std.specs.List.{list_any}
@@ -15,7 +15,7 @@ use Rattle.vp_model.specs.World.{Place, WorldState, Moved, shows, place_of, site
 use Rattle.vp_places.specs.declared.place.Taken.{Taken}
 use Rattle.vp_world.specs.declared.end.WorldEnd.{WorldEnd}
 use Rattle.vp_mail.specs.Posted.{Posted}
-use Rattle.vp_world.specs.Limits.{Does, too_many}
+use Rattle.vp_world.specs.Limits.{Does, too_many, with_line}
 use Rattle.vp_places.specs.Places.{newly_agreed, taken, site_in, stepped_place, crashed_place, restarted_place, restart_line}
 use Rattle.vp_world.specs.Steps.{takes_in}
 
@@ -159,6 +159,16 @@ module _ (id : ℕ) (w : WorldState) (old : List Place) (now : old ≡ w.places)
     unfolding restart
     restarts_so new p = rw (p, now) (restarts_where (place_of id w.places) refl)
 
+-- the line of a restart has no messages and no commits
+pub restart_sends_none : (found : Option Place) (w : WorldState) → with_line (option_map_or restart_line found shown.Nothing) w ≡ w
+restart_sends_none None w = refl
+restart_sends_none (Some p) w = by_life (is_some p.up) (p.durable.life == 2 ^ 32 - 1)
+  where
+    by_life : (up spent : Bool) → with_line (if up then shown.Up p.id else (if spent then shown.LivesSpent (2 ^ 32 - 1) else shown.Life (p.durable.life + 1))) w ≡ w
+    by_life true spent = refl
+    by_life false true = refl
+    by_life false false = refl
+
 -- what a move does
 
 few_is_within : (sent : List Sent) → length sent ≤ 2000000 → too_many sent ≡ None
@@ -167,8 +177,8 @@ few_is_within sent few = grind (arith, nat_tests, few)
 pub does_along : (m n : Moved) (new : WorldState) (r : Result Shown WorldEnd) → m ≡ n → Does n new r → Does m new r
 does_along m n new r e h = subst (λ (x : Moved). Does x new r) (sym e) h
 
-pub does_shown : (m : Moved) (new : WorldState) (line : Shown) → length new.sent ≤ 2000000 → m ≡ shows new line → Does m new (Ok line)
-does_shown m new line few e = does_along m (shows new line) new (Ok line) e (refl, few_is_within new.sent few)
+pub does_shown : (m : Moved) (new : WorldState) (line : Shown) → length (with_line line new).sent ≤ 2000000 → m ≡ shows (with_line line new) line → Does m new (Ok line)
+does_shown m new line few e = does_along m (shows (with_line line new) line) new (Ok line) e (refl, few_is_within (with_line line new).sent few)
 
 -- two clauses of a result that is Ok
 pub both_ok : {T E A : Type 0} (r : Result T E) (B P : T → Type 0) → ((x : T) → A → B x → P x) → OnOk r A → IfOk r B → IfOk r P

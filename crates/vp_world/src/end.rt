@@ -1,11 +1,8 @@
 //! How a world ends.
 
 ghost use Rattle.std.specs.Prelude.{◌≡◌};
-ghost use Rattle.vp_base.specs.declared.event.Counted.TheVariants as counted;
-ghost use Rattle.vp_world.specs.Limits.{limit_of};
 
-use vp_base::{Counted, MOST_MESSAGES, NoMemory};
-use vp_mail::SendFault;
+use vp_base::{Counted, NoMemory};
 
 /// Why an event is not done. The world is then gone.
 #[derive(Clone, Copy, Debug, Drop, PartialEq, Eq)]
@@ -22,21 +19,5 @@ impl From<NoMemory> for WorldEnd {
 
     fn from(_e: NoMemory) -> WorldEnd {
         WorldEnd::NoMemory
-    }
-}
-
-impl From<SendFault> for WorldEnd {
-    ghost use Rattle.vp_world.specs.Limits.{end_of};
-
-    ghost from_gives = { λ fault e. e ≡ end_of fault };
-
-    fn from(fault: SendFault) -> WorldEnd {
-        match fault {
-            SendFault::TooMany => WorldEnd::Limit {
-                what: Counted::Messages,
-                limit: MOST_MESSAGES,
-            },
-            SendFault::NoMemory => WorldEnd::NoMemory,
-        }
     }
 }

@@ -4,10 +4,12 @@
 #![tactic(auto)]
 
 mod end;
+mod happened;
 mod state;
 mod world;
 
 pub use end::WorldEnd;
+pub use happened::Happened;
 pub use world::World;
 // who does the steps of a world's sites
 pub use vp_places::{ByThemselves, Stepper};

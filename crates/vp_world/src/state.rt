@@ -6,7 +6,7 @@ ghost use Rattle.vp_base.specs.declared.event.Input.TheVariants as input;
 ghost use Rattle.vp_base.specs.declared.event.Shown.TheVariants as shown;
 ghost use Rattle.vp_model.specs.World.{start_world, flowing, message_at, shows, at_site, deliver, crash, cut, heal, restart, happens, next};
 ghost use Rattle.vp_model.specs.Limits.{world_limits, refused};
-ghost use Rattle.vp_world.specs.Limits.{Ends, Does, too_many, too_many_steps};
+ghost use Rattle.vp_world.specs.Limits.{Ends, Does, too_many_steps, with_line};
 ghost use Rattle.vp_mail.specs.Queues.{AreSited};
 ghost use Rattle.vp_world.specs.Known.{IsWithinLimits};
 ghost use Rattle.vp_world.specs.Steps.{takes_in, if_up, receiver, taker_now, passed_over, step_at, step_by, step_of};
@@ -17,8 +17,8 @@ use crate::end::WorldEnd;
 use std::alloc::Global;
 use std::marker::Model;
 use vp_base::{
-    Call, Commit, Commits, CopyOf, Counted, Effects, Event, Input, MOST_STEPS, NoMemory, Sent,
-    Shown, SiteId, View, ViewId,
+    Call, Commits, CopyOf, Counted, Effects, Event, Input, MOST_MESSAGES, MOST_STEPS, NoMemory,
+    Sent, Shown, SiteId, View, ViewId,
 };
 use vp_catalog::Catalog;
 use vp_mail::{Cuts, Mail, PAIRS, SITES};
@@ -91,11 +91,11 @@ fn put_view(agreed: &mut Vec<View>, view: Option<View>) -> Result<(), NoMemory>
     }
 }
 
-fn put_commits(journal: &mut Commits, commits: &[Commit]) -> Result<(), NoMemory>
-    ensures { OnOk result (journal.new ≡ journal.old ++ commits.now) }
+fn put_commits(journal: &mut Commits, commits: Commits) -> Result<(), NoMemory>
+    ensures { OnOk result (journal.new ≡ journal.old ++ commits) }
 {
-    for commit in commits {
-        journal.push(commit.copy_of()?)?;
+    for commit in commits.into_vec() {
+        journal.push(commit)?;
     }
     Ok(())
 }
@@ -184,24 +184,36 @@ impl State {
         Ok(())
     }
 
-    /// The messages and the commits of a step are kept, and the view that is agreed from here on. It answers the number of the first
-    /// message. Where the messages are too many, or without memory, the state may only be dropped.
-    fn keep(&mut self, effects: &Effects, agreed: Option<View>) -> Result<u32, WorldEnd>
-        ensures kept { IfOk result (λ first. shows self.new (shown.Step effects.now.commits first effects.now.messages effects.now.replies) ≡ takes_in (record { effects = effects.now; agreed = agreed }) self.old) }
-        ensures end { Ends (too_many (self.old.sent ++ effects.now.messages)) result }
+    /// The messages and the commits of a line join those of the steps before. Without memory the state may only be dropped.
+    pub fn keep(&mut self, shown: Shown) -> Result<(), NoMemory>
+        requires { length (with_line shown self.old).sent ≤ 2000000 }
+        ensures { OnOk result (self.new ≡ with_line shown self.old) }
     {
-        put_view(&mut self.agreed, agreed)?;
-        let first = self.mail.send_all(effects.messages.as_slice())?;
-        put_commits(&mut self.journal, effects.commits.as_slice())?;
-        Ok(first)
+        let Shown::Step {
+            commits,
+            messages,
+            ..
+        } = shown
+        else {
+            return Ok(());
+        };
+        self.mail.send(messages)?;
+        put_commits(&mut self.journal, commits)
     }
 
-    /// What a step of a site gives. Where the messages are too many, or without memory, the state may only be dropped.
+    /// What a step of a site gives. Its messages and commits stand in the line alone until `keep`, as after each call below. Where
+    /// the messages are too many, or without memory, the state may only be dropped.
     fn take_in(&mut self, taken: Taken) -> Result<Shown, WorldEnd>
         ensures { Does (takes_in taken self.old) self.new result }
     {
         let Taken { effects, agreed } = taken;
-        let first = self.keep(&effects, agreed)?;
+        let Some(first) = self.mail.first_number(effects.messages.as_slice()) else {
+            return Err(WorldEnd::Limit {
+                what: Counted::Messages,
+                limit: MOST_MESSAGES,
+            });
+        };
+        put_view(&mut self.agreed, agreed)?;
         Ok(step_line(effects, first))
     }
 
@@ -322,8 +334,8 @@ impl State {
     }
 
     fn crash(&mut self, id: SiteId) -> Shown
-        ensures shown { shows self.new result ≡ crash id self.old }
-        ensures sent { self.new.sent ≡ self.old.sent }
+        ensures shown { shows (with_line result self.new) result ≡ crash id self.old }
+        ensures sent { (with_line result self.new).sent ≡ self.old.sent }
     {
         if self.places.is_up(id) {
             self.places.take_site(id);
@@ -334,8 +346,8 @@ impl State {
     }
 
     fn restart(&mut self, catalog: &Catalog, id: SiteId) -> Result<Shown, NoMemory>
-        ensures shown { IfOk result (λ line. shows self.new line ≡ restart catalog.now id self.old) }
-        ensures sent { OnOk result (self.new.sent ≡ self.old.sent) }
+        ensures shown { IfOk result (λ line. shows (with_line line self.new) line ≡ restart catalog.now id self.old) }
+        ensures sent { IfOk result (λ line. (with_line line self.new).sent ≡ self.old.sent) }
     {
         self.places.restart(catalog, id)
     }
@@ -396,8 +408,8 @@ impl State {
     ) -> Result<Shown, WorldEnd>
         requires within { IsWithinLimits self.old }
         requires may { IfSome (step_of event.now self.old) (λ it. S.may catalog.now it.0 it.1 stepper.old) }
-        ensures shown { IfOk result (λ line. shows self.new line ≡ next catalog.now event.now self.old) }
-        ensures within { OnOk result (IsWithinLimits self.new) }
+        ensures shown { IfOk result (λ line. shows (with_line line self.new) line ≡ next catalog.now event.now self.old) }
+        ensures within { IfOk result (λ line. IsWithinLimits (with_line line self.new)) }
         ensures end { Ends (refused world_limits catalog.now event.now self.old) result }
         ensures did { OnOk result (Did (λ it. S.did it.0 it.1) (step_of event.now self.old) stepper.old stepper.new) }
     {

@@ -8,6 +8,7 @@ ghost use Rattle.vp_world.specs.Limits.{Ends};
 ghost use Rattle.vp_world.specs.Steps.{taker, passed_over, IsReady, DoesEvent};
 
 use crate::end::WorldEnd;
+use crate::happened::Happened;
 use crate::state::State;
 use std::marker::Model;
 use vp_base::{Commits, CopyOf, Event, Line, Newest, NoMemory, SiteId};
@@ -16,8 +17,8 @@ use vp_places::{ByThemselves, Site, Stepper};
 
 /// The sites of a catalogue, with their messages. The state stands in a box, so that little is moved where a world goes from call to call.
 pub struct World {
-    catalog: Catalog,
-    state: Box<State>,
+    pub(crate) catalog: Catalog,
+    pub(crate) state: Box<State>,
 }
 
 impl Drop for World {
@@ -57,15 +58,14 @@ impl World {
         ensures line { IfOk result (λ r. r.1 ≡ record { event = event.now; shown = (next self.catalogue event.now self.world).shown }) }
         ensures end { Ends (refused world_limits self.catalogue event.now self.world) result }
     {
-        self.next_by(event, &mut ByThemselves)
+        let happened = self.next_by(event, &mut ByThemselves)?;
+        let line = happened.line().copy_of()?;
+        Ok((happened.into_world()?, line))
     }
 
-    /// The same, where another one does the step of the event's site; the event is announced to it before that. After an error the world is gone.
-    pub fn next_by<S: Stepper>(
-        self,
-        event: &Event,
-        stepper: &mut S,
-    ) -> Result<(World, Line), WorldEnd>
+    /// The same, where another one does the step of the event's site; the event is announced to it before that. The world goes on once its
+    /// line was shown. After an error the world is gone.
+    pub fn next_by<S: Stepper>(self, event: &Event, stepper: &mut S) -> Result<Happened, WorldEnd>
         requires announces { S.announces event.now }
         requires ready { IsReady S.announced (S.may self.catalogue) event.now self.world stepper.old }
         ensures world { IfOk result (λ r. r.0 ≡ record { catalogue = self.catalogue; world = (next self.catalogue event.now self.world).world }) }
@@ -80,7 +80,11 @@ impl World {
             event: event.copy_of()?,
             shown,
         };
-        Ok((World { catalog, state }, line))
+        Ok(Happened {
+            catalog,
+            state,
+            line,
+        })
     }
 
     /// The lowest message that may be delivered now and never was.

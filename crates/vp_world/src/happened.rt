@@ -1,0 +1,69 @@
+//! An event that happened in a world.
+
+ghost use Rattle.std.specs.Prelude.{◌≡◌, IfOk};
+
+use crate::state::State;
+use crate::world::World;
+use std::marker::Model;
+use std::mem;
+use vp_base::{Line, NoMemory, Shown};
+use vp_catalog::Catalog;
+
+/// An event that happened in a world. A contract sees the world behind it and its line. The messages and the commits of a step stand
+/// in the line until the world goes on, so that none is copied.
+pub struct Happened {
+    pub(crate) catalog: Catalog,
+    pub(crate) state: Box<State>,
+    pub(crate) line: Line,
+}
+
+impl Drop for Happened {
+    fn drop(self) {
+        let Happened {
+            catalog: _,
+            state: _,
+            line: _,
+        } = self;
+    }
+}
+
+impl Model for Happened {
+    ghost use Rattle.vp_model.specs.Types.{Line};
+    ghost use Rattle.vp_world.specs.Known.{Known, IsWithinLimits};
+    ghost use Rattle.vp_world.specs.Limits.{with_line};
+
+    ghost Value = { Known × Line };
+
+    ghost view = { λ h. (record { catalogue = h.catalog; world = with_line h.line.shown h.state.value }, h.line) };
+
+    ghost invariant = { λ h. IsWithinLimits (with_line h.line.shown h.state.value) };
+}
+
+impl Happened {
+    /// What the trace shows for the event.
+    pub fn line(&self) -> &Line
+        ensures { result.now ≡ self.now.1 }
+    {
+        &self.line
+    }
+
+    pub fn catalog(&self) -> &Catalog
+        ensures { result.now ≡ self.now.0.catalogue }
+    {
+        &self.catalog
+    }
+
+    /// The world behind the event. The messages and the commits move into it.
+    pub fn into_world(self) -> Result<World, NoMemory>
+        ensures { IfOk result (λ w. w ≡ self.0) }
+    {
+        let Happened {
+            catalog,
+            mut state,
+            mut line,
+        } = self;
+        let shown = mem::replace(&mut line.shown, Shown::Nothing);
+        state.keep(shown)?;
+        Ok(World { catalog, state })
+    }
+}
