@@ -1,6 +1,6 @@
 -- What the change of one host is to all of them.
 use Rattle.std.proofs.Common.{◌≡◌, ◌∙◌, ap, sym, subst, ℕ, ◌<◌, Bool, List, length, get_or, set, Some, None, refl, arith, ◌==◌}
-use Rattle.std.specs.Prelude.{Result, Ok, Err, OnOk, IfOk}
+use Rattle.std.specs.Prelude.{Result, Ok, Err, IfOk}
 use Rattle.std.specs.List.{position}
 use Rattle.std.proofs.lemmas.Bool.Decides.{nat_tests}
 use Rattle.std.proofs.lemmas.List.Quantifiers.{position-Some}
@@ -61,10 +61,6 @@ stays_placed catalogue old new h = ap (λ id. (id, new.port)) h.same_id ∙ ap (
 pub answered_so : {T E : Type 0} (r : Result T E) (P Q : T → Type 0) → ((x : T) → P x → Q x) → IfOk r P → IfOk r Q
 answered_so (Ok x) P Q f h = f x h
 answered_so (Err e) P Q f h = tt
-
-pub done_so : {T E A B : Type 0} (r : Result T E) → (A → B) → OnOk r A → OnOk r B
-done_so (Ok x) f h = f h
-done_so (Err e) f h = tt
 
 -- ---- the host of a site
 

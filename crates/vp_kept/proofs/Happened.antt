@@ -15,7 +15,7 @@ use Rattle.vp_model.specs.World.{Place, WorldState, Moved, Moment, place_of, sit
 use Rattle.vp_laws.proofs.Lists.Keeps.{by_option, by_test}
 use Rattle.vp_laws.proofs.Lists.Views.{same_site}
 use Rattle.vp_laws.proofs.Worlds.Scenes.{place-same, place-other, place-id}
-use Rattle.vp_laws.proofs.Worlds.Occurs.{Gives}
+use Rattle.vp_laws.proofs.Worlds.Occurs.{Gives, counted}
 use Rattle.vp_runs.specs.Keeping.{kept_with}
 use Rattle.vp_kept.specs.Kept.{input_of, is_restart_of, with_life, with_start, kept_after}
 use Rattle.vp_laws.proofs.Lists.Numbers.{eq_self, eq_not}
@@ -81,9 +81,6 @@ named e w s given (Gives.ticked is) = rw is (tt, refl, refl)
 named e w s given (Gives.probed is) = rw is (tt, refl, refl)
 
 module _ (catalogue : Catalogue) (number : ℕ) (e : Event) (w : WorldState) where
-  abbrev counted : WorldState
-  counted = record w { steps = w.steps + 1 }
-
   abbrev D : Moved → Type 0
   D m = Effect catalogue (moment number w e m)
 
@@ -100,7 +97,7 @@ module _ (catalogue : Catalogue) (number : ℕ) (e : Event) (w : WorldState) whe
   -- a step of a site
   module _ (s : ℕ) (x : SiteState) (given : Input) (delivered : List ℕ) (up : site_of w s ≡ Some x) (g : Gives e w s given) where
     abbrev from : WorldState
-    from = record counted { delivered = delivered }
+    from = record (counted w) { delivered = delivered }
 
     abbrev o : Stepped
     o = step catalogue x given
@@ -127,45 +124,45 @@ module _ (catalogue : Catalogue) (number : ℕ) (e : Event) (w : WorldState) whe
           log_is = λ batches. rw (n.1, eq_not s id (λ same. other (sym same)), no_restart id e n.0) refl;
         })
 
-  at_sites : (s : ℕ) (given : Input) → Gives e w s given → D (at_site catalogue s given counted)
+  at_sites : (s : ℕ) (given : Input) → Gives e w s given → D (at_site catalogue s given (counted w))
   unfolding at_site
   at_sites s given g =
-      by_option D (λ site. site_step catalogue s site given counted) (site_of w s) (shows counted (shown.Down s))
+      by_option D (λ site. site_step catalogue s site given (counted w)) (site_of w s) (shows (counted w) (shown.Down s))
       (λ x up. stepped s x given w.delivered up g)
-      (λ down. quiet (shows counted (shown.Down s)) (named e w s given g).0 refl refl refl)
+      (λ down. quiet (shows (counted w) (shown.Down s)) (named e w s given g).0 refl refl refl)
 
-  delivers : (k : ℕ) (m : Sent) → e ≡ event.Deliver k → message_at w k ≡ Some m → D (deliver catalogue k m counted)
+  delivers : (k : ℕ) (m : Sent) → e ≡ event.Deliver k → message_at w k ≡ Some m → D (deliver catalogue k m (counted w))
   unfolding deliver
   delivers k m is sent =
       let given = input.Message m.from m.message in
       let g : Gives e w m.to given = Gives.came k m is sent refl in
       let plain = (named e w m.to given g).0 in
-      by_option D _ (site_of w m.to) (shows counted (shown.Down m.to))
-      (λ x up. by_test D (is_cut w m.from m.to) (shows counted (shown.Parted m.from m.to)) (site_step catalogue m.to x given (record counted { delivered = w.delivered ++ k ∷ [] }))
-      (λ parted. quiet (shows counted (shown.Parted m.from m.to)) plain refl refl refl)
+      by_option D _ (site_of w m.to) (shows (counted w) (shown.Down m.to))
+      (λ x up. by_test D (is_cut w m.from m.to) (shows (counted w) (shown.Parted m.from m.to)) (site_step catalogue m.to x given (record (counted w) { delivered = w.delivered ++ k ∷ [] }))
+      (λ parted. quiet (shows (counted w) (shown.Parted m.from m.to)) plain refl refl refl)
       (λ joined. stepped m.to x given (w.delivered ++ k ∷ []) up g))
-      (λ down. quiet (shows counted (shown.Down m.to)) plain refl refl refl)
+      (λ down. quiet (shows (counted w) (shown.Down m.to)) plain refl refl refl)
 
   -- a crash
-  crashed : (s : ℕ) → e ≡ event.Crash s → D (shows (record counted { places = change_place s put_down w.places }) shown.Nothing)
+  crashed : (s : ℕ) → e ≡ event.Crash s → D (shows (record (counted w) { places = change_place s put_down w.places }) shown.Nothing)
   crashed s is =
       Effect.crashes s is refl
       (λ old at. record { place_is = place-same s put_down w.places (λ p. refl) ∙ ap (option_map put_down) at; log_is = λ batches. rw is refl })
       (λ id other. record { place_is = place-other s id put_down w.places (λ p. refl) other; log_is = λ batches. rw is refl })
 
   -- one of a site that is down
-  stays_down : (s : ℕ) → e ≡ event.Crash s → site_of w s ≡ None → D (shows counted (shown.Down s))
+  stays_down : (s : ℕ) → e ≡ event.Crash s → site_of w s ≡ None → D (shows (counted w) (shown.Down s))
   stays_down s is down =
       Effect.crashes s is refl
       (λ old at. let it : old.up ≡ None = ap (option_and_then (λ (place : Place). place.up)) (sym at) ∙ down in record { place_is = at ∙ ap (λ (up : Option SiteState). Some (record old { up = up })) it; log_is = λ batches. rw is refl })
       (λ id other. record { place_is = refl; log_is = λ batches. rw is refl })
 
-  crashes_at : (s : ℕ) → e ≡ event.Crash s → D (crash s counted)
+  crashes_at : (s : ℕ) → e ≡ event.Crash s → D (crash s (counted w))
   unfolding crash
-  crashes_at s is = by_option D _ (site_of w s) (shows counted (shown.Down s)) (λ x up. crashed s is) (λ down. stays_down s is down)
+  crashes_at s is = by_option D _ (site_of w s) (shows (counted w) (shown.Down s)) (λ x up. crashed s is) (λ down. stays_down s is down)
 
   -- a restart that begins no life
-  restarts_none : (s id : ℕ) (what : Shown) → e ≡ event.Restart s → is_step what ≡ false → ((batches : List (List LogRecord)) → with_start what batches ≡ batches) → It (shows counted what) id
+  restarts_none : (s id : ℕ) (what : Shown) → e ≡ event.Restart s → is_step what ≡ false → ((batches : List (List LogRecord)) → with_start what batches ≡ batches) → It (shows (counted w) what) id
   restarts_none s id what is r none = record { place_is = refl; log_is = λ batches. rw (is, r, none batches) (go batches (s == id)) }
     where
       go : (batches : List (List LogRecord)) (b : Bool) → cond b batches batches ≡ batches
@@ -173,11 +170,11 @@ module _ (catalogue : Catalogue) (number : ℕ) (e : Event) (w : WorldState) whe
       go batches false = refl
 
   unstarted : (s : ℕ) (what : Shown) → e ≡ event.Restart s → is_step what ≡ false → ((batches : List (List LogRecord)) → with_start what batches ≡ batches)
-      → ((old : Place) → place_of s w.places ≡ Some old → It (shows counted what) s → RestartEffect catalogue (moment number w e (shows counted what)) s old) → D (shows counted what)
+      → ((old : Place) → place_of s w.places ≡ Some old → It (shows (counted w) what) s → RestartEffect catalogue (moment number w e (shows (counted w) what)) s old) → D (shows (counted w) what)
   unstarted s what is r none why = Effect.restarts s is refl (λ old at. why old at (restarts_none s s what is r none)) (λ id other. restarts_none s id what is r none)
 
   restarted : (s : ℕ) (place : Place) → e ≡ event.Restart s → place_of s w.places ≡ Some place → place.up ≡ None → place.durable.life ≢ 2 ^ 32 - 1
-      → D (shows (record counted { places = change_place s (restart_place catalogue) w.places }) (shown.Life (place.durable.life + 1)))
+      → D (shows (record (counted w) { places = change_place s (restart_place catalogue) w.places }) (shown.Life (place.durable.life + 1)))
   restarted s place is there down left =
       Effect.restarts s is refl
       (λ old at.
@@ -186,7 +183,7 @@ module _ (catalogue : Catalogue) (number : ℕ) (e : Event) (w : WorldState) whe
       (record { place_is = place-same s (restart_place catalogue) w.places (λ p. refl) ∙ ap (option_map (restart_place catalogue)) at; log_is = λ batches. rw (is, eq_self s, same) refl }))
       (λ id other. record { place_is = place-other s id (restart_place catalogue) w.places (λ p. refl) other; log_is = λ batches. rw (is, eq_not s id (λ same. other (sym same))) refl })
 
-  restarts_from : (s : ℕ) (place : Place) → e ≡ event.Restart s → place_of s w.places ≡ Some place → place.id ≡ s → D (restart_from catalogue place counted)
+  restarts_from : (s : ℕ) (place : Place) → e ≡ event.Restart s → place_of s w.places ≡ Some place → place.id ≡ s → D (restart_from catalogue place (counted w))
   restarts_from s place is there i = go place.up refl
     where
       it : (old : Place) → place_of s w.places ≡ Some old → place ≡ old
@@ -198,19 +195,19 @@ module _ (catalogue : Catalogue) (number : ℕ) (e : Event) (w : WorldState) whe
       is_left : (n : ℕ) → (n == 2 ^ 32 - 1) ≡ false → n ≢ 2 ^ 32 - 1
       is_left n t same = let z : (n == n) ≡ false = ap (λ m. n == m) same ∙ t in let y = eq_self n in cc
 
-      go : (up : Option SiteState) → place.up ≡ up → D (restart_from catalogue place counted)
+      go : (up : Option SiteState) → place.up ≡ up → D (restart_from catalogue place (counted w))
       go (Some x) u = rw u (unstarted s (shown.Up place.id) is refl (λ batches. refl) (λ old at stays. RestartEffect.is_up x (ap (λ (p : Place). p.up) (sym (it old at)) ∙ u) stays))
       go None u =
-          rw (u, i) (by_test D (place.durable.life == 2 ^ 32 - 1) (shows counted (shown.LivesSpent (2 ^ 32 - 1)))
-          (shows (record counted { places = change_place s (restart_place catalogue) w.places }) (shown.Life (place.durable.life + 1)))
+          rw (u, i) (by_test D (place.durable.life == 2 ^ 32 - 1) (shows (counted w) (shown.LivesSpent (2 ^ 32 - 1)))
+          (shows (record (counted w) { places = change_place s (restart_place catalogue) w.places }) (shown.Life (place.durable.life + 1)))
           (λ t. unstarted s (shown.LivesSpent (2 ^ 32 - 1)) is refl (λ batches. refl)
           (λ old at stays. RestartEffect.spent (ap (λ (p : Place). p.up) (sym (it old at)) ∙ u) (ap (λ (p : Place). p.durable.life) (sym (it old at)) ∙ is_spent place.durable.life t) stays))
           (λ t. restarted s place is there u (is_left place.durable.life t)))
 
-  restarts_at : (s : ℕ) → e ≡ event.Restart s → D (restart catalogue s counted)
+  restarts_at : (s : ℕ) → e ≡ event.Restart s → D (restart catalogue s (counted w))
   unfolding restart
   restarts_at s is =
-      by_option D _ (place_of s w.places) (shows counted shown.Nothing)
+      by_option D _ (place_of s w.places) (shows (counted w) shown.Nothing)
       (λ place there. restarts_from s place is there (place-id s w.places place there))
       (λ none. unstarted s shown.Nothing is refl (λ batches. refl) (λ old at stays. let z = sym none ∙ at in absurd cc))
 
@@ -218,14 +215,14 @@ pub effect : (catalogue : Catalogue) (number : ℕ) (e : Event) (w : WorldState)
 unfolding happens
 effect catalogue number (event.Call s words) w = at_sites catalogue number (event.Call s words) w s (input.Call 0 words) (Gives.called words refl)
 effect catalogue number (event.Deliver k) w =
-    by_option (D catalogue number (event.Deliver k) w) _ (message_at w k) (shows (record w { steps = w.steps + 1 }) shown.NoMessage)
+    by_option (D catalogue number (event.Deliver k) w) _ (message_at w k) (shows (counted w) shown.NoMessage)
     (λ m sent. delivers catalogue number (event.Deliver k) w k m refl sent)
-    (λ none. quiet catalogue number (event.Deliver k) w (shows (record w { steps = w.steps + 1 }) shown.NoMessage) tt refl refl refl)
-effect catalogue number (event.Flow count) w = quiet catalogue number (event.Flow count) w (shows (record w { steps = w.steps + 1 }) shown.Nothing) tt refl refl refl
+    (λ none. quiet catalogue number (event.Deliver k) w (shows (counted w) shown.NoMessage) tt refl refl refl)
+effect catalogue number (event.Flow count) w = quiet catalogue number (event.Flow count) w (shows (counted w) shown.Nothing) tt refl refl refl
 effect catalogue number (event.Tick s) w = at_sites catalogue number (event.Tick s) w s input.Tick (Gives.ticked refl)
 effect catalogue number (event.Probe s) w = at_sites catalogue number (event.Probe s) w s input.Probe (Gives.probed refl)
-effect catalogue number (event.Cut a b) w = quiet catalogue number (event.Cut a b) w (shows (cut a b (record w { steps = w.steps + 1 })) shown.Nothing) tt refl refl refl
-effect catalogue number (event.Heal a b) w = quiet catalogue number (event.Heal a b) w (shows (heal a b (record w { steps = w.steps + 1 })) shown.Nothing) tt refl refl refl
+effect catalogue number (event.Cut a b) w = quiet catalogue number (event.Cut a b) w (shows (cut a b (counted w)) shown.Nothing) tt refl refl refl
+effect catalogue number (event.Heal a b) w = quiet catalogue number (event.Heal a b) w (shows (heal a b (counted w)) shown.Nothing) tt refl refl refl
 effect catalogue number (event.Crash s) w = crashes_at catalogue number (event.Crash s) w s refl
 effect catalogue number (event.Restart s) w = restarts_at catalogue number (event.Restart s) w s refl
 

@@ -32,50 +32,50 @@ pub data Occurs (catalogue : Catalogue) (e : Event) (w : WorldState) (m : Moved)
   crashes : (s : ℕ) → scene_of m.world ≡ crashed (scene_of w) s → is_step m.shown ≡ false → Occurs catalogue e w m
   restarts : (s : ℕ) (place : Place) → place_of s w.places ≡ Some place → place.up ≡ None → place.id ≡ s → scene_of m.world ≡ restarted catalogue (scene_of w) s → is_step m.shown ≡ false → Occurs catalogue e w m
 
-module _ (catalogue : Catalogue) (e : Event) (w : WorldState) where
-  -- the world in which the step is counted already
-  abbrev counted : WorldState
-  counted = record w { steps = w.steps + 1 }
+-- the world in which the step is counted already
+abbrev pub counted : WorldState → WorldState
+counted w = record w { steps = w.steps + 1 }
 
+module _ (catalogue : Catalogue) (e : Event) (w : WorldState) where
   abbrev O : Moved → Type 0
   O m = Occurs catalogue e w m
 
-  at_site-occurs : (s : ℕ) (given : Input) → Arrives (scene_of w) s given → Gives e w s given → O (at_site catalogue s given counted)
+  at_site-occurs : (s : ℕ) (given : Input) → Arrives (scene_of w) s given → Gives e w s given → O (at_site catalogue s given (counted w))
   unfolding at_site
-  at_site-occurs s given a g = by_option O (λ site. site_step catalogue s site given counted) (site_of w s) (shows counted (shown.Down s)) (λ x up. Occurs.acts s x given counted refl up a g refl) (λ down. Occurs.stands refl refl)
+  at_site-occurs s given a g = by_option O (λ site. site_step catalogue s site given (counted w)) (site_of w s) (shows (counted w) (shown.Down s)) (λ x up. Occurs.acts s x given (counted w) refl up a g refl) (λ down. Occurs.stands refl refl)
 
-  deliver-occurs : (k : ℕ) (m : Sent) → e ≡ event.Deliver k → message_at w k ≡ Some m → O (deliver catalogue k m counted)
+  deliver-occurs : (k : ℕ) (m : Sent) → e ≡ event.Deliver k → message_at w k ≡ Some m → O (deliver catalogue k m (counted w))
   unfolding deliver
   deliver-occurs k m is at =
-      let v : WorldState = record counted { delivered = w.delivered ++ k ∷ [] } in
-      by_option O _ (site_of w m.to) (shows counted (shown.Down m.to))
-      (λ x up. by_test O (is_cut w m.from m.to) (shows counted (shown.Parted m.from m.to)) (site_step catalogue m.to x (input.Message m.from m.message) v)
+      let v : WorldState = record (counted w) { delivered = w.delivered ++ k ∷ [] } in
+      by_option O _ (site_of w m.to) (shows (counted w) (shown.Down m.to))
+      (λ x up. by_test O (is_cut w m.from m.to) (shows (counted w) (shown.Parted m.from m.to)) (site_step catalogue m.to x (input.Message m.from m.message) v)
       (λ parted. Occurs.stands refl refl)
       (λ joined. Occurs.acts m.to x (input.Message m.from m.message) v refl up (message_at-has w k m at) (Gives.came k m is at refl) refl))
       (λ down. Occurs.stands refl refl)
 
-  crash-occurs : (s : ℕ) → O (crash s counted)
+  crash-occurs : (s : ℕ) → O (crash s (counted w))
   unfolding crash
-  crash-occurs s = by_option O _ (site_of w s) (shows counted (shown.Down s)) (λ x up. Occurs.crashes s refl refl) (λ down. Occurs.stands refl refl)
+  crash-occurs s = by_option O _ (site_of w s) (shows (counted w) (shown.Down s)) (λ x up. Occurs.crashes s refl refl) (λ down. Occurs.stands refl refl)
 
-  restart_from-occurs : (place : Place) (s : ℕ) → place_of s w.places ≡ Some place → place.id ≡ s → O (restart_from catalogue place counted)
+  restart_from-occurs : (place : Place) (s : ℕ) → place_of s w.places ≡ Some place → place.id ≡ s → O (restart_from catalogue place (counted w))
   restart_from-occurs place s at i = go place.up refl
     where
-      go : (up : Option SiteState) → place.up ≡ up → O (restart_from catalogue place counted)
+      go : (up : Option SiteState) → place.up ≡ up → O (restart_from catalogue place (counted w))
       go (Some x) u = rw u (Occurs.stands refl refl)
       go None u =
-          rw u (by_test O (place.durable.life == 2 ^ 32 - 1) (shows counted (shown.LivesSpent (2 ^ 32 - 1)))
-          (shows (record counted { places = change_place place.id (restart_place catalogue) w.places }) (shown.Life (place.durable.life + 1)))
+          rw u (by_test O (place.durable.life == 2 ^ 32 - 1) (shows (counted w) (shown.LivesSpent (2 ^ 32 - 1)))
+          (shows (record (counted w) { places = change_place place.id (restart_place catalogue) w.places }) (shown.Life (place.durable.life + 1)))
           (λ t. Occurs.stands refl refl) (λ t. Occurs.restarts s place at u i (rw i refl) refl))
 
-  restart-occurs : (s : ℕ) → O (restart catalogue s counted)
+  restart-occurs : (s : ℕ) → O (restart catalogue s (counted w))
   unfolding restart
-  restart-occurs s = by_option O _ (place_of s w.places) (shows counted shown.Nothing) (λ place at. restart_from-occurs place s at (place-id s w.places place at)) (λ none. Occurs.stands refl refl)
+  restart-occurs s = by_option O _ (place_of s w.places) (shows (counted w) shown.Nothing) (λ place at. restart_from-occurs place s at (place-id s w.places place at)) (λ none. Occurs.stands refl refl)
 
 happens-occurs : (catalogue : Catalogue) (e : Event) (w : WorldState) → Occurs catalogue e w (next catalogue e w)
 unfolding happens
 happens-occurs catalogue (event.Call s words) w = at_site-occurs catalogue (event.Call s words) w s (input.Call 0 words) tt (Gives.called words refl)
-happens-occurs catalogue (event.Deliver k) w = by_option (Occurs catalogue (event.Deliver k) w) _ (message_at w k) (shows (record w { steps = w.steps + 1 }) shown.NoMessage) (λ m at. deliver-occurs catalogue (event.Deliver k) w k m refl at) (λ none. Occurs.stands refl refl)
+happens-occurs catalogue (event.Deliver k) w = by_option (Occurs catalogue (event.Deliver k) w) _ (message_at w k) (shows (counted w) shown.NoMessage) (λ m at. deliver-occurs catalogue (event.Deliver k) w k m refl at) (λ none. Occurs.stands refl refl)
 happens-occurs catalogue (event.Flow count) w = Occurs.stands refl refl
 happens-occurs catalogue (event.Tick s) w = at_site-occurs catalogue (event.Tick s) w s input.Tick tt (Gives.ticked refl)
 happens-occurs catalogue (event.Probe s) w = at_site-occurs catalogue (event.Probe s) w s input.Probe tt (Gives.probed refl)

@@ -1,6 +1,7 @@
 use Rattle.std.proofs.Common.{◌∙◌, sym}
+use Rattle.vp_stable.proofs.Writes.{on_ok_as}
 use Rattle.vp_hosts.specs.Hosts.{Restarts}
-use Rattle.vp_hosts.proofs.Changing.{none_changes, one_changes, hosts_still, at_own_port, done_so}
+use Rattle.vp_hosts.proofs.Changing.{none_changes, one_changes, hosts_still, at_own_port}
 use Rattle.vp_hosts.proofs.hosts.restart_at.Goals as goal
 
 -- src/hosts.rt:66:1
@@ -12,7 +13,7 @@ returns-in-None-clause-restarts c =
 -- src/hosts.rt:66:1
 pub returns-in-Some-index_of-clause-restarts : goal.returns-in-Some-index_of-clause-restarts
 returns-in-Some-index_of-clause-restarts c =
-    done_so c.restart.result
+    on_ok_as c.restart.result
     (λ h. at_own_port c.args.catalog.now c.args.site c.in-Some.port (Restarts c.args.catalog.now) c.args.hosts.now _ (sym c.port.ensures ∙ c.in-Some.is)
     (one_changes c.in-Some.port (Restarts c.args.catalog.now) c.args.hosts.now c.index-hosts-i.result c.restart.new.self c.in-Some-index_of.i (sym c.index_of.ensures.place ∙ c.in-Some-index_of.is) c.restart.ensures.place h))
     c.restart.ensures.restarts
