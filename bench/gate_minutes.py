@@ -3,10 +3,10 @@
 
 gate_minutes.py [FOLDER]
 
-Runs `rt ci` in FOLDER (here, if none is named), which does everything from nothing, and looks at its processes twice a second. The run's
-own output goes to standard error, the table, in Markdown, to standard output, and behind it each edit with its seconds, the dearest first;
-so it is where this script is ended before the run. The status is the run's. Other work on the machine makes each job dearer: leave the
-machine to the run.
+Runs `rt ci` in FOLDER (here, if none is named) from nothing, and looks at its processes twice a second: where the kit's `rt ci` keeps what
+has passed, it is told to prove all anew. The run's own output goes to standard error, the table, in Markdown, to standard output, and
+behind it each edit with its seconds, the dearest first; so it is where this script is ended before the run. The status is the run's. Other
+work on the machine makes each job dearer: leave the machine to the run.
 """
 
 import os
@@ -136,11 +136,17 @@ def list_of_edits(jobs):
     return "\n".join(f"{seconds:.0f} {crate} {edit}" for seconds, crate, edit in tries)
 
 
+def gate():
+    """The command that does everything from nothing, by the kit that is here."""
+    told = subprocess.run(["rt", "help"], capture_output=True, text=True, check=False)
+    return ["rt", "ci", "--anew"] if "--anew" in told.stdout + told.stderr else ["rt", "ci"]
+
+
 def main():
     folder = (sys.argv[1:] or ["."])[0]
     jobs, known, edits = {}, {}, edits_below(folder)
     signal.signal(signal.SIGTERM, signal.default_int_handler)
-    with subprocess.Popen(["rt", "ci"], cwd=folder, stdin=subprocess.DEVNULL, stdout=sys.stderr) as run:
+    with subprocess.Popen(gate(), cwd=folder, stdin=subprocess.DEVNULL, stdout=sys.stderr) as run:
         try:
             while run.poll() is None:
                 look(run.pid, jobs, known, edits)
