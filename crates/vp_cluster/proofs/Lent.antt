@@ -1,5 +1,5 @@
 -- Which site is lent for the step of an event, with what comes to it.
-use Rattle.std.proofs.Common.{◌≡◌, ◌∙◌, ap, sym, ℕ, ◌+◌, Bool, true, false, cond, refl}
+use Rattle.std.proofs.Common.{◌≡◌, ◌∙◌, ap, sym, ℕ, Bool, true, false, cond, refl}
 use Rattle.std.specs.Prelude.{Option, Some, None, is_some, option_map, option_and_then}
 use Rattle.std.specs.Option.{option_map_or}
 use Rattle.vp_model.specs.Types.{Event, Input, Sent}
@@ -10,7 +10,7 @@ use Rattle.vp_model.specs.Catalogue.{Catalogue}
 use Rattle.vp_model.specs.Site.{SiteState}
 use Rattle.vp_model.specs.Told.{is_step}
 use Rattle.vp_model.specs.World.{WorldState, Moved, site_of, message_at, is_cut, shows, site_step, at_site, deliver, happens, next}
-use Rattle.vp_laws.proofs.Worlds.Occurs.{Gives}
+use Rattle.vp_laws.proofs.Worlds.Occurs.{Gives, counted}
 use Rattle.vp_world.specs.Steps.{step_at, step_by, step_of}
 use Rattle.vp_kept.proofs.Happened.{IsPlain, named}
 
@@ -30,23 +30,20 @@ nothing_there None none = refl
 nothing_there (Some a) none = absurd cc
 
 module _ (catalogue : Catalogue) (w : WorldState) where
-  abbrev counted : WorldState
-  counted = record w { steps = w.steps + 1 }
-
-  at_a_site : (s : ℕ) (given : Input) → is_step (at_site catalogue s given counted).shown ≡ is_some (step_at w s given)
+  at_a_site : (s : ℕ) (given : Input) → is_step (at_site catalogue s given (counted w)).shown ≡ is_some (step_at w s given)
   unfolding at_site site_step
-  at_a_site s given = lent_by (λ (site : SiteState). site_step catalogue s site given counted) (λ (site : SiteState). (site, given)) (site_of w s) (shows counted (shown.Down s)) (λ site. refl) refl
+  at_a_site s given = lent_by (λ (site : SiteState). site_step catalogue s site given (counted w)) (λ (site : SiteState). (site, given)) (site_of w s) (shows (counted w) (shown.Down s)) (λ site. refl) refl
 
-  at_a_receiver : (k : ℕ) (sent : Sent) → is_step (deliver catalogue k sent counted).shown ≡ is_some (step_by w sent)
+  at_a_receiver : (k : ℕ) (sent : Sent) → is_step (deliver catalogue k sent (counted w)).shown ≡ is_some (step_by w sent)
   unfolding deliver site_step
   at_a_receiver k sent =
-      lent_over _ (λ (site : SiteState). (site, input.Message sent.from sent.message)) (site_of w sent.to) (shows counted (shown.Down sent.to)) (shows counted (shown.Parted sent.from sent.to)) (is_cut w sent.from sent.to) (λ site. refl) refl refl
+      lent_over _ (λ (site : SiteState). (site, input.Message sent.from sent.message)) (site_of w sent.to) (shows (counted w) (shown.Down sent.to)) (shows (counted w) (shown.Parted sent.from sent.to)) (is_cut w sent.from sent.to) (λ site. refl) refl refl
 
-  delivered : (k : ℕ) → is_step (happens catalogue (event.Deliver k) counted).shown ≡ is_some (step_of (event.Deliver k) w)
+  delivered : (k : ℕ) → is_step (happens catalogue (event.Deliver k) (counted w)).shown ≡ is_some (step_of (event.Deliver k) w)
   unfolding happens
   delivered k = go (message_at w k)
     where
-      go : (o : Option Sent) → is_step (option_map_or (λ sent. deliver catalogue k sent counted) o (shows counted shown.NoMessage)).shown ≡ is_some (option_and_then (step_by w) o)
+      go : (o : Option Sent) → is_step (option_map_or (λ sent. deliver catalogue k sent (counted w)) o (shows (counted w) shown.NoMessage)).shown ≡ is_some (option_and_then (step_by w) o)
       go None = refl
       go (Some sent) = at_a_receiver k sent
 
