@@ -4,7 +4,7 @@ use Rattle.std.specs.Prelude.{Ok}
 use Rattle.vp_model.specs.Types.{Commit}
 use Rattle.vp_model.specs.Catalogue.{Catalogue, start_values}
 use Rattle.vp_model.specs.OneCopy.{order}
-use Rattle.vp_model.specs.World.{Schedule, run_of}
+use Rattle.vp_model.specs.World.{Schedule}
 use Rattle.vp_model.specs.Texts.Trace.{trace_text}
 use Rattle.vp_model.specs.Texts.History.{history_lines}
 use Rattle.vp_schedule.specs.Document.{IsSchedule}

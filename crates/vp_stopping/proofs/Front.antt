@@ -10,10 +10,9 @@ use Rattle.vp_text.proofs.Items.{all_push}
 use Rattle.vp_model.specs.Types.{Event}
 use Rattle.vp_model.specs.Types.event
 use Rattle.vp_model.specs.World.{WorldState, Run, Moment, Schedule, next, moment, one_step, run_of, start_run, start_world}
-use Rattle.vp_kept.proofs.Through.{Follow}
+use Rattle.vp_kept.proofs.Through.{Follow, one_more}
 use Rattle.vp_stops.specs.Stopped.{left_of_line, follow}
 use Rattle.vp_stops.proofs.Delivered.{IsSingle}
-use Rattle.vp_stops.proofs.Behind.{one_more}
 use Rattle.vp_stopping.specs.Left.{next_single, left_then}
 use Rattle.vp_stopping.proofs.Walking.{left_at, left_of, fresh_lines, ends, fresh_ends, walk, Goes}
 

@@ -8,8 +8,7 @@ use Rattle.vp_model.specs.Types.event
 use Rattle.vp_model.specs.Words.{for_some}
 use Rattle.vp_model.specs.Catalogue.{Catalogue}
 use Rattle.vp_model.specs.World.{WorldState, Run, Moment, Schedule, next, moment, flowing, start_world, start_run, one_step, flow, one_event, run_from, run_of}
-use Rattle.vp_kept.proofs.Through.{Follow}
-pub use Rattle.vp_kept.proofs.Through.{one_more}
+use Rattle.vp_kept.proofs.Through.{Follow, one_more}
 use Rattle.vp_stops.specs.Stopped.{run_in, singles}
 use Rattle.vp_stops.proofs.Delivered.{IsSingle, steps_to}
 
