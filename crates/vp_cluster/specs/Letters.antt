@@ -1,5 +1,5 @@
 -- The letters of clients and of messages, and which one an event brings to a site.
-use Rattle.std.specs.Prelude.{ℕ, ◌-◌, ◌==◌, if◌then◌else◌, List, slice_get, Option, None, option_map}
+use Rattle.std.specs.Prelude.{ℕ, ◌≤◌, ◌-◌, ◌==◌, if◌then◌else◌, List, take, drop, slice_get, Option, None, option_map}
 use Rattle.std.specs.Option.{option_map_or}
 use Rattle.vp_model.specs.Types.{Event, Sent}
 use Rattle.vp_model.specs.Types.event
@@ -12,6 +12,7 @@ use Rattle.vp_wire.specs.declared.frame.Body.TheVariants as body
 use Rattle.vp_wire.specs.Grammar.{frame_of, frame_bytes}
 use Rattle.vp_runs.specs.Asking.{call_frame}
 use Rattle.vp_hosts.specs.declared.letter.Letter.{Letter}
+use Rattle.vp_cluster.specs.declared.sent_letters.Filed.{Filed}
 
 -- the frame in a letter from port 0, which is no site's, to the port of the site
 abbrev pub letter_to : Catalogue → ℕ → Frame → Option Letter
@@ -40,3 +41,10 @@ port_of catalogue site = option_map_or (λ port. port) (value_at site catalogue.
 -- the letter of a message
 abbrev pub letter_for : Catalogue → Sent → Letter
 letter_for catalogue sent = record { from = port_of catalogue sent.from; to = port_of catalogue sent.to; bytes = frame_bytes (message_frame sent) }
+
+-- a letter whose bytes stand among these, and that they reach so far
+abbrev pub letter_at : List ℕ → Filed → Letter
+letter_at bytes f = record { from = f.from; to = f.to; bytes = drop f.start (take f.end bytes) }
+
+abbrev pub IsWithin : ℕ → Filed → Type 0
+IsWithin count f = (f.start ≤ f.end) × (f.end ≤ count)

@@ -5,6 +5,7 @@ ghost use Rattle.vp_bytes.specs.Fields.{IsSite};
 ghost use Rattle.vp_cluster.specs.Letters.{letter_to, sent_from};
 ghost use Rattle.vp_wire.specs.Grammar.{IsFrame, frame_bytes, frame_of};
 
+use crate::sent_letters::SentLetters;
 use bytes::{Bytes, BytesMut};
 use std::alloc::Global;
 use vp_base::{NoMemory, SiteId};
@@ -52,18 +53,14 @@ pub fn put_letters(
     from: u16,
     count: usize,
     given: Datagrams,
-    letters: &mut Vec<Letter>,
+    letters: &mut SentLetters,
 ) -> Result<(), NoMemory>
-    ensures { OnOk result (letters.new.items ≡ letters.old.items ++ map (sent_from from) (take count given)) }
+    ensures { OnOk result (letters.new ≡ letters.old ++ map (sent_from from) (take count given)) }
 {
     let mut sent = given.into_vec();
     sent.truncate(count);
     for datagram in sent {
-        letters.push(Letter {
-            from,
-            to: datagram.port,
-            bytes: datagram.bytes,
-        })?;
+        letters.put(from, &datagram)?;
     }
     Ok(())
 }

@@ -6,6 +6,7 @@
 mod cluster;
 mod letters;
 mod nodes;
+mod sent_letters;
 
 pub use cluster::{Ran, run};
 pub use nodes::Nodes;

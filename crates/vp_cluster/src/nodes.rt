@@ -1,9 +1,9 @@
 //! The nodes of all sites in one process. They do the steps of a world's sites, and what a step sends goes from node to node in datagrams.
 
-ghost use Rattle.std.specs.Prelude.{◌≡◌, OnOk, IfOk, IfSome, Some, None, length, map, option_copied};
+ghost use Rattle.std.specs.Prelude.{◌≡◌, OnOk, IfOk, IfSome, Some, None, length, map};
 ghost use Rattle.vp_laws.specs.ShapeLaws.{IsEvent};
 ghost use Rattle.vp_hosts.specs.Hosts.{Crashes, Restarts, site_log};
-ghost use Rattle.vp_cluster.specs.Letters.{letter_of, in_order};
+ghost use Rattle.vp_cluster.specs.Letters.{letter_of};
 ghost use Rattle.vp_hosts.specs.Ports.{ChangesOf, LendsAt};
 ghost use Rattle.vp_cluster.specs.Nodes.{Begin, Comes, HostsAnnounced, StopsWith};
 ghost use Rattle.vp_runs.specs.Arrivals.{arrival};
@@ -13,6 +13,7 @@ ghost use Rattle.vp_hosts.specs.Stops.{is_kept};
 ghost use Rattle.vp_hosts.specs.declared.letter.Letter.{Letter};
 
 use crate::letters::{put_letters, to_site};
+use crate::sent_letters::SentLetters;
 use std::alloc::Global;
 use std::marker::Model;
 use vp_base::{CopyOf, Effects, Event, Input, NoMemory, SiteId};
@@ -30,7 +31,7 @@ use vp_wire::Body;
 pub struct Nodes {
     catalog: Catalog,
     hosts: Vec<Host>,
-    letters: Vec<Letter>,
+    letters: SentLetters,
     coming: Option<Letter>,
 }
 
@@ -40,19 +41,9 @@ impl Model for Nodes {
 
     ghost Value = { NodesValue };
 
-    ghost view = { λ n. record { catalogue = n.catalog; hosts = n.hosts.items; letters = n.letters.items; coming = n.coming } };
+    ghost view = { λ n. record { catalogue = n.catalog; hosts = n.hosts.items; letters = n.letters; coming = n.coming } };
 
     ghost invariant = { λ n. AreHosts n.catalog n.hosts.items };
-}
-
-/// The letter of message `k`, from 1.
-fn letter_in(letters: &[Letter], k: u32) -> Option<&Letter>
-    ensures { option_copied result ≡ in_order k letters.now }
-{
-    if k == 0 {
-        return None;
-    }
-    letters.get(k as usize - 1)
 }
 
 impl Nodes {
@@ -63,7 +54,7 @@ impl Nodes {
         let alloc = catalog.sites().allocator();
         Ok(Nodes {
             hosts: begin_all(&catalog)?,
-            letters: Vec::new(alloc),
+            letters: SentLetters::none(alloc),
             coming: None,
             catalog,
         })
@@ -87,10 +78,7 @@ impl Nodes {
                 *site,
                 Body::Call(call.copy_of()?),
             ),
-            Event::Deliver { k } => match letter_in(&self.letters, *k) {
-                None => Ok(None),
-                Some(letter) => Ok(Some(letter.copy_of()?)),
-            },
+            Event::Deliver { k } => self.letters.letter(*k),
             Event::Tick { site } => to_site(&self.catalog, *site, Body::Tick),
             Event::Probe { site } => to_site(&self.catalog, *site, Body::ProbeNow),
             _ => Ok(None),
