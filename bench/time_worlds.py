@@ -4,7 +4,8 @@
 usage: time_worlds.py PROGRAM OTHER
 
 Both programs are called with the word `replay`, and their outputs have to agree. Each kind of schedule is made at 25, 50 and 100 per cent
-of the limits on steps and messages, so that growth shows. What counts is processor time, the least of three runs, and the most memory.
+of the limits on steps and messages, so that growth shows. What counts is processor time, the least of seven runs in which the two take
+turns, so that a machine's slower minutes fall on both, and the most memory.
 
     flows       a site asks 15 others for 256 copies at each tick; then flows deliver, while seven pairs are cut
     deliveries  the same messages, delivered one by one from the middle, and each once more
@@ -15,7 +16,7 @@ import subprocess
 import sys
 import tempfile
 
-TIMES = 3
+TIMES = 7
 
 
 def catalogue():
@@ -66,10 +67,8 @@ def main(program, other):
                 path = folder + "/schedule"
                 with open(path, "w") as file:
                     file.write("\n".join(kind(share)) + "\n")
-                found = []
-                for name, command in (("mine", [program]), ("other", [other])):
-                    runs = [run(command, path, folder + "/" + name) for _ in range(TIMES)]
-                    found.append((min(time for time, _ in runs), max(memory for _, memory in runs)))
+                turns = [(run([program], path, folder + "/mine"), run([other], path, folder + "/other")) for _ in range(TIMES)]
+                found = [(min(time for time, _ in runs), max(memory for _, memory in runs)) for runs in zip(*turns)]
                 with open(folder + "/mine", "rb") as mine, open(folder + "/other", "rb") as right:
                     assert mine.read() == right.read(), "the outputs differ"
                 (time, memory), (time_other, memory_other) = found

@@ -1,9 +1,9 @@
 -- Letters whose bytes stand side by side.
-use Rattle.std.proofs.Common.{◌≡◌, ◌∙◌, ap, sym, subst, refl, ℕ, ◌-◌, ◌<◌, zero, suc, false, List, [], ◌∷◌, ◌++◌, length, map, take, drop, get_or}
+use Rattle.std.proofs.Common.{◌≡◌, ◌∙◌, ap, sym, arith, subst, refl, ℕ, ◌-◌, ◌<◌, zero, suc, false, List, [], ◌∷◌, ◌++◌, length, map, take, drop, get_or}
 use Rattle.std.specs.Prelude.{◌==◌, Some, slice_get}
 use Rattle.std.specs.List.{AllByRecursion}
 use Rattle.std.proofs.Math.Seq.{drop-append_seam}
-use Rattle.std.proofs.lemmas.List.{take-append-le}
+use Rattle.std.proofs.lemmas.List.{take-append-le, take_all}
 use Rattle.std.proofs.lemmas.Option.{slice_get-map, slice_get_read}
 use Rattle.bytes.proofs.Ranges.{drop-take_less}
 use Rattle.vp_outside.specs.declared.datagram.Datagram.{Datagram}
@@ -13,11 +13,7 @@ use Rattle.vp_cluster.specs.Letters.{in_order, sent_from, letter_at, IsWithin}
 -- one more letter, whose bytes stand behind those of the others
 pub letter_joins : (bytes : List ℕ) (fs : List Filed) (from : ℕ) (d : Datagram) → AllByRecursion (IsWithin (length bytes)) fs
     → map (letter_at (bytes ++ d.bytes)) (fs ++ record { from = from; to = d.port; start = length bytes; end = length (bytes ++ d.bytes) } ∷ []) ≡ map (letter_at bytes) fs ++ sent_from from d ∷ []
-letter_joins bytes [] from d h = rw (take_whole (bytes ++ d.bytes), drop-append_seam bytes d.bytes) refl
-  where
-    take_whole : (xs : List ℕ) → take (length xs) xs ≡ xs
-    take_whole [] = refl
-    take_whole (x ∷ xs) = ap (λ (ys : List ℕ). x ∷ ys) (take_whole xs)
+letter_joins bytes [] from d h = rw (take_all (length (bytes ++ d.bytes)) (bytes ++ d.bytes) (omega arith), drop-append_seam bytes d.bytes) refl
 letter_joins bytes (f ∷ fs) from d h = rw (take-append-le f.end bytes d.bytes h.0.1, letter_joins bytes fs from d h.1) refl
 
 found_within : (P : Filed → Type 0) (fs : List Filed) (i : ℕ) (f : Filed) → AllByRecursion P fs → slice_get fs i ≡ Some f → P f

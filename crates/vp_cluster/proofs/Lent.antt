@@ -10,6 +10,7 @@ use Rattle.vp_model.specs.Catalogue.{Catalogue}
 use Rattle.vp_model.specs.Site.{SiteState}
 use Rattle.vp_model.specs.Told.{is_step}
 use Rattle.vp_model.specs.World.{WorldState, Moved, site_of, message_at, is_cut, shows, site_step, at_site, deliver, happens, next}
+use Rattle.vp_laws.proofs.Lists.Items.{none_of}
 use Rattle.vp_laws.proofs.Worlds.Occurs.{Gives, counted}
 use Rattle.vp_world.specs.Steps.{step_at, step_by, step_of}
 use Rattle.vp_kept.proofs.Happened.{IsPlain, named}
@@ -24,10 +25,6 @@ lent_over : {A B : Type 0} (f : A → Moved) (g : A → B) (o : Option A) (idle 
 lent_over f g None idle kept true steps rests stays = rests
 lent_over f g (Some a) idle kept true steps rests stays = stays
 lent_over f g o idle kept false steps rests stays = lent_by f g o idle steps rests
-
-nothing_there : {A : Type 0} (o : Option A) → is_some o ≡ false → o ≡ None
-nothing_there None none = refl
-nothing_there (Some a) none = absurd cc
 
 module _ (catalogue : Catalogue) (w : WorldState) where
   at_a_site : (s : ℕ) (given : Input) → is_step (at_site catalogue s given (counted w)).shown ≡ is_some (step_at w s given)
@@ -61,7 +58,7 @@ module _ (catalogue : Catalogue) (w : WorldState) where
 
   -- no step, and nothing is lent
   pub none_lent : (e : Event) → IsPlain e → is_step (next catalogue e w).shown ≡ false → step_of e w ≡ None
-  none_lent e plain none = nothing_there (step_of e w) (sym (shows_step e plain) ∙ none)
+  none_lent e plain none = none_of (step_of e w) (sym (shows_step e plain) ∙ none)
 
   -- what comes to a site that is up is lent with that, where the event is a step
   pub site_lent : (e : Event) (s : ℕ) (x : SiteState) (given : Input) → Gives e w s given → site_of w s ≡ Some x → is_step (next catalogue e w).shown ≡ true → step_of e w ≡ Some (x, given)

@@ -1,10 +1,10 @@
+pub mod Acting
 mod Calls
 mod Coming
+mod Filed
 mod Found
 mod Lent
-mod TiedLetters
-mod TiedMoments
-pub mod Acting
-pub mod Filed
 pub mod Running
 pub mod Tied
+mod TiedLetters
+mod TiedMoments

@@ -9,6 +9,7 @@ use Rattle.vp_model.specs.Words.{has, value_at, keys}
 use Rattle.vp_model.specs.Catalogue.{Catalogue, sites_of}
 use Rattle.vp_model.specs.Site.{SiteState}
 use Rattle.vp_model.specs.Step.{start}
+use Rattle.vp_laws.proofs.Lists.Items.{none_of}
 use Rattle.vp_outside.specs.Disk.{Steps, DiskState, log_of}
 use Rattle.vp_disks.specs.Changes.{asked_of, changes_of, content_of, state_after}
 use Rattle.vp_disks.specs.declared.changes.Change.{Change}
@@ -174,23 +175,19 @@ module _ (catalogue : Catalogue) (id port : ℕ) (old new : List Change) where
         absurd (left (subst (λ bs. is_spent catalogue id bs) same (spent.1.2 ∙ spent.0)));
   }
 
-pub is_down : (log : Option Standing) → is_some log ≡ false → log ≡ None
-is_down None e = refl
-is_down (Some at) e = cc
-
 -- a start of a host whose site is down
 pub goes_up : (catalogue : Catalogue) (host : HostValue) (new : List Change) (node : NodeValue) → is_some host.log ≡ false → HalvesAreOneLog → asked_of new ≡ asked_of host.disk
     → Starts catalogue host.id node (told host) (state_after new true 0) → IsHost catalogue host → node.site.life < 2 ^ 32 → IsKept catalogue node (state_after new true 0)
     → Restarts catalogue host (host_with host.id host.port new (Some node.at))
 goes_up catalogue host new node rests one asked starts is lives kept =
     subst (λ (log : Option Standing). IsHost catalogue (host_with host.id host.port host.disk log) → Restarts catalogue (host_with host.id host.port host.disk log) (host_with host.id host.port new (Some node.at)))
-    (sym (is_down host.log rests)) (λ known. restarts catalogue host.id host.port host.disk new one asked node starts known lives kept) is
+    (sym (none_of host.log rests)) (λ known. restarts catalogue host.id host.port host.disk new one asked node starts known lives kept) is
 
 pub stays_down : (catalogue : Catalogue) (host : HostValue) (new : List Change) (life : ℕ) → is_some host.log ≡ false → HalvesAreOneLog → asked_of new ≡ asked_of host.disk
     → IsSpent catalogue host.id life (told host) → Steps ReadAlike (told host) (state_after new true 0) → IsHost catalogue host → Restarts catalogue host (host_with host.id host.port new None)
 stays_down catalogue host new life rests one asked spent alike is =
     subst (λ (log : Option Standing). IsHost catalogue (host_with host.id host.port host.disk log) → Restarts catalogue (host_with host.id host.port host.disk log) (host_with host.id host.port new None))
-    (sym (is_down host.log rests)) (λ known. is_over catalogue host.id host.port host.disk new one asked life known spent alike) is
+    (sym (none_of host.log rests)) (λ known. is_over catalogue host.id host.port host.disk new one asked life known spent alike) is
 
 -- ---- the same, of a host by its parts
 
@@ -256,5 +253,5 @@ module _ (catalogue : Catalogue) (parts host : HostValue) (same : parts ≡ host
 
     pub parts_stay_down : (life : ℕ) → IsSpent catalogue parts.id life (told parts) → Steps ReadAlike (told parts) (state_after new true 0) → Restarts catalogue host (host_with parts.id parts.port new parts.log)
     parts_stay_down life spent alike =
-        subst (λ (log : Option Standing). Restarts catalogue host (host_with parts.id parts.port new log)) (sym (is_down parts.log rests))
+        subst (λ (log : Option Standing). Restarts catalogue host (host_with parts.id parts.port new log)) (sym (none_of parts.log rests))
         (subst (λ h. Restarts catalogue h (host_with parts.id parts.port new None)) same (stays_down catalogue parts new life rests one asked spent alike (known is)))

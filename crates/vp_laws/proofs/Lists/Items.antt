@@ -1,12 +1,17 @@
 -- What holds of each item of a list, and the order of its items, after a change.
-use Rattle.std.proofs.Common.{◌≡◌, ⊎_elim, ℕ, Bool, true, false, cond, List, [], ◌∷◌, ◌++◌, map, length}
-use Rattle.std.specs.Prelude.{filter, drop, nat_lt}
+use Rattle.std.proofs.Common.{◌≡◌, refl, ⊎_elim, ℕ, Bool, true, false, cond, List, [], ◌∷◌, ◌++◌, map, length}
+use Rattle.std.specs.Prelude.{filter, drop, nat_lt, Option, Some, None, is_some}
 use Rattle.std.specs.List.{AllByRecursion}
 use Rattle.vp_model.specs.Words.{put, change_first, without_first, at_most}
 use Rattle.vp_laws.specs.Shapes.{Ascends}
 use Rattle.vp_laws.proofs.Lists.Members.{Has, has_none, has_cons}
 use Rattle.vp_laws.proofs.Lists.Keeps.{by_test}
 use Rattle.vp_text.proofs.Items.{all_each}
+
+-- what holds no item is empty
+pub none_of : {X : Type 0} (o : Option X) → is_some o ≡ false → o ≡ None
+none_of None e = refl
+none_of (Some x) e = absurd cc
 
 module _ {X : Type 0} (P : X → Type 0) where
   pub all_at : (xs : List X) → AllByRecursion P xs → (x : X) → Has xs x → P x

@@ -17,6 +17,7 @@ use Rattle.vp_laws.proofs.Table.ToldLines.{Report, collected, reports-last, IsRe
 use Rattle.vp_laws.proofs.Journal.Play.{value_put}
 use Rattle.vp_laws.proofs.Lists.Members.{Has, has_none, has_cases, has_one_is, map_has}
 use Rattle.vp_laws.proofs.Lists.Changes.{mapped_has}
+use Rattle.vp_laws.proofs.Lists.Items.{none_of}
 use Rattle.vp_model.proofs.SameTxn.{same_txn-is, same_txn-not}
 use Rattle.vp_laws.proofs.Lists.Names.{Apart, apart_unique}
 use Rattle.vp_laws.proofs.Moves.Table.{next_name, Completes}
@@ -43,10 +44,6 @@ use Rattle.vp_laws.proofs.Keeping.Known.{known_acts}
 by_false : (b : Bool) → (b ≡ true → ⊥) → b ≡ false
 by_false true h = absurd (h refl)
 by_false false h = refl
-
-none_of : {A : Type 0} (o : Option A) → is_some o ≡ false → o ≡ None
-none_of None e = refl
-none_of (Some a) e = cc
 
 at_least : (last : ℕ) (pending : Option Pending) → last ≤ reach last pending
 at_least last None = omega arith
