@@ -7,7 +7,7 @@ ghost use Rattle.vp_model.specs.Words.{is_empty};
 ghost use Rattle.vp_model.specs.Site.{lent_reply, with_reply, with_commit, with_messages};
 ghost use Rattle.vp_model.specs.Transactions.{entry_of, last_writes, complete, wait_for, close, keep_writes, decided, decide};
 ghost use Rattle.vp_model.specs.Calls.{handling, answer_read, answer_write};
-ghost use Rattle.vp_transactions.specs.Waiting.{waits};
+ghost use Rattle.vp_transactions.specs.Waiting.{waits, standing_for};
 ghost use Rattle.vp_endings.specs.Lent.{in_place};
 
 use crate::lent::Lent;
@@ -21,10 +21,11 @@ use vp_catalog::Catalog;
 use vp_transactions::{Handled, tell_outcome};
 
 impl Lent {
-    /// The transaction goes back as it was.
+    /// The transaction goes back as it was. What stood in its place is left in the hands.
     pub fn put_back(&mut self, handled: &mut Handled)
         requires { waits handled.old.live ≡ true }
-        ensures { self.new ≡ in_place handled.old.live self.old }
+        ensures row { self.new ≡ in_place handled.old.live self.old }
+        ensures left { handled.new ≡ record handled.old { live = standing_for handled.old.live self.old.live } }
     {
         self.coordinator.put_live(&mut handled.live)
     }
@@ -103,7 +104,8 @@ impl Lent {
     /// The transaction ends without a commit. Its answers go to the ends that are kept.
     #[tactic(auto, unfolding(vp_model::specs::Transactions::close, vp_model::specs::Transactions::finish))]
     pub fn close(&mut self, id: SiteId, t: &mut Live, why: Ending) -> Result<(), NoMemory>
-        ensures { OnOk result (self.new ≡ close id t.old why self.old) }
+        ensures row { OnOk result (self.new ≡ close id t.old why self.old) }
+        ensures left { OnOk result (t.new ≡ record t.old { answers = [] }) }
     {
         tell_outcome(id, &t.txn, false, t.parts.as_slice(), &mut self.effects)?;
         self.here.locks.release(t.txn);
@@ -168,7 +170,8 @@ impl Lent {
 
     #[tactic(auto, unfolding(vp_model::specs::Transactions::decided, vp_model::specs::Transactions::finish))]
     fn decided(&mut self, id: SiteId, t: &mut Live) -> Result<(), NoMemory>
-        ensures { OnOk result (self.new ≡ decided id t.old self.old) }
+        ensures row { OnOk result (self.new ≡ decided id t.old self.old) }
+        ensures left { OnOk result (t.new ≡ record t.old { ops = []; answers = [] }) }
     {
         tell_commit(id, t, &mut self.effects)?;
         self.here.locks.release(t.txn);
@@ -180,7 +183,8 @@ impl Lent {
     /// and its answers to the ends that are kept.
     #[tactic(auto, unfolding(vp_model::specs::Transactions::decide))]
     pub fn decide(&mut self, catalog: &Catalog, id: SiteId, t: &mut Live) -> Result<(), NoMemory>
-        ensures { OnOk result (self.new ≡ decide catalog.now id t.old self.old) }
+        ensures row { OnOk result (self.new ≡ decide catalog.now id t.old self.old) }
+        ensures left { OnOk result (t.new ≡ record t.old { ops = []; answers = [] }) }
     {
         self.keep_written(catalog, id, t)?;
         self.decided(id, t)

@@ -27,6 +27,10 @@ abbrev pub waiting_call : TxnId → ℕ → List Live → Option Handled
 waiting_call txn from live =
     option_map_or (λ t. option_map (with_call t) (pending_for from t)) (live_of txn live) None
 
+-- what stands in the place of the transaction; where it has none, that one itself
+abbrev pub standing_for : Live → List Live → Live
+standing_for t live = option_map_or (λ u. u) (live_of t.txn live) t
+
 -- each decision is told again to the sites that it waits for
 abbrev pub with_outcomes : ℕ → List Decision → Effects → Effects
 with_outcomes id decisions e =

@@ -1,6 +1,7 @@
 //! A live transaction in the hands of a row.
 
-ghost use Rattle.std.specs.Prelude.{◌≡◌, OnOk};
+ghost use Rattle.std.specs.Prelude.{◌≡◌, [], false, OnOk};
+ghost use Rattle.vp_base.specs.declared.event.Call.TheVariants as call;
 ghost use Rattle.vp_model.specs.Calls.{handling};
 
 use std::mem;
@@ -28,7 +29,8 @@ impl Handled {
 
     /// The call becomes the pending one of the transaction; an empty one is left.
     pub fn attach_call(&mut self) -> Result<(), NoMemory>
-        ensures { OnOk result (self.new.live ≡ handling self.old.live self.old.pending) }
+        ensures live { OnOk result (self.new.live ≡ handling self.old.live self.old.pending) }
+        ensures left { OnOk result (self.new.pending ≡ record self.old.pending { call = call.Begin; missing = []; marked = false }) }
     {
         let alloc = self.live.ops.allocator();
         let empty = Pending {

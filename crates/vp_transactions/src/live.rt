@@ -10,7 +10,7 @@ ghost use Rattle.vp_model.specs.Answers.{is_live};
 ghost use Rattle.vp_model.specs.Step.{is_marked_call, mark};
 ghost use Rattle.vp_model.specs.Generated.{newest_of, newest};
 ghost use Rattle.vp_transactions.specs.Order.{numbers, AreBelow, AreRising, AreLive, IsPlace};
-ghost use Rattle.vp_transactions.specs.Waiting.{waits, all_wait};
+ghost use Rattle.vp_transactions.specs.Waiting.{waits, all_wait, standing_for};
 
 use std::alloc::Global;
 use std::marker::Model;
@@ -93,7 +93,8 @@ impl LiveTxns {
     /// The transaction goes back into its place. What stood there is left in its hands.
     pub fn put(&mut self, t: &mut Live)
         requires { waits t.old ≡ true }
-        ensures { self.new ≡ change_first (λ u. same_txn u.txn t.old.txn) (λ u. t.old) self.old }
+        ensures live { self.new ≡ change_first (λ u. same_txn u.txn t.old.txn) (λ u. t.old) self.old }
+        ensures left { t.new ≡ standing_for t.old self.old }
     {
         exchange(&mut self.items, self.last, t)
     }
@@ -250,7 +251,8 @@ fn lift(live: &mut Slots<Live>, last: &mut usize, txn: &TxnId) -> Option<Live>
 /// The transaction and the one of its name, where there is one, change places.
 fn exchange(live: &mut Slots<Live>, likely: usize, t: &mut Live)
     requires { AreLive live.old }
-    ensures { live.new ≡ change_first (λ u. same_txn u.txn t.old.txn) (λ u. t.old) live.old }
+    ensures live { live.new ≡ change_first (λ u. same_txn u.txn t.old.txn) (λ u. t.old) live.old }
+    ensures left { t.new ≡ standing_for t.old live.old }
 {
     if let Some(place) = place_of(live, likely, &t.txn) {
         mem::swap(live.item_mut(place), t);

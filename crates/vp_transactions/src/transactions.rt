@@ -11,7 +11,7 @@ ghost use Rattle.vp_model.specs.Calls.{kept_answer, begun, with_begun};
 ghost use Rattle.vp_model.specs.Answers.{waits_for, with_acknowledged, is_live, is_decided};
 ghost use Rattle.vp_model.specs.Step.{is_marked_call, with_marks};
 ghost use Rattle.vp_transactions.specs.Ended.{told_by, told_after};
-ghost use Rattle.vp_transactions.specs.Waiting.{waits, all_wait, pending_for, waiting_call, with_outcomes};
+ghost use Rattle.vp_transactions.specs.Waiting.{waits, all_wait, standing_for, pending_for, waiting_call, with_outcomes};
 
 use crate::handled::Handled;
 use crate::live::LiveTxns;
@@ -199,7 +199,8 @@ impl Transactions {
     /// The transaction goes back into its place. What stood there is left in its hands.
     pub fn put_live(&mut self, t: &mut Live)
         requires { waits t.old ≡ true }
-        ensures { self.new ≡ put_live t.old self.old }
+        ensures live { self.new ≡ put_live t.old self.old }
+        ensures left { t.new ≡ standing_for t.old self.old.live }
     {
         self.live.put(t)
     }

@@ -7,4 +7,4 @@ use Rattle.vp_answers.proofs.answers.count_vote.Goals as goal
 pub returns-then-is_empty : goal.returns-then-is_empty
 returns-then-is_empty c =
     let e : is_empty (filter (λ q. not (q == c.args.came.now.from)) c.args.handled.now.pending.missing) ≡ true = search rules in
-    rw (counted_all c.args.came.now.from c.args.handled.now.live c.args.handled.now.pending _ _ e, decide_own c.args.handled.now.live c.args.lent.now c.args.came.now.catalog.now c.args.came.now.id) c.decide.ensures
+    rw (counted_all c.args.came.now.from c.args.handled.now.live c.args.handled.now.pending _ _ e, decide_own c.args.handled.now.live c.args.lent.now c.args.came.now.catalog.now c.args.came.now.id) c.decide.ensures.row

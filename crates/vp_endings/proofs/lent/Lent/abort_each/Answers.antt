@@ -6,7 +6,7 @@ use Rattle.vp_endings.proofs.lent.Lent.abort_each.Goals as goal
 
 pub loop-t-preserved : goal.loop-t-preserved
 loop-t-preserved c =
-    closed_first c.args.id (λ (t : Live). ViewChanged c.args.id t.view None) c.loop-t.live c.take_first.new.self c.in-Some.t c.loop-t.self c.close.new.self c.in-Some.ensures.taken c.in-Some.ensures.rest c.in_ok-close.ensures
+    closed_first c.args.id (λ (t : Live). ViewChanged c.args.id t.view None) c.loop-t.live c.take_first.new.self c.in-Some.t c.loop-t.self c.close.new.self c.in-Some.ensures.taken c.in-Some.ensures.rest c.in_ok-close.ensures.row
     ∙ c.loop-t.invariant
 
 pub loop-t-smaller : goal.loop-t-smaller
