@@ -1,10 +1,9 @@
 //! Copies of records: reading and writing them.
 
-ghost use Rattle.std.specs.Prelude.{◌≡◌, ◌≤◌, ◌+◌, ◌-◌, ◌++◌, IfOk, OnOk, OnErr, length};
+ghost use Rattle.std.specs.Prelude.{◌≡◌, ◌≤◌, ◌+◌, ◌-◌, ◌++◌, IfOk, length};
 ghost use Rattle.vp_text.specs.Printing.{Appends};
 ghost use Rattle.vp_text.specs.Reading.{Tries};
 ghost use Rattle.vp_base.specs.Faults.{line_left};
-ghost use Rattle.vp_bytes.specs.Fields.{number_bytes};
 ghost use Rattle.vp_bytes.specs.Reading.{run_at};
 ghost use Rattle.vp_bytes.specs.Copies.{copies_at, copies_bytes, copy_at, copy_bytes};
 
@@ -67,20 +66,10 @@ pub fn put_copies<B: BufMut>(out: &mut B, copies: &[(RecId, Stored)]) -> Result<
     requires { length copies.now ≤ 256 }
     ensures { Appends result (B.written out.old) (copies_bytes copies.now) (B.written out.new) }
 {
-    put_u16(out, copies.len() as u16)?;
+    out.put_u16(copies.len() as u16)?;
     for copy in copies {
         put_copy(out, copy.0, &copy.1)?;
     }
-    Ok(())
-}
-
-/// A number of 16 bits.
-#[tactic(auto, unfolding(crate::specs::Fields::number_bytes))]
-fn put_u16<B: BufMut>(out: &mut B, number: u16) -> Result<(), NoMemory>
-    ensures ok { OnOk result (B.written out.new ≡ B.written out.old ++ number_bytes 2 number) }
-    ensures err { OnErr result (B.written out.new ≡ B.written out.old) }
-{
-    out.put_u16(number)?;
     Ok(())
 }
 

@@ -1,6 +1,6 @@
 //! Reading numbers that lie between two others.
 
-ghost use Rattle.std.specs.Prelude.{◌≡◌, ◌≤◌, IfErr, IfOk, ◌<◌, ◌^◌, drop, length};
+ghost use Rattle.std.specs.Prelude.{◌≡◌, ◌≤◌, IfErr, IfOk, ◌<◌, ◌^◌};
 ghost use Rattle.vp_text.specs.Reading.{Reads};
 ghost use Rattle.vp_bytes.specs.Ranges.{number_within_at};
 
@@ -13,26 +13,16 @@ pub fn take_u16_within(cursor: &mut Cursor, low: u16, high: u16) -> Result<u16, 
     ensures read { Reads (λ x. x) (λ e. e.left) result cursor.new (number_within_at 2 low high cursor.old) }
     ensures range { IfOk result (λ x. (low ≤ x) × (x ≤ high)) }
 {
-    let number = first_u16_within(cursor.rest(), low, high)?;
-    cursor.advance(2);
-    Ok(number)
-}
-
-/// The number in the first 2 bytes, from `low` to `high`.
-fn first_u16_within(bytes: &[u8], low: u16, high: u16) -> Result<u16, Unexpected>
-    requires { low ≤ high }
-    ensures read { Reads (λ x. x) (λ e. e.left) result (drop 2 bytes.now) (number_within_at 2 low high bytes.now) }
-    ensures enough { IfOk result (λ _. 2 ≤ length bytes.now) }
-    ensures range { IfOk result (λ x. (low ≤ x) × (x ≤ high)) }
-{
-    if 2 <= bytes.len() {
-        let number = BigEndian::read_u16(bytes);
+    let rest = cursor.rest();
+    if 2 <= rest.len() {
+        let number = BigEndian::read_u16(rest);
         if low <= number && number <= high {
+            cursor.advance(2);
             return Ok(number);
         }
     }
     Err(Unexpected {
-        left: left_at_fault(bytes, 2, u64::from(low), u64::from(high)),
+        left: left_at_fault(rest, 2, u64::from(low), u64::from(high)),
     })
 }
 
@@ -42,26 +32,16 @@ pub fn take_u32_within(cursor: &mut Cursor, low: u32, high: u32) -> Result<u32, 
     ensures read { Reads (λ x. x) (λ e. e.left) result cursor.new (number_within_at 4 low high cursor.old) }
     ensures range { IfOk result (λ x. (low ≤ x) × (x ≤ high)) }
 {
-    let number = first_u32_within(cursor.rest(), low, high)?;
-    cursor.advance(4);
-    Ok(number)
-}
-
-/// The number in the first 4 bytes, from `low` to `high`.
-fn first_u32_within(bytes: &[u8], low: u32, high: u32) -> Result<u32, Unexpected>
-    requires { low ≤ high }
-    ensures read { Reads (λ x. x) (λ e. e.left) result (drop 4 bytes.now) (number_within_at 4 low high bytes.now) }
-    ensures enough { IfOk result (λ _. 4 ≤ length bytes.now) }
-    ensures range { IfOk result (λ x. (low ≤ x) × (x ≤ high)) }
-{
-    if 4 <= bytes.len() {
-        let number = BigEndian::read_u32(bytes);
+    let rest = cursor.rest();
+    if 4 <= rest.len() {
+        let number = BigEndian::read_u32(rest);
         if low <= number && number <= high {
+            cursor.advance(4);
             return Ok(number);
         }
     }
     Err(Unexpected {
-        left: left_at_fault(bytes, 4, u64::from(low), u64::from(high)),
+        left: left_at_fault(rest, 4, u64::from(low), u64::from(high)),
     })
 }
 

@@ -1,6 +1,6 @@
 //! Reading numbers, identifiers and what is made of them.
 
-ghost use Rattle.std.specs.Prelude.{◌≡◌, ◌≤◌, IfOk, drop, length};
+ghost use Rattle.std.specs.Prelude.{◌≡◌, ◌≤◌, IfOk};
 ghost use Rattle.vp_text.specs.Reading.{Reads};
 ghost use Rattle.vp_base.specs.Reading.{least_site, most_site};
 ghost use Rattle.vp_bytes.specs.Reading.{byte_at, within, maybe_view_at, numbered_at, outcome_at, owner_at, request_at, some_u32_at, txn_at, u32_at, u64_at, view_at};
@@ -30,40 +30,24 @@ pub fn take_byte(cursor: &mut Cursor, least: u8, most: u8) -> Result<u8, Unexpec
 pub fn take_u32(cursor: &mut Cursor) -> Result<u32, Unexpected>
     ensures { Reads (λ x. x) (λ e. e.left) result cursor.new (u32_at cursor.old) }
 {
-    let number = first_u32(cursor.rest())?;
-    cursor.advance(4);
-    Ok(number)
-}
-
-/// The number in the first 4 bytes.
-fn first_u32(bytes: &[u8]) -> Result<u32, Unexpected>
-    ensures read { Reads (λ x. x) (λ e. e.left) result (drop 4 bytes.now) (u32_at bytes.now) }
-    ensures enough { IfOk result (λ _. 4 ≤ length bytes.now) }
-{
-    if bytes.len() < 4 {
+    let rest = cursor.rest();
+    if rest.len() < 4 {
         return Err(Unexpected { left: 0 });
     }
-    Ok(BigEndian::read_u32(bytes))
+    cursor.advance(4);
+    Ok(BigEndian::read_u32(rest))
 }
 
 /// Takes a number of 64 bits.
 pub fn take_u64(cursor: &mut Cursor) -> Result<u64, Unexpected>
     ensures { Reads (λ x. x) (λ e. e.left) result cursor.new (u64_at cursor.old) }
 {
-    let number = first_u64(cursor.rest())?;
-    cursor.advance(8);
-    Ok(number)
-}
-
-/// The number in the first 8 bytes.
-fn first_u64(bytes: &[u8]) -> Result<u64, Unexpected>
-    ensures read { Reads (λ x. x) (λ e. e.left) result (drop 8 bytes.now) (u64_at bytes.now) }
-    ensures enough { IfOk result (λ _. 8 ≤ length bytes.now) }
-{
-    if bytes.len() < 8 {
+    let rest = cursor.rest();
+    if rest.len() < 8 {
         return Err(Unexpected { left: 0 });
     }
-    Ok(BigEndian::read_u64(bytes))
+    cursor.advance(8);
+    Ok(BigEndian::read_u64(rest))
 }
 
 /// Takes a view: 0 at site 0, or a number of 1 or more at a site from 1 to 16.
@@ -92,26 +76,17 @@ pub fn take_some_u32(cursor: &mut Cursor) -> Result<u32, Unexpected>
     ensures read { Reads (λ x. x) (λ e. e.left) result cursor.new (some_u32_at cursor.old) }
     ensures some { IfOk result (λ x. 1 ≤ x) }
 {
-    let number = first_some_u32(cursor.rest())?;
-    cursor.advance(4);
-    Ok(number)
-}
-
-/// The number in the first 4 bytes, which isn't 0.
-fn first_some_u32(bytes: &[u8]) -> Result<u32, Unexpected>
-    ensures read { Reads (λ x. x) (λ e. e.left) result (drop 4 bytes.now) (some_u32_at bytes.now) }
-    ensures enough { IfOk result (λ _. 4 ≤ length bytes.now) }
-    ensures some { IfOk result (λ x. 1 ≤ x) }
-{
-    if bytes.len() < 4 {
+    let rest = cursor.rest();
+    if rest.len() < 4 {
         return Err(Unexpected { left: 0 });
     }
-    let number = BigEndian::read_u32(bytes);
+    let number = BigEndian::read_u32(rest);
     if number == 0 {
         return Err(Unexpected {
-            left: bytes.len() - 3,
+            left: rest.len() - 3,
         });
     }
+    cursor.advance(4);
     Ok(number)
 }
 

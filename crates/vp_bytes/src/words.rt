@@ -5,7 +5,7 @@ ghost use Rattle.vp_text.specs.Classes.{has, most};
 ghost use Rattle.vp_text.specs.Reading.{Reads, Tries};
 ghost use Rattle.vp_text.specs.Tokens.{IsWord};
 ghost use Rattle.vp_base.specs.Faults.{line_left};
-ghost use Rattle.vp_bytes.specs.Reading.{byte_at, name_at, value_at, within, word_at, word_run_at};
+ghost use Rattle.vp_bytes.specs.Reading.{name_at, value_at, word_at, word_run_at};
 
 use crate::reading::take_byte;
 use std::alloc::Global;
@@ -44,20 +44,11 @@ fn take_word<'a>(cursor: &mut Cursor<'a>, class: Class) -> Result<&'a [u8], Unex
     ensures read { Reads (λ w. w.now) (λ e. e.left) result cursor.new (word_at class cursor.old) }
     ensures allowed { IfOk result (λ w. IsWord (has class) (most class) w.now w.now) }
 {
-    let count = take_count(cursor, class)?;
+    let count = usize::from(take_byte(cursor, 1, class.most() as u8)?);
     let rest = cursor.rest();
     check_word(rest, class, count)?;
     cursor.advance(count);
     Ok(&rest[..count])
-}
-
-/// Takes the count of a word's bytes.
-fn take_count(cursor: &mut Cursor, class: Class) -> Result<usize, Unexpected>
-    ensures read { Reads (λ n. n) (λ e. e.left) result cursor.new (byte_at (within 1 (most class)) cursor.old) }
-    ensures range { IfOk result (λ n. (1 ≤ n) × (n ≤ most class)) }
-{
-    let count = take_byte(cursor, 1, class.most() as u8)?;
-    Ok(usize::from(count))
 }
 
 /// Whether so many bytes of the class stand first.

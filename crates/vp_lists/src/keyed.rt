@@ -1,6 +1,6 @@
 //! Lists that are kept in order.
 
-ghost use Rattle.std.specs.Prelude.{◌≡◌, ◌≤◌, ◌<◌, OnOk, IsTrue, if◌then◌else◌, length, set};
+ghost use Rattle.std.specs.Prelude.{◌≡◌, ◌≤◌, ◌<◌, OnOk, OnErr, IsTrue, if◌then◌else◌, length, set};
 ghost use Rattle.std.specs.List.{insert};
 ghost use Rattle.vp_model.specs.Words.{put};
 
@@ -42,9 +42,10 @@ fn place_of<T: Keyed>(items: &[T], item: &T) -> (usize, bool)
     (items.len(), false)
 }
 
-/// The item takes its place, where an item of the same key goes.
+/// The item takes its place, where an item of the same key goes. Without memory the items stay as they are.
 pub fn put<T: Keyed + Drop>(items: &mut Vec<T>, item: T) -> Result<(), NoMemory>
-    ensures { OnOk result (items.new.items ≡ put T.same T.before item items.old.items) }
+    ensures ok { OnOk result (items.new.items ≡ put T.same T.before item items.old.items) }
+    ensures err { OnErr result (items.new.items ≡ items.old.items) }
 {
     let (place, is_there) = place_of(items, &item);
     if is_there {

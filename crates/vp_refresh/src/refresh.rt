@@ -1,6 +1,6 @@
 //! The copies under refresh.
 
-ghost use Rattle.std.specs.Prelude.{◌≡◌, ◌==◌, [], not, nat_lt, OnOk, IfOk, IfSome, filter, map, option_map, option_copied};
+ghost use Rattle.std.specs.Prelude.{◌≡◌, ◌==◌, [], not, nat_lt, OnOk, OnErr, IfOk, IfSome, filter, map, option_map, option_copied};
 ghost use Rattle.vp_model.specs.Words.{put};
 ghost use Rattle.vp_model.specs.Refresh.{refreshing_of, newest};
 ghost use Rattle.vp_model.specs.Messages.{with_answer};
@@ -53,7 +53,8 @@ impl Refresh {
 
     /// The refresh of the record's copy begins, and what came for it before goes. Without memory nothing changes.
     pub fn begin(&mut self, rec: RecId) -> Result<(), NoMemory>
-        ensures { OnOk result (self.new ≡ put (λ a b. a.rec == b.rec) (λ a b. nat_lt a.rec b.rec) (record { rec = rec; answers = [] }) self.old) }
+        ensures ok { OnOk result (self.new ≡ put (λ a b. a.rec == b.rec) (λ a b. nat_lt a.rec b.rec) (record { rec = rec; answers = [] }) self.old) }
+        ensures err { OnErr result (self.new ≡ self.old) }
     {
         let alloc = *self.listed.allocator();
         put(&mut self.listed, Asked::new(alloc, rec))

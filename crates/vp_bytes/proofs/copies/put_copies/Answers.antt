@@ -10,6 +10,7 @@ pub returns-in_err-put_u16 : goal.returns-in_err-put_u16
 returns-in_err-put_u16 g c = begun_err _ _ _ _ c.from_residual.ensures.0 (begun_none _ _ _ c.in_err-put_u16.ensures.err)
 
 pub loop-copy-init : goal.loop-copy-init
+unfolding number_bytes
 loop-copy-init g c = no_turn _ _ _ c.in_ok-put_u16.ensures.ok
 
 pub loop-copy-preserved : goal.loop-copy-preserved
