@@ -3,4 +3,4 @@
 
 mod cluster;
 
-pub use cluster::{Cluster, Node, started};
+pub use cluster::{Cluster, started};

@@ -159,9 +159,9 @@ const ANSWERED: [(&str, &str, Status, &str); 17] = [
 
 #[test]
 fn command_lines_are_answered(rt: HostRuntime) {
-    for (line, input, status, text) in ANSWERED {
+    for (line, input, status, text) in &ANSWERED {
         assert!(rt;
-            answers(rt.alloc(), line, input, status, text).expect(&rt, "memory"),
+            answers(rt.alloc(), line, input, *status, text).expect(&rt, "memory"),
             "{line} on {input}"
         );
     }
