@@ -1,6 +1,6 @@
 //! What schedules leave in the logs of their sites.
 
-use vp_outside::SureSink;
+use vp_outside::TextSink;
 use vp_status::Status;
 use vp_top_tests::{answers, run_on};
 
@@ -75,7 +75,7 @@ fn a_long_log_gets_a_checkpoint(rt: HostRuntime) {
         .repeat(alloc, 5000)
         .expect(&rt, "memory");
     let schedule = format!(in alloc; "{HEAD}{lives}call 1 regroup\n").expect(&rt, "memory");
-    let mut sink = SureSink::new(alloc);
+    let mut sink = TextSink::new(alloc, Vec::new(alloc));
     let end = run_on(alloc, "logs", &schedule, &mut sink).expect(&rt, "memory");
     assert!(rt; end == Status::Done);
     assert!(rt;

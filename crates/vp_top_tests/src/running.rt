@@ -3,7 +3,7 @@
 use std::alloc::{AllocError, Global};
 use vp_base::Word;
 use vp_disks::SureDisk;
-use vp_outside::{Sink, Source, SureLink, SureSink, SureSource};
+use vp_outside::{SureLink, TextSink, TextSource};
 use vp_status::Status;
 use vp_top::run;
 
@@ -17,11 +17,11 @@ pub fn words(alloc: Global, line: &str) -> Result<Vec<Word>, AllocError> {
 }
 
 /// A run beside a link that has nothing to give and an empty log.
-pub fn run_alone<S: Source, K: Sink>(
+pub fn run_alone(
     alloc: Global,
     words: &[Word],
-    source: &mut S,
-    sink: &mut K,
+    source: &mut TextSource,
+    sink: &mut TextSink,
 ) -> Status {
     let mut link = SureLink::new(alloc, Vec::new(alloc));
     let mut disk = SureDisk::new(alloc);
@@ -33,9 +33,10 @@ pub fn run_on(
     alloc: Global,
     line: &str,
     input: &str,
-    sink: &mut SureSink,
+    sink: &mut TextSink,
 ) -> Result<Status, AllocError> {
-    let mut source = SureSource::new(Vec::from_slice(alloc, input.as_bytes())?);
+    let text = Vec::from_slice(alloc, input.as_bytes())?;
+    let mut source = TextSource::new(text, Vec::new(alloc));
     let words = words(alloc, line)?;
     Ok(run_alone(alloc, &words, &mut source, sink))
 }
@@ -48,7 +49,7 @@ pub fn answers(
     status: Status,
     text: &str,
 ) -> Result<bool, AllocError> {
-    let mut sink = SureSink::new(alloc);
+    let mut sink = TextSink::new(alloc, Vec::new(alloc));
     let end = run_on(alloc, line, input, &mut sink)?;
     Ok(end == status && sink.bytes() == text.as_bytes())
 }
