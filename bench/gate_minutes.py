@@ -4,8 +4,7 @@
 gate_minutes.py [FOLDER]
 
 Runs `rt ci` in FOLDER (here, if none is named) from nothing, and looks at its processes twice a second: where the kit's `rt ci` keeps what
-has passed, it is told to prove all anew. Each proof has one processor (`RT_JOBS`, unless that is set): else the kit gives a proof those that
-are idle too, and what it then does more than once counts as often. The run's own output goes to standard error, the table, in Markdown, to standard output, and
+has passed, it is told to prove all anew. The run's own output goes to standard error, the table, in Markdown, to standard output, and
 behind it each edit with its seconds, the dearest first; so it is where this script is ended before the run. The status is the run's. Other
 work on the machine makes each job dearer: leave the machine to the run.
 """
@@ -147,8 +146,7 @@ def main():
     folder = (sys.argv[1:] or ["."])[0]
     jobs, known, edits = {}, {}, edits_below(folder)
     signal.signal(signal.SIGTERM, signal.default_int_handler)
-    lanes = {"RT_JOBS": str(os.cpu_count()), **os.environ}
-    with subprocess.Popen(gate(), cwd=folder, env=lanes, stdin=subprocess.DEVNULL, stdout=sys.stderr) as run:
+    with subprocess.Popen(gate(), cwd=folder, stdin=subprocess.DEVNULL, stdout=sys.stderr) as run:
         try:
             while run.poll() is None:
                 look(run.pid, jobs, known, edits)
