@@ -1,31 +1,85 @@
 -- Letters whose bytes stand side by side.
-use Rattle.std.proofs.Common.{◌≡◌, ◌∙◌, ap, sym, arith, subst, refl, ℕ, ◌-◌, ◌<◌, zero, suc, false, List, [], ◌∷◌, ◌++◌, length, map, take, drop, get_or}
-use Rattle.std.specs.Prelude.{◌==◌, Some, slice_get}
-use Rattle.std.specs.List.{AllByRecursion}
+use Rattle.std.proofs.Common.{◌≡◌, ◌≤◌, ◌∙◌, ap, sym, arith, refl, ℕ, ◌-◌, ◌<◌, zero, suc, false, List, [], ◌∷◌, ◌++◌, length, take, drop, get_or}
+use Rattle.std.specs.Prelude.{◌==◌, Some, None, slice_get}
 use Rattle.std.proofs.Math.Seq.{drop-append_seam}
-use Rattle.std.proofs.lemmas.List.{take-append-le, take_all}
-use Rattle.std.proofs.lemmas.Option.{slice_get-map, slice_get_read}
+use Rattle.std.proofs.lemmas.List.{take-append-le, take_all, length-append}
+use Rattle.std.proofs.lemmas.Option.{slice_get_read}
 use Rattle.bytes.proofs.Ranges.{drop-take_less}
 use Rattle.vp_outside.specs.declared.datagram.Datagram.{Datagram}
+use Rattle.vp_hosts.specs.declared.letter.Letter.{Letter}
 use Rattle.vp_cluster.specs.declared.sent_letters.Filed.{Filed}
-use Rattle.vp_cluster.specs.Letters.{in_order, sent_from, letter_at, IsWithin}
+use Rattle.vp_cluster.specs.Letters.{in_order, sent_from, start_in, letters_in, AreInOrder}
 
--- one more letter, whose bytes stand behind those of the others
-pub letter_joins : (bytes : List ℕ) (fs : List Filed) (from : ℕ) (d : Datagram) → AllByRecursion (IsWithin (length bytes)) fs
-    → map (letter_at (bytes ++ d.bytes)) (fs ++ record { from = from; to = d.port; start = length bytes; end = length (bytes ++ d.bytes) } ∷ []) ≡ map (letter_at bytes) fs ++ sent_from from d ∷ []
+-- none begins behind the end
+start_within : (end : ℕ) (fs : List Filed) → AreInOrder end fs → start_in end fs ≤ end
+start_within end [] h = omega arith
+start_within end (f ∷ fs) h =
+    let rest = start_within end fs h.1 in
+    let here = h.0 in
+    omega (arith, rest, here)
+
+-- one more letter begins where the others end
+start_joins : (m n : ℕ) (fs : List Filed) (from to : ℕ) → start_in m (fs ++ record { from = from; to = to; start = n } ∷ []) ≡ start_in n fs
+start_joins m n [] from to = refl
+start_joins m n (f ∷ fs) from to = refl
+
+pub order_joins : (m n : ℕ) (fs : List Filed) (from to : ℕ) → n ≤ m → AreInOrder n fs → AreInOrder m (fs ++ record { from = from; to = to; start = n } ∷ [])
+order_joins m n [] from to le h = (le, tt)
+order_joins m n (f ∷ fs) from to le h = (rw (start_joins m n fs from to) h.0, order_joins m n fs from to le h.1)
+
+pub letter_joins : (bytes : List ℕ) (fs : List Filed) (from : ℕ) (d : Datagram) → AreInOrder (length bytes) fs
+    → letters_in (bytes ++ d.bytes) (fs ++ record { from = from; to = d.port; start = length bytes } ∷ []) ≡ letters_in bytes fs ++ sent_from from d ∷ []
 letter_joins bytes [] from d h = rw (take_all (length (bytes ++ d.bytes)) (bytes ++ d.bytes) (omega arith), drop-append_seam bytes d.bytes) refl
-letter_joins bytes (f ∷ fs) from d h = rw (take-append-le f.end bytes d.bytes h.0.1, letter_joins bytes fs from d h.1) refl
+letter_joins bytes (f ∷ fs) from d h =
+    rw (start_joins (length (bytes ++ d.bytes)) (length bytes) fs from d.port, take-append-le (start_in (length bytes) fs) bytes d.bytes (start_within (length bytes) fs h.1), letter_joins bytes fs from d h.1) refl
 
-found_within : (P : Filed → Type 0) (fs : List Filed) (i : ℕ) (f : Filed) → AllByRecursion P fs → slice_get fs i ≡ Some f → P f
-found_within P [] i f h at = cc
-found_within P (g ∷ fs) zero f h at = let same : g ≡ f = cc in subst P same h.0
-found_within P (g ∷ fs) (suc i) f h at = found_within P fs i f h.1 at
+-- the letter at a place ends where the next one begins
+abbrev letter_then : List ℕ → Filed → ℕ → Letter
+letter_then bytes f end = record { from = f.from; to = f.to; bytes = drop f.start (take end bytes) }
+
+found : (bytes : List ℕ) (fs : List Filed) (i : ℕ) (f : Filed) → slice_get fs i ≡ Some f
+    → slice_get (letters_in bytes fs) i ≡ Some (letter_then bytes f (start_in (length bytes) (drop (suc i) fs)))
+found bytes [] i f at = cc
+found bytes (g ∷ fs) zero f at = let same : g ≡ f = cc in ap (λ (x : Filed). Some (letter_then bytes x (start_in (length bytes) fs))) same
+found bytes (g ∷ fs) (suc i) f at = found bytes fs i f at
+
+nothing_behind : (bytes : List ℕ) (fs : List Filed) (i : ℕ) → length fs ≤ i → slice_get (letters_in bytes fs) i ≡ None
+nothing_behind bytes [] i le = refl
+nothing_behind bytes (f ∷ fs) zero le = absurd (omega (arith, le))
+nothing_behind bytes (f ∷ fs) (suc i) le = nothing_behind bytes fs i (omega (arith, le))
+
+pub none_found : (bytes : List ℕ) (fs : List Filed) (k : ℕ) → (k == 0) ≡ false → length fs ≤ k - 1 → in_order k (letters_in bytes fs) ≡ None
+none_found bytes fs k some le = rw (some) (nothing_behind bytes fs (k - 1) le)
+
+start_at : (end : ℕ) (fs : List Filed) (i : ℕ) (f : Filed) → slice_get fs i ≡ Some f → start_in end (drop i fs) ≡ f.start
+start_at end [] i f at = cc
+start_at end (g ∷ fs) zero f at = let same : g ≡ f = cc in rw (← same) refl
+start_at end (g ∷ fs) (suc i) f at = start_at end fs i f at
+
+-- it ends at or behind its start, and not behind the end of all
+pub span_within : (end : ℕ) (fs : List Filed) (i : ℕ) → AreInOrder end fs → i < length fs → (start_in end (drop i fs) ≤ start_in end (drop (suc i) fs)) × (start_in end (drop (suc i) fs) ≤ end)
+span_within end [] i h lt = absurd (omega (arith, lt))
+span_within end (g ∷ fs) zero h lt = (h.0, start_within end fs h.1)
+span_within end (g ∷ fs) (suc i) h lt = span_within end fs i h.1 (omega (arith, lt))
+
+pub more_bytes : (bytes more : List ℕ) → length bytes ≤ length (bytes ++ more)
+more_bytes bytes more =
+    let longer = length-append bytes more in
+    omega (arith, longer)
+
+-- where more bytes follow the last letter
+pub order_longer : (m n : ℕ) (fs : List Filed) → n ≤ m → AreInOrder n fs → AreInOrder m fs
+order_longer m n [] le h = tt
+order_longer m n (f ∷ []) le h = let here = h.0 in (omega (arith, here, le), tt)
+order_longer m n (f ∷ g ∷ fs) le h = (h.0, order_longer m n (g ∷ fs) le h.1)
 
 -- letter K, with a copy of its bytes
-pub letter_found : (bytes : List ℕ) (fs : List Filed) (k : ℕ) (f : Filed) (copied : List ℕ) → AllByRecursion (IsWithin (length bytes)) fs → (k == 0) ≡ false → k - 1 < length fs → f ≡ get_or fs (k - 1) f
-    → copied ≡ take (f.end - f.start) (drop f.start bytes) → Some (record { from = f.from; to = f.to; bytes = copied }) ≡ in_order k (map (letter_at bytes) fs)
-letter_found bytes fs k f copied h some lt read is =
+pub letter_found : (bytes : List ℕ) (fs : List Filed) (k start end : ℕ) (f : Filed) (copied : List ℕ) → AreInOrder (length bytes) fs → (k == 0) ≡ false → k - 1 < length fs → f ≡ get_or fs (k - 1) f
+    → start ≡ start_in (length bytes) (drop (k - 1) fs) → end ≡ start_in (length bytes) (drop (suc (k - 1)) fs) → copied ≡ take (end - start) (drop start bytes)
+    → Some (record { from = f.from; to = f.to; bytes = copied }) ≡ in_order k (letters_in bytes fs)
+letter_found bytes fs k start end f copied h some lt read starts ends is =
     let at = slice_get_read fs (length fs) (k - 1) f refl lt read in
-    let within = found_within (IsWithin (length bytes)) fs (k - 1) f h at in
-    let same : copied ≡ drop f.start (take f.end bytes) = is ∙ sym (drop-take_less bytes f.start f.end within.0) in
-    rw (some, slice_get-map (letter_at bytes) fs (k - 1), at) (ap (λ (bs : List ℕ). Some (record { from = f.from; to = f.to; bytes = bs })) same)
+    let within = span_within (length bytes) fs (k - 1) h lt in
+    let begins : start ≡ f.start = starts ∙ start_at (length bytes) fs (k - 1) f at in
+    let same : copied ≡ drop start (take end bytes) = is ∙ sym (drop-take_less bytes start end (rw (starts, ends) within.0)) in
+    rw (some, found bytes fs (k - 1) f at, ← ends, ← begins) (ap (λ (bs : List ℕ). Some (record { from = f.from; to = f.to; bytes = bs })) same)

@@ -1,5 +1,5 @@
 -- The letters of clients and of messages, and which one an event brings to a site.
-use Rattle.std.specs.Prelude.{ℕ, ◌≤◌, ◌-◌, ◌==◌, if◌then◌else◌, List, take, drop, slice_get, Option, None, option_map}
+use Rattle.std.specs.Prelude.{ℕ, ◌≤◌, ◌-◌, ◌==◌, if◌then◌else◌, List, [], ◌∷◌, length, take, drop, slice_get, Option, None, option_map}
 use Rattle.std.specs.Option.{option_map_or}
 use Rattle.vp_model.specs.Types.{Event, Sent}
 use Rattle.vp_model.specs.Types.event
@@ -42,9 +42,18 @@ port_of catalogue site = option_map_or (λ port. port) (value_at site catalogue.
 abbrev pub letter_for : Catalogue → Sent → Letter
 letter_for catalogue sent = record { from = port_of catalogue sent.from; to = port_of catalogue sent.to; bytes = frame_bytes (message_frame sent) }
 
--- a letter whose bytes stand among these, and that they reach so far
-abbrev pub letter_at : List ℕ → Filed → Letter
-letter_at bytes f = record { from = f.from; to = f.to; bytes = drop f.start (take f.end bytes) }
+-- where the bytes of these letters begin, which end there
+abbrev pub start_in : ℕ → List Filed → ℕ
+start_in end [] = end
+start_in end (f ∷ fs) = f.start
 
-abbrev pub IsWithin : ℕ → Filed → Type 0
-IsWithin count f = (f.start ≤ f.end) × (f.end ≤ count)
+-- the letters whose bytes stand side by side in these
+abbrev pub letters_in : List ℕ → List Filed → List Letter
+letters_in bytes [] = []
+letters_in bytes (f ∷ fs) =
+    record { from = f.from; to = f.to; bytes = drop f.start (take (start_in (length bytes) fs) bytes) } ∷ letters_in bytes fs
+
+-- each letter ends at or behind its start, and none behind that end
+abbrev pub AreInOrder : ℕ → List Filed → Type 0
+AreInOrder end [] = Unit {0}
+AreInOrder end (f ∷ fs) = (f.start ≤ start_in end fs) × AreInOrder end fs

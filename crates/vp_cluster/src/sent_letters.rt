@@ -1,7 +1,7 @@
 //! The letters that were sent.
 
-ghost use Rattle.std.specs.Prelude.{◌≡◌, ◌++◌, ◌∷◌, [], IfOk, OnOk};
-ghost use Rattle.vp_cluster.specs.Letters.{in_order, sent_from};
+ghost use Rattle.std.specs.Prelude.{◌≡◌, ◌≤◌, ◌<◌, ◌+◌, ◌++◌, ◌∷◌, [], IfOk, OnOk, length, drop};
+ghost use Rattle.vp_cluster.specs.Letters.{in_order, sent_from, start_in, AreInOrder};
 
 use bytes::Bytes;
 use std::alloc::Global;
@@ -10,13 +10,12 @@ use vp_base::NoMemory;
 use vp_hosts::Letter;
 use vp_outside::Datagram;
 
-/// A letter whose bytes stand among others, from the one place to the other.
+/// A letter whose bytes stand among others, from this place to that of the next letter.
 #[derive(Clone, Copy)]
 struct Filed {
     from: u16,
     to: u16,
     start: usize,
-    end: usize,
 }
 
 /// The letters that were sent, in order. Their bytes stand side by side, since a schedule may send 2,000,000 of them, most of which are
@@ -33,16 +32,36 @@ impl Drop for SentLetters {
 }
 
 impl Model for SentLetters {
-    ghost use Rattle.std.specs.Prelude.{List, length, map};
-    ghost use Rattle.std.specs.List.{AllByRecursion};
+    ghost use Rattle.std.specs.Prelude.{List, length};
     ghost use Rattle.vp_hosts.specs.declared.letter.Letter.{Letter};
-    ghost use Rattle.vp_cluster.specs.Letters.{letter_at, IsWithin};
+    ghost use Rattle.vp_cluster.specs.Letters.{letters_in, AreInOrder};
 
     ghost Value = { List Letter };
 
-    ghost view = { λ l. map (letter_at l.bytes.items) l.filed.items };
+    ghost view = { λ l. letters_in l.bytes.items l.filed.items };
 
-    ghost invariant = { λ l. AllByRecursion (IsWithin (length l.bytes.items)) l.filed.items };
+    ghost invariant = { λ l. AreInOrder (length l.bytes.items) l.filed.items };
+}
+
+/// Where the bytes of the letters from this place in the list on begin; they end at `end`.
+fn start_in(filed: &[Filed], place: usize, end: usize) -> usize
+    ensures { result ≡ start_in end (drop place filed.now) }
+{
+    match filed.get(place) {
+        Some(next) => next.start,
+        None => end,
+    }
+}
+
+/// From where to where the bytes of the letter at this place in the list stand.
+fn span(filed: &[Filed], place: usize, end: usize) -> (usize, usize)
+    requires order { AreInOrder end filed.now }
+    requires at { place < length filed.now }
+    ensures start { result.0 ≡ start_in end (drop place filed.now) }
+    ensures end { result.1 ≡ start_in end (drop (place + 1) filed.now) }
+    ensures within { (result.0 ≤ result.1) × (result.1 ≤ end) }
+{
+    (start_in(filed, place, end), start_in(filed, place + 1, end))
 }
 
 impl SentLetters {
@@ -66,7 +85,6 @@ impl SentLetters {
             from,
             to: datagram.port,
             start,
-            end: self.bytes.len(),
         })?;
         Ok(())
     }
@@ -81,7 +99,8 @@ impl SentLetters {
         let Some(filed) = self.filed.get(k as usize - 1) else {
             return Ok(None);
         };
-        let bytes = &self.bytes[filed.start..filed.end];
+        let (start, end) = span(&self.filed, k as usize - 1, self.bytes.len());
+        let bytes = &self.bytes[start..end];
         Ok(Some(Letter {
             from: filed.from,
             to: filed.to,

@@ -6,6 +6,7 @@
 #![tactic(auto)]
 
 mod cuts;
+mod kept;
 mod mail;
 mod queue;
 

@@ -5,10 +5,11 @@ ghost use Rattle.vp_model.specs.Words.{first};
 ghost use Rattle.vp_mail.specs.Queues.{pair_of, waiting, AreBelow, AreSites, AreSited};
 ghost use Rattle.vp_mail.specs.Posted.{message_in, posted, first_number};
 
+use crate::kept::Kept;
 use crate::queue::Queue;
 use std::alloc::Global;
 use std::marker::Model;
-use vp_base::{CopyOf, LAST_SITE, MOST_MESSAGES, Messages, NoMemory, Sent, SiteId};
+use vp_base::{LAST_SITE, MOST_MESSAGES, Messages, NoMemory, Sent, SiteId};
 
 /// How many sites there are at most.
 pub const SITES: usize = LAST_SITE as usize;
@@ -20,7 +21,7 @@ pub const PAIRS: usize = SITES * SITES;
 /// receiver there is a queue of its messages that were never delivered. The first ones of all queues stand side by side, where a walk
 /// over the pairs reads them.
 pub struct Mail {
-    sent: Vec<Sent>,
+    sent: Vec<Kept>,
     delivered: Vec<u32>,
     queues: Vec<Queue>,
     firsts: Vec<Option<u32>>,
@@ -82,7 +83,7 @@ fn firsts_of(alloc: Global, queues: &[Queue]) -> Result<Vec<Option<u32>>, NoMemo
 }
 
 /// The message gets the next number, which joins the queue. Without memory both stay as they are.
-fn post(sent: &mut Vec<Sent>, queue: &mut Queue, message: Sent) -> Result<(), NoMemory>
+fn post(sent: &mut Vec<Kept>, queue: &mut Queue, message: Sent) -> Result<(), NoMemory>
     requires room { length sent.old.items < 2000000 }
     requires last { AreBelow (length sent.old.items + 1) queue.old }
     ensures sent { OnOk result (sent.new.items ≡ sent.old.items ++ message ∷ []) }
@@ -90,7 +91,7 @@ fn post(sent: &mut Vec<Sent>, queue: &mut Queue, message: Sent) -> Result<(), No
     ensures err { OnErr result ((sent.new.items ≡ sent.old.items) × (queue.new ≡ queue.old)) }
 {
     let number = sent.len() as u32 + 1;
-    sent.push(message)?;
+    sent.push(Kept::new(*sent.allocator(), message)?)?;
     if let Err(e) = queue.push(number) {
         let _ = sent.pop();
         return Err(e);
@@ -136,7 +137,7 @@ impl Mail {
     {
         match message_in(&self.sent, k) {
             None => Ok(None),
-            Some(sent) => Ok(Some(sent.copy_of()?)),
+            Some(kept) => Ok(Some(kept.sent()?)),
         }
     }
 
@@ -191,7 +192,7 @@ impl Mail {
     }
 }
 
-fn message_in(sent: &[Sent], k: u32) -> Option<&Sent>
+fn message_in(sent: &[Kept], k: u32) -> Option<&Kept>
     ensures { option_copied result ≡ message_in k sent.now }
 {
     if k == 0 {

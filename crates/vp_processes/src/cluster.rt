@@ -217,13 +217,16 @@ impl Cluster {
     }
 }
 
-/// A cluster of three sites, each of whose nodes has printed the line of its first life. Where one doesn't start, ports are chosen again.
+/// A cluster of three sites, each of whose nodes has printed the line of its first life. Where one doesn't print it, as where its port was
+/// taken meanwhile, ports are chosen again.
 /// `by_words` is the word behind which this program, started again, does what the others say.
 pub fn started(rt: HostRuntime, by_words: &'static str) -> io::Result<(Cluster, Vec<Child>)> {
     for _ in 0..TRIES {
         let cluster = Cluster::new(rt, by_words)?;
-        if let Ok(nodes) = cluster.nodes() {
-            return Ok((cluster, nodes));
+        match cluster.nodes() {
+            Ok(nodes) => return Ok((cluster, nodes)),
+            Err(fault) if fault.kind() == io::ErrorKind::AddrInUse => {}
+            Err(fault) => return Err(fault),
         }
     }
     Err(io::Error::from(io::ErrorKind::AddrInUse))

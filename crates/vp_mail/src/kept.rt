@@ -1,0 +1,93 @@
+//! A message as the mail keeps it.
+
+ghost use Rattle.std.specs.Prelude.{◌≡◌, IfOk};
+ghost use Rattle.vp_mail.specs.Keeping.{sent_as};
+
+use std::alloc::Global;
+use std::marker::Model;
+use vp_base::{Boxed, CopyOf, Message, NoMemory, RecId, Sent, SiteId, ViewId};
+
+/// What stands in place of a message.
+#[derive(Drop)]
+enum Form {
+    RefreshRequest {
+        from: SiteId,
+        to: SiteId,
+        rec: RecId,
+        view_site: u8,
+        view_number: u64,
+    },
+    Other {
+        sent: Boxed<Sent>,
+    },
+}
+
+/// A message that was sent. A site asks each other holder of a copy that it has to refresh, again with each tick, so that most messages
+/// of a large world are such requests: they stand here in a third of the room that a message of any kind needs.
+#[derive(Drop)]
+pub struct Kept {
+    form: Form,
+}
+
+impl Model for Kept {
+    ghost use Rattle.vp_model.specs.Types.{Sent as SentMessage};
+    ghost use Rattle.vp_mail.specs.Keeping.{sent_as};
+
+    ghost Value = { SentMessage };
+
+    ghost view = { λ k. sent_as k.form };
+}
+
+/// The least room for this message.
+fn form_of(alloc: Global, sent: Sent) -> Result<Form, NoMemory>
+    ensures { IfOk result (λ form. sent_as form ≡ sent) }
+{
+    if let Message::RefreshRequest { view, rec } = &sent.message {
+        return Ok(Form::RefreshRequest {
+            from: sent.from,
+            to: sent.to,
+            rec: *rec,
+            view_site: view.site,
+            view_number: view.number,
+        });
+    }
+    Ok(Form::Other {
+        sent: Boxed::new(alloc, sent)?,
+    })
+}
+
+impl Kept {
+    pub fn new(alloc: Global, sent: Sent) -> Result<Kept, NoMemory>
+        ensures { IfOk result (λ kept. kept ≡ sent) }
+    {
+        Ok(Kept {
+            form: form_of(alloc, sent)?,
+        })
+    }
+
+    /// The message, as it was sent.
+    pub fn sent(&self) -> Result<Sent, NoMemory>
+        ensures { IfOk result (λ sent. sent ≡ self.now) }
+    {
+        match &self.form {
+            Form::RefreshRequest {
+                from,
+                to,
+                rec,
+                view_site,
+                view_number,
+            } => {
+                let view = ViewId {
+                    number: *view_number,
+                    site: *view_site,
+                };
+                Ok(Sent {
+                    from: *from,
+                    to: *to,
+                    message: Message::RefreshRequest { view, rec: *rec },
+                })
+            }
+            Form::Other { sent } => sent.as_ref().copy_of(),
+        }
+    }
+}
