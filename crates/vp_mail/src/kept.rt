@@ -7,7 +7,7 @@ use std::alloc::Global;
 use std::marker::Model;
 use vp_base::{Boxed, CopyOf, Message, NoMemory, RecId, Sent, SiteId, ViewId};
 
-/// What stands in place of a message.
+/// What stands in place of a message. The fields of a request's view stand one by one, since a `ViewId` would take 16 bytes for its 9.
 #[derive(Drop)]
 enum Form {
     RefreshRequest {
@@ -23,7 +23,7 @@ enum Form {
 }
 
 /// A message that was sent. A site asks each other holder of a copy that it has to refresh, again with each tick, so that most messages
-/// of a large world are such requests: they stand here in a third of the room that a message of any kind needs.
+/// of a large world are refresh requests: these stand here themselves, in 24 bytes, and a message of another kind in a box.
 #[derive(Drop)]
 pub struct Kept {
     form: Form,
@@ -38,7 +38,7 @@ impl Model for Kept {
     ghost view = { λ k. sent_as k.form };
 }
 
-/// The least room for this message.
+/// What stands in place of this message.
 fn form_of(alloc: Global, sent: Sent) -> Result<Form, NoMemory>
     ensures { IfOk result (λ form. sent_as form ≡ sent) }
 {
