@@ -1,6 +1,6 @@
 //! What the answers of other sites do to a call that waits for them, and the inquiries of other sites.
 
-ghost use Rattle.std.specs.Prelude.{◌≡◌, ◌==◌, [], OnOk, IfOk, not, filter, option_copied, true, false};
+ghost use Rattle.std.specs.Prelude.{◌≡◌, [], OnOk, IfOk, option_copied, true, false};
 ghost use Rattle.vp_model.specs.Words.{is_empty, for_some};
 ghost use Rattle.vp_model.specs.Calls.{answer_read, answer_write};
 ghost use Rattle.vp_model.specs.Answers.{count_in, read_answered, write_answered, voted, on_ack, on_inquire, on_answer};
@@ -11,9 +11,9 @@ ghost use Rattle.vp_answers.specs.Answered.{wanted_read, wanted_write, is_commit
 
 use vp_base::{
     Call, CallNo, CopyOf, Ending, LogRecord, Message, NoMemory, Obstacle, Pending, RecId, SiteId,
-    Sites, TxnId, Value, ViewId,
+    TxnId, Value, ViewId,
 };
-use vp_catalog::Catalog;
+use vp_catalog::{Catalog, others_of};
 use vp_endings::Lent;
 use vp_transactions::Handled;
 
@@ -23,19 +23,6 @@ pub struct Incoming<'a> {
     pub catalog: &'a Catalog,
     pub from: SiteId,
     pub id: SiteId,
-}
-
-/// The sites but this one.
-fn sites_without(sites: &Sites, site: SiteId) -> Result<Sites, NoMemory>
-    ensures { IfOk result (λ rest. rest ≡ filter (λ q. not (q == site)) sites.now) }
-{
-    let rest = sites
-        .as_slice()
-        .iter()
-        .copied()
-        .filter(|other| *other != site)
-        .collect(sites.allocator())?;
-    Ok(Sites::from_vec(rest))
 }
 
 /// The record that a value with this number is read of.
@@ -125,7 +112,7 @@ fn count_read(
         count_in from handled.old.live handled.old.pending (answer_read handled.old.live handled.old.pending rec value)
         (in_place handled.old.live lent.old)) }
 {
-    let missing = sites_without(&handled.pending.missing, from)?;
+    let missing = others_of(&handled.pending.missing, from)?;
     if missing.as_slice().is_empty() {
         lent.answer_read(handled, rec, value)
     } else {
@@ -171,7 +158,7 @@ fn count_write(
         count_in from handled.old.live handled.old.pending (answer_write handled.old.live handled.old.pending rec value)
         (in_place handled.old.live lent.old)) }
 {
-    let missing = sites_without(&handled.pending.missing, from)?;
+    let missing = others_of(&handled.pending.missing, from)?;
     if missing.as_slice().is_empty() {
         lent.answer_write(handled, rec, &value)
     } else {
@@ -227,7 +214,7 @@ fn count_vote(lent: &mut Lent, came: &Incoming<'_>, handled: &mut Handled) -> Re
         count_in came.now.from handled.old.live handled.old.pending (decide came.now.catalog.now came.now.id handled.old.live)
         (in_place handled.old.live lent.old)) }
 {
-    let missing_votes = sites_without(&handled.pending.missing, came.from)?;
+    let missing_votes = others_of(&handled.pending.missing, came.from)?;
     if missing_votes.as_slice().is_empty() {
         lent.decide(came.catalog, came.id, &mut handled.live)
     } else {

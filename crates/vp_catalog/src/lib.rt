@@ -17,6 +17,7 @@ pub use catalog::{Catalog, members_of};
 pub use entry::Entry;
 pub use fault::CatalogFault;
 pub use majority::majorities_share_a_holder;
+pub use others::{alone, others_of};
 pub use placed::{Placed, has_site};
 pub use reading::take_entry;
 pub use site::take_site;

@@ -1,11 +1,33 @@
-//! The other holders of a record in a view.
+//! Lists of sites: the others, and the other holders of a record in a view.
 
-ghost use Rattle.std.specs.Prelude.{◌≡◌, ◌≤◌, ℕ, false, not, ◌==◌, ◌&&◌, get_or, filter, find, length, IfOk};
+ghost use Rattle.std.specs.Prelude.{◌≡◌, ◌≤◌, ◌∷◌, [], ℕ, false, not, ◌==◌, ◌&&◌, get_or, filter, find, length, IfOk};
 ghost use Rattle.vp_model.specs.Words.{has};
 
 use crate::placed::has_site;
 use std::alloc::Global;
 use vp_base::{NoMemory, SiteId, Sites};
+
+/// The list of this site alone.
+pub fn alone(alloc: Global, site: SiteId) -> Result<Sites, NoMemory>
+    ensures { IfOk result (λ sites. sites ≡ site ∷ []) }
+{
+    let mut sites = Sites::new(alloc);
+    sites.push(site)?;
+    Ok(sites)
+}
+
+/// The sites but this one.
+pub fn others_of(sites: &Sites, id: SiteId) -> Result<Sites, NoMemory>
+    ensures { IfOk result (λ others. others ≡ filter (λ q. not (q == id)) sites.now) }
+{
+    let others = sites
+        .as_slice()
+        .iter()
+        .copied()
+        .filter(|site| *site != id)
+        .collect(sites.allocator())?;
+    Ok(Sites::from_vec(others))
+}
 
 /// The sites of the list that are members, but for this site.
 pub(crate) fn others_in(

@@ -1,7 +1,4 @@
-//! What a row of a call reads of its site, and the least of the sites that it turns to.
-
-ghost use Rattle.std.specs.Prelude.{◌≡◌};
-ghost use Rattle.vp_model.specs.Words.{first};
+//! What a row of a call reads of its site.
 
 use vp_base::{SiteId, View, ViewId};
 use vp_catalog::Catalog;
@@ -14,14 +11,4 @@ pub struct Around<'a> {
     pub id: SiteId,
     pub life: u32,
     pub promise: ViewId,
-}
-
-/// The least of sites that ascend.
-pub fn first_of(sites: &[SiteId]) -> Option<SiteId>
-    ensures { result ≡ first sites.now }
-{
-    match sites {
-        [] => None,
-        [least, ..] => Some(*least),
-    }
 }

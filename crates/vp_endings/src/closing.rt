@@ -2,16 +2,25 @@
 
 ghost use Rattle.std.specs.Prelude.{◌≡◌, OnOk, None};
 ghost use Rattle.vp_base.specs.declared.site.Ending.TheVariants as ending;
-ghost use Rattle.vp_model.specs.Words.{for_each};
+ghost use Rattle.vp_model.specs.Words.{first, for_each};
 ghost use Rattle.vp_model.specs.Transactions.{close_all};
 ghost use Rattle.vp_model.specs.Views.{abandon};
 ghost use Rattle.vp_model.specs.Step.{time_out_calls};
 ghost use Rattle.vp_endings.specs.Ends.{waits_at, timed_out};
 
-use crate::around::first_of;
 use crate::lent::Lent;
 use vp_base::{Ending, Live, NoMemory, SiteId};
 use vp_transactions::LiveTxns;
+
+/// The least of sites that ascend.
+fn first_of(sites: &[SiteId]) -> Option<SiteId>
+    ensures { result ≡ first sites.now }
+{
+    match sites {
+        [] => None,
+        [least, ..] => Some(*least),
+    }
+}
 
 /// The least site that the transaction's call waits for.
 fn waits_at(t: &Live) -> Option<SiteId>

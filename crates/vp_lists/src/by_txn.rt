@@ -2,10 +2,9 @@
 
 ghost use Rattle.std.specs.Prelude.{◌≡◌, ◌<◌, IfSome, find, is_some, if◌then◌else◌, length, option_copied};
 ghost use Rattle.std.specs.List.{position};
-ghost use Rattle.vp_model.specs.Words.{same_txn, change_first, without_first};
+ghost use Rattle.vp_model.specs.Words.{same_txn, without_first};
 
 use crate::order::is_same_txn;
-use std::mem;
 use vp_base::{Decision, Doubt, Finished, Live, Part, TxnId};
 
 /// An item that is known by its transaction.
@@ -43,18 +42,6 @@ pub fn take_txn<T: OfTxn + Drop>(items: &mut Vec<T>, name: &TxnId) -> Option<T>
     match place_of(items, name) {
         None => None,
         Some(place) => Some(items.remove(place)),
-    }
-}
-
-/// The item goes where the first one of the transaction is, which is given back; nowhere, where there is none.
-pub fn replace_txn<T: OfTxn + Drop>(items: &mut Vec<T>, name: &TxnId, item: T) -> Option<T>
-    ensures taken { result ≡ find (λ t. same_txn (T.txn t) name.now) items.old.items }
-    ensures named { IfSome result (λ t. T.txn t ≡ name.now) }
-    ensures rest { items.new.items ≡ change_first (λ t. same_txn (T.txn t) name.now) (λ t. item) items.old.items }
-{
-    match place_of(items, name) {
-        None => None,
-        Some(place) => Some(mem::replace(&mut items[place], item)),
     }
 }
 

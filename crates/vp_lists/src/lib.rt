@@ -12,7 +12,7 @@ mod keyed;
 mod order;
 
 pub use by_rec::{replace_at, value_at, write_copies};
-pub use by_txn::{OfTxn, find_txn, replace_txn, take_txn};
+pub use by_txn::{OfTxn, find_txn, take_txn};
 pub use copies::copy_all;
 pub use keyed::{Keyed, put, put_in};
 pub use order::{

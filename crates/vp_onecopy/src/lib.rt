@@ -22,4 +22,4 @@ pub use fault::HistoryFault;
 pub use map::{History, Map};
 pub use ordering::order;
 pub use playing::{PlayFault, play};
-pub use printing::print_history;
+pub use printing::{print_history, print_name};

@@ -35,7 +35,7 @@ fn print_starts(names: &[Name], values: &[Value], out: &mut Vec<u8>) -> Result<(
 
 /// Appends the name of a record, and nothing where there is no name at its place.
 #[tactic(auto, using(vp_text::proofs::Printing::printing))]
-fn print_name(names: &[Name], rec: RecId, out: &mut Vec<u8>) -> Result<(), NoMemory>
+pub fn print_name(names: &[Name], rec: RecId, out: &mut Vec<u8>) -> Result<(), NoMemory>
     ensures { Appends result out.old.items (slice_index_or names.now rec []) out.new.items }
 {
     match names.get(usize::from(rec.get())) {

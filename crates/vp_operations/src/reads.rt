@@ -1,6 +1,6 @@
 //! A read: the transaction's own write, else the copy here, else the least holder in the view is asked.
 
-ghost use Rattle.std.specs.Prelude.{◌≡◌, ◌++◌, ◌∷◌, [], OnOk, IfOk, option_copied, true, false};
+ghost use Rattle.std.specs.Prelude.{◌≡◌, ◌++◌, ◌∷◌, [], OnOk, option_copied, true, false};
 ghost use Rattle.vp_model.specs.Words.{first, for_some, put_number, value_at};
 ghost use Rattle.vp_model.specs.Refresh.{other_holders_in};
 ghost use Rattle.vp_model.specs.Calls.{with_record, lock_here, answer_read, read_at, read};
@@ -8,8 +8,8 @@ ghost use Rattle.vp_transactions.specs.Waiting.{waits};
 ghost use Rattle.vp_endings.specs.Lent.{in_place};
 
 use crate::records::{NamedValue, copy_here, own_write, usable_record};
-use std::alloc::Global;
-use vp_base::{Live, Message, Name, NoMemory, RecId, SiteId, Sites};
+use vp_base::{Live, Message, Name, NoMemory, RecId, SiteId};
+use vp_catalog::alone;
 use vp_endings::{Around, Lent};
 use vp_lists::put_in;
 use vp_locks::LockFault;
@@ -26,7 +26,7 @@ fn read_at(
     ensures { OnOk result (lent.new ≡ read_at id handled.old.live handled.old.pending rec site (in_place handled.old.live lent.old)) }
 {
     add_reader(&mut handled.live, rec, site)?;
-    let asked = only(handled.live.parts.allocator(), site)?;
+    let asked = alone(handled.live.parts.allocator(), site)?;
     let request = Message::ReadRequest {
         txn: handled.txn(),
         view: handled.live.view,
@@ -117,15 +117,6 @@ pub fn read_named(
         Ok(rec) => read(lent, at, handled, name, rec),
         Err(answer) => lent.refuse(handled, answer),
     }
-}
-
-/// The site alone.
-fn only(alloc: Global, site: SiteId) -> Result<Sites, NoMemory>
-    ensures { IfOk result (λ sites. sites ≡ site ∷ []) }
-{
-    let mut sites = Sites::new(alloc);
-    sites.push(site)?;
-    Ok(sites)
 }
 
 /// The site, which is to read the record, becomes a part.

@@ -8,7 +8,7 @@ ghost use Rattle.vp_replay.specs.Checked.{IsCheckAnswer, value_text, values_text
 
 use std::alloc::Global;
 use vp_base::{Name, NoMemory, RecId, TxnId, Value};
-use vp_onecopy::{History, HistoryFault, Verdict, check, read_history};
+use vp_onecopy::{History, HistoryFault, Verdict, check, print_name, read_history};
 use vp_status::{Defined, Status, print_bad_line, print_twice};
 use vp_text::print_number;
 
@@ -137,16 +137,6 @@ fn print_place(txn: &TxnId, place: usize, out: &mut Vec<u8>) -> Result<(), NoMem
     print_number(out, place as u64)?;
     out.push(b' ')?;
     Ok(())
-}
-
-/// Appends the name of a record, and nothing where there is no name at its place.
-fn print_name(names: &[Name], rec: RecId, out: &mut Vec<u8>) -> Result<(), NoMemory>
-    ensures { OnOk result (out.new.items ≡ out.old.items ++ slice_index_or names.now rec []) }
-{
-    match names.get(usize::from(rec.get())) {
-        Some(name) => name.print(out),
-        None => Ok(()),
-    }
 }
 
 fn print_kept(kept: &Value, read: &Value, out: &mut Vec<u8>) -> Result<(), NoMemory>

@@ -24,7 +24,7 @@ fn answered(
     site.coordinator.on_answer(catalog, &mut site.here, from, message, &mut stepped.effects)
 }
 
-/// What no row lists does nothing.
+/// Each kind of message has its row.
 #[tactic(auto, unfolding(vp_model::specs::Messages::on_message, vp_model::specs::Messages::on_accept, vp_model::specs::Messages::on_stale, vp_model::specs::Messages::on_probe_message))]
 pub fn on_message(
     stepped: &mut Stepped,

@@ -76,6 +76,6 @@ pub record EndsAsNode (words : List (List ℕ)) (source source' : SourceState) (
 
 -- ---- the run
 
--- what the status of a run says: a text was printed and the disk was not called, or a node served
+-- what the status of a run says: a text was printed, or a node served
 abbrev pub Ends : List (List ℕ) → SourceState → SourceState → Outside → Status → Type 0
 Ends words source source' o end = EndsInText words source source' o.link o.link' o.sink o.sink' end ⊎ EndsAsNode words source source' o end

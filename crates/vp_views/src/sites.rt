@@ -1,35 +1,12 @@
-//! Which sites are asked, and which were heard.
+//! Which sites were heard.
 
-ghost use Rattle.std.specs.Prelude.{◌≡◌, ◌==◌, ◌&&◌, ◌||◌, ◌∷◌, [], not, IfOk, filter};
+ghost use Rattle.std.specs.Prelude.{◌≡◌, ◌==◌, ◌&&◌, ◌||◌, not};
 ghost use Rattle.std.specs.List.{list_any};
 ghost use Rattle.vp_model.specs.Words.{has};
 ghost use Rattle.vp_model.specs.Step.{is_odd};
 
-use std::alloc::Global;
-use vp_base::{NoMemory, SiteId, Sites};
+use vp_base::SiteId;
 use vp_catalog::has_site;
-
-/// The list of this site alone.
-pub fn only(alloc: Global, site: SiteId) -> Result<Sites, NoMemory>
-    ensures { IfOk result (λ sites. sites ≡ site ∷ []) }
-{
-    let mut sites = Sites::new(alloc);
-    sites.push(site)?;
-    Ok(sites)
-}
-
-/// The sites but this one.
-pub fn others_of(sites: &Sites, id: SiteId) -> Result<Sites, NoMemory>
-    ensures { IfOk result (λ others. others ≡ filter (λ q. not (q == id)) sites.now) }
-{
-    let others = sites
-        .as_slice()
-        .iter()
-        .copied()
-        .filter(|site| *site != id)
-        .collect(sites.allocator())?;
-    Ok(Sites::from_vec(others))
-}
 
 /// Whether a member other than the site was not heard.
 fn lacks_member(id: SiteId, members: &[SiteId], heard: &[SiteId]) -> bool

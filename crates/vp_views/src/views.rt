@@ -10,11 +10,11 @@ ghost use Rattle.vp_model.specs.Step.{without_wait};
 ghost use Rattle.vp_views.specs.Viewing.{Viewing, viewed, change, started, invitable, Invites, IsApart, invited, joins, fixed, fixing, hearing, wants, probing};
 
 use crate::fault::{InviteFault, Spent};
-use crate::sites::{is_odd, only, others_of};
+use crate::sites::is_odd;
 use crate::standing::Standing;
 use std::marker::Model;
 use vp_base::{CopyOf, Effects, LogRecord, Message, NoMemory, SiteId, Sites, View, ViewId};
-use vp_catalog::{Catalog, has_site};
+use vp_catalog::{Catalog, alone, has_site, others_of};
 use vp_lists::view_comes_before;
 
 /// What a site knows of views. After want of memory it may only be dropped, and so may the effects.
@@ -155,7 +155,7 @@ impl Views {
         ensures id { self.new.id ≡ self.old.id }
     {
         let id = self.invitable()?;
-        let accepted = only(catalog.sites().allocator(), self.id)?;
+        let accepted = alone(catalog.sites().allocator(), self.id)?;
         effects.force(LogRecord::Promise { view: id })?;
         self.tell_others(catalog, &Message::Invite { id }, effects)?;
         self.promise = id;

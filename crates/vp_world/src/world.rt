@@ -51,8 +51,8 @@ impl World {
         Ok(World { catalog, state })
     }
 
-    /// Does the event, and answers the line that the trace shows for it. A flow does nothing here: its messages are delivered one
-    /// after the other, each as `flowing` names it. After an error the world is gone.
+    /// Does the event, and answers the line that the trace shows for it. A flow is a step that changes nothing else: its messages are
+    /// delivered one after the other, each as `flowing` names it. After an error the world is gone.
     pub fn next(self, event: &Event) -> Result<(World, Line), WorldEnd>
         ensures world { IfOk result (λ r. r.0 ≡ record { catalogue = self.catalogue; world = (next self.catalogue event.now self.world).world }) }
         ensures line { IfOk result (λ r. r.1 ≡ record { event = event.now; shown = (next self.catalogue event.now self.world).shown }) }
