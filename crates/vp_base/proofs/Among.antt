@@ -1,12 +1,11 @@
 -- One of some names is read exactly.
-use Rattle.std.proofs.Common.{◌≡◌, ◌≢◌, ℕ, zero, suc, ◌+◌, ◌-◌, ◌<◌, Bool, true, false, cond, ◌||◌, nat_eq, List, [], ◌∷◌, ◌++◌, length, get_or, take, drop, Option, Some, None, Result, Ok, Err, refl, sym, ap, subst, ◌∙◌, append_assoc, inl, inr}
+use Rattle.std.proofs.Common.{◌≡◌, ◌≢◌, ℕ, zero, suc, ◌+◌, ◌-◌, ◌<◌, Bool, true, false, cond, nat_eq, List, [], ◌∷◌, ◌++◌, length, get_or, take, drop, Option, Some, None, Result, Ok, Err, refl, sym, ap, subst, ◌∙◌, append_assoc, inl, inr}
 use Rattle.std.specs.Prelude.{option_map}
 use Rattle.std.specs.List.{starts_with, AllByRecursion}
 use Rattle.std.specs.Str.{bytes_eq}
 use Rattle.std.proofs.lemmas.List.{length-drop, drop_more, take_more, drop_all}
-use Rattle.std.proofs.lemmas.Bool.{false≢true, or_cases, cases_lt}
-use Rattle.std.proofs.lemmas.Bool.Decides.{Decides-eqb}
-use Rattle.std.proofs.lemmas.Slice.Eq.{starts_is, bytes_eq-Decides}
+use Rattle.std.proofs.lemmas.Bool.{false≢true, or_cases, or_left, or_right, cases_lt}
+use Rattle.std.proofs.lemmas.Slice.Eq.{bytes_eq-Decides}
 use Rattle.vp_text.specs.Meaning.{Begins}
 use Rattle.vp_text.specs.Reading.{scan, ended}
 use Rattle.vp_text.specs.Classes.{has}
@@ -14,13 +13,11 @@ use Rattle.vp_text.specs.declared.class.Class.TheVariants as classes
 use Rattle.vp_text.proofs.Exact.{Exact}
 use Rattle.vp_text.proofs.Scan.{scan_exact, scan_on, scan_off}
 use Rattle.vp_text.proofs.Items.{all_at}
+use Rattle.vp_text.proofs.Printing.{starts_Decides}
 use Rattle.vp_text.proofs.Words.{chose, chose_none}
 use Rattle.vp_text.proofs.Choices.{GoesOn}
 use Rattle.vp_base.specs.Words.{IsName, IsPlace}
 use Rattle.vp_base.specs.Reading.{starts_any, place_of, place_step, among_at}
-
-starts_Decides : (w p : List ℕ) → (starts_with nat_eq w p ≡ true → w ≡ p ++ drop (length p) w) × ((r : List ℕ) → w ≡ p ++ r → starts_with nat_eq w p ≡ true)
-starts_Decides w p = starts_is Decides-eqb w p (starts_with nat_eq w p) refl
 
 begins : (names : List (List ℕ)) (p : List ℕ) → starts_any names p ≡ true → Begins (IsPlace names) p
 begins [] p e = absurd (false≢true e)
@@ -34,18 +31,10 @@ begins (w ∷ ws) p e =
     ] in
     f (starts_with nat_eq w p) refl
 
-or_from_left : (x y : Bool) → x ≡ true → (x || y) ≡ true
-or_from_left true y e = refl
-or_from_left false y e = absurd (false≢true e)
-
-or_from_right : (x y : Bool) → y ≡ true → (x || y) ≡ true
-or_from_right true y e = refl
-or_from_right false y e = e
-
 starts : (names : List (List ℕ)) (p : List ℕ) (i : ℕ) (r : List ℕ) → IsPlace names i (p ++ r) → starts_any names p ≡ true
 starts [] p i r h = absurd h
-starts (w ∷ ws) p zero r h = or_from_left (starts_with nat_eq w p) (starts_any ws p) ((starts_Decides w p).1 r (sym h))
-starts (w ∷ ws) p (suc i) r h = or_from_right (starts_with nat_eq w p) (starts_any ws p) (starts ws p i r h.1)
+starts (w ∷ ws) p zero r h = or_left (starts_with nat_eq w p) (starts_any ws p) ((starts_Decides w p).1 r (sym h))
+starts (w ∷ ws) p (suc i) r h = or_right (starts_with nat_eq w p) (starts_any ws p) (starts ws p i r h.1)
 
 some_place : (o : Option ℕ) (a : ℕ) → option_map (λ i. suc i) o ≡ Some a → (i : ℕ) × (o ≡ Some i) × (a ≡ suc i)
 some_place None a e = absurd (let f : None ≡ Some a = e in cc)

@@ -34,7 +34,8 @@ view_allowed number site fits above below =
           record { number_fits = omega arith; site_fits = omega arith; opening = λ e. absurd (some e); made = λ e. above }
     ]
 
-view_sites : (number site : ℕ) → IsView (view_of number site) → (least_site number ≤ site) × (site ≤ most_site number)
+-- the sites of a view of that number
+pub view_sites : (number site : ℕ) → IsView (view_of number site) → (least_site number ≤ site) × (site ≤ most_site number)
 view_sites number site v =
     elim (cases_eq number 0) [
       | inl none ↦ rw (eq-eqb number 0 none) (omega arith, omega (arith, v.opening none))

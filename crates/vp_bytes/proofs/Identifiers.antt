@@ -7,6 +7,7 @@ use Rattle.vp_base.specs.declared.ids.ViewId.{ViewId}
 use Rattle.vp_base.specs.declared.ids.TxnId.{TxnId}
 use Rattle.vp_base.specs.Identifiers.{IsView}
 use Rattle.vp_base.specs.Reading.{view_of, txn_of, least_site, most_site}
+use Rattle.vp_base.proofs.Views.{view_sites}
 use Rattle.vp_bytes.specs.Fields.{number_bytes, view_bytes, txn_bytes, IsViewBytes, IsTxnBytes, IsNumberedBytes}
 use Rattle.vp_bytes.specs.Reading.{byte_at, within, u64_at, u32_at, some_u32_at, view_at, txn_at, numbered_at}
 use Rattle.vp_bytes.proofs.Free.{IsFree, IsByteOf, even_free, byte_free, byte_exact, free_then}
@@ -34,7 +35,7 @@ within_from least most c above below = and_from (nat_le least c) (nat_le c most)
 pub within_to : (least most c : ℕ) → within least most c ≡ true → (least ≤ c) × (c ≤ most)
 within_to least most c h = let w = and_parts (nat_le least c) (nat_le c most) h in (leb-true least c w.0, leb-true c most w.1)
 
-number_spelled : (n x : ℕ) → number_bytes n x ≡ big_bytes n x
+pub number_spelled : (n x : ℕ) → number_bytes n x ≡ big_bytes n x
 unfolding number_bytes
 number_spelled n x = refl
 
@@ -64,13 +65,6 @@ view_allowed number site fits above below =
           let above : 1 ≤ site = (rw b at above) in
           let below : site ≤ 16 = (rw b at below) in
           record { number_fits = fits; site_fits = omega arith; opening = λ e. absurd (some e); made = λ e. above }
-    ]
-
-view_sites : (number site : ℕ) → IsView (view_of number site) → (least_site number ≤ site) × (site ≤ most_site number)
-view_sites number site v =
-    elim (cases_eq number 0) [
-      | inl none ↦ rw (eq-eqb number 0 none) (omega arith, omega (arith, v.opening none))
-      | inr some ↦ rw (ne_eqb number 0 some) (v.made (omega arith), v.site_fits)
     ]
 
 view_to : (v : ViewId) (t : List ℕ) → ViewParts v t → IsViewBytes v t

@@ -4,14 +4,12 @@ use Rattle.std.proofs.lemmas.Bool.{lt-ltb, ltb-true, and_from, and_parts, or_lef
 use Rattle.std.proofs.lemmas.List.{append-nil}
 use Rattle.std.proofs.lemmas.Nat.{div_below, le-div}
 use Rattle.std.proofs.Math.Nat.{mul_assoc, mul_comm, pow-succ', div-one, div-div-eq-div-mul, mul-le-mul_right, div-mul-le_self, one-le-pow}
-use Rattle.byteorder.specs.Endian.{big_bytes}
 use Rattle.vp_text.proofs.Exact.{Apart, Exact, exact_as, Then}
-use Rattle.vp_bytes.specs.Fields.{number_bytes}
 use Rattle.vp_bytes.specs.Reading.{is_byte, digit_fits}
 use Rattle.vp_bytes.specs.Ranges.{IsNumberWithin, range_fits, digits_within_at, number_within_at}
 use Rattle.vp_bytes.proofs.Digits.{HasDigits, digits_exact}
 use Rattle.vp_bytes.proofs.Free.{IsFree, IsByteOf, byte_free, byte_exact, free_as}
-use Rattle.vp_bytes.proofs.Identifiers.{within_from, within_to}
+use Rattle.vp_bytes.proofs.Identifiers.{number_spelled, within_from, within_to}
 use Rattle.vp_bytes.proofs.NumberBytes.{IsNumberBytes, number_exact, number_free}
 use Rattle.vp_bytes.proofs.Runs.{then_where}
 
@@ -118,10 +116,6 @@ unranged low high (suc n) front x text h above below =
     }
 
 -- ---- numbers
-
-number_spelled : (n x : ℕ) → number_bytes n x ≡ big_bytes n x
-unfolding number_bytes
-number_spelled n x = refl
 
 whole_opens : (count low high : ℕ) → low < 256 ^ count → Opens low high count 0
 whole_opens count low high fits =

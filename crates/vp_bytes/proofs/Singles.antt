@@ -8,7 +8,7 @@ use Rattle.vp_bytes.specs.Fields.{Spelled, number_bytes, view_bytes, txn_bytes, 
 use Rattle.vp_bytes.specs.Reading.{byte_at, within, u32_at, u64_at, some_u32_at, request_at, outcome_at}
 use Rattle.vp_bytes.proofs.Free.{IsFree, IsByteOf, even_free, free_as}
 use Rattle.vp_bytes.proofs.NumberBytes.{IsNumberBytes, number_free}
-use Rattle.vp_bytes.proofs.Identifiers.{u64_exact, u32_exact, some_u32_exact, within_exact, within_from, within_to, view_exact, txn_exact, txn_free}
+use Rattle.vp_bytes.proofs.Identifiers.{number_spelled, u64_exact, u32_exact, some_u32_exact, within_exact, within_from, within_to, view_exact, txn_exact, txn_free}
 use Rattle.vp_bytes.proofs.Pairs.{then_field}
 
 abbrev pub IsSiteByte : ℕ → List ℕ → Type 0
@@ -25,10 +25,6 @@ IsNumber8 = Spelled (λ number. number_bytes 8 number) (λ number. number < 2 ^ 
 
 abbrev pub IsOutcomeByte : Bool → List ℕ → Type 0
 IsOutcomeByte = Spelled (λ commit. outcome_byte commit ∷ []) (λ _. Unit {0})
-
-spelled : (n x : ℕ) → number_bytes n x ≡ big_bytes n x
-unfolding number_bytes
-spelled n x = refl
 
 pub site_exact : Exact IsSiteByte (byte_at (within 1 16))
 site_exact = exact_as (λ c t h. record { is = h.is; allowed = within_to 1 16 c h.admitted }) (λ c t h. record { is = h.is; admitted = within_from 1 16 c h.allowed.0 h.allowed.1 }) (within_exact 1 16 (omega arith))
@@ -49,16 +45,16 @@ pub rec_free : IsFree IsRecByte
 rec_free = even_free {L = IsRecByte} 1 (λ c t h. ap length h.is)
 
 number4_from : (c : ℕ) (t : List ℕ) → IsNumber4 c t → IsNumberBytes false 4 c t
-number4_from c t h = record { is = h.is ∙ spelled 4 c; fits = h.allowed; above = λ s. absurd cc }
+number4_from c t h = record { is = h.is ∙ number_spelled 4 c; fits = h.allowed; above = λ s. absurd cc }
 
 pub number4_exact : Exact IsNumber4 u32_at
-number4_exact = exact_as (λ c t h. record { is = h.is ∙ sym (spelled 4 c); allowed = h.fits }) number4_from u32_exact
+number4_exact = exact_as (λ c t h. record { is = h.is ∙ sym (number_spelled 4 c); allowed = h.fits }) number4_from u32_exact
 
 pub number4_free : IsFree IsNumber4
 number4_free = free_as number4_from (number_free false 4)
 
 pub number8_exact : Exact IsNumber8 u64_at
-number8_exact = exact_as (λ c t h. record { is = h.is ∙ sym (spelled 8 c); allowed = h.fits }) (λ c t h. record { is = h.is ∙ spelled 8 c; fits = h.allowed; above = λ s. absurd cc }) u64_exact
+number8_exact = exact_as (λ c t h. record { is = h.is ∙ sym (number_spelled 8 c); allowed = h.fits }) (λ c t h. record { is = h.is ∙ number_spelled 8 c; fits = h.allowed; above = λ s. absurd cc }) u64_exact
 
 view_spelled : (v : ViewId) → view_bytes v ≡ big_bytes 8 v.number ++ v.site ∷ []
 unfolding view_bytes number_bytes
@@ -87,7 +83,7 @@ abbrev IsNumberField : ℕ → List ℕ → Type 0
 IsNumberField = Spelled (λ number. number_bytes 4 number) IsCallNumber
 
 number_field : Exact IsNumberField some_u32_at
-number_field = exact_as (λ c t h. record { is = h.is ∙ sym (spelled 4 c); allowed = (h.above refl, h.fits) }) (λ c t h. record { is = h.is ∙ spelled 4 c; fits = h.allowed.1; above = λ s. h.allowed.0 }) some_u32_exact
+number_field = exact_as (λ c t h. record { is = h.is ∙ sym (number_spelled 4 c); allowed = (h.above refl, h.fits) }) (λ c t h. record { is = h.is ∙ number_spelled 4 c; fits = h.allowed.1; above = λ s. h.allowed.0 }) some_u32_exact
 
 pub request_exact : Exact IsRequestBytes request_at
 unfolding request_at
@@ -116,4 +112,4 @@ pub outcome_free : IsFree IsOutcomeByte
 outcome_free = even_free {L = IsOutcomeByte} 1 (λ b t h. ap length h.is)
 
 pub number8_free : IsFree IsNumber8
-number8_free = even_free {L = IsNumber8} 8 (λ x t h. ap length (h.is ∙ spelled 8 x))
+number8_free = even_free {L = IsNumber8} 8 (λ x t h. ap length (h.is ∙ number_spelled 8 x))

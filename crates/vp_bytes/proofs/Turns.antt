@@ -1,22 +1,17 @@
 -- The loops over runs of items, a turn at a time.
-use Rattle.std.proofs.Common.{◌≡◌, ℕ, suc, ◌+◌, ◌-◌, ◌<◌, true, false, List, [], ◌∷◌, ◌++◌, length, get_or, take, drop, Result, Ok, Err, refl, sym, ap, subst, ◌∙◌, append_assoc, arith}
+use Rattle.std.proofs.Common.{◌≡◌, ℕ, suc, ◌+◌, ◌-◌, ◌<◌, true, false, List, [], ◌∷◌, ◌++◌, length, get_or, take, drop, Result, Ok, Err, refl, sym, ap, subst, ◌∙◌, arith}
 use Rattle.std.proofs.lemmas.List.{append-nil, drop_more, take_more, drop_all, length-drop}
-use Rattle.vp_text.specs.Reading.{◌>>=◌}
 use Rattle.vp_text.specs.Classes.{has}
 use Rattle.vp_text.specs.declared.class.Class.{Class}
-use Rattle.vp_text.proofs.Repeats.{with_front}
+use Rattle.vp_text.proofs.Repeats.{regroup, with_front}
 use Rattle.vp_bytes.specs.Reading.{byte_at, run_at, word_run_at}
-
-pub onto : {X : Type 0} (front : List X) (x : X) (read : Result (List X × List ℕ) ℕ) → with_front front (read >>= λ xs. Ok (x ∷ xs.0, xs.1)) ≡ with_front (front ++ x ∷ []) read
-onto {X = X} front x (Ok y) = ap (λ (xs : List X). Ok (xs, y.1)) (sym (append_assoc front (x ∷ []) y.0))
-onto front x (Err n) = refl
 
 module _ {X : Type 0} (key : X → ℕ) (item : ℕ → ℕ → List ℕ → Result (X × List ℕ) ℕ) where
   pub run_goes : (front : List X) (n least : ℕ) (bytes : List ℕ) (x : X) (rest : List ℕ) (total : Result (List X × List ℕ) ℕ) → item n least bytes ≡ Ok (x, rest)
       → with_front front (run_at key item (suc n) least bytes) ≡ total → with_front (front ++ x ∷ []) (run_at key item n (suc (key x)) rest) ≡ total
   unfolding run_at
   run_goes front n least bytes x rest total h so_far =
-      let one : with_front front (run_at key item (suc n) least bytes) ≡ with_front (front ++ x ∷ []) (run_at key item n (suc (key x)) rest) = rw h (onto front x (run_at key item n (suc (key x)) rest)) in
+      let one : with_front front (run_at key item (suc n) least bytes) ≡ with_front (front ++ x ∷ []) (run_at key item n (suc (key x)) rest) = rw h (regroup front x (run_at key item n (suc (key x)) rest)) in
       sym one ∙ so_far
 
   pub run_ends : (front : List X) (least : ℕ) (bytes : List ℕ) (total : Result (List X × List ℕ) ℕ) → with_front front (run_at key item 0 least bytes) ≡ total → total ≡ Ok (front, bytes)

@@ -1,28 +1,12 @@
 -- Bytes that are put down part by part: where a part fails, a beginning of the whole stands there.
 use Rattle.std.proofs.Common.{◌≡◌, ℕ, suc, ◌+◌, ◌<◌, true, List, [], ◌∷◌, ◌++◌, length, get_or, take, drop, Result, Ok, Err, sym, ap, ◌∙◌, subst, append_assoc}
-use Rattle.std.specs.Prelude.{⊤, OnOk, OnErr}
+use Rattle.std.specs.Prelude.{⊤}
 use Rattle.std.specs.List.{flat_map}
-use Rattle.std.specs.Result.{IsErr}
-use Rattle.std.proofs.lemmas.Bool.{false≢true}
 use Rattle.std.proofs.lemmas.Grind.{flat_map-append}
 use Rattle.std.proofs.lemmas.List.{append-nil, take-append-drop, take_more}
 use Rattle.std.proofs.Math.Seq.{drop-cons}
 use Rattle.vp_text.specs.Printing.{Appends, is_begun}
 use Rattle.vp_text.proofs.Printing.{begun_none, begun_whole, begun_first, begun_then, begun_byte}
-
--- all parts
-pub appended : {E : Type 0} (old text new : List ℕ) → new ≡ old ++ text → Appends {E = E} (Ok tt) old text new
-appended old text new e = record { whole = e; begun = begun_whole old text new e }
-
--- a beginning of them
-pub begun_err : {E : Type 0} (result : Result ⊤ E) (old text new : List ℕ) → IsErr result → is_begun old text new ≡ true → Appends result old text new
-begun_err (Ok x) old text new err h = absurd (false≢true err)
-begun_err (Err e) old text new err h = record { whole = tt; begun = h }
-
--- all of a part, or nothing of it
-pub all_or_none : {E : Type 0} (result : Result ⊤ E) (old text new : List ℕ) → OnOk result (new ≡ old ++ text) → OnErr result (new ≡ old) → Appends result old text new
-all_or_none (Ok x) old text new ok err = record { whole = ok; begun = begun_whole old text new ok }
-all_or_none (Err e) old text new ok err = record { whole = tt; begun = begun_none old text new err }
 
 -- the last part, behind the others
 pub behind : {E : Type 0} (result : Result ⊤ E) (old front part text new : List ℕ) → text ≡ front ++ part → Appends result (old ++ front) part new → Appends result old text new

@@ -3,7 +3,7 @@ use Rattle.std.proofs.Common.{◌≡◌, ℕ, suc, ◌+◌, ◌<◌, ◌≤◌, 
 use Rattle.std.specs.Prelude.{codes, flat_map, nat_lt}
 use Rattle.std.specs.Fmt.{decimal}
 use Rattle.std.proofs.lemmas.List.Concat.{flat_map-cons}
-use Rattle.std.proofs.lemmas.Bool.{false≢true, lt-ltb, ltb-true, ltb-false, le-leb, leb-true, leb-false, and_parts, and_cases, and_from, or_cases}
+use Rattle.std.proofs.lemmas.Bool.{false≢true, lt-ltb, ltb-true, ltb-false, le-leb, leb-true, leb-false, and_parts, and_cases, and_from, or_cases, or_left, or_right}
 use Rattle.vp_text.specs.Tokens.{IsLiteral, IsWord, IsNumber, Either, HasItems}
 use Rattle.vp_text.specs.Reading.{is_digit, either}
 use Rattle.vp_text.specs.Classes.{has, most}
@@ -23,7 +23,7 @@ use Rattle.vp_catalog.specs.declared.entry.Entry.TheVariants.{Site, Record}
 use Rattle.vp_catalog.specs.Sites.{AllSites, IsSiteIn}
 use Rattle.vp_catalog.specs.Entries.{IsWeight, AreWeights, last_from, last_site, EntryText}
 use Rattle.vp_catalog.specs.EntryReading.{some_above, weight_at, others_at, weights_at, record_of, record_at, port_at, may_add_site, may_add_record, entry_at}
-use Rattle.vp_catalog.proofs.Sites.{site_exact, site_goes, or_left, or_right, has_cons, has_here, has_later}
+use Rattle.vp_catalog.proofs.Sites.{site_exact, site_goes, has_cons, has_here, has_later}
 
 -- ---- a holder
 

@@ -3,20 +3,10 @@ use Rattle.std.proofs.Common.{◌≡◌, ℕ, true, List, [], ◌∷◌, ◌++�
 use Rattle.std.specs.Prelude.{⊤, Result, Ok, Err, IsErr, codes, flat_map}
 use Rattle.std.specs.Fmt.{decimal}
 use Rattle.std.proofs.lemmas.List.{append-nil, take_all, take_more}
-use Rattle.std.proofs.lemmas.Bool.{false≢true}
 use Rattle.std.proofs.lemmas.Grind.{flat_map-append}
 use Rattle.vp_text.specs.Printing.{is_begun, Appends}
 use Rattle.vp_model.specs.Texts.Schedule.{site_line}
-use Rattle.vp_text.proofs.Printing.{begun_none, begun_whole, begun_first, begun_then, begun_item}
-
--- all of the text
-pub all_of : {E : Type 0} (old text new : List ℕ) → new ≡ old ++ text → Appends {E = E} (Ok tt) old text new
-all_of old text new e = record { whole = e; begun = begun_whole old text new e }
-
--- after an error a beginning of the text
-pub begun_err : {E : Type 0} (result : Result ⊤ E) (old text new : List ℕ) → IsErr result → is_begun old text new ≡ true → Appends result old text new
-begun_err (Ok x) old text new err begun = absurd (false≢true err)
-begun_err (Err e) old text new err begun = record { whole = tt; begun = begun }
+use Rattle.vp_text.proofs.Printing.{all_of, begun_err, begun_none, begun_first, begun_then, begun_item}
 
 -- after an error none of the text
 pub none_of : {E : Type 0} (result : Result ⊤ E) (old text new : List ℕ) → IsErr result → new ≡ old → Appends result old text new

@@ -1,10 +1,10 @@
 -- A site of a list is read exactly, and its number goes on with digits alone.
-use Rattle.std.proofs.Common.{◌≡◌, ◌≢◌, ℕ, ◌+◌, ◌/◌, ◌%◌, zero, suc, ◌<◌, ◌≤◌, Bool, true, false, cond, ltb, ◌||◌, eqb, ◌⊎◌, List, [], ◌∷◌, ◌++◌, get_or, map, Option, Some, None, Ok, Err, refl, sym, ap, subst, ◌∙◌, arith, inl, inr}
+use Rattle.std.proofs.Common.{◌≡◌, ◌≢◌, ℕ, ◌+◌, ◌/◌, ◌%◌, zero, suc, ◌<◌, ◌≤◌, Bool, true, false, cond, ltb, eqb, ◌⊎◌, List, [], ◌∷◌, ◌++◌, get_or, map, Option, Some, None, Ok, Err, refl, sym, ap, subst, ◌∙◌, arith, inl, inr}
 use Rattle.std.specs.Prelude.{option_map}
 use Rattle.std.specs.List.{AllByRecursion}
 use Rattle.std.specs.Fmt.{decimal}
 use Rattle.std.proofs.lemmas.Fmt.{decimal_injective, decimal_step, decimal_digit}
-use Rattle.std.proofs.lemmas.Bool.{false≢true, lt-ltb, ltb-true, eqb-true, eq-eqb, cases_eq, or_cases, le-leb, and_from}
+use Rattle.std.proofs.lemmas.Bool.{false≢true, lt-ltb, ltb-true, eqb-true, eq-eqb, cases_eq, or_cases, or_left, or_right, le-leb, and_from}
 use Rattle.vp_text.specs.Reading.{is_digit}
 use Rattle.vp_text.proofs.Exact.{Exact, Made, made_exact, exact_as}
 use Rattle.vp_text.proofs.Items.{all_at}
@@ -41,14 +41,6 @@ unfolding site_at
 site_lost sites above bytes left e = rw e refl
 
 -- ---- what stands in a list
-
-pub or_left : (x y : Bool) → x ≡ true → (x || y) ≡ true
-or_left true y e = refl
-or_left false y e = absurd (false≢true e)
-
-pub or_right : (x y : Bool) → y ≡ true → (x || y) ≡ true
-or_right true y e = refl
-or_right false y e = e
 
 pub has_cons : (x s : ℕ) (xs : List ℕ) → has (x ∷ xs) s ≡ true → (x ≡ s) ⊎ (has xs s ≡ true)
 has_cons x s xs h = elim (or_cases (eqb x s) (has xs s) h) [ inl e ↦ inl (eqb-true x s e) | inr e ↦ inr e ]

@@ -8,10 +8,9 @@ use Rattle.std.specs.List.{AllByRecursion, flat_map}
 use Rattle.vp_text.specs.Meaning.{Begins, IsLongest, IsRefused}
 use Rattle.vp_text.specs.Reading.{◌>>=◌}
 use Rattle.vp_text.proofs.Exact.{Apart, Parts, IsFault, Exact, cut, bind_ok, bind_err, ok_value, one_value, done}
-use Rattle.vp_text.proofs.Repeats.{with_front}
+use Rattle.vp_text.proofs.Repeats.{regroup, with_front}
 use Rattle.vp_bytes.specs.Fields.{Spelled}
 use Rattle.vp_bytes.proofs.Free.{IsFree}
-use Rattle.vp_bytes.proofs.Turns.{onto}
 use Rattle.vp_records.specs.Reading.{each_at}
 
 -- ---- plain facts
@@ -217,7 +216,7 @@ module _ {X : Type 0} (f : X → List ℕ) (F : X → Type 0) (item : List ℕ �
         | zero ↦ λ e. absurd (omega (arith, t.enough, e))
         | suc n ↦ λ e.
             let so_far = subst (λ (k : ℕ). with_front front (each_at item k (c ∷ cs)) ≡ total) e t.so_far in
-            let one : with_front front (each_at item (suc n) (c ∷ cs)) ≡ with_front (front ++ x ∷ []) (each_at item n rest) = rw h (onto front x (each_at item n rest)) in
+            let one : with_front front (each_at item (suc n) (c ∷ cs)) ≡ with_front (front ++ x ∷ []) (each_at item n rest) = rw h (regroup front x (each_at item n rest)) in
             record { fuel = n; enough = omega (arith, t.enough, e, shorter w (c ∷ cs) x rest h); so_far = sym one ∙ so_far }
       ] in
       g t.fuel refl

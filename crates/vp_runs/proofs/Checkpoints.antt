@@ -1,6 +1,5 @@
 -- A checkpoint of the durable part to which batches fold folds to it.
-use Rattle.std.proofs.Common.{◌≡◌, ◌∙◌, ℕ, ◌+◌, ◌<◌, Bool, true, false, List, [], ◌∷◌, ◌++◌, refl, sym, ap, arith, if◌then◌else◌, ◌==◌}
-use Rattle.std.proofs.lemmas.Bool.Decides.{nat_tests}
+use Rattle.std.proofs.Common.{◌≡◌, ◌∙◌, ℕ, ◌+◌, ◌<◌, Bool, true, false, List, [], ◌∷◌, ◌++◌, refl, sym, ap, arith, if◌then◌else◌}
 use Rattle.std.proofs.lemmas.List.Sums.{fold-append}
 use Rattle.std.specs.List.{AllByRecursion}
 use Rattle.vp_model.specs.Types.{LogRecord, Stored}
@@ -8,7 +7,7 @@ use Rattle.vp_model.specs.Words.{for_each, has, keys, replace_at}
 use Rattle.vp_model.specs.Catalogue.{Catalogue, RecordEntry, copies_from, start_copies}
 use Rattle.vp_model.specs.Durable.{DurableState, empty_durable, apply, apply_all}
 use Rattle.vp_stable.specs.Halves.{due, saved, checkpointed, is_last, generation_of}
-use Rattle.vp_stable.proofs.Restored.{folded_keys}
+use Rattle.vp_stable.proofs.Restored.{folded_keys, not_below, not_above}
 use Rattle.vp_runs.specs.Keeping.{durable_in, kept_with, saved_if_due}
 use Rattle.vp_runs.specs.Laws.{CheckpointsFold, StepsFold}
 use Rattle.vp_laws.proofs.Lists.Numbers.{eq_self}
@@ -42,12 +41,6 @@ copies_ascend place site (r ∷ records) = at (has (keys r.weights) site) refl (
     at false e rest = rw e rest
 
 -- ---- setting all of them
-
-not_below : (m n : ℕ) → m < n → (m == n) ≡ false
-not_below m n lt = grind (arith, nat_tests)
-
-not_above : (m n : ℕ) → n < m → (m == n) ≡ false
-not_above m n lt = grind (arith, nat_tests)
 
 abbrev set_copy : Pair → List Pair → List Pair
 set_copy c copies = replace_at c.0 c.1 copies

@@ -36,10 +36,11 @@ above_same n (x ∷ xs) (y ∷ ys) e h =
     let tail : keys ys ≡ keys xs = cc in
     (rw head h.0, above_same n xs ys tail h.1)
 
-not_below : (m n : ℕ) → m < n → (m == n) ≡ false
+-- a number isn't one above it, or one below it
+pub not_below : (m n : ℕ) → m < n → (m == n) ≡ false
 not_below m n lt = grind (arith, nat_tests)
 
-not_above : (m n : ℕ) → n < m → (m == n) ≡ false
+pub not_above : (m n : ℕ) → n < m → (m == n) ≡ false
 not_above m n lt = grind (arith, nat_tests)
 
 same_number : (n : ℕ) → (n == n) ≡ true

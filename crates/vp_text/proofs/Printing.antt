@@ -1,11 +1,12 @@
 -- Texts that are put down part by part: where a part fails, a beginning of the whole stands there.
 use Rattle.std.proofs.Common.{◌≡◌, ℕ, Bool, true, ◌&&◌, nat_eq, List, [], ◌∷◌, ◌++◌, length, get_or, take, drop, zero, suc, ◌<◌, refl, sym, ap, subst, ◌∙◌, append_assoc, arith}
+use Rattle.std.specs.Prelude.{⊤, Result, Ok, Err, IsErr, OnOk, OnErr}
 use Rattle.std.specs.List.{starts_with, flat_map}
 use Rattle.std.proofs.lemmas.List.{append-nil, append_cancel_left}
-use Rattle.std.proofs.lemmas.Bool.{and_from, and_parts}
+use Rattle.std.proofs.lemmas.Bool.{false≢true, and_from, and_parts}
 use Rattle.std.proofs.lemmas.Bool.Decides.{Decides-eqb}
 use Rattle.std.proofs.lemmas.Slice.Eq.{starts_is}
-use Rattle.vp_text.specs.Printing.{is_begun}
+use Rattle.vp_text.specs.Printing.{Appends, is_begun}
 
 -- what stands behind the old bytes, and what is missing of the text
 pub record IsBegun (old text new : List ℕ) : Type 0 where
@@ -14,7 +15,8 @@ pub record IsBegun (old text new : List ℕ) : Type 0 where
   pub is : new ≡ old ++ front
   pub parts : text ≡ front ++ rest
 
-starts_Decides : (w p : List ℕ) → (starts_with nat_eq w p ≡ true → w ≡ p ++ drop (length p) w) × ((r : List ℕ) → w ≡ p ++ r → starts_with nat_eq w p ≡ true)
+-- where a text starts with another one, the rest stands behind that
+pub starts_Decides : (w p : List ℕ) → (starts_with nat_eq w p ≡ true → w ≡ p ++ drop (length p) w) × ((r : List ℕ) → w ≡ p ++ r → starts_with nat_eq w p ≡ true)
 starts_Decides w p = starts_is Decides-eqb w p (starts_with nat_eq w p) refl
 
 pub begun_parts : (old text new : List ℕ) → is_begun old text new ≡ true → IsBegun old text new
@@ -90,5 +92,21 @@ begun_on old text mid rest new all before h =
       is = m.is ∙ ap (λ (x : List ℕ). x ++ m.front) b.is ∙ append_assoc old b.front m.front;
       parts = b.parts ∙ ap (λ (x : List ℕ). b.front ++ x) (sym same ∙ m.parts) ∙ sym (append_assoc b.front m.front m.rest);
     })
+
+-- ---- what a printer answers
+
+-- all of the text
+pub all_of : {E : Type 0} (old text new : List ℕ) → new ≡ old ++ text → Appends {E = E} (Ok tt) old text new
+all_of old text new e = record { whole = e; begun = begun_whole old text new e }
+
+-- after an error a beginning of the text
+pub begun_err : {E : Type 0} (result : Result ⊤ E) (old text new : List ℕ) → IsErr result → is_begun old text new ≡ true → Appends result old text new
+begun_err (Ok x) old text new err begun = absurd (false≢true err)
+begun_err (Err e) old text new err begun = record { whole = tt; begun = begun }
+
+-- all of the text, or after an error none of it
+pub all_or_none : {E : Type 0} (result : Result ⊤ E) (old text new : List ℕ) → OnOk result (new ≡ old ++ text) → OnErr result (new ≡ old) → Appends result old text new
+all_or_none (Ok x) old text new ok err = record { whole = ok; begun = begun_whole old text new ok }
+all_or_none (Err e) old text new ok err = record { whole = ok; begun = begun_none old text new err }
 
 pub ruleset printing = (append_assoc, begun_none, begun_whole, begun_first, begun_then, begun_byte)

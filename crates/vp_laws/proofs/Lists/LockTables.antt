@@ -2,12 +2,11 @@
 use Rattle.std.proofs.Common.{◌≡◌, ℕ, Bool, true, false, cond, refl, inl, inr, ◌⊎◌, List, [], ◌∷◌, ◌++◌, ⊎_elim, map, sym, ap, ◌∙◌}
 use Rattle.std.specs.Prelude.{◌==◌, ◌&&◌, ◌||◌, not, Some, None, fold, filter}
 use Rattle.std.specs.List.{list_any}
-use Rattle.std.proofs.lemmas.Bool.{eqb-true, eq-eqb, and_parts}
+use Rattle.std.proofs.lemmas.Bool.{eqb-true, eq-eqb, and_parts, or_left, or_right}
 use Rattle.vp_model.specs.Types.{TxnId, Owner, Lock}
 use Rattle.vp_model.specs.Types.owner
 use Rattle.vp_model.specs.Words.{same_owner, owner_before}
 use Rattle.vp_model.specs.Locks.{conflicting, lesser, least_owner, conflict, holds, raised, with_lock, without_owner}
-use Rattle.vp_catalog.proofs.Sites.{or_left, or_right}
 use Rattle.vp_laws.proofs.Lists.Members.{Has, has_none, has_left, has_right, has_cases, has_one, has_one_is, filter_has, filter_keeps, map_has, any_true}
 use Rattle.vp_laws.proofs.Lists.Changes.{mapped_has}
 use Rattle.vp_model.proofs.SameTxn.{same_txn-is, same_txn-self}

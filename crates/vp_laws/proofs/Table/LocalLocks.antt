@@ -3,6 +3,7 @@ use Rattle.std.proofs.Common.{◌≡◌, ◌≢◌, ◌⊎◌, ◌∙◌, sym, s
 use Rattle.std.specs.Prelude.{Option, Some, None, filter, not, ◌==◌, ◌&&◌}
 use Rattle.std.specs.List.{list_any}
 use Rattle.std.proofs.lemmas.Bool.Decides.{nat_tests}
+use Rattle.std.proofs.lemmas.Bool.{or_right}
 use Rattle.vp_model.specs.Types.{ViewId, TxnId, View, Lock, Part, Pending, Live, Refreshing, Doubt}
 use Rattle.vp_model.specs.Types.op
 use Rattle.vp_model.specs.Types.owner
@@ -12,7 +13,6 @@ use Rattle.vp_model.specs.Durable.{without_doubt}
 use Rattle.vp_model.specs.Locks.{with_lock, with_guard, without_guard, without_owner}
 use Rattle.vp_model.specs.Site.{ParticipantState}
 use Rattle.vp_model.specs.Views.{has_part, has_doubt, outlasts_for, outlasts}
-use Rattle.vp_catalog.proofs.Sites.{or_right}
 use Rattle.vp_laws.proofs.Lists.Members.{Has, has_none, has_first, has_more, has_cons, filter_has, filter_keeps, any_true, any_false}
 use Rattle.vp_model.proofs.SameTxn.{same_txn-is, same_txn-not, same_txn-self, same_txn-other, same_txn-clash}
 use Rattle.vp_laws.proofs.Lists.Names.{Apart, named, without_gone}

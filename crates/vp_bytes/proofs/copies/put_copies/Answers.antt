@@ -2,8 +2,8 @@ use Rattle.std.proofs.Common.{length, arith}
 use Rattle.std.proofs.lemmas.Grind.{common_steps}
 use Rattle.vp_bytes.specs.Copies.{copy_bytes}
 use Rattle.vp_bytes.specs.Fields.{number_bytes}
-use Rattle.vp_text.proofs.Printing.{begun_none}
-use Rattle.vp_bytes.proofs.Writing.{appended, begun_err, begun_item, item_turn, no_turn}
+use Rattle.vp_text.proofs.Printing.{all_of, begun_err, begun_none}
+use Rattle.vp_bytes.proofs.Writing.{begun_item, item_turn, no_turn}
 use Rattle.vp_bytes.proofs.copies.put_copies.Goals as goal
 
 pub returns-in_err-put_u16 : goal.returns-in_err-put_u16
@@ -24,4 +24,4 @@ returns-in_err-put_copy g c =
     begun_err _ _ _ _ c.from_residual-in_err-put_copy.ensures.0 (begun_item copy_bytes old (number_bytes 2 (length c.args.copies.now)) c.args.copies.now c.loop-copy.copy-index c.copy-item.result _ c.loop-copy-test.true c.copy-item.is begun)
 
 pub returns : goal.returns
-returns g c = appended _ _ _ (grind (arith, common_steps))
+returns g c = all_of _ _ _ (grind (arith, common_steps))

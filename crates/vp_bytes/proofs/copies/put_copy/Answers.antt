@@ -1,7 +1,7 @@
 use Rattle.std.proofs.Common.{[], ◌∷◌, ◌++◌, refl}
-use Rattle.vp_text.proofs.Printing.{begun_none}
+use Rattle.vp_text.proofs.Printing.{begun_err, begun_none}
 use Rattle.vp_bytes.specs.Fields.{counted_bytes, view_bytes}
-use Rattle.vp_bytes.proofs.Writing.{behind, begun_err, begun_part}
+use Rattle.vp_bytes.proofs.Writing.{behind, begun_part}
 use Rattle.vp_bytes.proofs.copies.put_copy.Goals as goal
 
 pub returns-in_err-put_value : goal.returns-in_err-put_value

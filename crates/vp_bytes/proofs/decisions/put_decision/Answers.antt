@@ -1,7 +1,7 @@
 use Rattle.std.proofs.Common.{refl}
-use Rattle.vp_text.proofs.Printing.{begun_first}
+use Rattle.vp_text.proofs.Printing.{begun_err, begun_first}
 use Rattle.vp_bytes.specs.Fields.{counted_bytes, txn_bytes}
-use Rattle.vp_bytes.proofs.Writing.{behind, begun_err}
+use Rattle.vp_bytes.proofs.Writing.{behind}
 use Rattle.vp_bytes.proofs.decisions.put_decision.Goals as goal
 
 pub returns-in_err-put_txn : goal.returns-in_err-put_txn

@@ -2,8 +2,8 @@ use Rattle.std.proofs.Common.{length, arith}
 use Rattle.std.proofs.lemmas.Grind.{common_steps}
 use Rattle.vp_bytes.specs.Decisions.{decision_bytes}
 use Rattle.vp_bytes.specs.Fields.{number_bytes}
-use Rattle.vp_text.proofs.Printing.{begun_none}
-use Rattle.vp_bytes.proofs.Writing.{appended, begun_err, begun_item, item_turn, no_turn}
+use Rattle.vp_text.proofs.Printing.{all_of, begun_err, begun_none}
+use Rattle.vp_bytes.proofs.Writing.{begun_item, item_turn, no_turn}
 use Rattle.vp_bytes.proofs.decisions.put_decisions.Goals as goal
 
 pub returns-in_err-put_u64 : goal.returns-in_err-put_u64
@@ -23,4 +23,4 @@ returns-in_err-put_decision g c =
     begun_err _ _ _ _ c.from_residual-in_err-put_decision.ensures.0 (begun_item decision_bytes old (number_bytes 8 (length c.args.decisions.now)) c.args.decisions.now c.loop-decision.decision-index c.decision-item.result _ c.loop-decision-test.true c.decision-item.is begun)
 
 pub returns : goal.returns
-returns g c = appended _ _ _ (grind (arith, common_steps))
+returns g c = all_of _ _ _ (grind (arith, common_steps))

@@ -1,7 +1,7 @@
 use Rattle.std.proofs.Common.{◌++◌, refl}
-use Rattle.vp_text.proofs.Printing.{begun_first}
+use Rattle.vp_text.proofs.Printing.{begun_err, begun_first}
 use Rattle.vp_bytes.specs.Fields.{txn_bytes, view_bytes, writes_bytes}
-use Rattle.vp_bytes.proofs.Writing.{behind, begun_err, begun_part}
+use Rattle.vp_bytes.proofs.Writing.{behind, begun_part}
 use Rattle.vp_bytes.proofs.doubts.put_doubt.Goals as goal
 
 pub returns-in_err-put_txn : goal.returns-in_err-put_txn

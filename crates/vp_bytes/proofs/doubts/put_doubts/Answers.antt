@@ -3,8 +3,8 @@ use Rattle.std.proofs.lemmas.Grind.{common_steps}
 use Rattle.vp_base.specs.declared.entry.Doubt.{Doubt}
 use Rattle.vp_bytes.specs.Doubts.{doubt_bytes}
 use Rattle.vp_bytes.specs.Fields.{number_bytes}
-use Rattle.vp_text.proofs.Printing.{begun_none}
-use Rattle.vp_bytes.proofs.Writing.{appended, begun_err, begun_item, item_turn, no_turn}
+use Rattle.vp_text.proofs.Printing.{all_of, begun_err, begun_none}
+use Rattle.vp_bytes.proofs.Writing.{begun_item, item_turn, no_turn}
 use Rattle.vp_bytes.proofs.doubts.put_doubts.Goals as goal
 
 pub put_doubt-requires : goal.put_doubt-requires
@@ -27,4 +27,4 @@ returns-in_err-put_doubt g c =
     begun_err _ _ _ _ c.from_residual-in_err-put_doubt.ensures.0 (begun_item doubt_bytes old (number_bytes 8 (length c.args.doubts.now)) c.args.doubts.now c.loop-doubt.doubt-index c.doubt-item.result _ c.loop-doubt-test.true c.doubt-item.is begun)
 
 pub returns : goal.returns
-returns g c = appended _ _ _ (grind (arith, common_steps))
+returns g c = all_of _ _ _ (grind (arith, common_steps))

@@ -1,6 +1,6 @@
 use Rattle.std.proofs.Common.{[], ◌∷◌, ◌++◌, List, ℕ, length, refl, ap, ◌∙◌, append_assoc}
-use Rattle.vp_text.proofs.Printing.{begun_none}
-use Rattle.vp_bytes.proofs.Writing.{appended, begun_err, begun_front}
+use Rattle.vp_text.proofs.Printing.{all_of, begun_err, begun_none}
+use Rattle.vp_bytes.proofs.Writing.{begun_front}
 use Rattle.vp_bytes.proofs.fields.put_counted.Goals as goal
 
 pub returns-in_err-put_byte : goal.returns-in_err-put_byte
@@ -14,4 +14,4 @@ returns-in_err-put_slice g c =
 pub returns : goal.returns
 returns g c =
     let bytes = c.args.bytes.now in
-    appended _ _ _ (c.in_ok-put_slice.ensures.ok ∙ ap (λ (t : List ℕ). t ++ bytes) c.in_ok-put_byte.ensures.ok ∙ append_assoc (g.B.BufMut.written c.args.out.now) (length bytes ∷ []) bytes)
+    all_of _ _ _ (c.in_ok-put_slice.ensures.ok ∙ ap (λ (t : List ℕ). t ++ bytes) c.in_ok-put_byte.ensures.ok ∙ append_assoc (g.B.BufMut.written c.args.out.now) (length bytes ∷ []) bytes)

@@ -1,7 +1,7 @@
 use Rattle.std.proofs.Common.{◌++◌, refl}
-use Rattle.vp_text.proofs.Printing.{begun_first}
+use Rattle.vp_text.proofs.Printing.{all_or_none, begun_err, begun_first}
 use Rattle.vp_bytes.specs.Fields.{number_bytes, txn_bytes}
-use Rattle.vp_bytes.proofs.Writing.{all_or_none, behind, begun_err}
+use Rattle.vp_bytes.proofs.Writing.{behind}
 use Rattle.vp_bytes.proofs.fields.put_numbered.Goals as goal
 
 pub returns-in_err-put_txn : goal.returns-in_err-put_txn

@@ -1,7 +1,7 @@
 use Rattle.std.proofs.Common.{[], ◌∷◌, length, arith}
 use Rattle.std.proofs.lemmas.Grind.{common_steps}
-use Rattle.vp_text.proofs.Printing.{begun_none}
-use Rattle.vp_bytes.proofs.Writing.{appended, begun_err, begun_bytes, byte_turn}
+use Rattle.vp_text.proofs.Printing.{all_of, begun_err, begun_none}
+use Rattle.vp_bytes.proofs.Writing.{begun_bytes, byte_turn}
 use Rattle.vp_bytes.proofs.fields.put_recs.Goals as goal
 
 pub returns-in_err-put_byte : goal.returns-in_err-put_byte
@@ -22,4 +22,4 @@ returns-in_err-put_byte-2 g c =
     begun_err _ _ _ _ c.from_residual-in_err-put_byte-2.ensures.0 (begun_bytes old (length c.args.recs.now ∷ []) c.args.recs.now c.loop-rec.rec-index _ kept)
 
 pub returns : goal.returns
-returns g c = appended _ _ _ (grind (arith, common_steps))
+returns g c = all_of _ _ _ (grind (arith, common_steps))

@@ -1,7 +1,7 @@
 use Rattle.std.proofs.Common.{[], ◌∷◌, ◌++◌, refl, ◌∙◌}
-use Rattle.vp_text.proofs.Printing.{begun_none}
+use Rattle.vp_text.proofs.Printing.{all_or_none, begun_err, begun_none}
 use Rattle.vp_bytes.specs.Fields.{number_bytes, txn_bytes}
-use Rattle.vp_bytes.proofs.Writing.{all_or_none, behind, begun_err, begun_front}
+use Rattle.vp_bytes.proofs.Writing.{behind, begun_front}
 use Rattle.vp_bytes.proofs.fields.put_txn.Goals as goal
 
 pub returns-in_err-put_byte : goal.returns-in_err-put_byte

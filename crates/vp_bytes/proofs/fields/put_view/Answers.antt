@@ -1,6 +1,7 @@
 use Rattle.std.proofs.Common.{[], ◌∷◌, ◌++◌, refl}
+use Rattle.vp_text.proofs.Printing.{all_or_none}
 use Rattle.vp_bytes.specs.Fields.{view_bytes, number_bytes}
-use Rattle.vp_bytes.proofs.Writing.{all_or_none, behind}
+use Rattle.vp_bytes.proofs.Writing.{behind}
 use Rattle.vp_bytes.proofs.fields.put_view.Goals as goal
 
 pub returns : goal.returns

@@ -1,7 +1,7 @@
 use Rattle.std.proofs.Common.{[], ◌∷◌, refl}
-use Rattle.vp_text.proofs.Printing.{begun_none}
+use Rattle.vp_text.proofs.Printing.{begun_err, begun_none}
 use Rattle.vp_bytes.specs.Fields.{counted_bytes}
-use Rattle.vp_bytes.proofs.Writing.{behind, begun_err}
+use Rattle.vp_bytes.proofs.Writing.{behind}
 use Rattle.vp_bytes.proofs.fields.put_write.Goals as goal
 
 pub returns-in_err-put_byte : goal.returns-in_err-put_byte

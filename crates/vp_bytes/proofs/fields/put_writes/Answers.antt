@@ -1,8 +1,8 @@
 use Rattle.std.proofs.Common.{[], ◌∷◌, length, arith}
 use Rattle.std.proofs.lemmas.Grind.{common_steps}
 use Rattle.vp_bytes.specs.Fields.{write_bytes}
-use Rattle.vp_text.proofs.Printing.{begun_none}
-use Rattle.vp_bytes.proofs.Writing.{appended, begun_err, begun_item, item_turn}
+use Rattle.vp_text.proofs.Printing.{all_of, begun_err, begun_none}
+use Rattle.vp_bytes.proofs.Writing.{begun_item, item_turn}
 use Rattle.vp_bytes.proofs.fields.put_writes.Goals as goal
 
 pub returns-in_err-put_byte : goal.returns-in_err-put_byte
@@ -22,4 +22,4 @@ returns-in_err-put_write g c =
     begun_err _ _ _ _ c.from_residual-in_err-put_write.ensures.0 (begun_item write_bytes old (length c.args.writes.now ∷ []) c.args.writes.now c.loop-write.write-index c.write-item.result _ c.loop-write-test.true c.write-item.is begun)
 
 pub returns : goal.returns
-returns g c = appended _ _ _ (grind (arith, common_steps))
+returns g c = all_of _ _ _ (grind (arith, common_steps))

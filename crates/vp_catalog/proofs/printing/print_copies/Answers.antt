@@ -1,7 +1,8 @@
 use Rattle.std.proofs.Common.{[], ◌∷◌}
 use Rattle.std.specs.Prelude.{flat_map}
+use Rattle.vp_text.proofs.Printing.{all_of}
 use Rattle.vp_model.specs.Texts.Schedule.{weight_text}
-use Rattle.vp_catalog.proofs.Printed.{all_of, behind, none_of, within}
+use Rattle.vp_catalog.proofs.Printed.{behind, none_of, within}
 use Rattle.vp_catalog.proofs.printing.print_copies.Goals as goal
 
 pub returns-in_err-print : goal.returns-in_err-print

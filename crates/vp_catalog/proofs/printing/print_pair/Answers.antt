@@ -1,6 +1,7 @@
 use Rattle.std.proofs.Common.{[], ◌∷◌}
 use Rattle.std.specs.Fmt.{decimal}
-use Rattle.vp_catalog.proofs.Printed.{all_of, behind, none_of}
+use Rattle.vp_text.proofs.Printing.{all_of}
+use Rattle.vp_catalog.proofs.Printed.{behind, none_of}
 use Rattle.vp_catalog.proofs.printing.print_pair.Goals as goal
 
 pub returns-in_err-extend_from_slice : goal.returns-in_err-extend_from_slice

@@ -1,5 +1,6 @@
+use Rattle.vp_text.proofs.Printing.{begun_err}
 use Rattle.vp_model.specs.Texts.Schedule.{weight_text}
-use Rattle.vp_catalog.proofs.Printed.{all_items, begun_err, item_begun, item_behind}
+use Rattle.vp_catalog.proofs.Printed.{all_items, item_begun, item_behind}
 use Rattle.vp_catalog.proofs.printing.print_weights.Goals as goal
 
 pub loop-weight-preserved : goal.loop-weight-preserved

@@ -1,8 +1,9 @@
 use Rattle.std.proofs.Common.{◌≡◌, true, List, [], subst, arith}
 use Rattle.std.proofs.lemmas.Grind.{common_steps}
 use Rattle.vp_text.specs.Printing.{is_begun}
+use Rattle.vp_text.proofs.Printing.{all_of, begun_err}
 use Rattle.vp_base.specs.declared.entry.LogRecord.{LogRecord}
-use Rattle.vp_bytes.proofs.Writing.{appended, begun_err, begun_item}
+use Rattle.vp_bytes.proofs.Writing.{begun_item}
 use Rattle.vp_records.specs.Batches.{batch_bytes}
 use Rattle.vp_records.specs.Records.{record_bytes}
 use Rattle.vp_records.proofs.encoding.encode_batch.Goals as goal
@@ -16,4 +17,4 @@ returns-in_err-put_record c =
     begun_err _ _ _ _ c.from_residual.ensures.0 (subst (λ (es : List LogRecord). is_begun old (batch_bytes es) c.put_record.new.out.items ≡ true) entries.ensures all)
 
 pub returns : goal.returns
-returns c = appended _ _ _ (grind (arith, common_steps))
+returns c = all_of _ _ _ (grind (arith, common_steps))

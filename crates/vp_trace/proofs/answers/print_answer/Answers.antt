@@ -1,5 +1,5 @@
 use Rattle.std.specs.Prelude.{codes}
-use Rattle.vp_trace.proofs.Printed.{all_or_none}
+use Rattle.vp_text.proofs.Printing.{all_or_none}
 use Rattle.vp_trace.proofs.answers.print_answer.Goals as goal
 
 pub returns-in-Begun : goal.returns-in-Begun

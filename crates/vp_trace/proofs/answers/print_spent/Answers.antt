@@ -1,5 +1,6 @@
 use Rattle.std.specs.Prelude.{codes}
-use Rattle.vp_catalog.proofs.Printed.{all_of, behind, none_of}
+use Rattle.vp_text.proofs.Printing.{all_of}
+use Rattle.vp_catalog.proofs.Printed.{behind, none_of}
 use Rattle.vp_trace.proofs.answers.print_spent.Goals as goal
 
 pub returns-in_err-print_word : goal.returns-in_err-print_word

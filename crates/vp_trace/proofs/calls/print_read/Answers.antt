@@ -1,7 +1,7 @@
 use Rattle.std.specs.Prelude.{codes}
+use Rattle.vp_text.proofs.Printing.{all_or_none}
 use Rattle.vp_model.specs.Texts.Fields.{call_name_text}
 use Rattle.vp_catalog.proofs.Printed.{behind, none_of, within}
-use Rattle.vp_trace.proofs.Printed.{all_or_none}
 use Rattle.vp_trace.proofs.calls.print_read.Goals as goal
 
 pub returns-in_err-print_call_name : goal.returns-in_err-print_call_name

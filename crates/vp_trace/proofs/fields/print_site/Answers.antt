@@ -1,6 +1,6 @@
 use Rattle.std.specs.Fmt.{decimal}
+use Rattle.vp_text.proofs.Printing.{all_or_none}
 use Rattle.vp_catalog.proofs.Printed.{behind, none_of}
-use Rattle.vp_trace.proofs.Printed.{all_or_none}
 use Rattle.vp_trace.proofs.fields.print_site.Goals as goal
 
 pub returns-in_err-print_word : goal.returns-in_err-print_word

@@ -1,6 +1,7 @@
 use Rattle.std.specs.Prelude.{codes}
+use Rattle.vp_text.proofs.Printing.{begun_err}
 use Rattle.vp_model.specs.Texts.Messages.{read_text}
-use Rattle.vp_catalog.proofs.Printed.{all_items, begun_err, behind, item_begun, item_behind, joined, none_of}
+use Rattle.vp_catalog.proofs.Printed.{all_items, behind, item_begun, item_behind, joined, none_of}
 use Rattle.vp_trace.proofs.messages.print_reads.Goals as goal
 
 pub loop-rec-preserved : goal.loop-rec-preserved

@@ -1,8 +1,8 @@
 use Rattle.std.proofs.Common.{[], ◌∷◌}
 use Rattle.std.specs.Fmt.{decimal}
+use Rattle.vp_text.proofs.Printing.{all_or_none}
 use Rattle.vp_model.specs.Texts.Fields.{txn_text, view_text}
 use Rattle.vp_catalog.proofs.Printed.{behind, none_of, within}
-use Rattle.vp_trace.proofs.Printed.{all_or_none}
 use Rattle.vp_trace.proofs.messages.print_request.Goals as goal
 
 pub returns-in_err-print_word : goal.returns-in_err-print_word

@@ -1,7 +1,8 @@
 use Rattle.std.specs.Prelude.{codes}
+use Rattle.vp_text.proofs.Printing.{begun_err}
 use Rattle.vp_model.specs.Catalogue.{name_of}
 use Rattle.vp_model.specs.Texts.Messages.{write_text}
-use Rattle.vp_catalog.proofs.Printed.{all_items, begun_err, behind, item_begun, item_behind, joined, none_of, within}
+use Rattle.vp_catalog.proofs.Printed.{all_items, behind, item_begun, item_behind, joined, none_of, within}
 use Rattle.vp_trace.proofs.messages.print_writes.Goals as goal
 
 pub loop-write-preserved : goal.loop-write-preserved

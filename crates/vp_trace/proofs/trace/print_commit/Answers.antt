@@ -1,7 +1,8 @@
 use Rattle.std.proofs.Common.{◌++◌, ◌∷◌}
 use Rattle.std.specs.Prelude.{codes}
+use Rattle.vp_text.proofs.Printing.{all_of}
 use Rattle.vp_model.specs.Texts.Fields.{txn_text, view_text}
-use Rattle.vp_catalog.proofs.Printed.{all_of, behind, none_of, within}
+use Rattle.vp_catalog.proofs.Printed.{behind, none_of, within}
 use Rattle.vp_trace.proofs.trace.print_commit.Goals as goal
 
 pub returns-in_err-print_txn : goal.returns-in_err-print_txn

@@ -1,5 +1,6 @@
+use Rattle.vp_text.proofs.Printing.{begun_err}
 use Rattle.vp_model.specs.Texts.Trace.{commit_line}
-use Rattle.vp_catalog.proofs.Printed.{all_items, begun_err, item_begun, item_behind}
+use Rattle.vp_catalog.proofs.Printed.{all_items, item_begun, item_behind}
 use Rattle.vp_trace.proofs.trace.print_commits.Goals as goal
 
 pub loop-commit-preserved : goal.loop-commit-preserved

@@ -1,7 +1,8 @@
 use Rattle.std.proofs.Common.{◌++◌, ◌∷◌}
 use Rattle.std.specs.Fmt.{decimal}
 use Rattle.std.specs.Prelude.{codes}
-use Rattle.vp_catalog.proofs.Printed.{all_of, behind, none_of, within}
+use Rattle.vp_text.proofs.Printing.{all_of}
+use Rattle.vp_catalog.proofs.Printed.{behind, none_of, within}
 use Rattle.vp_trace.proofs.trace.print_parted.Goals as goal
 
 pub returns-in_err-print_site : goal.returns-in_err-print_site

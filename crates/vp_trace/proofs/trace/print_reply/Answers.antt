@@ -1,6 +1,7 @@
 use Rattle.std.specs.Prelude.{codes}
+use Rattle.vp_text.proofs.Printing.{all_of}
 use Rattle.vp_model.specs.Texts.Answers.{answer_text}
-use Rattle.vp_catalog.proofs.Printed.{all_of, behind, none_of, within}
+use Rattle.vp_catalog.proofs.Printed.{behind, none_of, within}
 use Rattle.vp_trace.proofs.trace.print_reply.Goals as goal
 
 pub returns-in_err-print_word : goal.returns-in_err-print_word

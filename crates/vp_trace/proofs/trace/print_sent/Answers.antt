@@ -1,7 +1,8 @@
 use Rattle.std.proofs.Common.{[], ◌∷◌}
 use Rattle.std.specs.Fmt.{decimal}
 use Rattle.std.specs.Prelude.{codes}
-use Rattle.vp_catalog.proofs.Printed.{all_of, begun_err, behind, none_of}
+use Rattle.vp_text.proofs.Printing.{all_of, begun_err}
+use Rattle.vp_catalog.proofs.Printed.{behind, none_of}
 use Rattle.vp_trace.proofs.trace.print_sent.Goals as goal
 
 pub returns-in_err-print_word : goal.returns-in_err-print_word

@@ -1,6 +1,7 @@
 use Rattle.std.proofs.Common.{[], refl}
 use Rattle.std.specs.Prelude.{codes}
-use Rattle.vp_trace.proofs.Printed.{all_or_none, no_text}
+use Rattle.vp_text.proofs.Printing.{all_or_none}
+use Rattle.vp_trace.proofs.Printed.{no_text}
 use Rattle.vp_trace.proofs.trace.print_shown.Goals as goal
 
 pub returns-in-Nothing : goal.returns-in-Nothing

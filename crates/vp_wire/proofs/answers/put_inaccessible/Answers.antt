@@ -1,6 +1,7 @@
 use Rattle.std.proofs.Common.{◌++◌, append_assoc}
+use Rattle.vp_text.proofs.Printing.{begun_err}
 use Rattle.vp_bytes.specs.Fields.{number_bytes, counted_bytes, numbered_bytes}
-use Rattle.vp_bytes.proofs.Writing.{begun_err, begun_as}
+use Rattle.vp_bytes.proofs.Writing.{begun_as}
 use Rattle.vp_wire.proofs.answers.put_inaccessible.Goals as goal
 
 pub returns-in_err-put_numbered_name : goal.returns-in_err-put_numbered_name

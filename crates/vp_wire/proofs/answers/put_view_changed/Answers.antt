@@ -1,6 +1,7 @@
 use Rattle.std.proofs.Common.{[], ◌∷◌, ◌++◌, append_assoc}
+use Rattle.vp_text.proofs.Printing.{begun_err}
 use Rattle.vp_bytes.specs.Fields.{numbered_bytes, view_bytes, maybe_view_bytes}
-use Rattle.vp_bytes.proofs.Writing.{begun_err, begun_as}
+use Rattle.vp_bytes.proofs.Writing.{begun_as}
 use Rattle.vp_wire.proofs.answers.put_view_changed.Goals as goal
 
 pub returns-in_err-put_numbered_site : goal.returns-in_err-put_numbered_site

@@ -1,6 +1,7 @@
 use Rattle.std.proofs.Common.{refl}
+use Rattle.vp_text.proofs.Printing.{begun_err}
 use Rattle.vp_bytes.specs.Fields.{counted_bytes, numbered_bytes}
-use Rattle.vp_bytes.proofs.Writing.{begun_err, begun_part}
+use Rattle.vp_bytes.proofs.Writing.{begun_part}
 use Rattle.vp_wire.proofs.calls.put_write.Goals as goal
 
 pub returns-in_err-put_name : goal.returns-in_err-put_name

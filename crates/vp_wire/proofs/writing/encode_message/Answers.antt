@@ -1,5 +1,6 @@
 use Rattle.std.proofs.Common.{[], ◌∷◌, refl}
-use Rattle.vp_bytes.proofs.Writing.{begun_err, begun_as}
+use Rattle.vp_text.proofs.Printing.{begun_err}
+use Rattle.vp_bytes.proofs.Writing.{begun_as}
 use Rattle.vp_wire.specs.Grammar.{message_fields}
 use Rattle.vp_wire.specs.Kinds.{message_code, kind_of_message}
 use Rattle.vp_wire.proofs.writing.encode_message.Goals as goal

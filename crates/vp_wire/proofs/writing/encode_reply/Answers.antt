@@ -1,5 +1,6 @@
 use Rattle.std.proofs.Common.{[], ◌∷◌, refl}
-use Rattle.vp_bytes.proofs.Writing.{begun_err, begun_as}
+use Rattle.vp_text.proofs.Printing.{begun_err}
+use Rattle.vp_bytes.proofs.Writing.{begun_as}
 use Rattle.vp_wire.specs.Grammar.{answer_bytes}
 use Rattle.vp_wire.proofs.writing.encode_reply.Goals as goal
 
