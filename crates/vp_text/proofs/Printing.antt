@@ -1,5 +1,5 @@
 -- Texts that are put down part by part: where a part fails, a beginning of the whole stands there.
-use Rattle.std.proofs.Common.{◌≡◌, ℕ, Bool, true, ◌&&◌, nat_eq, List, [], ◌∷◌, ◌++◌, length, get_or, take, drop, zero, suc, ◌<◌, refl, sym, ap, subst, ◌∙◌, append_assoc, arith}
+use Rattle.std.proofs.Common.{◌≡◌, ℕ, true, nat_eq, List, [], ◌∷◌, ◌++◌, length, get_or, take, drop, zero, suc, ◌<◌, refl, sym, ap, subst, ◌∙◌, append_assoc, arith}
 use Rattle.std.specs.Prelude.{⊤, Result, Ok, Err, IsErr, OnOk, OnErr}
 use Rattle.std.specs.List.{starts_with, flat_map}
 use Rattle.std.proofs.lemmas.List.{append-nil, append_cancel_left}
