@@ -56,7 +56,7 @@ def main():
     top = pathlib.Path(sys.argv[1] if len(sys.argv) > 1 else __file__).resolve()
     top = top if top.is_dir() else top.parent.parent
     listed, count = libraries(top), 0
-    for file in sorted([*top.glob("crates/*/*/**/*.antt"), *top.glob("crates/*/src/**/*.rt")]):
+    for file in sorted([*top.glob("crates/*/[sp]*/**/*.antt"), *top.glob("crates/*/src/**/*.rt")]):
         crate, text = file.relative_to(top).parts[1], file.read_text()
         used = {name for name, *_ in IN_PROOFS.findall(text)} | {name for name, _ in IN_CODE.findall(text)}
         faults = [f"{name} is not listed in crates.txt" for name in sorted(used - {crate} - listed.get(crate, set()))]

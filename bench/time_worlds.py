@@ -8,8 +8,8 @@ of the limits on steps and messages, so that growth shows. What counts is proces
 turns, so that a machine's slower minutes fall on both, and the most memory.
 
     flows       a site asks 15 others for 256 copies at each tick; then flows deliver, while seven pairs are cut
-    deliveries  the same messages, delivered one by one from the middle, and each once more
-    views       one view after the other of all sites, with all refreshes delivered
+    deliveries  the same messages, delivered one by one from the middle, and each once more; most are answered
+    views       one view after the other of all sites, each with all refreshes of 16 records delivered
 """
 import resource
 import subprocess
@@ -18,11 +18,15 @@ import tempfile
 
 TIMES = 7
 
+# How many ticks there are and how much is delivered, so that all of it comes near 100,000 steps and 2,000,000 messages.
+FLOWS = (485, 95000)
+DELIVERIES = (479, 49500)
 
-def catalogue():
+
+def catalogue(records=256):
     sites = ["site %d %d" % (site, 7000 + site) for site in range(1, 17)]
     holders = " ".join("%d:1" % site for site in range(1, 17))
-    return sites + ["record x%d 10 %s" % (k, holders) for k in range(256)] + ["events"]
+    return sites + ["record x%d 10 %s" % (k, holders) for k in range(records)] + ["events"]
 
 
 def asked(share, ticks):
@@ -31,19 +35,19 @@ def asked(share, ticks):
 
 def flows(share):
     cuts = ["cut 1 %d" % site for site in range(2, 9)]
-    return asked(share, 470) + cuts + ["flow %d" % int(90000 * share)] + ["cut 3 4", "heal 3 4"] * int(2000 * share)
+    return asked(share, FLOWS[0]) + cuts + ["flow %d" % int(FLOWS[1] * share)] + ["cut 3 4", "heal 3 4"] * int(2000 * share)
 
 
 def deliveries(share):
-    lines = asked(share, 400)
+    lines = asked(share, DELIVERIES[0]) + ["flow 15"]
     middle = int(750000 * share)
-    for i in range(int(40000 * share)):
+    for i in range(int(DELIVERIES[1] * share)):
         lines += ["deliver %d" % (middle + 7 * i)] * 2
     return lines
 
 
 def views(share):
-    lines = catalogue()
+    lines = catalogue(16)
     for k in range(int(12 * share)):
         site = k % 16 + 1
         lines += ["call %d regroup" % site, "flow 30", "tick %d" % site, "flow 7700"]
