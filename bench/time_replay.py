@@ -7,12 +7,13 @@ Both programs are called with the word `replay`, and their outputs have to agree
 and up to 1,024 live transactions, or so many. Three lengths are timed, 25,000, 50,000 and 100,000 events, so that growth
 shows.
 """
+import filecmp
 import os
 import random
-import resource
-import subprocess
 import sys
 import tempfile
+
+from time_worlds import run
 
 TIMES = 3
 
@@ -76,21 +77,10 @@ def schedule(path, events, records, live):
     return len(site.numbers)
 
 
-def spent():
-    """The processor time of the programs that have ended."""
-    usage = resource.getrusage(resource.RUSAGE_CHILDREN)
-    return usage.ru_utime + usage.ru_stime
-
-
-def timed(program, path):
-    """The least processor time of some runs, and what was printed."""
-    times = []
-    for _ in range(TIMES):
-        with open(path, "rb") as source:
-            before = spent()
-            done = subprocess.run([program, "replay"], stdin=source, capture_output=True, check=True)
-            times.append(spent() - before)
-    return min(times), done.stdout
+def timed(command, path, out):
+    """The least processor time of some runs, and the most memory."""
+    runs = [run([command], path, out) for _ in range(TIMES)]
+    return min(time for time, _ in runs), max(memory for _, memory in runs)
 
 
 def main():
@@ -98,13 +88,14 @@ def main():
     records = int(sys.argv[3]) if len(sys.argv) > 3 else 256
     live = int(sys.argv[4]) if len(sys.argv) > 4 else 1024
     with tempfile.TemporaryDirectory() as folder:
-        path = os.path.join(folder, "schedule")
+        path, mine, theirs = (os.path.join(folder, name) for name in ("schedule", "mine", "theirs"))
         for events in (25000, 50000, 100000):
             left = schedule(path, events, records, live)
-            mine, said = timed(program, path)
-            theirs, wanted = timed(other, path)
-            assert said == wanted, "the outputs differ"
-            print(f"{events} events, {left} live in the end: {mine:.2f} s, {mine / theirs:.1f} times the other's {theirs:.2f} s")
+            time, memory = timed(program, path, mine)
+            time_other, memory_other = timed(other, path, theirs)
+            assert filecmp.cmp(mine, theirs, shallow=False), "the outputs differ"
+            print(f"{events} events, {left} live in the end: {time:.2f} s, {memory:.0f} MiB; the other {time_other:.2f} s, {memory_other:.0f} MiB; "
+                  f"{time / time_other:.1f}x, {memory / memory_other:.1f}x", flush=True)
     return 0
 
 
