@@ -57,10 +57,9 @@ pub fn put_letters(
 ) -> Result<(), NoMemory>
     ensures { OnOk result (letters.new ≡ letters.old ++ map (sent_from from) (take count given)) }
 {
-    let mut sent = given.into_vec();
-    sent.truncate(count);
-    for datagram in sent {
-        letters.put(from, &datagram)?;
+    let datagrams = given.as_slice();
+    for datagram in &datagrams[..count.min(datagrams.len())] {
+        letters.put(from, datagram)?;
     }
     Ok(())
 }

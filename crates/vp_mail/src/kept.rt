@@ -42,18 +42,20 @@ impl Model for Kept {
 fn form_of(alloc: Global, sent: Sent) -> Result<Form, NoMemory>
     ensures { IfOk result (λ form. sent_as form ≡ sent) }
 {
-    if let Message::RefreshRequest { view, rec } = &sent.message {
-        return Ok(Form::RefreshRequest {
-            from: sent.from,
-            to: sent.to,
-            rec: *rec,
+    let from = sent.from;
+    let to = sent.to;
+    match sent.into_message() {
+        Message::RefreshRequest { view, rec } => Ok(Form::RefreshRequest {
+            from,
+            to,
+            rec,
             view_site: view.site,
             view_number: view.number,
-        });
+        }),
+        message => Ok(Form::Other {
+            sent: Boxed::new(alloc, Sent { from, to, message })?,
+        }),
     }
-    Ok(Form::Other {
-        sent: Boxed::new(alloc, sent)?,
-    })
 }
 
 impl Kept {
