@@ -1,5 +1,5 @@
 -- The start lines: they end with the names or the values, and stand there one behind the other.
-use Rattle.std.proofs.Common.{◌≡◌, ◌⊎◌, inl, inr, ℕ, List, [], ◌∷◌, ◌++◌, length, refl, sym, ap, ◌∙◌, append_assoc, true, arith}
+use Rattle.std.proofs.Common.{◌≡◌, ◌⊎◌, inl, inr, ℕ, List, [], ◌∷◌, length, refl, arith}
 use Rattle.vp_model.specs.Texts.History.{starts_text}
 
 pub starts_end : (names values : List (List ℕ)) → (length names ≡ 0) ⊎ (length values ≡ 0) → starts_text names values ≡ []
