@@ -1,8 +1,7 @@
--- What clients are replied in every schedule: ends that are true, and refusals that are justified. It uses all above.
+-- What clients are replied in every schedule: ends that are true, and when refusals are justified. It uses all above.
 pub mod RefusedCalls
 pub mod Fair
 pub mod FairStep
 pub mod EndsTrue
 pub mod FairAt
 pub mod FairMoves
-pub mod FairTold

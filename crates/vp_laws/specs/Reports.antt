@@ -4,7 +4,7 @@ use Rattle.std.specs.List.{Contains}
 use Rattle.vp_model.specs.Types.{TxnId, Call, Answer}
 use Rattle.vp_model.specs.Types.call
 use Rattle.vp_model.specs.World.{Schedule, Moment, moments_of, lines_of}
-use Rattle.vp_model.specs.Told.{answers_in, reported, taken_call}
+use Rattle.vp_model.specs.Told.{answers_in, reported, taken_call, named_in}
 
 -- a value is of a read, and `written` of a write
 abbrev pub is_of_kind : Option (List ℕ) → Call → Bool
@@ -13,8 +13,8 @@ is_of_kind None (call.Write txn number name value) = true
 is_of_kind report words = false
 
 -- each value and each `written` that is replied is under a number whose first call, of those that were not refused early, is a read or a
--- write accordingly
+-- write accordingly, of a record of the catalogue
 abbrev pub RepliesFitCalls : Schedule → Type 0
 RepliesFitCalls s =
     (m : Moment) (a : Answer) (txn : TxnId) (number : ℕ) (report : Option (List ℕ)) → Contains (moments_of s) m → Contains (answers_in m.line) a → reported txn a ≡ Some (number, report) →
-    (words : Call) × (taken_call (lines_of s) txn number ≡ Some words) × (is_of_kind report words ≡ true)
+    (words : Call) × (rec : ℕ) × (taken_call (lines_of s) txn number ≡ Some words) × (named_in s.catalogue words ≡ Some rec) × (is_of_kind report words ≡ true)

@@ -1,4 +1,4 @@
--- What may be claimed after two schedules: the answers that are given, and that a false one is not justified.
+-- What may be claimed after some schedules: the answers that are given, and that a false one is not justified.
 use Rattle.std.proofs.Common.{◌≡◌, true, false, refl}
 use Rattle.std.specs.Prelude.{List, [], ◌∷◌, ◌++◌, codes, map, None}
 use Rattle.vp_model.specs.Types.{Answer, Event}
@@ -10,7 +10,7 @@ use Rattle.vp_model.specs.World.{Moment, Schedule, moments_of}
 use Rattle.vp_model.specs.Told.{answers_in}
 use Rattle.vp_model.specs.Headline.{RefusalsAreJustified}
 use Rattle.vp_model.specs.Worked.{view, txn}
-use Rattle.vp_model.specs.Worked.FalseClaims.{is_justified_after, closed_and_left, closed_by_lock, closed_by_leaving, granted_after_all, next_is_done, next_is_refused, closed_idle}
+use Rattle.vp_model.specs.Worked.FalseClaims.{is_justified_after, closed_and_left, closed_by_lock, closed_by_leaving, granted_after_all, next_is_done, next_is_refused, closed_idle, IsToldApart, aborted, never_begun, out_of_turn, refused_by_two, timed_out_before, written_after_all, told_before_leaving, forgotten, called_elsewhere, unknown_without_weight, told_the_weights}
 use Rattle.vp_model.proofs.Computed.{computes}
 
 -- what the schedule answers, and then this call
@@ -73,3 +73,47 @@ idle-answers = refl
 pub idle-justified : RefusalsAreJustified closed_idle
 unfolding computes
 idle-justified = refl
+
+pub aborted-apart : IsToldApart aborted
+unfolding computes
+aborted-apart = record { given = refl; justified = refl; another = refl }
+
+pub never_begun-apart : IsToldApart never_begun
+unfolding computes
+never_begun-apart = record { given = refl; justified = refl; another = refl }
+
+pub out_of_turn-apart : IsToldApart out_of_turn
+unfolding computes
+out_of_turn-apart = record { given = refl; justified = refl; another = refl }
+
+pub refused_by_two-apart : IsToldApart refused_by_two
+unfolding computes
+refused_by_two-apart = record { given = refl; justified = refl; another = refl }
+
+pub timed_out_before-apart : IsToldApart timed_out_before
+unfolding computes
+timed_out_before-apart = record { given = refl; justified = refl; another = refl }
+
+pub written_after_all-apart : IsToldApart written_after_all
+unfolding computes
+written_after_all-apart = record { given = refl; justified = refl; another = refl }
+
+pub told_before_leaving-apart : IsToldApart told_before_leaving
+unfolding computes
+told_before_leaving-apart = record { given = refl; justified = refl; another = refl }
+
+pub forgotten-apart : IsToldApart forgotten
+unfolding computes
+forgotten-apart = record { given = refl; justified = refl; another = refl }
+
+pub called_elsewhere-apart : IsToldApart called_elsewhere
+unfolding computes
+called_elsewhere-apart = record { given = refl; justified = refl; another = refl }
+
+pub unknown_without_weight-apart : IsToldApart unknown_without_weight
+unfolding computes
+unknown_without_weight-apart = record { given = refl; justified = refl; another = refl }
+
+pub told_the_weights-apart : IsToldApart told_the_weights
+unfolding computes
+told_the_weights-apart = record { given = refl; justified = refl; another = refl }

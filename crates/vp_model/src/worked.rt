@@ -176,6 +176,61 @@ pub fn granted_after_all()
     ensures another { claims.is_justified_after claims.granted_after_all 2 (call.Read (txn 2 1 1) 2 (codes "x")) claims.next_is_refused ≡ false }
 {}
 
+/// An aborted transaction is not refused for a lock that stands in the way of its next call.
+pub fn aborted_without_a_lock()
+    ensures { claims.IsToldApart claims.aborted }
+{}
+
+/// A transaction that was never begun is unknown, and not refused for a lock.
+pub fn unknown_without_a_lock()
+    ensures { claims.IsToldApart claims.never_begun }
+{}
+
+/// A call out of turn is skipped, and not refused for a lock, and its transaction lives on.
+pub fn skipped_without_a_lock()
+    ensures { claims.IsToldApart claims.out_of_turn }
+{}
+
+/// A transaction that two sites refused is closed for the refusal that came, and not for the other.
+pub fn refused_by_two()
+    ensures { claims.IsToldApart claims.refused_by_two }
+{}
+
+/// A call that timed out before its refusal came is not refused for a lock when it is called again.
+pub fn timed_out_before()
+    ensures { claims.IsToldApart claims.timed_out_before }
+{}
+
+/// A write that was done after its first request was refused is not refused when it is called again.
+pub fn written_after_all()
+    ensures { claims.IsToldApart claims.written_after_all }
+{}
+
+/// A read that was answered before the site left its view is not refused for that when it is called again.
+pub fn told_before_leaving()
+    ensures { claims.IsToldApart claims.told_before_leaving }
+{}
+
+/// A transaction whose end its site has forgotten is unknown, and not refused again.
+pub fn forgotten_without_a_refusal()
+    ensures { claims.IsToldApart claims.forgotten }
+{}
+
+/// A transaction is unknown at another site than its own, and not refused there.
+pub fn unknown_elsewhere()
+    ensures { claims.IsToldApart claims.called_elsewhere }
+{}
+
+/// A transaction that was never begun is unknown, also where its record is not accessible.
+pub fn unknown_without_weight()
+    ensures { claims.IsToldApart claims.unknown_without_weight }
+{}
+
+/// That a record is not accessible is answered under the number of the call.
+pub fn told_the_weights()
+    ensures { claims.IsToldApart claims.told_the_weights }
+{}
+
 /// A transaction that is closed with no call pending may answer its end under a number and then under a lower one: both are justified.
 pub fn closed_without_a_call()
     ensures { RefusalsAreJustified claims.closed_idle }

@@ -139,10 +139,10 @@ module _ (catalogue : Catalogue) (x : SiteState) (given : Input) (after : SiteSt
         (λ stored e. lock_here-front name rec true (write_elsewhere catalogue x.id x.held t p rec value) o f (λ c. write_elsewhere-front rec value (take_lock t.txn rec true (lent_at x)) refl refl refl w a n (Locked.locked stored e c refl)))
         (λ none. write_elsewhere-front rec value (lent_at x) refl refl refl w a n (Locked.no_copy none refl)))
 
-    with_record-front : (name : List ℕ) (use_record : ℕ → Lent → Lent) → ((rec : ℕ) → find_record catalogue name ≡ Some rec → is_open catalogue x rec ≡ true → Q (use_record rec (lent_at x))) → Q (with_record catalogue x.held t p name use_record (lent_at x))
+    with_record-front : (name : List ℕ) (exclusive : Bool) → Operates p.call name exclusive → (use_record : ℕ → Lent → Lent) → ((rec : ℕ) → find_record catalogue name ≡ Some rec → is_open catalogue x rec ≡ true → Q (use_record rec (lent_at x))) → Q (with_record catalogue x.held t p name use_record (lent_at x))
     unfolding with_record
-    with_record-front name use_record used = by_option Q _ _ _
-        (λ rec e. by_test Q (nat_le 64 (length t.ops)) _ _ (λ many. told _ _ (Tells.plain _ refl)) (λ few. by_test Q (is_open catalogue x rec) _ _ (λ a. used rec e a) (λ not_usable. told _ _ (Tells.inaccessible t p name rec at e not_usable))))
+    with_record-front name exclusive op use_record used = by_option Q _ _ _
+        (λ rec e. by_test Q (nat_le 64 (length t.ops)) _ _ (λ many. told _ _ (Tells.plain _ refl)) (λ few. by_test Q (is_open catalogue x rec) _ _ (λ a. used rec e a) (λ not_usable. told _ _ (Tells.inaccessible t p name rec exclusive at op e not_usable))))
         (λ none. told _ _ (Tells.plain _ refl))
 
     commit-front : is_commit p.call ≡ true → Q (commit catalogue x.id t p (lent_at x))
@@ -151,8 +151,8 @@ module _ (catalogue : Catalogue) (x : SiteState) (given : Input) (after : SiteSt
 
     new_call-front : (words : Call) → p.call ≡ words → Q (new_call catalogue x.id x.held t p words (lent_at x))
     unfolding new_call
-    new_call-front (call.Read txn number name) e = with_record-front name _ (λ rec f a. read-front name rec (Operates.reads txn number e) f (record { txn = txn; number = number; name = name; words = e; found = f }) a)
-    new_call-front (call.Write txn number name value) e = with_record-front name _ (λ rec f a. write-front name value rec (Operates.writes txn number value e) f (record { txn = txn; number = number; name = name; words = e; found = f }) a)
+    new_call-front (call.Read txn number name) e = with_record-front name false (Operates.reads txn number e) _ (λ rec f a. read-front name rec (Operates.reads txn number e) f (record { txn = txn; number = number; name = name; words = e; found = f }) a)
+    new_call-front (call.Write txn number name value) e = with_record-front name true (Operates.writes txn number value e) _ (λ rec f a. write-front name value rec (Operates.writes txn number value e) f (record { txn = txn; number = number; name = name; words = e; found = f }) a)
     new_call-front (call.Commit txn number) e = commit-front (rw e refl)
     new_call-front (call.Abort txn number) e = closing-now Aborted (Why.aborted t p at refl)
     new_call-front call.Begin e = h

@@ -68,7 +68,7 @@ is_plain _ = false
 -- what a call is told that changes nothing
 pub data Tells (catalogue : Catalogue) (x : SiteState) (given : Input) : Answer → Type 0 where
   plain : (words : Answer) → is_plain words ≡ true → Tells catalogue x given words
-  inaccessible : (t : Live) (p : Pending) (name : List ℕ) (rec : ℕ) → Takes x given t p → find_record catalogue name ≡ Some rec → is_usable_in catalogue x.held rec ≡ false → Tells catalogue x given (answer.Inaccessible t.txn p.number name (inside catalogue rec (members_in x.held)) (total catalogue rec))
+  inaccessible : (t : Live) (p : Pending) (name : List ℕ) (rec : ℕ) (exclusive : Bool) → Takes x given t p → Operates p.call name exclusive → find_record catalogue name ≡ Some rec → is_usable_in catalogue x.held rec ≡ false → Tells catalogue x given (answer.Inaccessible t.txn p.number name (inside catalogue rec (members_in x.held)) (total catalogue rec))
   again : (t : Live) (number : ℕ) (words : Answer) → Has x.live t → kept_answer number t.answers ≡ Some words → Tells catalogue x given words
   finished_again : (f : Finished) (number : ℕ) (words : Answer) → Has x.finished f → kept_answer number f.answers ≡ Some words → Tells catalogue x given words
   ended : (f : Finished) (number : ℕ) → Has x.finished f → nat_le number (length f.answers) ≡ false → Tells catalogue x given (answer_of f.txn number f.ending)

@@ -1,18 +1,19 @@
 -- When a refusal is justified by the moments so far, and that it stays so.
-use Rattle.std.proofs.Common.{◌≡◌, ◌≢◌, ℕ, Bool, true, false, List, ◌++◌, refl, arith}
+use Rattle.std.proofs.Common.{◌≡◌, ◌≢◌, ℕ, Bool, true, false, cond, List, ◌++◌, refl, arith}
 use Rattle.std.specs.Prelude.{Option, None, is_some, not, ◌==◌, ◌&&◌, if◌then◌else◌}
 use Rattle.std.specs.List.{list_any}
 use Rattle.std.proofs.lemmas.Bool.Decides.{nat_tests}
-use Rattle.vp_model.specs.Types.{TxnId, ViewId, Answer}
+use Rattle.vp_model.specs.Types.{TxnId, ViewId, Owner, Answer, Line}
 use Rattle.vp_model.specs.Types.answer
 use Rattle.vp_model.specs.Words.{is_view}
 use Rattle.vp_model.specs.Catalogue.{Catalogue}
 use Rattle.vp_model.specs.World.{Moment}
 use Rattle.vp_model.specs.Told.{answers_in}
-use Rattle.vp_model.specs.Justified.{was_blocked, held_other, left_and_closed, is_begun, begun_in, refused_once, justified}
+use Rattle.vp_model.specs.Justified.{was_blocked, held_other, is_held_by, is_other_view, left_then, closed_then, closed_in, takes_refusal, closed_by_lock, closed_by_view, told_from, tells_end, is_begun, begun_in, refused_once, justified}
 use Rattle.vp_laws.proofs.Replies.RefusedCalls.{Refusal, refusal_is, refusal_more}
 use Rattle.vp_laws.proofs.Lists.Members.{Has, has_left, any_of}
 use Rattle.vp_laws.proofs.Lists.Numbers.{eq_not}
+use Rattle.vp_laws.proofs.Table.ToldLines.{lines_in}
 
 -- the transaction was begun in the view
 pub record WasBegun (past : List Moment) (txn : TxnId) (view : ViewId) : Type 0 where
@@ -26,29 +27,67 @@ pub record Once (past : List Moment) (test : Moment → Bool) : Type 0 where
   pub has : Has past moment
   pub passes : test moment ≡ true
 
+-- the transaction was closed in a step that passes the test
+abbrev pub ClosedIn : List Moment → TxnId → (Moment → Bool) → Type 0
+ClosedIn past txn test = Once past (λ m. closed_then txn m && test m)
+
+-- a lock closed it: here in the step that found the lock, or there, and the refusal was taken in the closing step
+pub data ByLock (catalogue : Catalogue) (past : List Moment) (txn : TxnId) (name : List ℕ) (at : ℕ) (holder : Owner) (refused : ℕ) : Type 0 where
+  here : at ≡ txn.site → ClosedIn past txn (was_blocked catalogue txn refused name at holder) → ByLock catalogue past txn name at holder refused
+  there : at ≢ txn.site → ClosedIn past txn (takes_refusal txn refused at (is_held_by holder)) → Once past (was_blocked catalogue txn refused name at holder) → ByLock catalogue past txn name at holder refused
+
+-- another view at a site closed it
+pub record ByView (catalogue : Catalogue) (past : List Moment) (txn : TxnId) (at : ℕ) (held : ViewId) (now : Option ViewId) (refused : ℕ) : Type 0 where
+  pub closes : ClosedIn past txn (takes_refusal txn refused at (is_other_view now))
+  pub other : Once past (held_other catalogue txn refused at held now)
+
 pub data OtherView (catalogue : Catalogue) (past : List Moment) (txn : TxnId) (number at : ℕ) (held : ViewId) : Option ViewId → Type 0 where
-  left : at ≡ txn.site → Once past (left_and_closed txn held) → OtherView catalogue past txn number at held None
-  other : (now : Option ViewId) → at ≢ txn.site → is_view now held ≡ false → Refusal past txn number (λ refused. held_other catalogue txn refused at held now) → OtherView catalogue past txn number at held now
+  left : at ≡ txn.site → ClosedIn past txn (left_then at held) → OtherView catalogue past txn number at held None
+  other : (now : Option ViewId) → at ≢ txn.site → is_view now held ≡ false → Refusal past txn number (ByView catalogue past txn at held now) → OtherView catalogue past txn number at held now
 
 -- the answer is justified, whenever it is given; one that names weights is justified only by its own moment
 abbrev pub Fair : Catalogue → List Moment → Answer → Type 0
-Fair catalogue past (answer.LockHeld txn number name at holder) = Refusal past txn number (λ refused. was_blocked catalogue txn refused name at holder)
+Fair catalogue past (answer.LockHeld txn number name at holder) = Refusal past txn number (ByLock catalogue past txn name at holder)
 Fair catalogue past (answer.ViewChanged txn number at held now) = WasBegun past txn held × OtherView catalogue past txn number at held now
 Fair catalogue past (answer.Inaccessible txn number name inside total) = ⊥
 Fair catalogue past a = Unit {0}
 
+-- where the answer names a view, no operation was told under its number or a larger one
+abbrev pub Untold : List Line → Answer → Type 0
+Untold lines (answer.ViewChanged txn number at held now) = told_from lines txn number ≡ false
+Untold lines a = Unit {0}
+
+-- where the answer names a lock or a view, the moment tells the end of its transaction
+abbrev pub TellsEnd : Moment → Answer → Type 0
+TellsEnd m (answer.LockHeld txn number name at holder) = tells_end txn m ≡ true
+TellsEnd m (answer.ViewChanged txn number at held now) = tells_end txn m ≡ true
+TellsEnd m a = Unit {0}
+
 once_more : (past more : List Moment) (test : Moment → Bool) → Once past test → Once (past ++ more) test
 once_more past more test o = record { moment = o.moment; has = has_left past more o.moment o.has; passes = o.passes }
+
+both : (a b : Bool) → a ≡ true → b ≡ true → (a && b) ≡ true
+both a b p q = rw (p, q) refl
+
+pub closes : (past : List Moment) (txn : TxnId) (test : Moment → Bool) (m : Moment) → Has past m → closed_then txn m ≡ true → test m ≡ true → ClosedIn past txn test
+closes past txn test m h closed e = record { moment = m; has = h; passes = both (closed_then txn m) (test m) closed e }
 
 pub begun_more : (past more : List Moment) (txn : TxnId) (view : ViewId) → WasBegun past txn view → WasBegun (past ++ more) txn view
 begun_more past more txn view o = record { moment = o.moment; has = has_left past more o.moment o.has; told = o.told }
 
+lock_more : (catalogue : Catalogue) (past more : List Moment) (txn : TxnId) (name : List ℕ) (at : ℕ) (holder : Owner) (refused : ℕ) → ByLock catalogue past txn name at holder refused → ByLock catalogue (past ++ more) txn name at holder refused
+lock_more catalogue past more txn name at holder refused (ByLock.here e c) = ByLock.here e (once_more past more _ c)
+lock_more catalogue past more txn name at holder refused (ByLock.there e c o) = ByLock.there e (once_more past more _ c) (once_more past more _ o)
+
+view_more : (catalogue : Catalogue) (past more : List Moment) (txn : TxnId) (at : ℕ) (held : ViewId) (now : Option ViewId) (refused : ℕ) → ByView catalogue past txn at held now refused → ByView catalogue (past ++ more) txn at held now refused
+view_more catalogue past more txn at held now refused b = record { closes = once_more past more _ b.closes; other = once_more past more _ b.other }
+
 other_more : (catalogue : Catalogue) (past more : List Moment) (txn : TxnId) (number at : ℕ) (held : ViewId) (now : Option ViewId) → OtherView catalogue past txn number at held now → OtherView catalogue (past ++ more) txn number at held now
-other_more catalogue past more txn number at held now (OtherView.left here o) = OtherView.left here (once_more past more _ o)
-other_more catalogue past more txn number at held now (OtherView.other w n e o) = OtherView.other w n e (refusal_more past more txn number (λ refused. held_other catalogue txn refused at held w) o)
+other_more catalogue past more txn number at held now (OtherView.left own o) = OtherView.left own (once_more past more _ o)
+other_more catalogue past more txn number at held now (OtherView.other w n e o) = OtherView.other w n e (refusal_more past more txn number _ _ (view_more catalogue past more txn at held w) o)
 
 pub fair_more : (catalogue : Catalogue) (past more : List Moment) (a : Answer) → Fair catalogue past a → Fair catalogue (past ++ more) a
-fair_more catalogue past more (answer.LockHeld txn number name at holder) h = refusal_more past more txn number (λ refused. was_blocked catalogue txn refused name at holder) h
+fair_more catalogue past more (answer.LockHeld txn number name at holder) h = refusal_more past more txn number _ _ (lock_more catalogue past more txn name at holder) h
 fair_more catalogue past more (answer.ViewChanged txn number at held now) h = (begun_more past more txn held h.0, other_more catalogue past more txn number at held now h.1)
 fair_more catalogue past more (answer.Inaccessible txn number name inside total) h = h
 fair_more catalogue past more a h = tt
@@ -62,12 +101,32 @@ begun_is past txn view o = any_of (λ (m : Moment). list_any (is_begun txn view)
 eq_same : (a b : ℕ) → a ≡ b → (a == b) ≡ true
 eq_same a b e = grind (arith, nat_tests, e)
 
-pub fair_justified : (catalogue : Catalogue) (past : List Moment) (m : Moment) (a : Answer) → Fair catalogue past a → justified catalogue past m a ≡ true
-fair_justified catalogue past m (answer.LockHeld txn number name at holder) f = refusal_is past txn number (λ refused. was_blocked catalogue txn refused name at holder) f
-fair_justified catalogue past m (answer.ViewChanged txn number at held now) f = rw (begun_is past txn held f.0) (go now f.1)
+first_of : (b p q : Bool) → b ≡ true → p ≡ true → cond b p q ≡ true
+first_of b p q e h = rw e h
+
+second_of : (b p q : Bool) → b ≡ false → q ≡ true → cond b p q ≡ true
+second_of b p q e h = rw e h
+
+lock_passes : (catalogue : Catalogue) (past : List Moment) (txn : TxnId) (name : List ℕ) (at : ℕ) (holder : Owner) (n : ℕ) → ByLock catalogue past txn name at holder n → closed_by_lock catalogue past txn name at holder n ≡ true
+lock_passes catalogue past txn name at holder n (ByLock.here e c) = first_of (at == txn.site) _ _ (eq_same at txn.site e) (any_once past _ c)
+lock_passes catalogue past txn name at holder n (ByLock.there e c o) =
+    second_of (at == txn.site) _ _ (eq_not at txn.site e) (both (closed_in past txn (takes_refusal txn n at (is_held_by holder))) (list_any (was_blocked catalogue txn n name at holder) past) (any_once past _ c) (any_once past _ o))
+
+view_passes : (catalogue : Catalogue) (past : List Moment) (txn : TxnId) (at : ℕ) (held : ViewId) (now : Option ViewId) (n : ℕ) → ByView catalogue past txn at held now n → closed_by_view catalogue past txn at held now n ≡ true
+view_passes catalogue past txn at held now n b =
+    both (closed_in past txn (takes_refusal txn n at (is_other_view now))) (list_any (held_other catalogue txn n at held now) past) (any_once past _ b.closes) (any_once past _ b.other)
+
+pub fair_justified : (catalogue : Catalogue) (past : List Moment) (m : Moment) (a : Answer) → Fair catalogue past a → Untold (lines_in past) a → TellsEnd m a → justified catalogue past m a ≡ true
+fair_justified catalogue past m (answer.LockHeld txn number name at holder) f untold ends =
+    both (tells_end txn m) _ ends (refusal_is past txn number _ (closed_by_lock catalogue past txn name at holder) (lock_passes catalogue past txn name at holder) f)
+fair_justified catalogue past m (answer.ViewChanged txn number at held now) f untold ends =
+    both _ _ (both _ (not (told_from (lines_in past) txn number)) (both (tells_end txn m) (begun_in past txn held) ends (begun_is past txn held f.0)) (negated (told_from (lines_in past) txn number) untold)) (go now f.1)
   where
-    go : (now : Option ViewId) → OtherView catalogue past txn number at held now → (if at == txn.site then not (is_some now) && list_any (left_and_closed txn held) past else not (is_view now held) && refused_once past txn number (λ refused. held_other catalogue txn refused at held now)) ≡ true
-    go now (OtherView.left here o) = rw (eq_same at txn.site here) (any_once past (left_and_closed txn held) o)
-    go now (OtherView.other w not_here e r) = rw (eq_not at txn.site not_here, e) (refusal_is past txn number (λ refused. held_other catalogue txn refused at held w) r)
-fair_justified catalogue past m (answer.Inaccessible txn number name inside total) f = absurd f
-fair_justified catalogue past m _ f = refl
+    negated : (b : Bool) → b ≡ false → not b ≡ true
+    negated b e = rw e refl
+
+    go : (now : Option ViewId) → OtherView catalogue past txn number at held now → (if at == txn.site then not (is_some now) && closed_in past txn (left_then at held) else not (is_view now held) && refused_once past txn number (closed_by_view catalogue past txn at held now)) ≡ true
+    go now (OtherView.left own o) = first_of (at == txn.site) _ _ (eq_same at txn.site own) (any_once past _ o)
+    go now (OtherView.other w not_here e r) = second_of (at == txn.site) _ _ (eq_not at txn.site not_here) (both (not (is_view w held)) _ (negated (is_view w held) e) (refusal_is past txn number _ (closed_by_view catalogue past txn at held w) (view_passes catalogue past txn at held w) r))
+fair_justified catalogue past m (answer.Inaccessible txn number name inside total) f untold ends = absurd f
+fair_justified catalogue past m _ f untold ends = refl

@@ -1,10 +1,10 @@
 -- One step keeps that what is refused is justified, and its own answers are.
 use Rattle.std.proofs.Common.{◌≡◌, ◌≢◌, ◌∙◌, ap, sym, subst, ℕ, ◌+◌, ◌≤◌, ◌*◌, Bool, true, false, List, [], ◌∷◌, ◌++◌, map, refl, arith, ⊎_elim, length}
-use Rattle.std.specs.Prelude.{Option, Some, None, is_some, option_map, option_to_list, nat_le, nat_lt, ◌&&◌}
+use Rattle.std.specs.Prelude.{Option, Some, None, is_some, option_map, option_to_list, nat_le, nat_lt, ◌&&◌, ◌||◌}
 use Rattle.std.proofs.lemmas.Bool.Decides.{nat_tests}
 use Rattle.std.proofs.Math.ListN.{length-append}
 use Rattle.vp_model.specs.Types.{TxnId, ViewId, View, Owner, Obstacle, Answer, Reply, Message, Input, Pending, Live, Ending, Finished}
-use Rattle.vp_base.specs.declared.site.Ending.TheVariants.{Committed, LockHeld}
+use Rattle.vp_base.specs.declared.site.Ending.TheVariants.{Committed, Aborted, LockHeld, ViewChanged, TimedOut}
 use Rattle.vp_model.specs.Types.answer
 use Rattle.vp_model.specs.Types.message
 use Rattle.vp_model.specs.Types.obstacle
@@ -19,7 +19,7 @@ use Rattle.vp_model.specs.Refresh.{members_in, is_usable_in}
 use Rattle.vp_model.specs.Step.{step}
 use Rattle.vp_model.specs.Told.{answers_in}
 use Rattle.vp_model.specs.World.{WorldState, Moment}
-use Rattle.vp_model.specs.Justified.{site_named, justified, was_blocked, held_other, left_and_closed, is_begun, weighs, refused_number, refused_in}
+use Rattle.vp_model.specs.Justified.{justified, was_blocked, held_other, is_held_by, is_other_view, left_then, closed_then, takes_refusal, is_step_of, tested_before, tells_end, Request, handles, is_named, is_begun, weighs, refused_number, refused_in}
 use Rattle.vp_laws.proofs.Replies.RefusedCalls.{refused_last, none_refused, first_told, refused_of}
 use Rattle.vp_laws.proofs.Lists.Members.{Has, has_none, has_one, has_left, has_right, has_cases, has_one_is, map_has, any_true, any_of}
 use Rattle.vp_laws.proofs.Moves.Table.{Comes, Handled, Reads, Writes, Requests, Asks}
@@ -29,17 +29,22 @@ use Rattle.vp_laws.proofs.Worlds.Events.{Arrives}
 use Rattle.vp_laws.proofs.Invariant.Shares.{HasRequest}
 use Rattle.vp_laws.proofs.Invariant.Answers.{Current}
 use Rattle.vp_laws.proofs.Table.Led.{Led}
-use Rattle.vp_model.proofs.SameTxn.{same_txn-self}
+use Rattle.vp_model.proofs.SameTxn.{same_txn-self, same_txn-is}
 use Rattle.vp_laws.proofs.Lists.Names.{apart_unique}
 use Rattle.vp_laws.proofs.Replies.EndsTrue.{EndedAt, ended_step, ended_quiet, said_refused}
 use Rattle.vp_laws.proofs.Worlds.Sites.{NowIs, now_is, Quiet, quiet_is, live_still, finished_still}
 use Rattle.vp_laws.proofs.Moves.Reasons.{Operates, Takes, Awaits, Why, told_to}
 use Rattle.vp_laws.proofs.Table.Refusals.{Refused, RefuseSays, refusals-step}
 use Rattle.vp_laws.proofs.Table.Fair.{is_free, finished_as, LiveFrom, FinishedFrom, ReplyFrom, Causes, causes-step}
-use Rattle.vp_laws.proofs.Replies.Fair.{WasBegun, Once, OtherView, Fair, begun_more, fair_more, fair_justified}
-use Rattle.vp_laws.proofs.Replies.FairStep.{IsStep, named_site, tested_x, replied, blocked_here, blocked_there, other_there, left_and_closed_now, same_view-self}
+use Rattle.vp_laws.proofs.Replies.Fair.{WasBegun, Once, ByLock, OtherView, Fair, Untold, TellsEnd, closes, begun_more, fair_more, fair_justified}
+use Rattle.vp_laws.proofs.Replies.FairStep.{IsStep, step_here, handles_now, operation_asks, named_here, tested_x, replied, blocked_here, blocked_there, other_there, left_now, closed_now, took_refusal, same_now, same_view-self}
 use Rattle.vp_laws.proofs.Replies.FairAt.{IsAsked, RefuseFair, RefuseOk, FairEnd, FairAt, refuse_on, end_more, free_justified, report_fair}
 use Rattle.vp_laws.proofs.Table.Kept.{is_report}
+use Rattle.vp_laws.proofs.Table.ToldLines.{lines_in}
+use Rattle.vp_laws.proofs.Lists.LockTables.{same_owner-self}
+use Rattle.std.specs.List.{list_any}
+use Rattle.std.specs.Option.{option_map_or}
+use Rattle.std.proofs.lemmas.Bool.{or_left}
 use Rattle.vp_laws.proofs.Lists.Numbers.{one_above, eq_self}
 use Rattle.vp_laws.proofs.Keeping.Does.{Does, does}
 use Rattle.vp_laws.proofs.Invariant.Known.{Known}
@@ -71,6 +76,18 @@ own_view txn number at held held_now = rw (same_txn-self txn) refl
 
 below_of : (n m : ℕ) → nat_le n m ≡ false → m ≤ n
 below_of n m e = grind (arith, nat_tests, e)
+
+all_of_two : (a b : Bool) → a ≡ true → b ≡ true → (a && b) ≡ true
+all_of_two a b p q = rw (p, q) refl
+
+of_second : (a b : Bool) → b ≡ true → (a || b) ≡ true
+of_second true b e = refl
+of_second false b e = e
+
+report_tells : (m : Moment) (a : Answer) → is_report a ≡ true → TellsEnd m a
+report_tells m (answer.LockHeld txn number name at holder) e = cc
+report_tells m (answer.ViewChanged txn number at held now) e = cc
+report_tells m _ e = tt
 
 module _ (catalogue : Catalogue) (world : WorldState) (past : List Moment) (m0 : Moment) (s : ℕ) (x : SiteState) (given : Input) (up : plain_at (scene_of world) s ≡ Some x) (arrives : Arrives (scene_of world) s given) (is : IsStep m0 world s x given (step catalogue x given)) (fair : FairAt catalogue (scene_of world) past) where
   abbrev w : Scene
@@ -126,7 +143,7 @@ module _ (catalogue : Catalogue) (world : WorldState) (past : List Moment) (m0 :
 
   number_told : (t : Live) → Handled x t → (a : Answer) → ReplyFrom catalogue x given o.site a → (n : ℕ) → refused_number t.txn a ≡ Some n → n ≡ length t.answers + 1
   number_told t at a (ReplyFrom.free b f) n e = absurd (free_unrefused t.txn b n f e)
-  number_told t at a (ReplyFrom.inaccessible u p name rec takes found f) n e = cc
+  number_told t at a (ReplyFrom.inaccessible u p name rec exclusive takes op found f) n e = cc
   number_told t at a (ReplyFrom.repeated f b k q) n e = ⊎_elim
       (λ r. absurd (report_unrefused t.txn b n r e))
       (λ (r : (number : ℕ) × (b ≡ answer_of f.txn number f.ending)). absurd (finished_other t f r.0 n at k (ap (refused_number t.txn) (sym r.1) ∙ e)))
@@ -147,6 +164,33 @@ module _ (catalogue : Catalogue) (world : WorldState) (past : List Moment) (m0 :
   refused_first t p a at number own h =
       refused_last t.txn past m0 (never_told t.txn at.was at.live (ap (λ (t : Live). t.txn) (sym at.same)))
       ∙ first_told t.txn (answers_in m0.line) p.number (λ b q n e. number_in t at b q n e ∙ sym number) a h own
+
+  -- a transaction that the step tells was refused is over
+  ended_told : (a : Answer) → Has (answers_in m0.line) a → (txn : TxnId) (n : ℕ) → refused_number txn a ≡ Some n → EndedAt (acted w s x o) txn
+  ended_told a h txn n e =
+      let r = map_has (λ (r : Reply). r.answer) o.effects.replies a (rw is.shown at h) in
+      said_refused catalogue w (acted w s x o) s x given o known inv_now.known d fair.inv.own_ends r.0.answer txn n (d.replying.said r.0 r.1) (ap (refused_number txn) r.2 ∙ e)
+
+  was_live : (t : Live) → Has x.live t → is_live t.txn x.live ≡ true
+  was_live t h = any_of (λ (u : Live). same_txn u.txn t.txn) x.live t h (same_txn-self t.txn)
+
+  over_now : (txn : TxnId) → txn.site ≡ s → EndedAt (acted w s x o) txn → is_live txn o.site.live ≡ false
+  over_now txn at ended = go (is_live txn o.site.live) refl
+    where
+      go : (b : Bool) → is_live txn o.site.live ≡ b → b ≡ false
+      go false e = refl
+      go true e = let r = any_true (λ (t : Live). same_txn t.txn txn) o.site.live e in absurd (ended.over o.site (rw at d.st.now) r.0 r.1 (same_txn-is r.0.txn txn r.2))
+
+  handled_site : (t : Live) → Handled x t → t.txn.site ≡ s
+  handled_site t at = ap (λ (t : Live). t.txn.site) at.same ∙ own_site at.was at.live
+
+  -- the step closes a live transaction of which it tells a refusal
+  closed_here : (t : Live) (a : Answer) (n : ℕ) → Handled x t → Has (answers_in m0.line) a → refused_number t.txn a ≡ Some n → closed_then t.txn m0 ≡ true
+  closed_here t a n at h e =
+      let was : at.was.txn ≡ t.txn = ap (λ (t : Live). t.txn) (sym at.same) in
+      let site : t.txn.site ≡ s = handled_site t at in
+      let live : is_live t.txn x.live ≡ true = subst (λ (txn : TxnId). is_live txn x.live ≡ true) was (was_live at.was at.live) in
+      closed_now catalogue m0 world s x given o is t.txn site live (over_now t.txn site (ended_told a h t.txn n e))
 
   -- the request that was refused is of the pending call, and of another site
   current : (t : Live) (p : Pending) (Asked : Pending → Type 0) → Has x.live t → t.pending ≡ Some p → Current Asked p.number t → Asked p
@@ -186,32 +230,42 @@ module _ (catalogue : Catalogue) (world : WorldState) (past : List Moment) (m0 :
   begun_now t h = begun_more past (m0 ∷ []) t.txn t.view (fair.live s x t up h)
 
   -- a lock that another site named
-  there_fair : (t : Live) (p : Pending) (from : ℕ) (name : List ℕ) (exclusive : Bool) (holder : Owner) (k : ℕ) → Awaits x t p → Operates p.call name exclusive → refused_in now t.txn ≡ Some p.number → p.number ≤ k → RefuseFair catalogue w past from t.txn p.number (obstacle.Held holder) → Fair catalogue now (answer.LockHeld t.txn k name from holder)
-  there_fair t p from name exclusive holder k a op first up_to (RefuseFair.blocked view rec flag held_by q asked m h f) =
+  there_fair : (t : Live) (p : Pending) (from : ℕ) (name : List ℕ) (exclusive : Bool) (holder : Owner) (k : ℕ) → Awaits x t p → Operates p.call name exclusive → Comes given from (message.Refuse t.txn p.number (obstacle.Held holder)) → closed_then t.txn m0 ≡ true → refused_in now t.txn ≡ Some p.number → p.number ≤ k → RefuseFair catalogue w past from t.txn p.number (obstacle.Held holder) → Fair catalogue now (answer.LockHeld t.txn k name from holder)
+  there_fair t p from name exclusive holder k a op came closed first up_to (RefuseFair.blocked view rec flag held_by q asked m h f) =
       let n = named_there t p from q view rec flag exclusive name a asked op in
-      record { refused = p.number; first = first; up_to = up_to; once = any_of (was_blocked catalogue t.txn p.number name from holder) now m (has_left past (m0 ∷ []) m h) (f name n.0 n.1) }
+      let took : takes_refusal t.txn p.number from (is_held_by holder) m0 ≡ true = took_refusal catalogue m0 world s x given o is from t.txn p.number (obstacle.Held holder) (is_held_by holder) came (same_owner-self holder) in
+      record {
+        refused = p.number;
+        first = first;
+        up_to = up_to;
+        closed = ByLock.there n.1 (closes now t.txn (takes_refusal t.txn p.number from (is_held_by holder)) m0 here closed took) (record { moment = m; has = has_left past (m0 ∷ []) m h; passes = f name n.0 n.1 });
+      }
 
   -- another view that another site named
-  view_fair : (t : Live) (p : Pending) (from : ℕ) (held_now : Option ViewId) (k : ℕ) → Awaits x t p → refused_in now t.txn ≡ Some p.number → p.number ≤ k → RefuseFair catalogue w past from t.txn p.number (obstacle.OtherView held_now) → Fair catalogue now (answer.ViewChanged t.txn k from t.view held_now)
-  view_fair t p from held_now k a first up_to (RefuseFair.elsewhere view w_now q asked e once) =
+  view_fair : (t : Live) (p : Pending) (from : ℕ) (held_now : Option ViewId) (k : ℕ) → Awaits x t p → Comes given from (message.Refuse t.txn p.number (obstacle.OtherView held_now)) → closed_then t.txn m0 ≡ true → refused_in now t.txn ≡ Some p.number → p.number ≤ k → RefuseFair catalogue w past from t.txn p.number (obstacle.OtherView held_now) → Fair catalogue now (answer.ViewChanged t.txn k from t.view held_now)
+  view_fair t p from held_now k a came closed first up_to (RefuseFair.elsewhere view w_now q asked e once) =
       let n = view_of t q from view p.number a.live asked in
       let e_now : is_view held_now t.view ≡ false = rw n.0 e in
-      let once_now : Once past (held_other catalogue t.txn p.number from t.view held_now) = rw n.0 once in (
+      let once_now : Once past (held_other catalogue t.txn p.number from t.view held_now) = rw n.0 once in
+      let took : takes_refusal t.txn p.number from (is_other_view held_now) m0 ≡ true = took_refusal catalogue m0 world s x given o is from t.txn p.number (obstacle.OtherView held_now) (is_other_view held_now) came (same_now held_now) in (
         begun_now t a.live,
         OtherView.other held_now n.1 e_now (record {
           refused = p.number;
           first = first;
           up_to = up_to;
-          once = any_of (held_other catalogue t.txn p.number from t.view held_now) now once_now.moment (has_left past (m0 ∷ []) once_now.moment once_now.has) once_now.passes;
+          closed = record {
+            closes = closes now t.txn (takes_refusal t.txn p.number from (is_other_view held_now)) m0 here closed took;
+            other = record { moment = once_now.moment; has = has_left past (m0 ∷ []) once_now.moment once_now.has; passes = once_now.passes };
+          };
         }),
       )
 
   -- a lock here, of a call that comes in this step
-  here_fair : (was : Live) (p : Pending) (name : List ℕ) (rec : ℕ) (exclusive : Bool) (holder : Owner) (k : ℕ) → Takes x given was p → Operates p.call name exclusive → find_record catalogue name ≡ Some rec → conflict rec exclusive was.txn x.locks ≡ Some holder → refused_in now was.txn ≡ Some p.number → p.number ≤ k → Has (answers_in m0.line) (answer.LockHeld was.txn p.number name x.id holder) → Fair catalogue now (answer.LockHeld was.txn k name x.id holder)
-  here_fair was p name rec exclusive holder k at op f n first up_to told =
+  here_fair : (was : Live) (p : Pending) (name : List ℕ) (rec : ℕ) (exclusive : Bool) (holder : Owner) (k : ℕ) → Takes x given was p → Operates p.call name exclusive → find_record catalogue name ≡ Some rec → conflict rec exclusive was.txn x.locks ≡ Some holder → closed_then was.txn m0 ≡ true → refused_in now was.txn ≡ Some p.number → p.number ≤ k → Has (answers_in m0.line) (answer.LockHeld was.txn p.number name x.id holder) → Fair catalogue now (answer.LockHeld was.txn k name x.id holder)
+  here_fair was p name rec exclusive holder k at op f n closed first up_to told =
       let told_here : Has (answers_in m0.line) (answer.LockHeld was.txn p.number name s holder) = rw (← d.here.id) told in
       let blocked = blocked_here catalogue m0 world s x given o is was p name rec exclusive holder at.called op f n (own_site was at.live) told_here in
-      rw d.here.id (record { refused = p.number; first = first; up_to = up_to; once = any_of (was_blocked catalogue was.txn p.number name s holder) now m0 here blocked })
+      rw d.here.id (record { refused = p.number; first = first; up_to = up_to; closed = ByLock.here (sym (own_site was at.live)) (closes now was.txn (was_blocked catalogue was.txn p.number name s holder) m0 here closed blocked) })
 
   -- where the site holds no view it has no live transaction
   none_left : o.site.held ≡ None → (txn : TxnId) → is_live txn o.site.live ≡ false
@@ -227,9 +281,10 @@ module _ (catalogue : Catalogue) (world : WorldState) (past : List Moment) (m0 :
   left_fair : (t : Live) (k : ℕ) → Has x.live t → o.site.held ≡ None → Fair catalogue now (answer.ViewChanged t.txn k x.id t.view None)
   left_fair t k h gone =
       let v = d.led.live t h in
-      let was : is_live t.txn x.live ≡ true = any_of (λ (u : Live). same_txn u.txn t.txn) x.live t h (same_txn-self t.txn) in
-      let left : left_and_closed t.txn t.view m0 ≡ true = rw (← v.2) (left_and_closed_now catalogue m0 world s x given o is t.txn v.0 (own_site t h) v.1 gone was (none_left gone t.txn)) in
-      (begun_now t h, OtherView.left (d.here.id ∙ sym (own_site t h)) (record { moment = m0; has = here; passes = left }))
+      let closed : closed_then t.txn m0 ≡ true = closed_now catalogue m0 world s x given o is t.txn (own_site t h) (was_live t h) (none_left gone t.txn) in
+      let left : left_then s v.0.id m0 ≡ true = left_now catalogue m0 world s x given o is v.0 v.1 gone in
+      let left_here : left_then x.id t.view m0 ≡ true = subst (λ (k : ℕ). left_then k t.view m0 ≡ true) (sym d.here.id) (subst (λ (i : ViewId). left_then s i m0 ≡ true) v.2 left) in
+      (begun_now t h, OtherView.left (d.here.id ∙ sym (own_site t h)) (closes now t.txn (left_then x.id t.view) m0 here closed left_here))
 
   why_fair : (t : Live) (why : Ending) (k : ℕ) → Handled x t → Why catalogue x given o.site t why → ((p : Pending) → t.pending ≡ Some p → Has (answers_in m0.line) (answer_of t.txn p.number why)) → ((p : Pending) → t.pending ≡ Some p → length t.answers + 1 ≤ k) → Fair catalogue now (answer_of t.txn k why)
   why_fair t why k handled (Why.aborted was p at e) told up_to = tt
@@ -239,15 +294,16 @@ module _ (catalogue : Catalogue) (world : WorldState) (past : List Moment) (m0 :
       let next : p.number ≡ length t.answers + 1 = number_of t (LockHeld name x.id holder) p (Why.held_here was p name rec exclusive holder at e op f n) pending in
       let number : p.number ≤ k = at_most_of p.number (length t.answers) k next (up_to p pending) in
       let first : refused_in now t.txn ≡ Some p.number = refused_first t p _ handled next (own_held t.txn p.number name x.id holder) (told p pending) in
-      rw same (here_fair was p name rec exclusive holder k at op f n (rw same at first) number (rw same at (told p pending)))
+      let closed : closed_then t.txn m0 ≡ true = closed_here t _ p.number handled (told p pending) (own_held t.txn p.number name x.id holder) in
+      rw same (here_fair was p name rec exclusive holder k at op f n (subst (λ (txn : TxnId). closed_then txn m0 ≡ true) same closed) (rw same at first) number (rw same at (told p pending)))
   why_fair t why k handled (Why.held_there p from name exclusive holder a n op) told up_to =
       let next = next_number t p a.live a.pending in
       let first : refused_in now t.txn ≡ Some p.number = refused_first t p _ handled next (own_held t.txn p.number name from holder) (told p a.pending) in
-      there_fair t p from name exclusive holder k a op first (at_most_of p.number (length t.answers) k next (up_to p a.pending)) (fair.sent _ (d.came from _ n))
+      there_fair t p from name exclusive holder k a op n (closed_here t _ p.number handled (told p a.pending) (own_held t.txn p.number name from holder)) first (at_most_of p.number (length t.answers) k next (up_to p a.pending)) (fair.sent _ (d.came from _ n))
   why_fair t why k handled (Why.other_view p from held_now a n) told up_to =
       let next = next_number t p a.live a.pending in
       let first : refused_in now t.txn ≡ Some p.number = refused_first t p _ handled next (own_view t.txn p.number from t.view held_now) (told p a.pending) in
-      view_fair t p from held_now k a first (at_most_of p.number (length t.answers) k next (up_to p a.pending)) (fair.sent _ (d.came from _ n))
+      view_fair t p from held_now k a n (closed_here t _ p.number handled (told p a.pending) (own_view t.txn p.number from t.view held_now)) first (at_most_of p.number (length t.answers) k next (up_to p a.pending)) (fair.sent _ (d.came from _ n))
   why_fair t why k handled (Why.left h gone) told up_to = left_fair t k h gone
   why_fair t why k handled (Why.timed_out missing h) told up_to = tt
 
@@ -267,24 +323,62 @@ module _ (catalogue : Catalogue) (world : WorldState) (past : List Moment) (m0 :
       some_held : {b : Bool} (v : View) → x.held ≡ Some v → b ≡ true → (is_some x.held && b) ≡ true
       some_held v e f = rw (e, f) refl
 
-  end_justified : (a : Answer) → Fair catalogue now a → justified catalogue now m0 a ≡ true
-  end_justified a f = fair_justified catalogue now m0 a f
+  -- the step is of the transaction's own site, which closes it or keeps its end
+  tells_here : (txn : TxnId) → txn.site ≡ s → (closed_then txn m0 || tested_before s (λ site. list_any (λ (f : Finished). same_txn f.txn txn) site.finished) m0) ≡ true → tells_end txn m0 ≡ true
+  tells_here txn at e =
+      subst (λ (k : ℕ). (is_step_of k m0 && (closed_then txn m0 || tested_before k (λ site. list_any (λ (f : Finished). same_txn f.txn txn) site.finished) m0)) ≡ true) (sym at)
+      (all_of_two (is_step_of s m0) _ (step_here catalogue m0 world s x given o is) e)
 
-  reply_justified : (a : Answer) → Has (answers_in m0.line) a → ReplyFrom catalogue x given o.site a → justified catalogue now m0 a ≡ true
-  reply_justified a h (ReplyFrom.free b e) = free_justified catalogue now m0 b e
-  reply_justified a h (ReplyFrom.inaccessible t p name rec at found e) =
-      let named : site_named m0.before m0.line.event ≡ Some s = rw is.before (named_site m0.line.event world s given is.gives) in
-      rw named (tested_x catalogue m0 world s x given o is (weighs catalogue name (inside catalogue rec (members_in x.held)) (total catalogue rec)) (weighs_x t name rec at.live found e))
-  reply_justified a h (ReplyFrom.repeated f b k q) = end_justified b (fair_more catalogue past (m0 ∷ []) b ((fair.finished s x f up k).answers b q))
-  reply_justified a h (ReplyFrom.ended f number k e) = end_justified _ (fair_more catalogue past (m0 ∷ []) _ ((fair.finished s x f up k).later number (below_of number (length f.answers) e)))
-  reply_justified a h (ReplyFrom.closed t why p n w e) =
-      end_justified _ (why_fair t why p.number n w (λ q g. let same : p ≡ q = cc in subst (λ (q : Pending). Has (answers_in m0.line) (answer_of t.txn q.number why)) same h) (λ q g. same_at_most p.number (length t.answers + 1) (number_of t why p w e)))
+  closes_tells : (t : Live) → t.txn.site ≡ s → closed_then t.txn m0 ≡ true → tells_end t.txn m0 ≡ true
+  closes_tells t at closed = tells_here t.txn at (or_left (closed_then t.txn m0) _ closed)
 
-  pub replies_justified : (a : Answer) → Has (answers_in m0.line) a → justified catalogue now m0 a ≡ true
-  replies_justified a h =
+  keeps_tells : (f : Finished) → Has x.finished f → tells_end f.txn m0 ≡ true
+  keeps_tells f h =
+      let kept : list_any (λ (g : Finished). same_txn g.txn f.txn) x.finished ≡ true = any_of (λ (g : Finished). same_txn g.txn f.txn) x.finished f h (same_txn-self f.txn) in
+      tells_here f.txn (((known.ends.settled s x up).names f h).0 ∙ d.here.id)
+      (of_second (closed_then f.txn m0) _ (tested_x catalogue m0 world s x given o is (λ site. list_any (λ (g : Finished). same_txn g.txn f.txn) site.finished) kept))
+
+  kept_tells : (f : Finished) → Has x.finished f → (n : ℕ) (why : Ending) → TellsEnd m0 (answer_of f.txn n why)
+  kept_tells f h n Committed = tt
+  kept_tells f h n Aborted = tt
+  kept_tells f h n (LockHeld name at holder) = keeps_tells f h
+  kept_tells f h n (ViewChanged at held held_now) = keeps_tells f h
+  kept_tells f h n (TimedOut at) = tt
+
+  why_tells : (t : Live) (why : Ending) (p : Pending) → Handled x t → Why catalogue x given o.site t why → t.pending ≡ Some p → Has (answers_in m0.line) (answer_of t.txn p.number why) → TellsEnd m0 (answer_of t.txn p.number why)
+  why_tells t Committed p at y e h = tt
+  why_tells t Aborted p at y e h = tt
+  why_tells t (LockHeld name from holder) p at y e h = closes_tells t (handled_site t at) (closed_here t _ p.number at h (own_held t.txn p.number name from holder))
+  why_tells t (ViewChanged from held held_now) p at y e h = closes_tells t (handled_site t at) (closed_here t _ p.number at h (own_view t.txn p.number from held held_now))
+  why_tells t (TimedOut from) p at y e h = tt
+
+  end_justified : (a : Answer) → Fair catalogue now a → Untold (lines_in now) a → TellsEnd m0 a → justified catalogue now m0 a ≡ true
+  end_justified a f untold ends = fair_justified catalogue now m0 a f untold ends
+
+  reply_justified : (a : Answer) → Has (answers_in m0.line) a → Untold (lines_in now) a → ReplyFrom catalogue x given o.site a → justified catalogue now m0 a ≡ true
+  reply_justified a h untold (ReplyFrom.free b e) = free_justified catalogue now m0 b e
+  reply_justified a h untold (ReplyFrom.inaccessible t p name rec exclusive at op found e) =
+      let i = inside catalogue rec (members_in x.held) in
+      let n = total catalogue rec in
+      let r : Request = record { txn = t.txn; number = p.number; lock = Some (rec, exclusive); view = None } in
+      let asked : handles catalogue s t.txn p.number (λ request. option_map_or (λ lock. is_named catalogue name lock.0) request.lock false) m0 ≡ true = handles_now catalogue m0 world s x given o is r (λ request. option_map_or (λ lock. is_named catalogue name lock.0) request.lock false) (operation_asks catalogue m0 world s x given o is t p name rec exclusive at.called op found) (named_here catalogue m0 world s x given o is name rec found) in
+      let weighed : tested_before s (λ site. is_live t.txn site.live && weighs catalogue name i n site) m0 ≡ true = tested_x catalogue m0 world s x given o is (λ site. is_live t.txn site.live && weighs catalogue name i n site) (all_of_two (is_live t.txn x.live) (weighs catalogue name i n x) (was_live t at.live) (weighs_x t name rec at.live found e)) in
+      subst (λ (k : ℕ). (handles catalogue k t.txn p.number (λ request. option_map_or (λ lock. is_named catalogue name lock.0) request.lock false) m0 && tested_before k (λ site. is_live t.txn site.live && weighs catalogue name i n site) m0) ≡ true) (sym (own_site t at.live)) (all_of_two _ _ asked weighed)
+  reply_justified a h untold (ReplyFrom.repeated f b k q) =
+      end_justified b (fair_more catalogue past (m0 ∷ []) b ((fair.finished s x f up k).answers b q)) untold (⊎_elim
+      (λ r. report_tells m0 b r)
+      (λ (r : (number : ℕ) × (b ≡ answer_of f.txn number f.ending)). subst (TellsEnd m0) (sym r.1) (kept_tells f k r.0 f.ending))
+      ((known.repeated.site s x up).finished f k b q))
+  reply_justified a h untold (ReplyFrom.ended f number k e) =
+      end_justified _ (fair_more catalogue past (m0 ∷ []) _ ((fair.finished s x f up k).later number (below_of number (length f.answers) e))) untold (kept_tells f k number f.ending)
+  reply_justified a h untold (ReplyFrom.closed t why p n w e) =
+      end_justified _ (why_fair t why p.number n w (λ q g. let same : p ≡ q = cc in subst (λ (q : Pending). Has (answers_in m0.line) (answer_of t.txn q.number why)) same h) (λ q g. same_at_most p.number (length t.answers + 1) (number_of t why p w e))) untold (why_tells t why p n w e h)
+
+  pub replies_justified : ((a : Answer) → Has (answers_in m0.line) a → Untold (lines_in now) a) → (a : Answer) → Has (answers_in m0.line) a → justified catalogue now m0 a ≡ true
+  replies_justified untold a h =
       let z : Has (map (λ (r : Reply). r.answer) o.effects.replies) a = rw is.shown at h in
       let r = map_has (λ (r : Reply). r.answer) o.effects.replies a z in
-      reply_justified a h (subst (ReplyFrom catalogue x given o.site) r.2 (c.says r.0 r.1))
+      reply_justified a h (untold a h) (subst (ReplyFrom catalogue x given o.site) r.2 (c.says r.0 r.1))
 
   -- what a transaction that ends in this step keeps
   ends_fair : (t : Live) (why : Ending) → Handled x t → ((k : ℕ) → ((p : Pending) → t.pending ≡ Some p → length t.answers + 1 ≤ k) → Fair catalogue now (answer_of t.txn k why)) → ((p : Pending) → t.pending ≡ Some p → p.number ≡ length t.answers + 1) → FairEnd catalogue now (finished_as t why)
@@ -359,9 +453,7 @@ module _ (catalogue : Catalogue) (world : WorldState) (past : List Moment) (m0 :
   told_now m same = subst (λ (m : Moment). (a : Answer) → Has (answers_in m.line) a → (txn : TxnId) (n : ℕ) → refused_number txn a ≡ Some n → EndedAt new txn) same told_here
     where
       told_here : (a : Answer) → Has (answers_in m0.line) a → (txn : TxnId) (n : ℕ) → refused_number txn a ≡ Some n → EndedAt new txn
-      told_here a h txn n e =
-          let r = map_has (λ (r : Reply). r.answer) o.effects.replies a (rw is.shown at h) in
-          said_refused catalogue w new s x given o known inv_now.known d fair.inv.own_ends r.0.answer txn n (d.replying.said r.0 r.1) (ap (refused_number txn) r.2 ∙ e)
+      told_here = ended_told
 
   pub step_fair : FairAt catalogue new now
   step_fair = record {

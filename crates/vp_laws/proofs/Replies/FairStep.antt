@@ -1,12 +1,12 @@
 -- A step's refusals are justified by its own moment.
-use Rattle.std.proofs.Common.{◌≡◌, ◌≢◌, ◌∙◌, sym, subst, ℕ, Bool, true, false, List, refl, arith}
+use Rattle.std.proofs.Common.{◌≡◌, ◌≢◌, ◌∙◌, ap, sym, subst, ℕ, Bool, true, false, List, refl, arith}
 use Rattle.std.specs.Prelude.{Option, Some, None, ◌==◌, ◌&&◌, not}
 use Rattle.std.specs.List.{list_any}
 use Rattle.std.specs.Option.{option_map_or}
 use Rattle.std.proofs.lemmas.Bool.{eqb-true}
 use Rattle.std.proofs.lemmas.Bool.Decides.{nat_tests}
 use Rattle.std.proofs.lemmas.Slice.Eq.{bytes_eq-Decides}
-use Rattle.vp_model.specs.Types.{TxnId, ViewId, View, Owner, Call, Answer, Reply, Message, Sent, Event, Input, Pending, Live}
+use Rattle.vp_model.specs.Types.{TxnId, ViewId, View, Owner, Obstacle, Call, Answer, Reply, Message, Sent, Event, Input, Pending, Live}
 use Rattle.vp_model.specs.Types.answer
 use Rattle.vp_model.specs.Types.input
 use Rattle.vp_model.specs.Types.message
@@ -20,7 +20,7 @@ use Rattle.vp_model.specs.World.{WorldState, Moment, site_of}
 use Rattle.vp_model.specs.Answers.{is_live}
 use Rattle.vp_model.specs.Messages.{held_id}
 use Rattle.vp_model.specs.Told.{answers_in, messages_in}
-use Rattle.vp_model.specs.Justified.{Request, call_request, message_request, request_of, site_named, is_step_of, is_request, tested_before, tested_after, blocks, is_named, says_held, gave_held, was_blocked, refuses, is_held_by, is_other_view, is_same_view, handles, held_other, left_then, left_and_closed}
+use Rattle.vp_model.specs.Justified.{Request, call_request, message_request, request_of, site_named, is_step_of, is_request, tested_before, tested_after, blocks, is_named, says_held, gave_held, was_blocked, refuses, is_held_by, is_other_view, is_same_view, handles, held_other, left_then, closed_then, taken, takes_refusal}
 use Rattle.vp_laws.proofs.Lists.Members.{Has, both_true, any_of}
 use Rattle.vp_laws.proofs.Lists.Changes.{mapped_has}
 use Rattle.vp_model.proofs.SameTxn.{same_txn-is, same_txn-self}
@@ -43,7 +43,7 @@ pub record IsStep (m : Moment) (w : WorldState) (s : ℕ) (x : SiteState) (given
 pub same_view-self : (v : ViewId) → same_view v v ≡ true
 same_view-self v = grind (arith, nat_tests)
 
-same_now : (v : Option ViewId) → is_same_view v v ≡ true
+pub same_now : (v : Option ViewId) → is_same_view v v ≡ true
 same_now None = refl
 same_now (Some v) = same_view-self v
 
@@ -64,6 +64,18 @@ message_asks catalogue e w s given (Gives.called calls is) from words c = cc
 message_asks catalogue e w s given (Gives.came k m is at to) from words c = let same : m.message ≡ words = cc in rw (is, at, same) refl
 message_asks catalogue e w s given (Gives.ticked is) from words c = cc
 message_asks catalogue e w s given (Gives.probed is) from words c = cc
+
+sent_is : (m : Sent) (from to : ℕ) (words : Message) → m.from ≡ from → m.to ≡ to → m.message ≡ words → m ≡ letter from to words
+sent_is m from to words p q r = rw (← p, ← q, ← r) refl
+
+taken_is : (e : Event) (w : WorldState) (s : ℕ) (given : Input) → Gives e w s given → (from : ℕ) (words : Message) → Comes given from words → taken w e ≡ Some (letter from s words)
+taken_is e w s given (Gives.called calls is) from words c = cc
+taken_is e w s given (Gives.came k m is at to) from words c =
+    let sender : m.from ≡ from = cc in
+    let same : m.message ≡ words = cc in
+    rw is (at ∙ ap (λ (m : Sent). Some m) (sent_is m from s words sender to same))
+taken_is e w s given (Gives.ticked is) from words c = cc
+taken_is e w s given (Gives.probed is) from words c = cc
 
 in_turn : (a b c : Bool) → a ≡ true → b ≡ true → c ≡ true → ((a && b) && c) ≡ true
 in_turn a b c p q r = rw (p, q, r) refl
@@ -94,7 +106,7 @@ module _ (catalogue : Catalogue) (m : Moment) (w : WorldState) (s : ℕ) (x : Si
   replied port a h = rw is.shown (mapped_has (λ (r : Reply). r.answer) o.effects.replies (told_to port a) h)
 
   -- the call of an operation, as a request
-  operation_asks : (t : Live) (p : Pending) (name : List ℕ) (rec : ℕ) (exclusive : Bool) → Called given t p → Operates p.call name exclusive → find_record catalogue name ≡ Some rec → request_of catalogue w m.line.event ≡ Some (record { txn = t.txn; number = p.number; lock = Some (rec, exclusive); view = None })
+  pub operation_asks : (t : Live) (p : Pending) (name : List ℕ) (rec : ℕ) (exclusive : Bool) → Called given t p → Operates p.call name exclusive → find_record catalogue name ≡ Some rec → request_of catalogue w m.line.event ≡ Some (record { txn = t.txn; number = p.number; lock = Some (rec, exclusive); view = None })
   operation_asks t p name rec exclusive c op found = call_asks catalogue m.line.event w s given is.gives p.port p.call c.comes ∙ go exclusive op
     where
       both : (txn : TxnId) (n : ℕ) → (same_txn txn t.txn && (n == p.number)) ≡ true → (txn ≡ t.txn) × (n ≡ p.number)
@@ -107,7 +119,7 @@ module _ (catalogue : Catalogue) (m : Moment) (w : WorldState) (s : ℕ) (x : Si
   says : (txn : TxnId) (number : ℕ) (name : List ℕ) (holder : Owner) → says_held txn number name s holder (answer.LockHeld txn number name s holder) ≡ true
   says txn number name holder = rw (same_txn-self txn, eq_self number, (bytes_eq-Decides name name).1 refl, eq_self s) (same_owner-self holder)
 
-  named_here : (name : List ℕ) (rec : ℕ) → find_record catalogue name ≡ Some rec → is_named catalogue name rec ≡ true
+  pub named_here : (name : List ℕ) (rec : ℕ) → find_record catalogue name ≡ Some rec → is_named catalogue name rec ≡ true
   named_here name rec found = rw (found, eq_self rec) refl
 
   -- a lock here forbade the call
@@ -156,20 +168,21 @@ module _ (catalogue : Catalogue) (m : Moment) (w : WorldState) (s : ℕ) (x : Si
       go (Asks.prepares reads writes c) = by None (message_asks catalogue m.line.event w s given is.gives from (message.Prepare txn view number reads writes) c)
 
   -- the site has left the view
-  left_now : (v : View) → x.held ≡ Some v → o.site.held ≡ None → left_then s v.id m ≡ true
+  pub left_now : (v : View) → x.held ≡ Some v → o.site.held ≡ None → left_then s v.id m ≡ true
   left_now v held gone =
       let before : tested_before s (λ site. is_view (held_id site) v.id) m ≡ true = tested_x (λ site. is_view (held_id site) v.id) (rw held (same_view-self v.id)) in
       let now : tested_after s (λ site. is_view (held_id site) v.id) m ≡ false = tested_o (λ site. is_view (held_id site) v.id) false (rw gone refl) in
       rw (step_here, before, now) refl
 
-  -- and has closed the transaction
-  closed_now : (txn : TxnId) → is_live txn x.live ≡ true → is_live txn o.site.live ≡ false → (tested_before s (λ site. is_live txn site.live) m && not (tested_after s (λ site. is_live txn site.live) m)) ≡ true
-  closed_now txn was gone =
+  -- and the step has closed the transaction
+  pub closed_now : (txn : TxnId) → txn.site ≡ s → is_live txn x.live ≡ true → is_live txn o.site.live ≡ false → closed_then txn m ≡ true
+  closed_now txn at was gone =
       let before : tested_before s (λ site. is_live txn site.live) m ≡ true = tested_x (λ site. is_live txn site.live) was in
       let now : tested_after s (λ site. is_live txn site.live) m ≡ false = tested_o (λ site. is_live txn site.live) false gone in
-      rw (before, now) refl
+      subst (λ (k : ℕ). (tested_before k (λ site. is_live txn site.live) m && not (tested_after k (λ site. is_live txn site.live) m)) ≡ true) (sym at) (rw (before, now) refl)
 
-  pub left_and_closed_now : (txn : TxnId) (v : View) → txn.site ≡ s → x.held ≡ Some v → o.site.held ≡ None → is_live txn x.live ≡ true → is_live txn o.site.live ≡ false → left_and_closed txn v.id m ≡ true
-  left_and_closed_now txn v at held gone was none =
-      subst (λ (k : ℕ). (left_then k v.id m && (tested_before k (λ site. is_live txn site.live) m && not (tested_after k (λ site. is_live txn site.live) m))) ≡ true) (sym at)
-      (rw (left_now v held gone) (closed_now txn was none))
+  -- and took this refusal
+  pub took_refusal : (from : ℕ) (txn : TxnId) (number : ℕ) (why : Obstacle) (test : Obstacle → Bool) → Comes given from (message.Refuse txn number why) → test why ≡ true → takes_refusal txn number from test m ≡ true
+  took_refusal from txn number why test c e =
+      let t : taken m.before m.line.event ≡ Some (letter from s (message.Refuse txn number why)) = rw is.before (taken_is m.line.event w s given is.gives from (message.Refuse txn number why) c) in
+      rw t (rw (eq_self from, same_txn-self txn, eq_self number) e)

@@ -1,11 +1,9 @@
 -- The number of the call of a transaction that was refused: it is that of the first reply that tells of it, and stays so.
 use Rattle.std.proofs.Common.{◌≡◌, ◌∙◌, ◌≤◌, ap, ℕ, Bool, true, false, cond, List, [], ◌∷◌, ◌++◌, refl, append-nil, ⊎_elim}
 use Rattle.std.specs.Prelude.{Option, Some, None, nat_le, filter_map, flat_map}
-use Rattle.std.specs.List.{list_any}
-use Rattle.std.proofs.lemmas.Bool.{le-leb, or_left}
+use Rattle.std.proofs.lemmas.Bool.{le-leb}
 use Rattle.std.proofs.lemmas.Grind.{flat_map-append}
 use Rattle.std.proofs.lemmas.List.Elements.{filter_map-append}
-use Rattle.std.proofs.lemmas.List.Folds.{list_any-append}
 use Rattle.vp_model.specs.Types.{TxnId, Answer, Ending}
 use Rattle.vp_base.specs.declared.site.Ending.TheVariants.{Committed, Aborted, LockHeld, ViewChanged, TimedOut}
 use Rattle.vp_model.specs.Words.{first, same_txn}
@@ -67,25 +65,25 @@ none_refused txn moments none = ap first (go moments none)
         ∙ go moments (λ x h. none x (has_more m moments x h))
 
 -- the refusal as a record
-pub record Refusal (moments : List Moment) (txn : TxnId) (number : ℕ) (test : ℕ → Moment → Bool) : Type 0 where
+pub record Refusal (moments : List Moment) (txn : TxnId) (number : ℕ) (Closed : ℕ → Type 0) : Type 0 where
   -- the number of the refused call
   pub refused : ℕ
   -- it is the first
   pub first : refused_in moments txn ≡ Some refused
   -- the reply's number is not lower
   pub up_to : refused ≤ number
-  -- a moment passes the test
-  pub once : list_any (test refused) moments ≡ true
+  -- the refusal closed the transaction
+  pub closed : Closed refused
 
-pub refusal_is : (moments : List Moment) (txn : TxnId) (number : ℕ) (test : ℕ → Moment → Bool) → Refusal moments txn number test → refused_once moments txn number test ≡ true
-refusal_is moments txn number test r = let z : nat_le r.refused number ≡ true = le-leb r.refused number r.up_to in rw (r.first, z) r.once
+pub refusal_is : (moments : List Moment) (txn : TxnId) (number : ℕ) (Closed : ℕ → Type 0) (test : ℕ → Bool) → ((n : ℕ) → Closed n → test n ≡ true) → Refusal moments txn number Closed → refused_once moments txn number test ≡ true
+refusal_is moments txn number Closed test passes r = let z : nat_le r.refused number ≡ true = le-leb r.refused number r.up_to in rw (r.first, z) (passes r.refused r.closed)
 
-pub refusal_more : (moments more : List Moment) (txn : TxnId) (number : ℕ) (test : ℕ → Moment → Bool) → Refusal moments txn number test → Refusal (moments ++ more) txn number test
-refusal_more moments more txn number test r = record {
+pub refusal_more : (moments more : List Moment) (txn : TxnId) (number : ℕ) (Closed Later : ℕ → Type 0) → ((n : ℕ) → Closed n → Later n) → Refusal moments txn number Closed → Refusal (moments ++ more) txn number Later
+refusal_more moments more txn number Closed Later lasts r = record {
   refused = r.refused;
   first = refused_more txn moments more r.refused r.first;
   up_to = r.up_to;
-  once = list_any-append (test r.refused) moments more ∙ or_left _ _ r.once;
+  closed = lasts r.refused r.closed;
 }
 
 -- a reply that tells of the transaction is its own, with its number

@@ -16,7 +16,7 @@ use Rattle.vp_laws.proofs.Lists.Changes.{without_first_has, change_first_has, at
 use Rattle.vp_laws.proofs.Lists.Names.{named}
 use Rattle.vp_laws.proofs.Moves.Table.{next_view, next_name, Handled}
 use Rattle.vp_laws.proofs.Table.Kept.{AnswersKept, kept_has, completed, is_report}
-use Rattle.vp_laws.proofs.Moves.Reasons.{Takes, Why, Tells, is_plain, told_to, last_reply, Goes, Front}
+use Rattle.vp_laws.proofs.Moves.Reasons.{Operates, Takes, Why, Tells, is_plain, told_to, last_reply, Goes, Front}
 use Rattle.vp_laws.proofs.Moves.FrontSteps.{step-front}
 use Rattle.vp_laws.proofs.Moves.Calls.{done, waiting, reading, writing}
 
@@ -44,7 +44,7 @@ pub data FinishedFrom (catalogue : Catalogue) (x : SiteState) (given : Input) (a
 -- an answer needs no cause, or has one, or is repeated
 pub data ReplyFrom (catalogue : Catalogue) (x : SiteState) (given : Input) (after : SiteState) : Answer → Type 0 where
   free : (a : Answer) → is_free a ≡ true → ReplyFrom catalogue x given after a
-  inaccessible : (t : Live) (p : Pending) (name : List ℕ) (rec : ℕ) → Takes x given t p → find_record catalogue name ≡ Some rec → is_usable_in catalogue x.held rec ≡ false → ReplyFrom catalogue x given after (answer.Inaccessible t.txn p.number name (inside catalogue rec (members_in x.held)) (total catalogue rec))
+  inaccessible : (t : Live) (p : Pending) (name : List ℕ) (rec : ℕ) (exclusive : Bool) → Takes x given t p → Operates p.call name exclusive → find_record catalogue name ≡ Some rec → is_usable_in catalogue x.held rec ≡ false → ReplyFrom catalogue x given after (answer.Inaccessible t.txn p.number name (inside catalogue rec (members_in x.held)) (total catalogue rec))
   repeated : (f : Finished) (a : Answer) → Has x.finished f → Has f.answers a → ReplyFrom catalogue x given after a
   ended : (f : Finished) (number : ℕ) → Has x.finished f → nat_le number (length f.answers) ≡ false → ReplyFrom catalogue x given after (answer_of f.txn number f.ending)
   closed : (t : Live) (why : Ending) (p : Pending) → Handled x t → Why catalogue x given after t why → t.pending ≡ Some p → ReplyFrom catalogue x given after (answer_of t.txn p.number why)
@@ -91,7 +91,7 @@ module _ (catalogue : Catalogue) (x : SiteState) (given : Input) (after : SiteSt
 
   tells : (words : Answer) → Tells catalogue x given words → ReplyFrom catalogue x given after words
   tells words (Tells.plain w e) = ReplyFrom.free w (plain_free w e)
-  tells words (Tells.inaccessible t p name rec at f a) = ReplyFrom.inaccessible t p name rec at f a
+  tells words (Tells.inaccessible t p name rec exclusive at op f a) = ReplyFrom.inaccessible t p name rec exclusive at op f a
   tells words (Tells.again t number w h e) = ReplyFrom.free w (report_free w (kept.live t h w (kept_has number t.answers w e)))
   tells words (Tells.finished_again f number w h e) = ReplyFrom.repeated f w h (kept_has number f.answers w e)
   tells words (Tells.ended f number h e) = ReplyFrom.ended f number h e

@@ -32,7 +32,7 @@ module _ (catalogue : Catalogue) (x : SiteState) (given : Input) where
 
   tells : (rs : List Reply) (words : Answer) → Tells catalogue x given words → Cause catalogue x given rs words
   tells rs words (Tells.plain w e) = Cause.nothing (λ u. plain_unreported u w e)
-  tells rs words (Tells.inaccessible t p name rec at f a) = Cause.nothing (λ u. refl)
+  tells rs words (Tells.inaccessible t p name rec exclusive at op f a) = Cause.nothing (λ u. refl)
   tells rs words (Tells.again t number w h e) = Cause.kept (IsKept.live t h (kept_has number t.answers w e))
   tells rs words (Tells.finished_again f number w h e) = Cause.kept (IsKept.finished f h (kept_has number f.answers w e))
   tells rs words (Tells.ended f number h e) = Cause.nothing (λ u. end_unreported u f.txn number f.ending)

@@ -16,7 +16,7 @@ use Rattle.vp_model.specs.Transactions.{answer_of, put_live, with_finished}
 use Rattle.vp_model.specs.Calls.{begun}
 use Rattle.vp_model.specs.Answers.{with_acknowledged}
 use Rattle.vp_model.specs.Step.{mark, step}
-use Rattle.vp_model.specs.Told.{reported, is_early_refusal, told_by}
+use Rattle.vp_model.specs.Told.{reported, is_early_refusal, told_by, named_in}
 use Rattle.vp_laws.proofs.Table.ToldLines.{Report}
 use Rattle.vp_laws.specs.Reports.{is_of_kind}
 use Rattle.vp_laws.proofs.Lists.Members.{Has, has_none, has_first, has_more, has_one_is, has_cases, map_has}
@@ -39,6 +39,8 @@ pub record SaysDone (catalogue : Catalogue) (txn : TxnId) (p : Pending) (operati
   pub tells : told_by catalogue report p.call ≡ Some operation
   pub late : is_early_refusal words ≡ false
   pub kind : is_of_kind report p.call ≡ true
+  pub rec : ℕ
+  pub named : named_in catalogue p.call ≡ Some rec
 
 -- an end reports nothing
 pub end_unreported : (u txn : TxnId) (k : ℕ) (why : Ending) → reported u (answer_of txn k why) ≡ None
@@ -65,6 +67,8 @@ read_says catalogue txn p rec value operation words r e f =
       tells = rw (r.words, r.found, e) refl;
       late = rw f refl;
       kind = rw r.words refl;
+      rec = rec;
+      named = rw r.words r.found;
     }
 
 write_says : (catalogue : Catalogue) (txn : TxnId) (p : Pending) (rec : ℕ) (value : List ℕ) (operation : Op) (words : Answer) → Writes catalogue p rec value → operation ≡ op.Write rec value → words ≡ answer.Written txn p.number → SaysDone catalogue txn p operation words
@@ -77,6 +81,8 @@ write_says catalogue txn p rec value operation words r e f =
       tells = rw (r.words, r.found, e) refl;
       late = rw f refl;
       kind = rw r.words refl;
+      rec = rec;
+      named = rw r.words r.found;
     }
 
 pub completed_says : (catalogue : Catalogue) (x : SiteState) (given : Input) (t : Live) (p : Pending) (operation : Op) (words : Answer) (l : Lent) → Completes catalogue x given t p operation words l → SaysDone catalogue t.txn p operation words
@@ -182,7 +188,7 @@ module _ (catalogue : Catalogue) (x : SiteState) (given : Input) where
 
     tells : (u : TxnId) (words : Answer) → Tells catalogue x given words → (reported u words ≡ None) ⊎ IsKept x words
     tells u words (Tells.plain w e) = inl (plain_unreported u w e)
-    tells u words (Tells.inaccessible t p name rec at f a) = inl refl
+    tells u words (Tells.inaccessible t p name rec exclusive at operates f a) = inl refl
     tells u words (Tells.again t number w h e) = inr (IsKept.live t h (kept_has number t.answers w e))
     tells u words (Tells.finished_again f number w h e) = inr (IsKept.finished f h (kept_has number f.answers w e))
     tells u words (Tells.ended f number h e) = inl (end_unreported u f.txn number f.ending)

@@ -127,7 +127,7 @@ module _ (catalogue : Catalogue) (world : WorldState) (lines : List Line) (m0 : 
   reports_now : (u : TxnId) → reports more u ≡ for_each (told_of u o.effects.replies) put_first (reports lines u)
   reports_now u = reports-last lines line u ∙ ap (λ (z : List Answer). collected u z (reports lines u)) answered
 
-  repeats_now : (u : TxnId) → Repeats x u o.effects.replies → reports more u ≡ reports lines u
+  pub repeats_now : (u : TxnId) → Repeats x u o.effects.replies → reports more u ≡ reports lines u
   repeats_now u h = reports_now u ∙ same_reports u o.effects.replies (reports lines u) (λ r q v e. ⊎_elim (λ (none : reported u r.answer ≡ None). cc) (λ kept. told.kept s x r.answer up kept u v e) (h r q))
 
   -- numbers

@@ -1,18 +1,15 @@
--- In every schedule each transaction is committed with the operations that its client was told of; and with it, each schedule over a
--- catalogue whose sites are different numbers is one copy.
+-- In every schedule each transaction is committed with the operations that its client was told of.
 use Rattle.std.proofs.Common.{◌≡◌, ap, sym, subst, ℕ, false, List, [], ◌∷◌, ◌++◌, map, length, refl}
 use Rattle.std.specs.Prelude.{Some, All}
 use Rattle.std.proofs.lemmas.List.Elements.{All-from_recursion}
 use Rattle.vp_model.specs.Types.{TxnId, Answer, Commit, Event, Input, Line, Reply, Live}
-use Rattle.vp_model.specs.Catalogue.{Catalogue, sites_of, start_copies}
+use Rattle.vp_model.specs.Catalogue.{Catalogue, start_copies}
 use Rattle.vp_model.specs.Durable.{DurableState, empty_durable}
 use Rattle.vp_model.specs.Site.{SiteState}
 use Rattle.vp_model.specs.Step.{start, step}
 use Rattle.vp_model.specs.Told.{is_step, reports, told}
-use Rattle.vp_model.specs.Headline.{IsOneCopy}
 use Rattle.vp_model.specs.World.{WorldState, Moved, Run, Schedule, moment, next, one_step, site_of, site_step, start_world, lines_of, journal_of}
 use Rattle.vp_laws.proofs.Table.ToldLines.{reports-silent, reported_lasts, IsReported, tells_on, IsUnheard, unheard_on, lines_in, lines_last}
-use Rattle.vp_laws.specs.Catalogues.{AreApart}
 use Rattle.vp_laws.proofs.Lists.Members.{Has, all_of}
 use Rattle.vp_laws.proofs.Worlds.Scenes.{Scene, scene_of, plain_at, kept_at, acted}
 use Rattle.vp_laws.proofs.Worlds.Events.{Arrives, crashed, restarted}
@@ -20,8 +17,6 @@ use Rattle.vp_laws.proofs.Worlds.Sites.{Quiet, QuietIs, quiet_is, crash_quiet, r
 use Rattle.vp_laws.proofs.Invariant.Names.{UsedTxn}
 use Rattle.vp_laws.proofs.Worlds.Occurs.{no_replies, Gives, Occurs, occurs, run-keeps}
 use Rattle.vp_laws.proofs.Replies.FairStep.{IsStep}
-use Rattle.vp_laws.proofs.Replies.FairTold.{refusals_justified}
-use Rattle.vp_laws.proofs.Told.OneCopy.{one_copy_from}
 use Rattle.vp_laws.proofs.Table.Told.{IsKept}
 use Rattle.vp_laws.proofs.Table.ToldCalls.{TellsCall, call_on}
 use Rattle.vp_laws.proofs.Told.At.{ToldAt, unstepped}
@@ -131,6 +126,3 @@ pub operations_told : (s : Schedule) → All (λ (commit : Commit). commit.ops �
 operations_told s =
     let h = run-keeps s.catalogue (RunTold s.catalogue) (record { starts = start_told s.catalogue; steps = λ number e run h. one_step-told s.catalogue number e run h }) s.events in
     All-from_recursion _ (journal_of s) (all_of (λ (e : Commit). e.ops ≡ told s.catalogue (lines_of s) e.txn) (journal_of s) (λ e there. sym (h.entries e there).tells))
-
-pub one_copy_told : (s : Schedule) → AreApart (sites_of s.catalogue) → IsOneCopy s
-one_copy_told s apart = one_copy_from s apart (operations_told s) (refusals_justified s)

@@ -1,13 +1,14 @@
--- Two schedules that end with a call, and what its answer might claim: the answer that is given is justified, and false ones are not.
-use Rattle.std.specs.Prelude.{ℕ, Bool, [], ◌∷◌, ◌++◌, None, codes}
-use Rattle.vp_model.specs.Types.{Call, Answer}
+-- Schedules that end with a call, and what its answer might claim: the answer that is given is justified, and false ones are not.
+use Rattle.std.specs.Prelude.{◌≡◌, ℕ, Bool, true, false, List, [], ◌∷◌, ◌++◌, None, codes}
+use Rattle.vp_model.specs.Types.{TxnId, Call, Answer, Event}
 use Rattle.vp_model.specs.Types.answer
 use Rattle.vp_model.specs.Types.call
 use Rattle.vp_model.specs.Types.event
 use Rattle.vp_model.specs.Types.owner
 use Rattle.vp_model.specs.Types.shown
 use Rattle.vp_model.specs.Catalogue.{Catalogue}
-use Rattle.vp_model.specs.World.{WorldState, Moment, Schedule, run_of, moments_of}
+use Rattle.vp_model.specs.World.{WorldState, Moment, Schedule, next, run_of, moments_of}
+use Rattle.vp_model.specs.Told.{answers_in}
 use Rattle.vp_model.specs.Justified.{all_justified}
 use Rattle.vp_model.specs.Worked.{view, txn, reply, stored}
 
@@ -81,4 +82,172 @@ closed_idle = record {
       ∷ event.Call 1 (call.Read (txn 1 1 1) 5 (codes "x"))
       ∷ event.Call 1 (call.Read (txn 1 1 1) 4 (codes "x"))
       ∷ [];
+}
+
+-- a schedule, a call after it, the answer that it gets, and a false one
+pub record FalseClaim : Type 0 where
+  pub schedule : Schedule
+  pub site : ℕ
+  pub words : Call
+  pub given : Answer
+  pub claimed : Answer
+
+abbrev pub answers_after : Schedule → ℕ → Call → List Answer
+answers_after s site words =
+    answers_in (record { event = event.Call site words; shown = (next s.catalogue (event.Call site words) (run_of s).world).shown })
+
+-- the one is given and justified, and the other is not
+pub record IsToldApart (c : FalseClaim) : Type 0 where
+  pub given : answers_after c.schedule c.site c.words ≡ c.given ∷ []
+  pub justified : is_justified_after c.schedule c.site c.words c.given ≡ true
+  pub another : is_justified_after c.schedule c.site c.words c.claimed ≡ false
+
+abbrev one_site : Catalogue
+one_site = record { sites = ((1, 7001) ∷ []); records = (stored (codes "x") (codes "10") ((1, 1) ∷ []) ∷ []) }
+
+-- 1.1.1 has written x at the only site, and then these events
+abbrev after_a_write : List Event → Schedule
+after_a_write events =
+    record {
+      catalogue = one_site;
+      events = event.Call 1 call.Begin ∷ event.Call 1 (call.Write (txn 1 1 1) 1 (codes "x") (codes "11")) ∷ events;
+    }
+
+abbrev read_x : TxnId → ℕ → Call
+read_x name number = call.Read name number (codes "x")
+
+-- at the site the lock of 1.1.1 on x stood in the way
+abbrev held_at : ℕ → TxnId → ℕ → Answer
+held_at site name number = answer.LockHeld name number (codes "x") site (owner.Txn (txn 1 1 1))
+
+-- 1.1.2 was aborted
+abbrev pub aborted : FalseClaim
+aborted = record {
+  schedule = after_a_write (event.Call 1 call.Begin ∷ event.Call 1 (call.Abort (txn 1 1 2) 1) ∷ []);
+  site = 1;
+  words = read_x (txn 1 1 2) 2;
+  given = answer.Aborted (txn 1 1 2) 2;
+  claimed = held_at 1 (txn 1 1 2) 2;
+}
+
+-- 1.1.9 was never begun
+abbrev pub never_begun : FalseClaim
+never_begun = record {
+  schedule = after_a_write [];
+  site = 1;
+  words = read_x (txn 1 1 9) 1;
+  given = answer.Unknown (txn 1 1 9);
+  claimed = held_at 1 (txn 1 1 9) 1;
+}
+
+-- 1.1.2 is called out of turn, and lives on
+abbrev pub out_of_turn : FalseClaim
+out_of_turn = record {
+  schedule = after_a_write (event.Call 1 call.Begin ∷ []);
+  site = 1;
+  words = read_x (txn 1 1 2) 5;
+  given = answer.Skipped (txn 1 1 2) 1;
+  claimed = held_at 1 (txn 1 1 2) 5;
+}
+
+-- 1.1.1 and 3.1.1 have read x, and both sites refuse the write of 2.1.1; the refusal of site 3 closes it
+abbrev pub refused_by_two : FalseClaim
+refused_by_two = record {
+  schedule = record {
+    catalogue = three_sites;
+    events =
+        event.Call 1 call.Begin
+        ∷ event.Call 1 (read_x (txn 1 1 1) 1)
+        ∷ event.Call 3 call.Begin
+        ∷ event.Call 3 (read_x (txn 3 1 1) 1)
+        ∷ event.Call 2 call.Begin
+        ∷ event.Call 2 (call.Write (txn 2 1 1) 1 (codes "x") (codes "12"))
+        ∷ event.Deliver 1
+        ∷ event.Deliver 2
+        ∷ event.Deliver 4
+        ∷ [];
+  };
+  site = 2;
+  words = read_x (txn 2 1 1) 2;
+  given = answer.LockHeld (txn 2 1 1) 2 (codes "x") 3 (owner.Txn (txn 3 1 1));
+  claimed = held_at 1 (txn 2 1 1) 2;
+}
+
+-- the write of 2.1.1 has timed out before the refusal of site 1 came
+abbrev pub timed_out_before : FalseClaim
+timed_out_before = record {
+  schedule = record {
+    catalogue = three_sites;
+    events =
+        event.Call 1 call.Begin
+        ∷ event.Call 1 (read_x (txn 1 1 1) 1)
+        ∷ event.Call 2 call.Begin
+        ∷ event.Call 2 (call.Write (txn 2 1 1) 1 (codes "x") (codes "12"))
+        ∷ event.Deliver 1
+        ∷ event.Tick 2
+        ∷ event.Tick 2
+        ∷ [];
+  };
+  site = 2;
+  words = call.Write (txn 2 1 1) 1 (codes "x") (codes "12");
+  given = answer.TimedOut (txn 2 1 1) 1 1;
+  claimed = held_at 1 (txn 2 1 1) 1;
+}
+
+-- the write of 2.1.1 was done after all, and is called again
+abbrev pub written_after_all : FalseClaim
+written_after_all = record {
+  schedule = granted_after_all;
+  site = 2;
+  words = call.Write (txn 2 1 1) 1 (codes "x") (codes "12");
+  given = answer.Written (txn 2 1 1) 1;
+  claimed = held_at 1 (txn 2 1 1) 1;
+}
+
+-- 1.1.1 has read x before its site left the view, and calls that read again
+abbrev pub told_before_leaving : FalseClaim
+told_before_leaving = record {
+  schedule = record { catalogue = three_sites; events = event.Call 1 call.Begin ∷ event.Call 1 (read_x (txn 1 1 1) 1) ∷ event.Call 1 call.Regroup ∷ [] };
+  site = 1;
+  words = read_x (txn 1 1 1) 1;
+  given = answer.Value (txn 1 1 1) 1 (codes "10");
+  claimed = answer.ViewChanged (txn 1 1 1) 1 1 (view 0 0) None;
+}
+
+-- 1.1.2 was closed for the lock, and its site has crashed since
+abbrev pub forgotten : FalseClaim
+forgotten = record {
+  schedule = after_a_write (event.Call 1 call.Begin ∷ event.Call 1 (read_x (txn 1 1 2) 1) ∷ event.Crash 1 ∷ event.Restart 1 ∷ []);
+  site = 1;
+  words = read_x (txn 1 1 2) 1;
+  given = answer.Unknown (txn 1 1 2);
+  claimed = held_at 1 (txn 1 1 2) 1;
+}
+
+-- 1.1.2 was closed for the lock, and is called at another site
+abbrev pub called_elsewhere : FalseClaim
+called_elsewhere = record {
+  schedule = record { catalogue = three_sites; events = (after_a_write (event.Call 1 call.Begin ∷ event.Call 1 (read_x (txn 1 1 2) 1) ∷ [])).events };
+  site = 2;
+  words = read_x (txn 1 1 2) 1;
+  given = answer.Unknown (txn 1 1 2);
+  claimed = held_at 1 (txn 1 1 2) 1;
+}
+
+-- two sites of three are needed for x, and site 1 holds a view without the others; 1.1.9 was never begun there
+abbrev pub unknown_without_weight : FalseClaim
+unknown_without_weight = record {
+  schedule = record { catalogue = three_sites; events = event.Call 1 call.Regroup ∷ event.Tick 1 ∷ event.Call 1 call.Begin ∷ [] };
+  site = 1;
+  words = read_x (txn 1 1 9) 1;
+  given = answer.Unknown (txn 1 1 9);
+  claimed = answer.Inaccessible (txn 1 1 9) 1 (codes "x") 1 3;
+}
+
+-- and 1.1.1 is told so
+abbrev pub told_the_weights : FalseClaim
+told_the_weights = record unknown_without_weight {
+  words = read_x (txn 1 1 1) 1;
+  given = answer.Inaccessible (txn 1 1 1) 1 (codes "x") 1 3;
+  claimed = answer.Inaccessible (txn 1 1 1) 2 (codes "x") 1 3;
 }
