@@ -1,4 +1,4 @@
-"""A loop over sockets and times, a proxy between nodes that loses and repeats datagrams, and clients that don't wait."""
+"""A loop over sockets and times, a proxy between nodes that cuts, loses and repeats, and clients that don't wait."""
 import heapq
 import itertools
 import selectors
@@ -56,6 +56,7 @@ class Proxy:
     def __init__(self, loop, draw, ports):
         self.loop, self.draw, self.ports = loop, draw, ports
         self.dropping = self.repeating = 0.0  # how many of all datagrams
+        self.cut = set()  # the pairs of sites, each a frozenset, between which nothing comes through
         self.dropped = self.repeated = self.forwarded = 0
         self._faces = {}
         for at, of in itertools.permutations(ports, 2):
@@ -67,7 +68,7 @@ class Proxy:
         return {of: self._faces[site, of].getsockname()[1] if of != site else self.ports[site] for of in self.ports}
 
     def _came(self, data, port, sender, to):
-        if port != self.ports[sender]:
+        if port != self.ports[sender] or frozenset((sender, to)) in self.cut:
             return
         if self.draw.random() < self.dropping:
             self.dropped += 1

@@ -1,0 +1,108 @@
+"""Catalogues, and the frames that who runs a cluster sends and reads. All of it goes over 127.0.0.1."""
+import socket
+import struct
+import sys
+from typing import NamedTuple, Optional
+
+HOST = "127.0.0.1"
+LONGEST = 65536
+LAST_NUMBER = 2**32 - 1  # of a call: no transaction comes so far
+
+HEAD = b"\x56\x01"
+CALL, REPLY, TICK, PROBE, STOP = 32, 33, 34, 35, 36
+BEGIN_CALL, REGROUP_CALL, ABORT_CALL = 1, 2, 6
+BEGUN, INVITING, NO_VIEW, SPENT, TOO_MANY_LIVE = 1, 6, 7, 17, 18
+TO_BEGIN = (BEGUN, NO_VIEW, SPENT, TOO_MANY_LIVE)  # what a `begin` is answered
+
+
+def bound(port=0):
+    """A UDP socket on the port, or on one that the kernel chooses."""
+    sock = socket.socket(socket.AF_INET, socket.SOCK_DGRAM)
+    try:
+        sock.bind((HOST, port))
+    except OSError:
+        sock.close()
+        raise
+    return sock
+
+
+class Catalogue(NamedTuple):
+    """The lines of a catalogue that are of use here: the port of each site, and the names of records."""
+
+    ports: dict
+    records: list
+
+
+def read_catalogue(path):
+    """The catalogue in a file. Where it can't be one, that is said, and the script ends with status 2. Nodes read it exactly."""
+    ports, records = {}, []
+    try:
+        with open(path, encoding="ascii") as lines:
+            for number, line in enumerate(lines, 1):
+                kind, *words = line.split()
+                if kind == "site":
+                    site, port = map(int, words)
+                    ports[site] = port
+                elif kind == "record" and len(words) > 2:
+                    records.append(words[0])
+                else:
+                    raise ValueError(f"line {number} is neither a site's nor a record's")
+        if not ports:
+            raise ValueError("no line of a site")
+    except (OSError, ValueError) as fault:
+        sys.exit(fail(2, f"no catalogue in {path}: {fault}"))
+    return Catalogue(ports, records)
+
+
+def fail(status, *what):
+    """Says what is wrong on standard error, and gives the status."""
+    print(*what, file=sys.stderr)
+    return status
+
+
+def frame(kind, site, fields=b""):
+    return HEAD + bytes([kind, 0, site]) + fields
+
+
+class View(NamedTuple):
+    """The identifier of a view. Views ascend by number, then by site."""
+
+    number: int
+    site: int
+
+    def __str__(self):
+        return f"{self.number}@{self.site}"
+
+
+class Reply(NamedTuple):
+    """What a site says of itself: the view that it holds or invites to (`begun`, `inviting`), or without a view its promise (`no view`)."""
+
+    kind: int
+    site: int
+    view: Optional[View]
+    txn: bytes  # that has begun, as it stands in a frame
+
+
+def read_reply(data):
+    """The reply in a datagram, or None where it holds none."""
+    if len(data) < 6 or data[:3] != HEAD + bytes([REPLY]) or data[4] != 0:
+        return None
+    kind, fields, txn = data[5], data[6:], b""
+    if kind == BEGUN:
+        txn, fields = fields[:9], fields[9:]
+    if kind in (BEGUN, INVITING, NO_VIEW):
+        return Reply(kind, data[3], View(*struct.unpack(">QB", fields)), txn) if len(fields) == 9 else None
+    return Reply(kind, data[3], None, txn)
+
+
+def begin(site):
+    return frame(CALL, site, bytes([BEGIN_CALL]))
+
+
+def regroup(site):
+    return frame(CALL, site, bytes([REGROUP_CALL]))
+
+
+def abort(site, txn):
+    """The abort of a transaction as its first call."""
+    return frame(CALL, site, bytes([ABORT_CALL]) + txn + struct.pack(">I", 1))

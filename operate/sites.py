@@ -1,0 +1,156 @@
+"""The sites of a cluster as who runs it sees them: what they are told, what they say of their views, and the procedure that mends."""
+import contextlib
+import selectors
+import socket
+import time
+
+import frames
+
+
+class Sites:
+    """One socket for each site. A port that can't be reached is said once, and once more when it can be reached again."""
+
+    def __init__(self, ports, say=lambda line: None):
+        self.ports, self._say = ports, say
+        self._selector = selectors.DefaultSelector()
+        self._sockets, self._refused = {}, set()
+        self._heard = {}  # the last answer of each site to a `begin`, and when it came
+        self._invited = {}  # the view to which a site said that it invites
+        for site, port in ports.items():
+            self._sockets[site] = sock = socket.socket(socket.AF_INET, socket.SOCK_DGRAM)
+            sock.connect((frames.HOST, port))
+            sock.setblocking(False)
+            self._selector.register(sock, selectors.EVENT_READ, site)
+
+    def send(self, site, data):
+        with self._told(site):
+            self._sockets[site].send(data)
+
+    def tick(self, *sites):
+        for site in sites:
+            self.send(site, frames.frame(frames.TICK, site))
+
+    def probe(self, site):
+        self.send(site, frames.frame(frames.PROBE, site))
+
+    def stop(self, site):
+        self.send(site, frames.frame(frames.STOP, site))
+
+    @contextlib.contextmanager
+    def _told(self, site):
+        """A fault of a socket that is already full passes; another one is said where it is new."""
+        try:
+            yield
+        except BlockingIOError:
+            pass
+        except OSError as fault:
+            if site not in self._refused:
+                self._refused.add(site)
+                self._say(f"site {site}: port {self.ports[site]} can't be reached: {fault.strerror}")
+
+    def take(self, seconds, until=lambda: False):
+        """Takes what comes for so many seconds, or until it is enough. A transaction that began is aborted at once."""
+        end = time.monotonic() + seconds
+        while not until():
+            pause = end - time.monotonic()
+            if pause <= 0:
+                return
+            for key, _ in self._selector.select(pause):
+                self._take_one(key.data)
+
+    def _take_one(self, site):
+        with self._told(site):
+            reply = frames.read_reply(self._sockets[site].recv(frames.LONGEST))
+            if site in self._refused:
+                self._refused.remove(site)
+                self._say(f"site {site}: port {self.ports[site]} is reached again")
+            if reply is None or reply.site != site:
+                return
+            if reply.kind == frames.BEGUN:
+                self.send(site, frames.abort(site, reply.txn))
+            if reply.kind == frames.INVITING:
+                self._invited[site] = reply.view
+            elif reply.kind in frames.TO_BEGIN:
+                self._heard[site] = reply, time.monotonic()
+
+    def look(self, seconds=0.3):
+        """Each site that answers a `begin` within so many seconds, with its answer. What was begun is aborted."""
+        start = time.monotonic()
+        for site in self.ports:
+            self.send(site, frames.begin(site))
+
+        def answered():
+            return {site: reply for site, (reply, when) in self._heard.items() if when >= start}
+
+        self.take(seconds, lambda: len(answered()) == len(self.ports))
+        return answered()
+
+    def regroup(self, site, seconds):
+        """The view to which the site now invites, or None where it doesn't say so in time."""
+        self._invited.pop(site, None)
+        self.send(site, frames.regroup(site))
+        self.take(seconds, lambda: site in self._invited)
+        return self._invited.get(site)
+
+    def close(self):
+        for sock in self._sockets.values():
+            sock.close()
+        self._selector.close()
+
+
+def held_by(reply):
+    """The view that the site holds, or None."""
+    return reply.view if reply.kind == frames.BEGUN else None
+
+
+def held(replies):
+    """The view that each site that answered holds, or None."""
+    return {site: held_by(reply) for site, reply in replies.items()}
+
+
+def promise(reply):
+    """What the site has promised: the view that it holds is the last one that it accepted."""
+    return reply.view or frames.View(0, 0)
+
+
+def until_all(sites, which, seconds, true):
+    """Looks again and again, for so many seconds at most, until it is true of the answer of each of these sites. Gives the last look."""
+    end = time.monotonic() + seconds
+    while True:
+        replies = sites.look(min(0.3, seconds))
+        if all(site in replies and true(replies[site]) for site in which) or time.monotonic() > end:
+            return replies
+        time.sleep(0.02)
+
+
+def make_view(sites, inviter, others, wait):
+    """Regroups at one site, which fixes the view with those of the others that accept in time, and gives its members as far as they say so.
+
+    Then each of them is ticked twice, so that no record is left under refresh, and no transaction in doubt whose coordinator is among them.
+    """
+    view = sites.regroup(inviter, wait)
+    if view is None:
+        return set()
+    replies = until_all(sites, others, wait, lambda reply: promise(reply) == view)
+    members = [inviter, *(site for site in others if site in replies and promise(replies[site]) == view)]
+    sites.tick(inviter)
+    replies = until_all(sites, members, wait, lambda reply: held_by(reply) == view)
+    joined = {site for site in members if site in replies and held_by(replies[site]) == view}
+    for _ in range(2):
+        sites.tick(*sorted(joined))
+        sites.take(min(0.2, wait))
+    return joined
+
+
+def mend(sites, wait):
+    """Makes a view of all sites that answer, or where they don't reach each other one for each part of them. Gives what they then hold.
+
+    The site with the greatest promise invites: so nobody has promised more, and it need not invite twice.
+    """
+    replies = sites.look()
+    left = set(replies)
+    while left:
+        inviter = max(left, key=lambda site: (promise(replies[site]), site))
+        left -= make_view(sites, inviter, sorted(left - {inviter}), wait) | {inviter}
+        replies |= sites.look()
+    return held(sites.look())
