@@ -5,7 +5,8 @@ usage: transfers_under_beat.py PROGRAM [SEED [COUNT [REFERENCE]]]
 
 COUNT transfers, 2,000 if nothing is said, are done in rounds of 250, each by four processes of `operate/call` at five nodes with their logs in a temporary
 folder (TMPDIR says where), between eight accounts with copies of different weights. All the while, each two to five seconds, a node is killed (kill -9)
-and started again half a second to three seconds later, or two halves are cut from each other for one to four seconds. Then all are up and joined, and
+and started again half a second to three seconds later, or two halves are cut from each other for one to four seconds; and of the calls and of the answers two in
+a hundred are lost, and two come twice. Then all are up and joined, and
 `operate/call` reads all accounts at each site. These are checked:
 
 - Every site reads the same balances, with the sum of the start.
@@ -27,12 +28,13 @@ import tempfile
 import time
 
 from comparison import arguments
-from lossy_network import Loop, Proxy
+from lossy_network import Front, Loop, Proxy
 from node_processes import Nodes, catalogue, free_ports
 from recordings import Fault, insist
 from told_transfers import Caller, Told, reference_in, script, transfers, values_read
 
 ROUND, CALLERS, SITES, BALANCE, LIMIT = 250, 4, range(1, 6), 100, 60
+DROPPING, REPEATING = 0.02, 0.02  # of the calls, and of the answers
 WEIGHTS = ("1:1 2:1 3:1", "3:1 4:1 5:1", "1:1 2:1 3:1 4:1 5:1", "1:2 3:1 4:1 5:1", "2:1 4:3 5:3", "1:1 3:1 5:1", "2:1 3:2 4:1", "1:1 2:1 4:1 5:2")
 
 
@@ -45,12 +47,13 @@ class Round:
         self.names = [f"account{k}" for k in range(len(WEIGHTS))]
         ports = dict(zip(SITES, free_ports(len(SITES))))
         self.loop = Loop()
-        self.proxy = Proxy(self.loop, self.draw, ports)
+        self.proxy, self.front = Proxy(self.loop, self.draw, ports), Front(self.loop, self.draw, ports)
         records = [f"record {name} {BALANCE} {weights}" for name, weights in zip(self.names, WEIGHTS)]
         self.catalogue = catalogue(ports, records)
         self.nodes = Nodes([program], {site: catalogue(self.proxy.ports_at(site), records) for site in SITES}, tempfile.mkdtemp(prefix="transfers."))
-        self.path = os.path.join(self.nodes.folder, "catalogue")
+        self.path, self.clients_path = (os.path.join(self.nodes.folder, name) for name in ("catalogue", "doors"))
         pathlib.Path(self.path).write_bytes(self.catalogue)
+        pathlib.Path(self.clients_path).write_bytes(catalogue(self.front.doors(), records))
         self.over, self.commits, self.longest, self.last = False, 0, 0.0, time.monotonic()
 
     # What goes on.
@@ -84,12 +87,13 @@ class Round:
             self.loop.at(0.05, self._watch)
 
     def _call(self, lines, name, *words):
-        return Caller(script("call", self.path, "--limit", LIMIT, "--vpdb", self.program, *words), lines, f"{self.nodes.folder}/{name}")
+        return Caller(script("call", self.clients_path, "--limit", LIMIT, "--vpdb", self.program, *words), lines, f"{self.nodes.folder}/{name}")
 
     def _do_transfers(self):
         shares = [self.count // CALLERS + (place < self.count % CALLERS) for place in range(CALLERS)]
         self.callers = [self._call(transfers(self.draw, self.names, share), f"outcomes{place}") for place, share in enumerate(shares)]
         self.last = time.monotonic()
+        self.front.dropping, self.front.repeating = DROPPING, REPEATING
         self._watch()
         self.loop.at(1.0, self._harm)
         self.loop.run(lambda: self.over, 3600)
@@ -100,6 +104,7 @@ class Round:
     def _balances(self):
         """The balances that every site reads once all are up and joined."""
         self.proxy.cut.clear()
+        self.front.dropping = self.front.repeating = 0.0
         for node in self.nodes.values():
             if not node.up:
                 node.start()
