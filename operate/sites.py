@@ -6,6 +6,8 @@ import time
 
 import frames
 
+QUIET = 5.0  # seconds without a fault after which a port that couldn't be reached is taken to be there, if nothing came from it
+
 
 class Sites:
     """One socket for each site. A port that can't be reached is said once, and once more when it can be reached again."""
@@ -13,7 +15,7 @@ class Sites:
     def __init__(self, ports, say=lambda line: None):
         self.ports, self._say = ports, say
         self._selector = selectors.DefaultSelector()
-        self._sockets, self._refused = {}, set()
+        self._sockets, self._refused = {}, {}  # when the last fault of a port that can't be reached came
         self._heard = {}  # the last answer of each site to a `begin`, and when it came
         self._invited = {}  # the view to which a site said that it invites
         for site, port in ports.items():
@@ -25,6 +27,8 @@ class Sites:
     def send(self, site, data):
         with self._told(site):
             self._sockets[site].send(data)
+            if time.monotonic() > self._refused.get(site, time.monotonic()) + QUIET:
+                self._is_reached(site)
 
     def tick(self, *sites):
         for site in sites:
@@ -45,8 +49,12 @@ class Sites:
             pass
         except OSError as fault:
             if site not in self._refused:
-                self._refused.add(site)
                 self._say(f"site {site}: port {self.ports[site]} can't be reached: {fault.strerror}")
+            self._refused[site] = time.monotonic()
+
+    def _is_reached(self, site):
+        if self._refused.pop(site, None):
+            self._say(f"site {site}: port {self.ports[site]} is reached again")
 
     def take(self, seconds, until=lambda: False):
         """Takes what comes for so many seconds, or until it is enough. A transaction that began is aborted at once."""
@@ -61,9 +69,7 @@ class Sites:
     def _take_one(self, site):
         with self._told(site):
             reply = frames.read_reply(self._sockets[site].recv(frames.LONGEST))
-            if site in self._refused:
-                self._refused.remove(site)
-                self._say(f"site {site}: port {self.ports[site]} is reached again")
+            self._is_reached(site)
             if reply is None or reply.site != site:
                 return
             if reply.kind == frames.BEGUN:
