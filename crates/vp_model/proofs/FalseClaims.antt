@@ -10,7 +10,7 @@ use Rattle.vp_model.specs.World.{Moment, Schedule, moments_of}
 use Rattle.vp_model.specs.Told.{answers_in}
 use Rattle.vp_model.specs.Headline.{RefusalsAreJustified}
 use Rattle.vp_model.specs.Worked.{view, txn}
-use Rattle.vp_model.specs.Worked.FalseClaims.{is_justified_after, closed_and_left, closed_by_lock, closed_by_leaving, granted_after_all, next_is_done, next_is_refused, closed_idle, IsToldApart, aborted, never_begun, out_of_turn, refused_by_two, timed_out_before, written_after_all, told_before_leaving, forgotten, called_elsewhere, unknown_without_weight, told_the_weights}
+use Rattle.vp_model.specs.Worked.FalseClaims.{is_justified_after, closed_and_left, closed_by_lock, closed_by_leaving, granted_after_all, next_is_done, next_is_refused, closed_idle, IsToldApart, aborted, never_begun, out_of_turn, refused_by_two, timed_out_before, written_after_all, told_before_leaving, waiting_write, left_view, refused_again, refused_first, forgotten, called_elsewhere, unknown_without_weight, told_the_weights}
 use Rattle.vp_model.proofs.Computed.{computes}
 
 -- what the schedule answers, and then this call
@@ -101,6 +101,30 @@ written_after_all-apart = record { given = refl; justified = refl; another = ref
 pub told_before_leaving-apart : IsToldApart told_before_leaving
 unfolding computes
 told_before_leaving-apart = record { given = refl; justified = refl; another = refl }
+
+pub refused_again-apart : IsToldApart refused_again
+unfolding computes
+refused_again-apart = record { given = refl; justified = refl; another = refl }
+
+pub refused_first-apart : IsToldApart refused_first
+unfolding computes
+refused_first-apart = record { given = refl; justified = refl; another = refl }
+
+waiting-answers : answers_with waiting_write (event.Call 1 call.Regroup) ≡
+    (answer.Begun (txn 1 1 1) (view 0 0) ∷ [])
+    ∷ []
+    ∷ (left_view 1 ∷ answer.Inviting (view 1 1) ∷ [])
+    ∷ []
+unfolding answers_with computes
+waiting-answers = refl
+
+pub left-given : is_justified_after waiting_write 1 call.Regroup (left_view 1) ≡ true
+unfolding computes
+left-given = refl
+
+pub left-another : is_justified_after waiting_write 1 call.Regroup (left_view 7) ≡ false
+unfolding computes
+left-another = refl
 
 pub forgotten-apart : IsToldApart forgotten
 unfolding computes

@@ -211,6 +211,22 @@ pub fn told_before_leaving()
     ensures { claims.IsToldApart claims.told_before_leaving }
 {}
 
+/// A transaction that was refused answers its end under the number of the call, and not under a larger one.
+pub fn refused_under_its_number()
+    ensures { claims.IsToldApart claims.refused_again }
+{}
+
+/// A call under number 0 is answered as the first, and not as a later one.
+pub fn refused_under_the_first_number()
+    ensures { claims.IsToldApart claims.refused_first }
+{}
+
+/// A site that leaves its view answers the call that waits, and not one under a larger number.
+pub fn left_under_its_number()
+    ensures given { claims.is_justified_after claims.waiting_write 1 call.Regroup (claims.left_view 1) ≡ true }
+    ensures another { claims.is_justified_after claims.waiting_write 1 call.Regroup (claims.left_view 7) ≡ false }
+{}
+
 /// A transaction whose end its site has forgotten is unknown, and not refused again.
 pub fn forgotten_without_a_refusal()
     ensures { claims.IsToldApart claims.forgotten }

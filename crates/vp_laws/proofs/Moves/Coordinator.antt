@@ -41,7 +41,7 @@ pub live_of-is : (txn : TxnId) (live : List Live) (t : Live) → live_of txn liv
 live_of-is txn live t e = same_txn-is t.txn txn (find_true (λ (u : Live). same_txn u.txn txn) live t e)
 
 -- what is looked up by its place is there
-slice_has : {X : Type 0} (xs : List X) (i : ℕ) (a : X) → slice_get xs i ≡ Some a → Has xs a
+pub slice_has : {X : Type 0} (xs : List X) (i : ℕ) (a : X) → slice_get xs i ≡ Some a → Has xs a
 slice_has [] i a e = cc
 slice_has (y ∷ ys) zero a e = let same : y ≡ a = cc in rw same (has_first a ys)
 slice_has (y ∷ ys) (suc i) a e = has_more y ys a (slice_has ys i a e)

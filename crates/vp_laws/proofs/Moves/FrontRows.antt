@@ -22,11 +22,12 @@ use Rattle.vp_model.specs.Answers.{with_missing, count_in, read_answered, on_rea
 use Rattle.vp_model.specs.Told.{is_call}
 use Rattle.vp_model.specs.Step.{is_marked_call, least_missing, time_out_calls, mark_calls}
 use Rattle.vp_laws.specs.Votes.{is_commit}
-use Rattle.vp_laws.proofs.Lists.Members.{Has, filter_has, has_first, has_more, find_has}
+use Rattle.vp_laws.proofs.Lists.Members.{Has, filter_has, has_first, has_more, find_has, find_true}
 use Rattle.vp_laws.proofs.Moves.Frames.{close-commits, decided-ends, decided-commits, decide-cases}
+use Rattle.vp_model.proofs.SameTxn.{same_txn-is}
 use Rattle.vp_laws.proofs.Moves.Coordinator.{live_of-has, live_of-is, next_number}
 use Rattle.vp_laws.proofs.Moves.Table.{Comes, Handled, Reads, Writes, remaining, IsLast, Locked, Completes, Decides, lent_at}
-use Rattle.vp_laws.proofs.Moves.Reasons.{Called, Operates, Takes, Awaits, Why, Tells, last_reply, IsDone, Goes, Front}
+use Rattle.vp_laws.proofs.Moves.Reasons.{Called, IsCallOf, Operates, Takes, Awaits, Why, Tells, last_reply, IsDone, Goes, Front}
 use Rattle.vp_laws.proofs.Lists.Keeps.{by_option, by_some, by_test}
 use Rattle.vp_laws.proofs.Moves.Calls.{reading, writing, waiting}
 
@@ -51,8 +52,8 @@ unfolding close finish
 close-coordinator id t why l = refl
 
 -- the call is of the transaction that is handled
-own_name : (t : Live) (txn : TxnId) → t.txn ≡ txn → (number : ℕ) (words : Call) → is_call txn number words ≡ true → is_call t.txn number words ≡ true
-own_name t txn e number words c = rw e c
+own_name : (own txn : TxnId) → own ≡ txn → (number : ℕ) (words : Call) → is_call txn number words ≡ true → is_call own number words ≡ true
+own_name own txn e number words c = rw e c
 
 module _ (catalogue : Catalogue) (x : SiteState) (given : Input) (after : SiteState) (G : CoordinatorState → List Reply → List Commit → Type 0) (k : Front catalogue x given after G) (h : G x.coordinator [] []) where
   abbrev Q : Lent → Type 0
@@ -165,20 +166,23 @@ module _ (catalogue : Catalogue) (x : SiteState) (given : Input) (after : SiteSt
       (λ fresh. by_test Q (nat_lt (length t.answers + 1) p.number) _ _ (λ skipped. told _ _ (Tells.plain _ refl))
       (λ fits. by_test Q (is_some t.pending) _ _ (λ busy. told _ _ (Tells.plain _ refl)) (λ idle. new_call-front t p (record { live = here; next = record { comes = c.comes; idle = idle; number = next_number p.number (length t.answers) fresh fits }; called = c }) p.call refl)))
 
-  finished_call-front : (port number : ℕ) (f : Finished) → Has x.finished f → Q (finished_call port number f (lent_at x))
+  finished_call-front : (port number : ℕ) (f : Finished) → Has x.finished f → IsCallOf given f.txn number → Q (finished_call port number f (lent_at x))
   unfolding finished_call
-  finished_call-front port number f here =
-      by_test Q (nat_le number (length f.answers)) _ _ (λ old. by_some Q _ (λ answer. lent_reply answer port) (lent_at x) (λ answer e. told answer port (Tells.finished_again f number answer here e)) h)
-      (λ more. told _ _ (Tells.ended f number here more))
+  finished_call-front port number f here calls =
+      by_test Q (nat_le number (length f.answers)) _ _ (λ old. by_some Q _ (λ answer. lent_reply answer port) (lent_at x) (λ answer e. told answer port (Tells.finished_again f number answer here e calls)) h)
+      (λ more. told _ _ (Tells.ended f number here more calls))
 
   finished_of-has : (txn : TxnId) (f : Finished) → finished_of txn x.finished ≡ Some f → Has x.finished f
   finished_of-has txn f e = find_has (λ (f : Finished). same_txn f.txn txn) x.finished f e
 
+  finished_of-is : (txn : TxnId) (f : Finished) → finished_of txn x.finished ≡ Some f → f.txn ≡ txn
+  finished_of-is txn f e = same_txn-is f.txn txn (find_true (λ (f : Finished). same_txn f.txn txn) x.finished f e)
+
   on_txn_call-front : (port : ℕ) (txn : TxnId) (number : ℕ) (words : Call) → given ≡ input.Call port words → is_call txn number words ≡ true → Q (on_txn_call catalogue x.id x.held port txn number words (lent_at x))
   unfolding on_txn_call
   on_txn_call-front port txn number words c own =
-      by_option Q _ _ _ (λ t e. live_call-front t (handled port number words) (live_of-has txn x.live t e) (record { comes = c; own = own_name t txn (live_of-is txn x.live t e) number words own }))
-      (λ none. by_option Q (λ f. finished_call port number f (lent_at x)) (finished_of txn x.finished) (lent_reply (answer.Unknown txn) port (lent_at x)) (λ f e. finished_call-front port number f (finished_of-has txn f e)) (λ unknown. told _ _ (Tells.plain _ refl)))
+      by_option Q _ _ _ (λ t e. live_call-front t (handled port number words) (live_of-has txn x.live t e) (record { comes = c; own = own_name t.txn txn (live_of-is txn x.live t e) number words own }))
+      (λ none. by_option Q (λ f. finished_call port number f (lent_at x)) (finished_of txn x.finished) (lent_reply (answer.Unknown txn) port (lent_at x)) (λ f e. finished_call-front port number f (finished_of-has txn f e) (record { port = port; words = words; comes = c; own = own_name f.txn txn (finished_of-is txn f e) number words own })) (λ unknown. told _ _ (Tells.plain _ refl)))
 
   is_own : (txn : TxnId) (number : ℕ) → (same_txn txn txn && (number == number)) ≡ true
   is_own txn number = grind (arith, nat_tests)

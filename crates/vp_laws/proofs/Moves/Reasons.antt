@@ -27,6 +27,13 @@ pub record Called (given : Input) (t : Live) (p : Pending) : Type 0 where
   pub comes : given ≡ input.Call p.port p.call
   pub own : is_call t.txn p.number p.call ≡ true
 
+-- the input is a call of this transaction and number
+pub record IsCallOf (given : Input) (txn : TxnId) (number : ℕ) : Type 0 where
+  pub port : ℕ
+  pub words : Call
+  pub comes : given ≡ input.Call port words
+  pub own : is_call txn number words ≡ true
+
 -- the call reads or writes a record of this name
 pub data Operates (words : Call) (name : List ℕ) : Bool → Type 0 where
   reads : (txn : TxnId) (number : ℕ) → words ≡ call.Read txn number name → Operates words name false
@@ -70,8 +77,8 @@ pub data Tells (catalogue : Catalogue) (x : SiteState) (given : Input) : Answer 
   plain : (words : Answer) → is_plain words ≡ true → Tells catalogue x given words
   inaccessible : (t : Live) (p : Pending) (name : List ℕ) (rec : ℕ) (exclusive : Bool) → Takes x given t p → Operates p.call name exclusive → find_record catalogue name ≡ Some rec → is_usable_in catalogue x.held rec ≡ false → Tells catalogue x given (answer.Inaccessible t.txn p.number name (inside catalogue rec (members_in x.held)) (total catalogue rec))
   again : (t : Live) (number : ℕ) (words : Answer) → Has x.live t → kept_answer number t.answers ≡ Some words → Tells catalogue x given words
-  finished_again : (f : Finished) (number : ℕ) (words : Answer) → Has x.finished f → kept_answer number f.answers ≡ Some words → Tells catalogue x given words
-  ended : (f : Finished) (number : ℕ) → Has x.finished f → nat_le number (length f.answers) ≡ false → Tells catalogue x given (answer_of f.txn number f.ending)
+  finished_again : (f : Finished) (number : ℕ) (words : Answer) → Has x.finished f → kept_answer number f.answers ≡ Some words → IsCallOf given f.txn number → Tells catalogue x given words
+  ended : (f : Finished) (number : ℕ) → Has x.finished f → nat_le number (length f.answers) ≡ false → IsCallOf given f.txn number → Tells catalogue x given (answer_of f.txn number f.ending)
 
 abbrev pub told_to : ℕ → Answer → Reply
 told_to port words = record { to = port; answer = words }

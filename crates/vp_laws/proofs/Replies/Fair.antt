@@ -57,10 +57,10 @@ abbrev pub Untold : List Line → Answer → Type 0
 Untold lines (answer.ViewChanged txn number at held now) = told_from lines txn number ≡ false
 Untold lines a = Unit {0}
 
--- where the answer names a lock or a view, the moment tells the end of its transaction
+-- where the answer names a lock or a view, the moment tells the end of its transaction to a call of this number
 abbrev pub TellsEnd : Moment → Answer → Type 0
-TellsEnd m (answer.LockHeld txn number name at holder) = tells_end txn m ≡ true
-TellsEnd m (answer.ViewChanged txn number at held now) = tells_end txn m ≡ true
+TellsEnd m (answer.LockHeld txn number name at holder) = tells_end txn number m ≡ true
+TellsEnd m (answer.ViewChanged txn number at held now) = tells_end txn number m ≡ true
 TellsEnd m a = Unit {0}
 
 once_more : (past more : List Moment) (test : Moment → Bool) → Once past test → Once (past ++ more) test
@@ -118,9 +118,9 @@ view_passes catalogue past txn at held now n b =
 
 pub fair_justified : (catalogue : Catalogue) (past : List Moment) (m : Moment) (a : Answer) → Fair catalogue past a → Untold (lines_in past) a → TellsEnd m a → justified catalogue past m a ≡ true
 fair_justified catalogue past m (answer.LockHeld txn number name at holder) f untold ends =
-    both (tells_end txn m) _ ends (refusal_is past txn number _ (closed_by_lock catalogue past txn name at holder) (lock_passes catalogue past txn name at holder) f)
+    both (tells_end txn number m) _ ends (refusal_is past txn number _ (closed_by_lock catalogue past txn name at holder) (lock_passes catalogue past txn name at holder) f)
 fair_justified catalogue past m (answer.ViewChanged txn number at held now) f untold ends =
-    both _ _ (both _ (not (told_from (lines_in past) txn number)) (both (tells_end txn m) (begun_in past txn held) ends (begun_is past txn held f.0)) (negated (told_from (lines_in past) txn number) untold)) (go now f.1)
+    both _ _ (both _ (not (told_from (lines_in past) txn number)) (both (tells_end txn number m) (begun_in past txn held) ends (begun_is past txn held f.0)) (negated (told_from (lines_in past) txn number) untold)) (go now f.1)
   where
     negated : (b : Bool) → b ≡ false → not b ≡ true
     negated b e = rw e refl

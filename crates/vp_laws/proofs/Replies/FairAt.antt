@@ -1,6 +1,6 @@
 -- What is refused is justified by the moments so far: the messages that refuse, the ends that are kept, and each answer of a step.
-use Rattle.std.proofs.Common.{◌≡◌, ◌≢◌, ℕ, ◌≤◌, Bool, true, false, List, ◌++◌, refl, length}
-use Rattle.std.specs.Prelude.{Option, Some}
+use Rattle.std.proofs.Common.{◌≡◌, ◌≢◌, ℕ, ◌+◌, ◌≤◌, Bool, true, false, List, ◌++◌, refl, length}
+use Rattle.std.specs.Prelude.{Option, Some, slice_get}
 use Rattle.vp_model.specs.Types.{Change, TxnId, ViewId, Owner, Obstacle, Answer, Message, Sent, Live, Finished}
 use Rattle.vp_model.specs.Types.answer
 use Rattle.vp_model.specs.Types.message
@@ -41,6 +41,8 @@ RefuseOk catalogue w past from m = Unit {0}
 pub record FairEnd (catalogue : Catalogue) (past : List Moment) (f : Finished) : Type 0 where
   pub answers : (a : Answer) → Has f.answers a → Fair catalogue past a
   pub later : (n : ℕ) → length f.answers ≤ n → Fair catalogue past (answer_of f.txn n f.ending)
+  -- a refusal that it keeps has the number of its place
+  pub numbered : (i : ℕ) (a : Answer) (n : ℕ) → slice_get f.answers i ≡ Some a → refused_number f.txn a ≡ Some n → n ≡ i + 1
 
 pub record FairAt (catalogue : Catalogue) (w : Scene) (past : List Moment) : Type 0 where
   -- the whole invariant
@@ -69,7 +71,7 @@ refuse_on catalogue w new past more on from (message.Refuse txn number why) h = 
 refuse_on catalogue w new past more on from m h = tt
 
 pub end_more : (catalogue : Catalogue) (past more : List Moment) (f : Finished) → FairEnd catalogue past f → FairEnd catalogue (past ++ more) f
-end_more catalogue past more f e = record { answers = λ a h. fair_more catalogue past more a (e.answers a h); later = λ n h. fair_more catalogue past more _ (e.later n h) }
+end_more catalogue past more f e = record { answers = λ a h. fair_more catalogue past more a (e.answers a h); later = λ n h. fair_more catalogue past more _ (e.later n h); numbered = e.numbered }
 
 pub free_justified : (catalogue : Catalogue) (past : List Moment) (m : Moment) (a : Answer) → is_free a ≡ true → justified catalogue past m a ≡ true
 free_justified catalogue past m (answer.Inaccessible txn number name inside total) e = cc

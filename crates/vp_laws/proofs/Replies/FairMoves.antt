@@ -1,6 +1,6 @@
 -- One step keeps that what is refused is justified, and its own answers are.
-use Rattle.std.proofs.Common.{◌≡◌, ◌≢◌, ◌∙◌, ap, sym, subst, ℕ, ◌+◌, ◌≤◌, ◌*◌, Bool, true, false, List, [], ◌∷◌, ◌++◌, map, refl, arith, ⊎_elim, length}
-use Rattle.std.specs.Prelude.{Option, Some, None, is_some, option_map, option_to_list, nat_le, nat_lt, ◌&&◌, ◌||◌}
+use Rattle.std.proofs.Common.{◌≡◌, ◌≢◌, ◌∙◌, ◌⊎◌, inl, inr, append-nil, ap, sym, subst, ℕ, zero, suc, ◌+◌, ◌-◌, ◌≤◌, ◌*◌, Bool, true, false, List, [], ◌∷◌, ◌++◌, map, refl, arith, ⊎_elim, length}
+use Rattle.std.specs.Prelude.{slice_get, Option, Some, None, is_some, option_map, option_to_list, nat_le, nat_lt, ◌&&◌, ◌||◌}
 use Rattle.std.proofs.lemmas.Bool.Decides.{nat_tests}
 use Rattle.std.proofs.Math.ListN.{length-append}
 use Rattle.vp_model.specs.Types.{TxnId, ViewId, View, Owner, Obstacle, Answer, Reply, Message, Input, Pending, Live, Ending, Finished}
@@ -19,7 +19,7 @@ use Rattle.vp_model.specs.Refresh.{members_in, is_usable_in}
 use Rattle.vp_model.specs.Step.{step}
 use Rattle.vp_model.specs.Told.{answers_in}
 use Rattle.vp_model.specs.World.{WorldState, Moment}
-use Rattle.vp_model.specs.Justified.{justified, was_blocked, held_other, is_held_by, is_other_view, left_then, closed_then, takes_refusal, is_step_of, tested_before, tells_end, Request, handles, is_named, is_begun, weighs, refused_number, refused_in}
+use Rattle.vp_model.specs.Justified.{justified, was_blocked, held_other, is_held_by, is_other_view, left_then, closed_then, takes_refusal, is_step_of, tested_before, answers_call, keeps_end, tells_end, Request, handles, is_named, is_begun, weighs, refused_number, refused_in}
 use Rattle.vp_laws.proofs.Replies.RefusedCalls.{refused_last, none_refused, first_told, refused_of}
 use Rattle.vp_laws.proofs.Lists.Members.{Has, has_none, has_one, has_left, has_right, has_cases, has_one_is, map_has, any_true, any_of}
 use Rattle.vp_laws.proofs.Moves.Table.{Comes, Handled, Reads, Writes, Requests, Asks}
@@ -33,18 +33,20 @@ use Rattle.vp_model.proofs.SameTxn.{same_txn-self, same_txn-is}
 use Rattle.vp_laws.proofs.Lists.Names.{apart_unique}
 use Rattle.vp_laws.proofs.Replies.EndsTrue.{EndedAt, ended_step, ended_quiet, said_refused}
 use Rattle.vp_laws.proofs.Worlds.Sites.{NowIs, now_is, Quiet, quiet_is, live_still, finished_still}
-use Rattle.vp_laws.proofs.Moves.Reasons.{Operates, Takes, Awaits, Why, told_to}
+use Rattle.vp_laws.proofs.Moves.Reasons.{IsCallOf, Operates, Takes, Awaits, Why, told_to}
 use Rattle.vp_laws.proofs.Table.Refusals.{Refused, RefuseSays, refusals-step}
 use Rattle.vp_laws.proofs.Table.Fair.{is_free, finished_as, LiveFrom, FinishedFrom, ReplyFrom, Causes, causes-step}
 use Rattle.vp_laws.proofs.Replies.Fair.{WasBegun, Once, ByLock, OtherView, Fair, Untold, TellsEnd, closes, begun_more, fair_more, fair_justified}
-use Rattle.vp_laws.proofs.Replies.FairStep.{IsStep, step_here, handles_now, operation_asks, named_here, tested_x, replied, blocked_here, blocked_there, other_there, left_now, closed_now, took_refusal, same_now, same_view-self}
+use Rattle.vp_laws.proofs.Replies.FairStep.{IsStep, step_here, handles_now, operation_asks, named_here, tested_x, replied, blocked_here, blocked_there, other_there, left_now, closed_now, called_now, called_first, pending_now, took_refusal, same_now, same_view-self}
 use Rattle.vp_laws.proofs.Replies.FairAt.{IsAsked, RefuseFair, RefuseOk, FairEnd, FairAt, refuse_on, end_more, free_justified, report_fair}
-use Rattle.vp_laws.proofs.Table.Kept.{is_report}
+use Rattle.vp_laws.proofs.Table.Kept.{is_report, kept_has}
+use Rattle.vp_laws.proofs.Moves.Coordinator.{slice_has}
+use Rattle.vp_model.specs.Calls.{handling, kept_answer}
 use Rattle.vp_laws.proofs.Table.ToldLines.{lines_in}
 use Rattle.vp_laws.proofs.Lists.LockTables.{same_owner-self}
 use Rattle.std.specs.List.{list_any}
 use Rattle.std.specs.Option.{option_map_or}
-use Rattle.std.proofs.lemmas.Bool.{or_left}
+use Rattle.std.proofs.lemmas.Bool.{or_left, or_right}
 use Rattle.vp_laws.proofs.Lists.Numbers.{one_above, eq_self}
 use Rattle.vp_laws.proofs.Keeping.Does.{Does, does}
 use Rattle.vp_laws.proofs.Invariant.Known.{Known}
@@ -80,9 +82,17 @@ below_of n m e = grind (arith, nat_tests, e)
 all_of_two : (a b : Bool) → a ≡ true → b ≡ true → (a && b) ≡ true
 all_of_two a b p q = rw (p, q) refl
 
-of_second : (a b : Bool) → b ≡ true → (a || b) ≡ true
-of_second true b e = refl
-of_second false b e = e
+-- the last of a list, or one before it
+last_place : {X : Type 0} (xs : List X) (y : X) (i : ℕ) (a : X) → slice_get (xs ++ y ∷ []) i ≡ Some a → (slice_get xs i ≡ Some a) ⊎ ((i ≡ length xs) × (y ≡ a))
+last_place [] y zero a e = inr (refl, cc)
+last_place [] y (suc i) a e = cc
+last_place (x ∷ xs) y zero a e = inl e
+last_place (x ∷ xs) y (suc i) a e = ⊎_elim (λ old. inl old) (λ new. inr (ap suc new.0, new.1)) (last_place xs y i a e)
+
+-- a number and the place of its answer
+place_number : (number n : ℕ) → n ≡ number - 1 + 1 → (n ≡ number) ⊎ ((number ≡ 0) × (n ≡ 1))
+place_number zero n e = inr (refl, e)
+place_number (suc i) n e = inl (omega (arith, e))
 
 report_tells : (m : Moment) (a : Answer) → is_report a ≡ true → TellsEnd m a
 report_tells m (answer.LockHeld txn number name at holder) e = cc
@@ -144,11 +154,11 @@ module _ (catalogue : Catalogue) (world : WorldState) (past : List Moment) (m0 :
   number_told : (t : Live) → Handled x t → (a : Answer) → ReplyFrom catalogue x given o.site a → (n : ℕ) → refused_number t.txn a ≡ Some n → n ≡ length t.answers + 1
   number_told t at a (ReplyFrom.free b f) n e = absurd (free_unrefused t.txn b n f e)
   number_told t at a (ReplyFrom.inaccessible u p name rec exclusive takes op found f) n e = cc
-  number_told t at a (ReplyFrom.repeated f b k q) n e = ⊎_elim
+  number_told t at a (ReplyFrom.repeated f place b k q c) n e = ⊎_elim
       (λ r. absurd (report_unrefused t.txn b n r e))
       (λ (r : (number : ℕ) × (b ≡ answer_of f.txn number f.ending)). absurd (finished_other t f r.0 n at k (ap (refused_number t.txn) (sym r.1) ∙ e)))
-      ((known.repeated.site s x up).finished f k b q)
-  number_told t at a (ReplyFrom.ended f number k l) n e = absurd (finished_other t f number n at k e)
+      ((known.repeated.site s x up).finished f k b (kept_has place f.answers b q))
+  number_told t at a (ReplyFrom.ended f number k l c) n e = absurd (finished_other t f number n at k e)
   number_told t at a (ReplyFrom.closed u why p also w q) n e =
       let own = refused_of u.txn t.txn p.number why n e in
       let one : also.was ≡ at.was = apart_unique x.live (known.votes.site s x up) also.was at.was also.live at.live (ap (λ (t : Live). t.txn) (sym also.same) ∙ own.0 ∙ ap (λ (t : Live). t.txn) at.same) in
@@ -323,33 +333,55 @@ module _ (catalogue : Catalogue) (world : WorldState) (past : List Moment) (m0 :
       some_held : {b : Bool} (v : View) → x.held ≡ Some v → b ≡ true → (is_some x.held && b) ≡ true
       some_held v e f = rw (e, f) refl
 
-  -- the step is of the transaction's own site, which closes it or keeps its end
-  tells_here : (txn : TxnId) → txn.site ≡ s → (closed_then txn m0 || tested_before s (λ site. list_any (λ (f : Finished). same_txn f.txn txn) site.finished) m0) ≡ true → tells_end txn m0 ≡ true
-  tells_here txn at e =
-      subst (λ (k : ℕ). (is_step_of k m0 && (closed_then txn m0 || tested_before k (λ site. list_any (λ (f : Finished). same_txn f.txn txn) site.finished) m0)) ≡ true) (sym at)
-      (all_of_two (is_step_of s m0) _ (step_here catalogue m0 world s x given o is) e)
+  -- the step is of the transaction's own site, which closes it or keeps its end, and answers this call
+  tells_here : (txn : TxnId) (n : ℕ) → txn.site ≡ s → (closed_then txn m0 || tested_before s (keeps_end txn) m0) ≡ true → answers_call txn n m0 ≡ true → tells_end txn n m0 ≡ true
+  tells_here txn n at e calls =
+      all_of_two _ (answers_call txn n m0)
+      (subst (λ (k : ℕ). (is_step_of k m0 && (closed_then txn m0 || tested_before k (keeps_end txn) m0)) ≡ true) (sym at) (all_of_two (is_step_of s m0) _ (step_here catalogue m0 world s x given o is) e)) calls
 
-  closes_tells : (t : Live) → t.txn.site ≡ s → closed_then t.txn m0 ≡ true → tells_end t.txn m0 ≡ true
-  closes_tells t at closed = tells_here t.txn at (or_left (closed_then t.txn m0) _ closed)
+  closes_tells : (t : Live) (n : ℕ) → t.txn.site ≡ s → closed_then t.txn m0 ≡ true → answers_call t.txn n m0 ≡ true → tells_end t.txn n m0 ≡ true
+  closes_tells t n at closed calls = tells_here t.txn n at (or_left (closed_then t.txn m0) _ closed) calls
 
-  keeps_tells : (f : Finished) → Has x.finished f → tells_end f.txn m0 ≡ true
-  keeps_tells f h =
-      let kept : list_any (λ (g : Finished). same_txn g.txn f.txn) x.finished ≡ true = any_of (λ (g : Finished). same_txn g.txn f.txn) x.finished f h (same_txn-self f.txn) in
-      tells_here f.txn (((known.ends.settled s x up).names f h).0 ∙ d.here.id)
-      (of_second (closed_then f.txn m0) _ (tested_x catalogue m0 world s x given o is (λ site. list_any (λ (g : Finished). same_txn g.txn f.txn) site.finished) kept))
+  keeps_tells : (f : Finished) (n : ℕ) → Has x.finished f → answers_call f.txn n m0 ≡ true → tells_end f.txn n m0 ≡ true
+  keeps_tells f n h calls =
+      let kept : keeps_end f.txn x ≡ true = any_of (λ (g : Finished). same_txn g.txn f.txn) x.finished f h (same_txn-self f.txn) in
+      tells_here f.txn n (((known.ends.settled s x up).names f h).0 ∙ d.here.id)
+      (or_right (closed_then f.txn m0) _ (tested_x catalogue m0 world s x given o is (keeps_end f.txn) kept)) calls
 
-  kept_tells : (f : Finished) → Has x.finished f → (n : ℕ) (why : Ending) → TellsEnd m0 (answer_of f.txn n why)
-  kept_tells f h n Committed = tt
-  kept_tells f h n Aborted = tt
-  kept_tells f h n (LockHeld name at holder) = keeps_tells f h
-  kept_tells f h n (ViewChanged at held held_now) = keeps_tells f h
-  kept_tells f h n (TimedOut at) = tt
+  kept_tells : (f : Finished) → Has x.finished f → (n : ℕ) (why : Ending) → (refused_number f.txn (answer_of f.txn n why) ≡ Some n → answers_call f.txn n m0 ≡ true) → TellsEnd m0 (answer_of f.txn n why)
+  kept_tells f h n Committed calls = tt
+  kept_tells f h n Aborted calls = tt
+  kept_tells f h n (LockHeld name at holder) calls = keeps_tells f n h (calls (own_held f.txn n name at holder))
+  kept_tells f h n (ViewChanged at held held_now) calls = keeps_tells f n h (calls (own_view f.txn n at held held_now))
+  kept_tells f h n (TimedOut at) calls = tt
+
+  -- a kept refusal is repeated to the call that has its number, or to one under number 0
+  place_called : (f : Finished) (place : ℕ) (a : Answer) (n : ℕ) → Has x.finished f → kept_answer place f.answers ≡ Some a → IsCallOf given f.txn place → refused_number f.txn a ≡ Some n → answers_call f.txn n m0 ≡ true
+  place_called f place a n h kept calls e = ⊎_elim
+      (λ (same : n ≡ place). rw same (called_now catalogue m0 world s x given o is f.txn place calls))
+      (λ (zeroth : (place ≡ 0) × (n ≡ 1)). rw zeroth.1 (called_first catalogue m0 world s x given o is f.txn (subst (IsCallOf given f.txn) zeroth.0 calls)))
+      (place_number place n ((fair.finished s x f up h).numbered (place - 1) a n kept e))
+
+  -- a transaction that is closed answers its pending call
+  handled_called : (was : Live) (q p : Pending) (t : Live) → Takes x given was q → t ≡ handling was q → t.pending ≡ Some p → answers_call t.txn p.number m0 ≡ true
+  handled_called was q p t at same e =
+      let z = ap (λ (t : Live). t.pending) same in
+      let call : q ≡ p = cc in
+      rw (same, ← call) (called_now catalogue m0 world s x given o is was.txn q.number (record { port = q.port; words = q.call; comes = at.called.comes; own = at.called.own }))
+
+  closed_called : (t : Live) (why : Ending) (p : Pending) → Why catalogue x given o.site t why → t.pending ≡ Some p → answers_call t.txn p.number m0 ≡ true
+  closed_called t why p (Why.aborted was q at e) g = handled_called was q p t at e g
+  closed_called t why p (Why.held_here was q name rec exclusive holder at e op f n) g = handled_called was q p t at e g
+  closed_called t why p (Why.held_there q from name exclusive holder a n op) g = pending_now catalogue m0 world s x given o is t p a.live g (own_site t a.live)
+  closed_called t why p (Why.other_view q from held_now a n) g = pending_now catalogue m0 world s x given o is t p a.live g (own_site t a.live)
+  closed_called t why p (Why.left h gone) g = pending_now catalogue m0 world s x given o is t p h g (own_site t h)
+  closed_called t why p (Why.timed_out missing h) g = pending_now catalogue m0 world s x given o is t p h g (own_site t h)
 
   why_tells : (t : Live) (why : Ending) (p : Pending) → Handled x t → Why catalogue x given o.site t why → t.pending ≡ Some p → Has (answers_in m0.line) (answer_of t.txn p.number why) → TellsEnd m0 (answer_of t.txn p.number why)
   why_tells t Committed p at y e h = tt
   why_tells t Aborted p at y e h = tt
-  why_tells t (LockHeld name from holder) p at y e h = closes_tells t (handled_site t at) (closed_here t _ p.number at h (own_held t.txn p.number name from holder))
-  why_tells t (ViewChanged from held held_now) p at y e h = closes_tells t (handled_site t at) (closed_here t _ p.number at h (own_view t.txn p.number from held held_now))
+  why_tells t (LockHeld name from holder) p at y e h = closes_tells t p.number (handled_site t at) (closed_here t _ p.number at h (own_held t.txn p.number name from holder)) (closed_called t _ p y e)
+  why_tells t (ViewChanged from held held_now) p at y e h = closes_tells t p.number (handled_site t at) (closed_here t _ p.number at h (own_view t.txn p.number from held held_now)) (closed_called t _ p y e)
   why_tells t (TimedOut from) p at y e h = tt
 
   end_justified : (a : Answer) → Fair catalogue now a → Untold (lines_in now) a → TellsEnd m0 a → justified catalogue now m0 a ≡ true
@@ -364,13 +396,13 @@ module _ (catalogue : Catalogue) (world : WorldState) (past : List Moment) (m0 :
       let asked : handles catalogue s t.txn p.number (λ request. option_map_or (λ lock. is_named catalogue name lock.0) request.lock false) m0 ≡ true = handles_now catalogue m0 world s x given o is r (λ request. option_map_or (λ lock. is_named catalogue name lock.0) request.lock false) (operation_asks catalogue m0 world s x given o is t p name rec exclusive at.called op found) (named_here catalogue m0 world s x given o is name rec found) in
       let weighed : tested_before s (λ site. is_live t.txn site.live && weighs catalogue name i n site) m0 ≡ true = tested_x catalogue m0 world s x given o is (λ site. is_live t.txn site.live && weighs catalogue name i n site) (all_of_two (is_live t.txn x.live) (weighs catalogue name i n x) (was_live t at.live) (weighs_x t name rec at.live found e)) in
       subst (λ (k : ℕ). (handles catalogue k t.txn p.number (λ request. option_map_or (λ lock. is_named catalogue name lock.0) request.lock false) m0 && tested_before k (λ site. is_live t.txn site.live && weighs catalogue name i n site) m0) ≡ true) (sym (own_site t at.live)) (all_of_two _ _ asked weighed)
-  reply_justified a h untold (ReplyFrom.repeated f b k q) =
-      end_justified b (fair_more catalogue past (m0 ∷ []) b ((fair.finished s x f up k).answers b q)) untold (⊎_elim
+  reply_justified a h untold (ReplyFrom.repeated f place b k q c) =
+      end_justified b (fair_more catalogue past (m0 ∷ []) b ((fair.finished s x f up k).answers b (kept_has place f.answers b q))) untold (⊎_elim
       (λ r. report_tells m0 b r)
-      (λ (r : (number : ℕ) × (b ≡ answer_of f.txn number f.ending)). subst (TellsEnd m0) (sym r.1) (kept_tells f k r.0 f.ending))
-      ((known.repeated.site s x up).finished f k b q))
-  reply_justified a h untold (ReplyFrom.ended f number k e) =
-      end_justified _ (fair_more catalogue past (m0 ∷ []) _ ((fair.finished s x f up k).later number (below_of number (length f.answers) e))) untold (kept_tells f k number f.ending)
+      (λ (r : (number : ℕ) × (b ≡ answer_of f.txn number f.ending)). subst (TellsEnd m0) (sym r.1) (kept_tells f k r.0 f.ending (λ e. place_called f place b r.0 k q c (ap (refused_number f.txn) r.1 ∙ e))))
+      ((known.repeated.site s x up).finished f k b (kept_has place f.answers b q)))
+  reply_justified a h untold (ReplyFrom.ended f number k e c) =
+      end_justified _ (fair_more catalogue past (m0 ∷ []) _ ((fair.finished s x f up k).later number (below_of number (length f.answers) e))) untold (kept_tells f k number f.ending (λ refused. called_now catalogue m0 world s x given o is f.txn number c))
   reply_justified a h untold (ReplyFrom.closed t why p n w e) =
       end_justified _ (why_fair t why p.number n w (λ q g. let same : p ≡ q = cc in subst (λ (q : Pending). Has (answers_in m0.line) (answer_of t.txn q.number why)) same h) (λ q g. same_at_most p.number (length t.answers + 1) (number_of t why p w e))) untold (why_tells t why p n w e h)
 
@@ -385,6 +417,7 @@ module _ (catalogue : Catalogue) (world : WorldState) (past : List Moment) (m0 :
   ends_fair t why n fair_at number = record {
     answers = λ a h. ⊎_elim (λ old. report_fair catalogue now a (reports a old)) (λ new. last t.pending refl a new) (has_cases t.answers _ a h);
     later = λ k h. fair_at k (λ p e. longer k p e h);
+    numbered = λ i a n at e. placed t.pending refl i a n at e;
   }
     where
       reports : (a : Answer) → Has t.answers a → is_report a ≡ true
@@ -394,6 +427,17 @@ module _ (catalogue : Catalogue) (world : WorldState) (past : List Moment) (m0 :
       last None e a k = absurd (has_none a k)
       last (Some p) e a k = subst (Fair catalogue now) (has_one_is (answer_of t.txn p.number why) a k) (fair_at p.number (λ q g. same_at_most p.number (length t.answers + 1) (number p e)))
 
+      before : (i : ℕ) (a : Answer) (n : ℕ) → slice_get t.answers i ≡ Some a → refused_number t.txn a ≡ Some n → n ≡ i + 1
+      before i a n at e = absurd (report_unrefused t.txn a n (reports a (slice_has t.answers i a at)) e)
+
+      placed : (q : Option Pending) → t.pending ≡ q → (i : ℕ) (a : Answer) (n : ℕ) → slice_get (t.answers ++ option_to_list (option_map (λ p. answer_of t.txn p.number why) q)) i ≡ Some a → refused_number t.txn a ≡ Some n → n ≡ i + 1
+      placed None g i a n at e = before i a n (subst (λ (answers : List Answer). slice_get answers i ≡ Some a) (append-nil t.answers) at) e
+      placed (Some p) g i a n at e = ⊎_elim (λ old. before i a n old e)
+          (λ (new : (i ≡ length t.answers) × (answer_of t.txn p.number why ≡ a)).
+          let own = refused_of t.txn t.txn p.number why n (ap (refused_number t.txn) new.1 ∙ e) in
+          rw new.0 (sym own.1 ∙ number p g))
+          (last_place t.answers (answer_of t.txn p.number why) i a at)
+
       longer : (k : ℕ) (p : Pending) → t.pending ≡ Some p → length (answers_after t why) ≤ k → length t.answers + 1 ≤ k
       longer k p e h = let size : length (answers_after t why) ≡ length t.answers + 1 = rw e (length-append t.answers (answer_of t.txn p.number why ∷ [])) in rw size at h
 
@@ -402,11 +446,21 @@ module _ (catalogue : Catalogue) (world : WorldState) (past : List Moment) (m0 :
   finished_now f (FinishedFrom.committed t n) = committed t n
     where
       committed : (t : Live) → Handled x t → FairEnd catalogue now (finished_as t Committed)
-      committed t n = record {
-        answers = λ a h. ⊎_elim (λ old. report_fair catalogue now a ((known.repeated.site s x up).live n.was n.live a (rw (ap (λ (t : Live). t.answers) n.same) at old))) (λ new. last t.pending a new) (has_cases t.answers _ a h);
+      committed t n0 = record {
+        answers = λ a h. ⊎_elim (λ old. report_fair catalogue now a ((known.repeated.site s x up).live n0.was n0.live a (rw (ap (λ (t : Live). t.answers) n0.same) at old))) (λ new. last t.pending a new) (has_cases t.answers _ a h);
         later = λ k h. tt;
+        numbered = λ i a n at e. absurd (kept_unrefused a n (slice_has (answers_after t Committed) i a at) e);
       }
         where
+          unrefused : (q : Option Pending) (a : Answer) (n : ℕ) → Has (option_to_list (option_map (λ p. answer_of t.txn p.number Committed) q)) a → refused_number t.txn a ≡ Some n → ⊥
+          unrefused None a n k e = absurd (has_none a k)
+          unrefused (Some p) a n k e = let same = has_one_is (answer_of t.txn p.number Committed) a k in let z = ap (refused_number t.txn) same in cc
+
+          kept_unrefused : (a : Answer) (n : ℕ) → Has (answers_after t Committed) a → refused_number t.txn a ≡ Some n → ⊥
+          kept_unrefused a n h e = ⊎_elim
+              (λ old. report_unrefused t.txn a n ((known.repeated.site s x up).live n0.was n0.live a (rw (ap (λ (t : Live). t.answers) n0.same) at old)) e)
+              (λ new. unrefused t.pending a n new e) (has_cases t.answers _ a h)
+
           last : (q : Option Pending) → (a : Answer) → Has (option_to_list (option_map (λ p. answer_of t.txn p.number Committed) q)) a → Fair catalogue now a
           last None a k = absurd (has_none a k)
           last (Some p) a k = subst (Fair catalogue now) (has_one_is (answer_of t.txn p.number Committed) a k) tt

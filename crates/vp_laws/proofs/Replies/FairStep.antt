@@ -3,7 +3,7 @@ use Rattle.std.proofs.Common.{◌≡◌, ◌≢◌, ◌∙◌, ap, sym, subst, �
 use Rattle.std.specs.Prelude.{Option, Some, None, ◌==◌, ◌&&◌, not}
 use Rattle.std.specs.List.{list_any}
 use Rattle.std.specs.Option.{option_map_or}
-use Rattle.std.proofs.lemmas.Bool.{eqb-true}
+use Rattle.std.proofs.lemmas.Bool.{eqb-true, or_left, or_right}
 use Rattle.std.proofs.lemmas.Bool.Decides.{nat_tests}
 use Rattle.std.proofs.lemmas.Slice.Eq.{bytes_eq-Decides}
 use Rattle.vp_model.specs.Types.{TxnId, ViewId, View, Owner, Obstacle, Call, Answer, Reply, Message, Sent, Event, Input, Pending, Live}
@@ -19,15 +19,15 @@ use Rattle.vp_model.specs.Site.{SiteState, Stepped}
 use Rattle.vp_model.specs.World.{WorldState, Moment, site_of}
 use Rattle.vp_model.specs.Answers.{is_live}
 use Rattle.vp_model.specs.Messages.{held_id}
-use Rattle.vp_model.specs.Told.{answers_in, messages_in}
-use Rattle.vp_model.specs.Justified.{Request, call_request, message_request, request_of, site_named, is_step_of, is_request, tested_before, tested_after, blocks, is_named, says_held, gave_held, was_blocked, refuses, is_held_by, is_other_view, is_same_view, handles, held_other, left_then, closed_then, taken, takes_refusal}
+use Rattle.vp_model.specs.Told.{answers_in, messages_in, is_call, call_in}
+use Rattle.vp_model.specs.Justified.{Request, call_request, message_request, request_of, site_named, is_step_of, is_request, tested_before, tested_after, blocks, is_named, says_held, gave_held, was_blocked, refuses, is_held_by, is_other_view, is_same_view, handles, held_other, left_then, closed_then, delivered_by, takes_refusal, is_called, is_pending, answers_call}
 use Rattle.vp_laws.proofs.Lists.Members.{Has, both_true, any_of}
 use Rattle.vp_laws.proofs.Lists.Changes.{mapped_has}
 use Rattle.vp_model.proofs.SameTxn.{same_txn-is, same_txn-self}
 use Rattle.vp_laws.proofs.Moves.Table.{Comes, Requests, Asks}
 use Rattle.vp_laws.proofs.Moves.LocalViews.{letter}
 use Rattle.vp_laws.proofs.Worlds.Occurs.{Gives}
-use Rattle.vp_laws.proofs.Moves.Reasons.{Called, Operates, told_to}
+use Rattle.vp_laws.proofs.Moves.Reasons.{Called, IsCallOf, Operates, told_to}
 use Rattle.vp_laws.proofs.Lists.LockTables.{same_owner-self, least_any}
 use Rattle.vp_laws.proofs.Lists.Numbers.{eq_not, eq_self}
 
@@ -65,17 +65,23 @@ message_asks catalogue e w s given (Gives.came k m is at to) from words c = let 
 message_asks catalogue e w s given (Gives.ticked is) from words c = cc
 message_asks catalogue e w s given (Gives.probed is) from words c = cc
 
+called_in : (e : Event) (w : WorldState) (s : ℕ) (given : Input) → Gives e w s given → (port : ℕ) (words : Call) → given ≡ input.Call port words → call_in e ≡ Some words
+called_in e w s given (Gives.called calls is) port words c = let same : calls ≡ words = cc in rw (is, same) refl
+called_in e w s given (Gives.came k m is at to) port words c = cc
+called_in e w s given (Gives.ticked is) port words c = cc
+called_in e w s given (Gives.probed is) port words c = cc
+
 sent_is : (m : Sent) (from to : ℕ) (words : Message) → m.from ≡ from → m.to ≡ to → m.message ≡ words → m ≡ letter from to words
 sent_is m from to words p q r = rw (← p, ← q, ← r) refl
 
-taken_is : (e : Event) (w : WorldState) (s : ℕ) (given : Input) → Gives e w s given → (from : ℕ) (words : Message) → Comes given from words → taken w e ≡ Some (letter from s words)
-taken_is e w s given (Gives.called calls is) from words c = cc
-taken_is e w s given (Gives.came k m is at to) from words c =
+delivered_is : (e : Event) (w : WorldState) (s : ℕ) (given : Input) → Gives e w s given → (from : ℕ) (words : Message) → Comes given from words → delivered_by w e ≡ Some (letter from s words)
+delivered_is e w s given (Gives.called calls is) from words c = cc
+delivered_is e w s given (Gives.came k m is at to) from words c =
     let sender : m.from ≡ from = cc in
     let same : m.message ≡ words = cc in
     rw is (at ∙ ap (λ (m : Sent). Some m) (sent_is m from s words sender to same))
-taken_is e w s given (Gives.ticked is) from words c = cc
-taken_is e w s given (Gives.probed is) from words c = cc
+delivered_is e w s given (Gives.ticked is) from words c = cc
+delivered_is e w s given (Gives.probed is) from words c = cc
 
 in_turn : (a b c : Bool) → a ≡ true → b ≡ true → c ≡ true → ((a && b) && c) ≡ true
 in_turn a b c p q r = rw (p, q, r) refl
@@ -92,6 +98,20 @@ module _ (catalogue : Catalogue) (m : Moment) (w : WorldState) (s : ℕ) (x : Si
 
   pub tested_o : (test : SiteState → Bool) (b : Bool) → test o.site ≡ b → tested_after s test m ≡ b
   tested_o test b e = rw (is.after, e) refl
+
+  -- the call that comes is answered under its number, and number 0 as the first
+  pub called_now : (txn : TxnId) (number : ℕ) → IsCallOf given txn number → answers_call txn number m ≡ true
+  called_now txn number c = or_left (is_called txn number m) _ (rw (called_in m.line.event w s given is.gives c.port c.words c.comes, c.own) refl)
+
+  pub called_first : (txn : TxnId) → IsCallOf given txn 0 → answers_call txn 1 m ≡ true
+  called_first txn c = or_left (is_called txn 1 m) _ (rw (called_in m.line.event w s given is.gives c.port c.words c.comes) (or_right (is_call txn 1 c.words) _ c.own))
+
+  -- and so is one that waits
+  pub pending_now : (t : Live) (p : Pending) → Has x.live t → t.pending ≡ Some p → t.txn.site ≡ s → answers_call t.txn p.number m ≡ true
+  pending_now t p h e at =
+      let waits : list_any (is_pending t.txn p.number) x.live ≡ true = any_of (is_pending t.txn p.number) x.live t h (rw (e, same_txn-self t.txn) (eq_self p.number)) in
+      or_right (is_called t.txn p.number m) _
+      (subst (λ (k : ℕ). tested_before k (λ site. list_any (is_pending t.txn p.number) site.live) m ≡ true) (sym at) (tested_x (λ site. list_any (is_pending t.txn p.number) site.live) waits))
 
   pub blocks_x : (txn : TxnId) (holder : Owner) (rec : ℕ) (exclusive : Bool) → conflict rec exclusive txn x.locks ≡ Some holder → tested_before s (blocks txn holder (rec, exclusive)) m ≡ true
   blocks_x txn holder rec exclusive e = tested_x (blocks txn holder (rec, exclusive)) (least_any holder _ e)
@@ -184,5 +204,5 @@ module _ (catalogue : Catalogue) (m : Moment) (w : WorldState) (s : ℕ) (x : Si
   -- and took this refusal
   pub took_refusal : (from : ℕ) (txn : TxnId) (number : ℕ) (why : Obstacle) (test : Obstacle → Bool) → Comes given from (message.Refuse txn number why) → test why ≡ true → takes_refusal txn number from test m ≡ true
   took_refusal from txn number why test c e =
-      let t : taken m.before m.line.event ≡ Some (letter from s (message.Refuse txn number why)) = rw is.before (taken_is m.line.event w s given is.gives from (message.Refuse txn number why) c) in
+      let t : delivered_by m.before m.line.event ≡ Some (letter from s (message.Refuse txn number why)) = rw is.before (delivered_is m.line.event w s given is.gives from (message.Refuse txn number why) c) in
       rw t (rw (eq_self from, same_txn-self txn, eq_self number) e)

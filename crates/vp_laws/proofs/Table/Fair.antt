@@ -8,7 +8,7 @@ use Rattle.vp_model.specs.Catalogue.{Catalogue, find_record, inside, total}
 use Rattle.vp_model.specs.Site.{CoordinatorState, SiteState}
 use Rattle.vp_model.specs.Transactions.{answer_of, answers_after, put_live, with_finished}
 use Rattle.vp_model.specs.Refresh.{members_in, is_usable_in}
-use Rattle.vp_model.specs.Calls.{begun, with_begun}
+use Rattle.vp_model.specs.Calls.{begun, with_begun, kept_answer}
 use Rattle.vp_model.specs.Answers.{with_acknowledged}
 use Rattle.vp_model.specs.Step.{mark, step}
 use Rattle.vp_laws.proofs.Lists.Members.{Has, has_none, has_one, has_left, has_right, has_cases, has_one_is, map_has}
@@ -16,7 +16,7 @@ use Rattle.vp_laws.proofs.Lists.Changes.{without_first_has, change_first_has, at
 use Rattle.vp_laws.proofs.Lists.Names.{named}
 use Rattle.vp_laws.proofs.Moves.Table.{next_view, next_name, Handled}
 use Rattle.vp_laws.proofs.Table.Kept.{AnswersKept, kept_has, completed, is_report}
-use Rattle.vp_laws.proofs.Moves.Reasons.{Operates, Takes, Why, Tells, is_plain, told_to, last_reply, Goes, Front}
+use Rattle.vp_laws.proofs.Moves.Reasons.{IsCallOf, Operates, Takes, Why, Tells, is_plain, told_to, last_reply, Goes, Front}
 use Rattle.vp_laws.proofs.Moves.FrontSteps.{step-front}
 use Rattle.vp_laws.proofs.Moves.Calls.{done, waiting, reading, writing}
 
@@ -41,12 +41,12 @@ pub data FinishedFrom (catalogue : Catalogue) (x : SiteState) (given : Input) (a
   committed : (t : Live) → Handled x t → FinishedFrom catalogue x given after rs (finished_as t Committed)
   closed : (t : Live) (why : Ending) → Handled x t → Why catalogue x given after t why → ((p : Pending) → t.pending ≡ Some p → Has rs (told_to p.port (answer_of t.txn p.number why))) → FinishedFrom catalogue x given after rs (finished_as t why)
 
--- an answer needs no cause, or has one, or is repeated
+-- an answer needs no cause, or has one, or is repeated to a call of its transaction
 pub data ReplyFrom (catalogue : Catalogue) (x : SiteState) (given : Input) (after : SiteState) : Answer → Type 0 where
   free : (a : Answer) → is_free a ≡ true → ReplyFrom catalogue x given after a
   inaccessible : (t : Live) (p : Pending) (name : List ℕ) (rec : ℕ) (exclusive : Bool) → Takes x given t p → Operates p.call name exclusive → find_record catalogue name ≡ Some rec → is_usable_in catalogue x.held rec ≡ false → ReplyFrom catalogue x given after (answer.Inaccessible t.txn p.number name (inside catalogue rec (members_in x.held)) (total catalogue rec))
-  repeated : (f : Finished) (a : Answer) → Has x.finished f → Has f.answers a → ReplyFrom catalogue x given after a
-  ended : (f : Finished) (number : ℕ) → Has x.finished f → nat_le number (length f.answers) ≡ false → ReplyFrom catalogue x given after (answer_of f.txn number f.ending)
+  repeated : (f : Finished) (number : ℕ) (a : Answer) → Has x.finished f → kept_answer number f.answers ≡ Some a → IsCallOf given f.txn number → ReplyFrom catalogue x given after a
+  ended : (f : Finished) (number : ℕ) → Has x.finished f → nat_le number (length f.answers) ≡ false → IsCallOf given f.txn number → ReplyFrom catalogue x given after (answer_of f.txn number f.ending)
   closed : (t : Live) (why : Ending) (p : Pending) → Handled x t → Why catalogue x given after t why → t.pending ≡ Some p → ReplyFrom catalogue x given after (answer_of t.txn p.number why)
 
 pub record Causes (catalogue : Catalogue) (x : SiteState) (given : Input) (after : SiteState) (c : CoordinatorState) (rs : List Reply) (cs : List Commit) : Type 0 where
@@ -93,8 +93,8 @@ module _ (catalogue : Catalogue) (x : SiteState) (given : Input) (after : SiteSt
   tells words (Tells.plain w e) = ReplyFrom.free w (plain_free w e)
   tells words (Tells.inaccessible t p name rec exclusive at op f a) = ReplyFrom.inaccessible t p name rec exclusive at op f a
   tells words (Tells.again t number w h e) = ReplyFrom.free w (report_free w (kept.live t h w (kept_has number t.answers w e)))
-  tells words (Tells.finished_again f number w h e) = ReplyFrom.repeated f w h (kept_has number f.answers w e)
-  tells words (Tells.ended f number h e) = ReplyFrom.ended f number h e
+  tells words (Tells.finished_again f number w h e c) = ReplyFrom.repeated f number w h e c
+  tells words (Tells.ended f number h e c) = ReplyFrom.ended f number h e c
 
   -- one reply, and other live transactions of the same names and views
   replies : (c : CoordinatorState) (port : ℕ) (a : Answer) → c.finished ≡ x.finished → ((t : Live) → Has c.live t → LiveFrom x (told_to port a ∷ []) t) → ReplyFrom catalogue x given after a → G c (told_to port a ∷ []) []

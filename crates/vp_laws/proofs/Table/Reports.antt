@@ -34,8 +34,8 @@ module _ (catalogue : Catalogue) (x : SiteState) (given : Input) where
   tells rs words (Tells.plain w e) = Cause.nothing (λ u. plain_unreported u w e)
   tells rs words (Tells.inaccessible t p name rec exclusive at op f a) = Cause.nothing (λ u. refl)
   tells rs words (Tells.again t number w h e) = Cause.kept (IsKept.live t h (kept_has number t.answers w e))
-  tells rs words (Tells.finished_again f number w h e) = Cause.kept (IsKept.finished f h (kept_has number f.answers w e))
-  tells rs words (Tells.ended f number h e) = Cause.nothing (λ u. end_unreported u f.txn number f.ending)
+  tells rs words (Tells.finished_again f number w h e c) = Cause.kept (IsKept.finished f h (kept_has number f.answers w e))
+  tells rs words (Tells.ended f number h e c) = Cause.nothing (λ u. end_unreported u f.txn number f.ending)
 
   alone_late : (port : ℕ) (a : Answer) → is_early_refusal a ≡ false → AreLate (told_to port a ∷ [])
   alone_late port a e r h = subst (λ (r : Reply). is_early_refusal r.answer ≡ false) (has_one_is (told_to port a) r h) e

@@ -190,8 +190,8 @@ module _ (catalogue : Catalogue) (x : SiteState) (given : Input) where
     tells u words (Tells.plain w e) = inl (plain_unreported u w e)
     tells u words (Tells.inaccessible t p name rec exclusive at operates f a) = inl refl
     tells u words (Tells.again t number w h e) = inr (IsKept.live t h (kept_has number t.answers w e))
-    tells u words (Tells.finished_again f number w h e) = inr (IsKept.finished f h (kept_has number f.answers w e))
-    tells u words (Tells.ended f number h e) = inl (end_unreported u f.txn number f.ending)
+    tells u words (Tells.finished_again f number w h e c) = inr (IsKept.finished f h (kept_has number f.answers w e))
+    tells u words (Tells.ended f number h e c) = inl (end_unreported u f.txn number f.ending)
 
     -- nothing is replied
     silent : (c : CoordinatorState) → ((t : Live) → Has c.live t → LiveTold catalogue x given [] t) → G c [] []

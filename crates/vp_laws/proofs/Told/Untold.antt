@@ -25,7 +25,7 @@ use Rattle.vp_laws.proofs.Moves.Table.{Comes, Handled, Completes}
 use Rattle.vp_laws.proofs.Moves.Reasons.{Why}
 use Rattle.vp_laws.proofs.Table.Led.{Led}
 use Rattle.vp_laws.proofs.Table.Endings.{NotLive, Settled}
-use Rattle.vp_laws.proofs.Table.Kept.{is_report}
+use Rattle.vp_laws.proofs.Table.Kept.{is_report, kept_has}
 use Rattle.vp_laws.proofs.Table.Told.{IsKept, Repeats, ToldNow, told-step}
 use Rattle.vp_laws.proofs.Table.Reports.{Cause, causes-step}
 use Rattle.vp_laws.proofs.Table.Fair.{is_free, finished_as, FinishedFrom, ReplyFrom, Causes, causes-step as fair-step}
@@ -227,11 +227,11 @@ module _ (catalogue : Catalogue) (world : WorldState) (lines : List Line) (m0 : 
   reply_untold : (a : Answer) → ReplyFrom catalogue x given o.site a → Untold more a
   reply_untold a (ReplyFrom.free b e) = free_untold more b e
   reply_untold a (ReplyFrom.inaccessible t p name rec exclusive at op found e) = tt
-  reply_untold a (ReplyFrom.repeated f b there q) = ⊎_elim
+  reply_untold a (ReplyFrom.repeated f place b there q c) = ⊎_elim
       (λ r. report_untold more b r)
-      (λ (r : (number : ℕ) × (b ≡ answer_of f.txn number f.ending)). subst (Untold more) (sym r.1) ((old_end f there).answers r.0 (subst (Has f.answers) r.1 q)))
-      ((k.repeated.site s x up).finished f there b q)
-  reply_untold a (ReplyFrom.ended f number there e) = (old_end f there).later number (above_of number (length f.answers) e)
+      (λ (r : (number : ℕ) × (b ≡ answer_of f.txn number f.ending)). subst (Untold more) (sym r.1) ((old_end f there).answers r.0 (subst (Has f.answers) r.1 (kept_has place f.answers b q))))
+      ((k.repeated.site s x up).finished f there b (kept_has place f.answers b q))
+  reply_untold a (ReplyFrom.ended f number there e c) = (old_end f there).later number (above_of number (length f.answers) e)
   reply_untold a (ReplyFrom.closed t why p n y e) = closed_untold t why p.number y (next_number t p e)
 
   pub replies_untold : (a : Answer) → Has (answers_in m0.line) a → Untold more a

@@ -7,7 +7,7 @@ use Rattle.vp_model.specs.Types.event
 use Rattle.vp_model.specs.Types.owner
 use Rattle.vp_model.specs.Types.shown
 use Rattle.vp_model.specs.Catalogue.{Catalogue}
-use Rattle.vp_model.specs.World.{WorldState, Moment, Schedule, next, run_of, moments_of}
+use Rattle.vp_model.specs.World.{Moment, Schedule, next, run_of, moments_of}
 use Rattle.vp_model.specs.Told.{answers_in}
 use Rattle.vp_model.specs.Justified.{all_justified}
 use Rattle.vp_model.specs.Worked.{view, txn, reply, stored}
@@ -16,14 +16,20 @@ abbrev three_sites : Catalogue
 three_sites =
     record { sites = ((1, 7001) ∷ (2, 7002) ∷ (3, 7003) ∷ []); records = (stored (codes "x") (codes "10") ((1, 1) ∷ (2, 1) ∷ (3, 1) ∷ []) ∷ []) }
 
--- a moment in which the site is called and gives this answer alone
-abbrev claim : WorldState → ℕ → Call → Answer → Moment
-claim w site words claimed =
-    record { number = 0; before = w; line = record { event = event.Call site words; shown = shown.Step [] 0 [] (reply claimed ∷ []) }; after = w }
+-- the moment in which the site is called after the schedule, with this answer alone
+abbrev claim : Schedule → ℕ → Call → Answer → Moment
+claim s site words claimed =
+    let w = (run_of s).world in
+    record {
+      number = 0;
+      before = w;
+      line = record { event = event.Call site words; shown = shown.Step [] 0 [] (reply claimed ∷ []) };
+      after = (next s.catalogue (event.Call site words) w).world;
+    }
 
 -- the answers of the schedule are justified, and so is this one to a call after it
 abbrev pub is_justified_after : Schedule → ℕ → Call → Answer → Bool
-is_justified_after s site words claimed = all_justified s.catalogue [] (moments_of s ++ claim (run_of s).world site words claimed ∷ [])
+is_justified_after s site words claimed = all_justified s.catalogue [] (moments_of s ++ claim s site words claimed ∷ [])
 
 -- 1.1.2 is closed for a lock of 1.1.1, and then the site leaves its view
 abbrev pub closed_and_left : Schedule
@@ -83,6 +89,17 @@ closed_idle = record {
       ∷ event.Call 1 (call.Read (txn 1 1 1) 4 (codes "x"))
       ∷ [];
 }
+
+-- 1.1.1 waits for the other sites to write x
+abbrev pub waiting_write : Schedule
+waiting_write = record {
+  catalogue = three_sites;
+  events = event.Call 1 call.Begin ∷ event.Call 1 (call.Write (txn 1 1 1) 1 (codes "x") (codes "11")) ∷ [];
+}
+
+-- site 1 leaves its view, and answers the call of this number
+abbrev pub left_view : ℕ → Answer
+left_view number = answer.ViewChanged (txn 1 1 1) number 1 (view 0 0) None
 
 -- a schedule, a call after it, the answer that it gets, and a false one
 pub record FalseClaim : Type 0 where
@@ -212,6 +229,24 @@ told_before_leaving = record {
   words = read_x (txn 1 1 1) 1;
   given = answer.Value (txn 1 1 1) 1 (codes "10");
   claimed = answer.ViewChanged (txn 1 1 1) 1 1 (view 0 0) None;
+}
+
+-- 1.1.2 was closed for the lock
+abbrev pub refused_again : FalseClaim
+refused_again = record {
+  schedule = after_a_write (event.Call 1 call.Begin ∷ event.Call 1 (read_x (txn 1 1 2) 1) ∷ []);
+  site = 1;
+  words = read_x (txn 1 1 2) 2;
+  given = held_at 1 (txn 1 1 2) 2;
+  claimed = held_at 1 (txn 1 1 2) 7;
+}
+
+-- and is called under number 0
+abbrev pub refused_first : FalseClaim
+refused_first = record refused_again {
+  words = read_x (txn 1 1 2) 0;
+  given = held_at 1 (txn 1 1 2) 1;
+  claimed = held_at 1 (txn 1 1 2) 2;
 }
 
 -- 1.1.2 was closed for the lock, and its site has crashed since
