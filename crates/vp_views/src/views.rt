@@ -153,6 +153,7 @@ impl Views {
         requires { IsApart self.old.views }
         ensures row { Invites catalog.now result (viewed self.old effects.old) (viewed self.new effects.new) }
         ensures id { self.new.id ≡ self.old.id }
+        ensures promise { view_before self.new.promise self.old.promise ≡ false }
     {
         let id = self.invitable()?;
         let accepted = alone(catalog.sites().allocator(), self.id)?;
@@ -174,6 +175,7 @@ impl Views {
         ensures accepted { IfOk result (λ accepted. accepted ≡ view_before self.old.promise id) }
         ensures row { OnOk result (viewed self.new effects.new ≡ invited from id (viewed self.old effects.old)) }
         ensures id { self.new.id ≡ self.old.id }
+        ensures promise { view_before self.new.promise self.old.promise ≡ false }
     {
         if view_comes_before(&self.promise, &id) {
             effects.force(LogRecord::Promise { view: id })?;
