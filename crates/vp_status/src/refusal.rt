@@ -1,14 +1,16 @@
 //! The lines that refuse an input.
 
-ghost use Rattle.std.specs.Prelude.{◌≡◌, ◌++◌, OnOk};
+ghost use Rattle.std.specs.Prelude.{◌≡◌};
+ghost use Rattle.vp_text.specs.Printing.{Appends};
 ghost use Rattle.vp_status.specs.Refused.{bad_line_text, twice_text, limited, limit_text};
 
 use vp_base::{MOST_MESSAGES, MOST_RECORDS, NoMemory};
 use vp_text::print_number;
 
-/// Tells which line of the input is at fault, and at which byte.
+/// Tells which line of the input is at fault, and at which byte. Without memory only a beginning of it may stand there.
+#[tactic(auto, using(vp_text::proofs::Printing::printing))]
 pub fn print_bad_line(line: usize, at: usize, out: &mut Vec<u8>) -> Result<(), NoMemory>
-    ensures { OnOk result (out.new.items ≡ out.old.items ++ bad_line_text line at) }
+    ensures { Appends result out.old.items (bad_line_text line at) out.new.items }
 {
     out.extend_from_slice(b"bad line ")?;
     print_number(out, line as u64)?;
@@ -18,9 +20,10 @@ pub fn print_bad_line(line: usize, at: usize, out: &mut Vec<u8>) -> Result<(), N
     Ok(())
 }
 
-/// Tells which line of the input has a port or a name for the second time.
+/// Tells which line of the input has a port or a name for the second time. Without memory only a beginning of it may stand there.
+#[tactic(auto, using(vp_text::proofs::Printing::printing))]
 pub fn print_twice(line: usize, out: &mut Vec<u8>) -> Result<(), NoMemory>
-    ensures { OnOk result (out.new.items ≡ out.old.items ++ twice_text line) }
+    ensures { Appends result out.old.items (twice_text line) out.new.items }
 {
     out.extend_from_slice(b"twice line ")?;
     print_number(out, line as u64)?;
@@ -41,9 +44,10 @@ fn limited(limit: u32) -> &'static [u8]
     }
 }
 
-/// Tells a limit: how many records, messages or events there may be.
+/// Tells a limit: how many records, messages or events there may be. Without memory only a beginning of it may stand there.
+#[tactic(auto, using(vp_text::proofs::Printing::printing))]
 pub fn print_limit(limit: u32, out: &mut Vec<u8>) -> Result<(), NoMemory>
-    ensures { OnOk result (out.new.items ≡ out.old.items ++ limit_text limit) }
+    ensures { Appends result out.old.items (limit_text limit) out.new.items }
 {
     out.extend_from_slice(b"limit ")?;
     out.extend_from_slice(limited(limit))?;
