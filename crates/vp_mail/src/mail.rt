@@ -1,6 +1,6 @@
 //! The messages between the sites.
 
-ghost use Rattle.std.specs.Prelude.{◌≡◌, ◌≤◌, ◌<◌, ◌+◌, ◌++◌, ◌∷◌, ℕ, [], OnOk, OnErr, IfOk, Some, slice_index_or, nat_lt, map, length, if◌then◌else◌, option_copied};
+ghost use Rattle.std.specs.Prelude.{◌≡◌, ◌≤◌, ◌<◌, ◌+◌, ◌++◌, ◌∷◌, ℕ, [], OnOk, OnErr, IfOk, Some, slice_index_or, nat_lt, map, length, take, if◌then◌else◌, option_copied};
 ghost use Rattle.vp_model.specs.Words.{first};
 ghost use Rattle.vp_mail.specs.Queues.{pair_of, waiting, AreBelow, AreSites, AreSited};
 ghost use Rattle.vp_mail.specs.Posted.{message_in, posted, first_number};
@@ -167,10 +167,11 @@ impl Mail {
         Some(count as u32 + 1)
     }
 
-    /// Sends the messages. Without memory the mail may only be dropped.
+    /// Sends the messages. Without memory the first of them are sent, but not all.
     pub fn send(&mut self, messages: Messages) -> Result<(), NoMemory>
         requires { length self.old.sent + length messages ≤ 2000000 }
-        ensures { OnOk result (self.new ≡ posted messages self.old) }
+        ensures sent { OnOk result (self.new ≡ posted messages self.old) }
+        ensures err { OnErr result ((n : ℕ) × (n < length messages) × (self.new ≡ posted (take n messages) self.old)) }
     {
         for message in messages.into_vec() {
             self.post(message)?;
@@ -180,7 +181,8 @@ impl Mail {
 
     fn post(&mut self, message: Sent) -> Result<(), NoMemory>
         requires { length self.old.sent < 2000000 }
-        ensures { OnOk result (self.new ≡ posted (message ∷ []) self.old) }
+        ensures sent { OnOk result (self.new ≡ posted (message ∷ []) self.old) }
+        ensures err { OnErr result (self.new ≡ self.old) }
     {
         let pair = pair_of(message.from, message.to);
         let queue = &mut self.queues[pair];
