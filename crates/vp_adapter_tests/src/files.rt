@@ -51,6 +51,22 @@ fn files_are_written_and_cut_and_synced_and_read(rt: HostRuntime) {
 }
 
 #[test]
+fn a_log_that_is_attached_is_attached_to_no_other_disk(rt: HostRuntime) {
+    let name = word(&rt, rt.alloc(), b"locked");
+    let mut first = LogFiles::new(&rt);
+    change(&mut first, &name).expect(&rt, "no fault");
+    let mut second = LogFiles::new(&rt);
+    assert!(rt; second.attach(&name) == Err(OutFault::Failed) && second.faults() == 1);
+    assert!(rt; content(&mut first, &name, 0) == Ok((6, 5, *b"bXYef---")));
+    assert!(rt; second.attach(&name) == Err(OutFault::Failed) && second.faults() == 2);
+    drop(first);
+    assert!(rt; content(&mut second, &name, 1) == Ok((3, 2, *b"\0z------")));
+    for path in ["locked.0", "locked.1"] {
+        fs::remove_file(&rt, path).expect(&rt, "a file");
+    }
+}
+
+#[test]
 fn a_log_that_can_not_be_opened_is_counted(rt: HostRuntime) {
     let mut disk = LogFiles::new(&rt);
     for (count, name) in [b"no_folder/log".as_slice(), b"\xFF", b"a\0b"]

@@ -50,3 +50,23 @@ fn what_a_socket_can_not_do_is_counted(rt: HostRuntime) {
     assert!(rt; link.send(port, &longest) == Err(OutFault::Failed));
     assert!(rt; link.faults() == 0 && link.losses() == 1);
 }
+
+/// The port and the count of the next datagram that comes to the port, which a socket of 127.0.0.2 with this port handed over.
+fn from_elsewhere<L: Link>(rt: &HostRuntime, link: &mut L, port: u16) -> io::Result<(u16, usize)>
+    requires { (L.state link.old).asked ≡ None }
+{
+    let mut buf = [0; MOST_GIVEN];
+    let sender = UdpSocket::bind(rt, (Ipv4Addr::new(127, 0, 0, 2), port))?;
+    if link.bind(port).is_err() {
+        return Err(io::Error::from(io::ErrorKind::AddrInUse));
+    }
+    sender.send_to(b"abc", (Ipv4Addr::LOCALHOST, port))?;
+    Ok(link.receive(&mut buf).unwrap_or((port, 0)))
+}
+
+#[test]
+fn a_datagram_from_another_address_comes_from_port_0(rt: HostRuntime) {
+    let port = free_port(&rt).expect(&rt, "a port");
+    let received = from_elsewhere(&rt, &mut Socket::new(&rt), port);
+    assert!(rt; received.expect(&rt, "a datagram") == (0, 3));
+}

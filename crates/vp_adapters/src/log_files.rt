@@ -70,7 +70,8 @@ impl Halves {
     }
 }
 
-/// A disk whose log NAME is the files NAME.0 and NAME.1. It tells nothing of what they hold.
+/// A disk whose log NAME is the files NAME.0 and NAME.1. It tells nothing of what they hold. While a log is attached the first file is
+/// locked, and no other disk can attach the log.
 #[derive(Drop)]
 pub struct LogFiles<R> {
     files: R,
@@ -95,15 +96,22 @@ impl<R: Files<File = File>> LogFiles<R> {
         }
     }
 
-    /// Opens the files of a log, and makes those that are missing. Their folder is synced at each call, since the one that made them may
-    /// have been stopped before it was.
+    /// Opens the files of a log, and makes those that are missing, unless another process has the lock of the first one. Their folder is
+    /// synced at each call, since the one that made them may have been stopped before it was.
     fn open(&self, first: &[u8], second: &[u8]) -> io::Result<Halves> {
         let halves = Halves {
-            first: self.open_half(first)?,
+            first: self.open_locked(first)?,
             second: self.open_half(second)?,
         };
         File::open(&self.files, folder_of(text(first)?))?.sync_all()?;
         Ok(halves)
+    }
+
+    /// The lock goes with the file where it is closed, and with the process.
+    fn open_locked(&self, path: &[u8]) -> io::Result<File> {
+        let file = self.open_half(path)?;
+        file.try_lock()?;
+        Ok(file)
     }
 
     fn open_half(&self, path: &[u8]) -> io::Result<File> {
@@ -187,6 +195,7 @@ impl<R: Files<File = File>> Disk for LogFiles<R> {
         let first = path_of(name, b".0")?;
         let second = path_of(name, b".1")?;
         self.asked = Some(Word::from_vec(asked));
+        self.halves = None;
         self.halves = self.open(&first, &second).ok();
         self.unsynced = Unsynced::both();
         if self.halves.is_none() {

@@ -4,7 +4,7 @@ ghost use Rattle.std.specs.Prelude.{◌≡◌, None, false, is_some, IsErrOf, Is
 ghost use Rattle.vp_outside.specs.Links.{Sends};
 ghost use Rattle.vp_outside.specs.declared.sink.OutFault.TheVariants.{NoMemory as OutOfMemory};
 
-use std::net::{Ipv4Addr, Net, UdpSocket};
+use std::net::{IpAddr, Ipv4Addr, Net, SocketAddr, UdpSocket};
 use vp_outside::{Failed, Link, MOST_GIVEN, OutFault};
 
 /// A UDP socket of 127.0.0.1 as a link. It tells neither what it has left nor what was handed to it.
@@ -30,6 +30,15 @@ impl<N: Net> Socket<N> {
             faults: 0,
             losses: 0,
         }
+    }
+}
+
+/// The sender's port on 127.0.0.1, and 0 of a sender elsewhere.
+fn port_of(sender: &SocketAddr) -> u16 {
+    if sender.ip() == IpAddr::V4(Ipv4Addr::LOCALHOST) {
+        sender.port()
+    } else {
+        0
     }
 }
 
@@ -62,7 +71,7 @@ impl<N: Net> Link for Socket<N> {
         Ok(())
     }
 
-    /// It waits for a datagram.
+    /// It waits for a datagram. One that comes from another address than 127.0.0.1 comes from port 0, which no site has.
     fn receive(&mut self, buf: &mut [u8]) -> Result<(u16, usize), Failed> {
         let Some(socket) = &self.socket else {
             unreachable!()
@@ -70,7 +79,7 @@ impl<N: Net> Link for Socket<N> {
         match socket.recv_from(&mut buf[..MOST_GIVEN]) {
             Ok((count, sender)) => {
                 self.given = self.given.saturating_add(1);
-                Ok((sender.port(), count))
+                Ok((port_of(&sender), count))
             }
             Err(_) => {
                 self.faults = self.faults.saturating_add(1);

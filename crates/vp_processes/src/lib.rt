@@ -2,5 +2,7 @@
 #![tactic(auto)]
 
 mod cluster;
+mod streams;
 
 pub use cluster::{Cluster, started};
+pub use streams::run_closed;

@@ -30,7 +30,7 @@ fn logs_are_told(rt: HostRuntime) {
     for (input, lines) in [
         (HEAD, "log 1 010000000000000005010000000100 -\n"),
         (
-            "site 1 7001\nevents\ncrash 1\nrestart 1\n",
+            "site 1 7001\nrecord x 10 1:1\nevents\ncrash 1\nrestart 1\n",
             "log 1 0100000000000000050100000001010000000000000005010000000200 -\n",
         ),
         (

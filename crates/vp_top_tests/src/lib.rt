@@ -2,6 +2,8 @@
 #![tactic(auto)]
 
 #[cfg(test)]
+mod nodes;
+#[cfg(test)]
 mod processes;
 mod running;
 #[cfg(test)]

@@ -81,10 +81,99 @@ start y 5
 end 0
 ";
 
+const OTHER_CALLS: &str = "\
+site 1 7001
+record x 10 1:1
+events
+call 1 begin
+call 1 1.1.9 1 commit
+call 1 1.1.1 2 read x
+call 1 1.1.1 1 read z
+call 1 1.1.1 1 write x 11
+call 1 1.1.1 1 write x 11
+call 1 1.1.1 2 abort
+";
+
+const OTHER_CALLS_PRINTED: &str = "\
+1 call 1 begin
+ reply begun 1.1.1 0@0
+2 call 1 1.1.9 1 commit
+ reply unknown 1.1.9
+3 call 1 1.1.1 2 read x
+ reply skipped 1.1.1 expected 1
+4 call 1 1.1.1 1 read z
+ reply norecord 1.1.1 1
+5 call 1 1.1.1 1 write x 11
+ reply written 1.1.1 1
+6 call 1 1.1.1 1 write x 11
+ reply written 1.1.1 1
+7 call 1 1.1.1 2 abort
+ reply aborted 1.1.1 2
+history
+start x 10
+end 0
+";
+
+const A_LOCK_OF_ANOTHER: &str = "\
+site 1 7001
+record x 10 1:1
+events
+call 1 begin
+call 1 begin
+call 1 1.1.1 1 write x 11
+call 1 1.1.2 1 read x
+call 1 1.1.2 2 commit
+call 1 1.1.3 1 commit
+";
+
+/// What refused its first call ends the second transaction: so the next call is told the same.
+const A_LOCK_OF_ANOTHER_PRINTED: &str = "\
+1 call 1 begin
+ reply begun 1.1.1 0@0
+2 call 1 begin
+ reply begun 1.1.2 0@0
+3 call 1 1.1.1 1 write x 11
+ reply written 1.1.1 1
+4 call 1 1.1.2 1 read x
+ reply lockheld 1.1.2 1 x at 1 by 1.1.1
+5 call 1 1.1.2 2 commit
+ reply lockheld 1.1.2 2 x at 1 by 1.1.1
+6 call 1 1.1.3 1 commit
+ reply unknown 1.1.3
+history
+start x 10
+end 0
+";
+
+const A_CALL_BEHIND_AN_ABORT: &str = "\
+site 1 7001
+record x 10 1:1
+events
+call 1 begin
+call 1 1.1.1 1 abort
+call 1 1.1.1 2 read x
+";
+
+const A_CALL_BEHIND_AN_ABORT_PRINTED: &str = "\
+1 call 1 begin
+ reply begun 1.1.1 0@0
+2 call 1 1.1.1 1 abort
+ reply aborted 1.1.1 1
+3 call 1 1.1.1 2 read x
+ reply aborted 1.1.1 2
+history
+start x 10
+end 0
+";
+
 const USAGE: &str = "usage: vpdb replay|check|node|client|tick|probe|stop|generate|soak|logs\n";
 
+/// What `#` stands for in the inputs below.
+const HEAD_OF_THREE: &str =
+    "site 1 7001\nsite 2 7002\nsite 3 7003\nrecord x 10 1:1 2:1 3:1\nevents\n";
+
 /// Command lines, their inputs, and what they are answered.
-const ANSWERED: [(&str, &str, Status, &str); 17] = [
+const ANSWERED: [(&str, &str, Status, &str); 28] = [
     ("replay", HEAD, Status::Done, "history\nstart x 10\nend 0\n"),
     (
         "replay",
@@ -93,6 +182,19 @@ const ANSWERED: [(&str, &str, Status, &str); 17] = [
         TWO_TRANSACTIONS_PRINTED,
     ),
     ("replay", NO_SUCH_CALL, Status::Done, NO_SUCH_CALL_PRINTED),
+    ("replay", OTHER_CALLS, Status::Done, OTHER_CALLS_PRINTED),
+    (
+        "replay",
+        A_LOCK_OF_ANOTHER,
+        Status::Done,
+        A_LOCK_OF_ANOTHER_PRINTED,
+    ),
+    (
+        "replay",
+        A_CALL_BEHIND_AN_ABORT,
+        Status::Done,
+        A_CALL_BEHIND_AN_ABORT_PRINTED,
+    ),
     // Other texts are no schedules.
     ("replay", "", Status::BadLine, "bad line 1 at 1\n"),
     (
@@ -109,26 +211,33 @@ const ANSWERED: [(&str, &str, Status, &str); 17] = [
     ),
     (
         "replay",
-        "site 1 7001\nevents\ncall 9 begin\n",
+        "site 1 7001\nrecord x 10 1:1\nrecord x 1 1:1\nevents\n",
         Status::BadLine,
-        "bad line 3 at 6\n",
+        "twice line 3\n",
     ),
     (
         "replay",
-        "site 1 7001\nevents\ncall 1 beg",
+        "#call 9 begin\n",
         Status::BadLine,
-        "bad line 3 at 11\n",
+        "bad line 6 at 6\n",
     ),
     (
         "replay",
-        "site 1 7001\nevents\nflew 1\n",
+        "#call 1 1.1.1 1 read aaaaaaaaaaaaaaaaa\n",
         Status::BadLine,
-        "bad line 3 at 3\n",
+        "bad line 6 at 37\n",
     ),
-    // Histories have their verdict.
+    (
+        "replay",
+        "#call 1 beg",
+        Status::BadLine,
+        "bad line 6 at 11\n",
+    ),
+    ("replay", "#flew 1\n", Status::BadLine, "bad line 6 at 3\n"),
+    // Histories have their verdict, also behind a trace, and other texts are no histories.
     (
         "check",
-        "history\nstart x 10\ncommit 1.1.1 0@0 r x 10 w x 11\ncommit 1.1.2 0@0 r x 11\nend 2\n",
+        TWO_TRANSACTIONS_PRINTED,
         Status::Done,
         "serial 2\nx 11\n",
     ),
@@ -138,17 +247,38 @@ const ANSWERED: [(&str, &str, Status, &str); 17] = [
         Status::Differs,
         "differs 1.1.2 1 x kept 11 read 10\n",
     ),
+    ("check", "", Status::BadLine, "bad line 1 at 1\n"),
+    (
+        "check",
+        "history\nstart x 10\ncommit 1.1.1 0@0 r y 10\n",
+        Status::BadLine,
+        "bad line 3 at 20\n",
+    ),
+    (
+        "check",
+        "history\nstart x 10\nstart x 11\n",
+        Status::BadLine,
+        "twice line 3\n",
+    ),
     (
         "check",
         "history\nstart x 10\ncommit 1.1.1 1@2\ncommit 2.1.1 0@0\n",
         Status::BadLine,
         "bad line 4 at 14\n",
     ),
+    (
+        "check",
+        "history\nstart x 10\nend 1\n",
+        Status::BadLine,
+        "bad line 3 at 5\n",
+    ),
     // Other words are no command, and a site that the catalogue lacks has no node.
     ("", "", Status::Usage, USAGE),
     ("replay - --", "", Status::Usage, USAGE),
     ("replay --help", "", Status::Usage, USAGE),
     ("Replay", "", Status::Usage, USAGE),
+    ("generate 1 2400 1", "", Status::Usage, USAGE),
+    ("generate 1 2401", "", Status::Usage, USAGE),
     (
         "node 2 a 1",
         "site 1 7001\nrecord x 10 1:1\n",
@@ -160,8 +290,11 @@ const ANSWERED: [(&str, &str, Status, &str); 17] = [
 #[test]
 fn command_lines_are_answered(rt: HostRuntime) {
     for (line, input, status, text) in &ANSWERED {
+        let input = input
+            .replace(rt.alloc(), '#', HEAD_OF_THREE)
+            .expect(&rt, "memory");
         assert!(rt;
-            answers(rt.alloc(), line, input, *status, text).expect(&rt, "memory"),
+            answers(rt.alloc(), line, &input, *status, text).expect(&rt, "memory"),
             "{line} on {input}"
         );
     }

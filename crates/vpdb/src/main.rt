@@ -1,15 +1,27 @@
-//! The program: makes the real objects, calls the top call, and exits with its status.
+//! The program: holds the standard streams that are closed, makes the real objects, calls the top call, and exits with its status.
 #![tactic(auto)]
 
 use std::process::ExitCode;
-use vp_adapters::{LogFiles, Socket, words_behind};
+use vp_adapters::{ClosedStreams, LogFiles, Socket, words_behind};
 use vp_base::NoMemory;
 use vp_outside::{Reading, Writing};
 use vp_status::Status;
 use vp_top::run;
 
 fn main(rt: HostRuntime) -> ExitCode {
-    let status = match words_behind(&rt, 1) {
+    ExitCode::from(status(rt).code())
+}
+
+/// Nothing is done where standard output is closed: a node would start a life of its site, and a client make its call, before it turned
+/// out that nothing can be printed.
+fn status(rt: HostRuntime) -> Status {
+    let Ok(closed) = ClosedStreams::hold(&rt) else {
+        return Status::SinkFault;
+    };
+    if closed.output.is_some() {
+        return Status::SinkFault;
+    }
+    match words_behind(&rt, 1) {
         Ok(words) => run(
             rt.alloc(),
             &words,
@@ -19,6 +31,5 @@ fn main(rt: HostRuntime) -> ExitCode {
             &mut LogFiles::new(&rt),
         ),
         Err(NoMemory) => Status::NoMemory,
-    };
-    ExitCode::from(status.code())
+    }
 }
