@@ -2,6 +2,7 @@
 pub mod OneDoubt
 pub mod Force
 pub mod ForceAt
+pub mod ForceKept
 pub mod Facts
 pub mod Quiet
 pub mod BaseQuiet

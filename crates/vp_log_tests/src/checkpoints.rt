@@ -80,6 +80,35 @@ fn recovered(rt: &impl Abort, alloc: Global, first: &[u8], second: &[u8]) -> Opt
     }
 }
 
+/// Whether `peek` reads so many batches of these halves, with this only record where there is one, and leaves the halves as they are.
+fn peeks(
+    rt: &impl Abort,
+    alloc: Global,
+    (first, second): (&[u8], &[u8]),
+    count: usize,
+    only: Option<(u64, u32)>,
+) -> bool {
+    let mut disk = holding(rt, alloc, first, second);
+    let batches = Log::peek(alloc, &mut disk).expect(rt, "a log");
+    batches.as_slice().len() == count
+        && only_record(&batches) == only
+        && disk.half(0) == first
+        && disk.half(1) == second
+}
+
+#[test]
+fn a_log_is_read_without_a_recovery(rt: HostRuntime) {
+    let alloc = rt.alloc();
+    let one = checkpoint(&rt, alloc, 1, 1);
+    assert!(rt; peeks(&rt, alloc, (b"", b""), 0, None));
+    assert!(rt; peeks(&rt, alloc, (b"\0", &one[..GATE]), 0, None));
+    assert!(rt; peeks(&rt, alloc, (START, b""), 1, Some((0, 1))));
+    assert!(rt; peeks(&rt, alloc, (START, &one), 1, Some((1, 1))));
+    let open = changed_to(&rt, alloc, GATE, 1);
+    let mut disk = holding(&rt, alloc, START, &open);
+    assert!(rt; Log::peek(alloc, &mut disk).err() == Some(LogFault::BadLog { half: 1, at: 49 }));
+}
+
 #[test]
 fn the_half_of_the_higher_generation_is_current(rt: HostRuntime) {
     let one = checkpoint(&rt, rt.alloc(), 1, 1);

@@ -9,7 +9,7 @@ use Rattle.vp_base.specs.declared.entry.LogRecord.{LogRecord}
 use Rattle.vp_outside.specs.Disk.{Halves, half_of, InHalf, Written, Torn, Becomes, DiskState, log_of, IsDisk, Only, Elapses}
 use Rattle.vp_records.specs.Batches.{IsBatch}
 use Rattle.vp_stable.specs.Log.{CanStand, IsLog, HasBatches, IsBadLog}
-use Rattle.vp_stable.specs.Halves.{HasGeneration, generation_of, higher, IsCurrent, Standing, StandsAt, AreSettled, ReadAlike}
+use Rattle.vp_stable.specs.Halves.{HasGeneration, HaveBatches, generation_of, higher, IsCurrent, Standing, StandsAt, AreSettled, ReadAlike}
 use Rattle.vp_stable.specs.Moments.{LeavesOnly, TornFrom, Quiet}
 use Rattle.vp_stable.specs.Scans.{IsScan, IsRead}
 use Rattle.vp_stable.specs.declared.batches.Scan.{Scan}
@@ -197,3 +197,8 @@ settled (Some log) images at batches only stands = record { synced = only; batch
 pub kept_as : (at : Standing) (disk : DiskState) (name : Option (List ℕ)) → disk.asked ≡ name → IfSome (disk.logs name) (λ log. AreSettled at log (disk.may_leave name))
     → IfSome (log_of disk) (λ log. AreSettled at log (disk.may_leave disk.asked))
 kept_as at disk name is settled = subst (λ (n : Option (List ℕ)). IfSome (disk.logs n) (λ log. AreSettled at log (disk.may_leave n))) (sym is) settled
+
+-- what was read of the current half are the batches of the log
+pub peeked : (log : Option Halves) (half : ℕ) (bytes : List ℕ) (scan : Scan) → IfSome log (IsRead half bytes) → IsScan scan bytes → IfSome log (HaveBatches scan.batches)
+peeked None half bytes scan read is = tt
+peeked (Some log) half bytes scan read is = (half, read.current, subst (HasBatches scan.batches) read.is (has_batches scan bytes is))

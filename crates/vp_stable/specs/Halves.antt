@@ -62,6 +62,13 @@ pub record AreBadLog (half place : ℕ) (log : Halves) : Type 0 where
   pub current : IsCurrent half log
   pub bad : IsBadLog place (half_of half log)
 
+-- what reading the batches answers, where the halves are told
+abbrev pub Peeks : Halves → Result (List (List LogRecord)) LogFault → Type 0
+Peeks log (Ok batches) = HaveBatches batches log
+Peeks log (Err (faults.BadLog half at)) = AreBadLog half at log
+Peeks log (Err faults.DiskFault) = Unit {0}
+Peeks log (Err faults.NoMemory) = Unit {0}
+
 -- what recovery answers, where the halves are told
 abbrev pub Recovers : {L : Type 0} → Halves → Result (L × List (List LogRecord)) LogFault → Type 0
 Recovers log (Ok recovered) = HaveBatches recovered.1 log

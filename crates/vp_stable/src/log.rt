@@ -5,8 +5,8 @@ ghost use Rattle.std.specs.List.{AllByRecursion};
 ghost use Rattle.vp_records.specs.Batches.{IsBatch};
 ghost use Rattle.vp_records.specs.Records.{CanBeSaved};
 ghost use Rattle.vp_outside.specs.Disk.{log_of, Steps};
-ghost use Rattle.vp_stable.specs.Halves.{Recovers, StandsAt, AreKept, ReadAlike, GainsAt, MayGainAt, SavesAt, MaySaveAt, FoldsAlike, IsShort, is_due};
-ghost use Rattle.vp_stable.specs.Moments.{LeavesOnly, LeavesOthers};
+ghost use Rattle.vp_stable.specs.Halves.{Peeks, Recovers, StandsAt, AreKept, ReadAlike, GainsAt, MayGainAt, SavesAt, MaySaveAt, FoldsAlike, IsShort, is_due};
+ghost use Rattle.vp_stable.specs.Moments.{LeavesOnly, LeavesOthers, Quiet};
 ghost use Rattle.vp_stable.specs.Stops.{AppendsToStop, GainsWhere};
 ghost use Rattle.vp_stable.specs.Faults.{HasLogCause, HasAppendCause};
 
@@ -95,6 +95,22 @@ impl Log {
             second: scan.second as u64,
         };
         Ok((log, scan.batches))
+    }
+
+    /// The batches of the log that is attached, as `recover` reads them. Nothing is written, cut or synced, and no file of it changes.
+    pub fn peek<D: Disk>(alloc: Global, disk: &mut D) -> Result<Batches, LogFault>
+        requires attached { IsTrue (D.state disk.old).attached }
+
+        ensures answer { IfSome (log_of (D.state disk.old)) (λ log. Peeks log result) }
+        // Whatever the disk tells, what was read can be applied.
+        ensures batches { IfOk result (AllByRecursion IsBatch) }
+
+        ensures quiet { Quiet (D.state disk.old) (D.state disk.new) }
+        ensures cause { HasLogCause (D.state disk.old).faults (D.state disk.new).faults result }
+    {
+        let current = read_current(alloc, disk)?;
+        let scan = read_batches(alloc, current.half, &current.bytes)?;
+        Ok(scan.batches)
     }
 
     /// Puts the batch behind the others. After a fault the log is recovered again before it is used.

@@ -1,14 +1,16 @@
 -- An entry that wrote a record in a view above the date of a copy, and of which the site is a member, is in doubt there after a step; and
 -- what a refresh brings is the newest copy of the members.
-use Rattle.std.proofs.Common.{◌≡◌, ◌≢◌, ◌∙◌, ap, sym, subst, ℕ, true, List, ⊎_elim}
+use Rattle.std.proofs.Common.{◌≡◌, ◌≢◌, ◌∙◌, ap, sym, subst, ℕ, Bool, true, List, ⊎_elim}
 use Rattle.std.specs.Prelude.{Some}
 use Rattle.vp_model.specs.Types.{Change, TxnId, View, Commit, Input, Stored, Doubt}
 use Rattle.vp_model.specs.Types.message
-use Rattle.vp_model.specs.Words.{keys}
+use Rattle.vp_model.specs.Words.{keys, has}
+use Rattle.vp_model.specs.Transactions.{last_changes}
+use Rattle.vp_laws.proofs.Copies.Force.{Table, accessible_by, weighs, below as below_table, after, Weighed, none_between}
 use Rattle.vp_model.specs.Catalogue.{Catalogue, holders, accessible}
 use Rattle.vp_model.specs.Durable.{DurableState}
 use Rattle.vp_model.specs.Site.{SiteState, Stepped}
-use Rattle.vp_laws.proofs.Lists.Members.{Has}
+use Rattle.vp_laws.proofs.Lists.Members.{Has, has_test, has_from_test}
 use Rattle.vp_laws.proofs.Lists.Views.{AtMost, Precedes, AtMost-along, not_both, same_site, three_ways}
 use Rattle.vp_laws.proofs.Moves.LocalViews.{letter}
 use Rattle.vp_laws.proofs.Table.Copies.{AnswerNow}
@@ -68,10 +70,10 @@ module _ (catalogue : Catalogue) (w new : Scene) (s : ℕ) (x : SiteState) (give
 
   -- what a refresh brought
   module _ (j rec : ℕ) (c : Stored) (holder : Has (holders catalogue rec) j) (b : Brought catalogue w new s x given o k n d j rec c) where
-    taken : AnswerNow catalogue x given rec b.refreshed.taken.0
+    pub taken : AnswerNow catalogue x given rec b.refreshed.taken.0
     taken = b.refreshed.answers b.refreshed.taken.0 b.refreshed.taken.1
 
-    abbrev u : View
+    abbrev pub u : View
     u = (answer_view catalogue w new s x given o k n d rec b.refreshed.taken.0 taken).0
 
     held : x.held ≡ Some u
@@ -140,3 +142,38 @@ module _ (catalogue : Catalogue) (w new : Scene) (s : ℕ) (x : SiteState) (give
                     let r = other_answer catalogue w new s x given o k n d refresh rec u b.refreshed.r x d.here.id held b.refreshed.on b.refreshed.all b.refreshed.answers (λ p h. held) q its here_too other in
                     let a = answer_in catalogue w new s x given o k n d rec r.0 u (b.refreshed.answers r.0 r.1) held in
                     refresh.between r.0.0 s rec u.id r.0.1 e v a.sent there wrote (still_below r.0.1.date c.date e.view (b.refreshed.newest r.0 r.1) later) p v_was (subst (Has v.members) (sym r.2) there_too)
+
+    -- each holder in the view of an old entry between would have told of it
+    none_missed : (e : Commit) → Has w.journal e → Wrote e rec → Precedes c.date e.view → Precedes e.view u.id → (v : View) → AgreedAs w e.view v → (q : ℕ) → Has (holders catalogue rec) q → Has v.members q → Has u.members q → ⊥
+    none_missed e there wrote later p v agreed q its there_too here_too = ⊎_elim here other (same_site q s)
+      where
+        entered : Has new.journal e
+        entered = d.st.moved.journal e there
+
+        here : q ≡ s → ⊥
+        here same =
+            let z = own_above j rec b.own e v holder b.from entered wrote (still_below b.own.date c.date e.view b.newer later) (d.st.moved.agreed v agreed.0, agreed.1) (subst (Has v.members) (same ∙ sym b.here) there_too) in
+            brought_sure z.0 z.1 (doubt_on catalogue new n.shares e j rec z.0 entered wrote holder z.1 z.2)
+
+        other : q ≢ s → ⊥
+        other away =
+            let r = other_answer catalogue w new s x given o k n d refresh rec u b.refreshed.r x d.here.id held b.refreshed.on b.refreshed.all b.refreshed.answers (λ p h. held) q its here_too away in
+            let a = answer_in catalogue w new s x given o k n d rec r.0 u (b.refreshed.answers r.0 r.1) held in
+            refresh.between r.0.0 s rec u.id r.0.1 e v a.sent there wrote (still_below r.0.1.date c.date e.view (b.refreshed.newest r.0 r.1) later) p agreed (subst (Has v.members) (sym r.2) there_too)
+
+    -- by tables that entries give: where the table that the brought copy's date leaves has a majority in the view, no entry between changed the record
+    module _ (tables : Commit → List (ℕ × Table)) (inv : Weighed tables rec catalogue w) (too : (e : Commit) → weighs tables rec e ≡ true → Wrote e rec) (used : (e : Commit) (v : View) → Has w.journal e → Wrote e rec → AgreedAs w e.view v → accessible_by (below_table tables rec catalogue w e.view) v.members ≡ true) (enough : accessible_by (after tables rec catalogue w c.date) u.members ≡ true) where
+      abbrev did : Commit → Bool
+      did e = has (keys (last_changes e)) rec
+
+      weighed_did : (e : Commit) → weighs tables rec e ≡ true → did e ≡ true
+      weighed_did e q = has_test (keys (last_changes e)) rec (too e q)
+
+      used_did : (e : Commit) (v : View) → Has w.journal e → did e ≡ true → AgreedAs w e.view v → accessible_by (below_table tables rec catalogue w e.view) v.members ≡ true
+      used_did e v there was agreed = used e v there (has_from_test (keys (last_changes e)) rec was) agreed
+
+      told : (e : Commit) (v : View) (q : ℕ) → Has w.journal e → did e ≡ true → AgreedAs w e.view v → Precedes c.date e.view → Precedes e.view u.id → Has (holders catalogue rec) q → Has v.members q → Has u.members q → ⊥
+      told e v q there was agreed later p its there_too here_too = none_missed e there (has_from_test (keys (last_changes e)) rec was) later p v agreed q its there_too here_too
+
+      pub brought_between : (e : Commit) → Has w.journal e → Wrote e rec → Precedes c.date e.view → Precedes e.view u.id → ⊥
+      brought_between e there wrote later p = none_between tables rec catalogue w inv did weighed_did used_did c.date u enough told e there (has_test (keys (last_changes e)) rec wrote) later p

@@ -3,12 +3,15 @@ use Rattle.std.proofs.Common.{◌≡◌, ◌≢◌, ◌∙◌, ap, sym, subst, �
 use Rattle.std.specs.Prelude.{Option, Some, None, find, ◌==◌}
 use Rattle.std.proofs.lemmas.Bool.{eqb-true}
 use Rattle.vp_model.specs.Types.{ViewId, View, Commit, Input, Stored, Refreshing, Doubt}
-use Rattle.vp_model.specs.Words.{value_at}
+use Rattle.vp_model.specs.Words.{value_at, keys, has}
+use Rattle.vp_model.specs.Transactions.{last_changes}
+use Rattle.vp_laws.proofs.Copies.Force.{Table, accessible_by, weighs, below, after, Weighed, none_between, in_force}
+use Rattle.vp_laws.proofs.Copies.ForceKept.{OpenBy}
 use Rattle.vp_model.specs.Catalogue.{Catalogue, holders, accessible}
 use Rattle.vp_model.specs.Durable.{DurableState}
 use Rattle.vp_model.specs.Refresh.{is_open, is_usable_in, refreshing_of}
 use Rattle.vp_model.specs.Site.{SiteState, Stepped}
-use Rattle.vp_laws.proofs.Lists.Members.{Has, has_none, has_first, has_more, has_cons}
+use Rattle.vp_laws.proofs.Lists.Members.{Has, has_none, has_first, has_more, has_cons, has_test, has_from_test}
 use Rattle.vp_laws.proofs.Lists.Views.{Precedes, same_site}
 use Rattle.vp_laws.proofs.Journal.Order.{Precedes-trans}
 use Rattle.vp_laws.proofs.Table.Copies.{AnswerNow}
@@ -150,19 +153,17 @@ module _ (catalogue : Catalogue) (w new : Scene) (s : ℕ) (x : SiteState) (give
       ended_closed : Closed catalogue new rec v
       ended_closed = all_closed catalogue w new s x given o k n d refresh rec v q.r o.site (n.views.site s o.site d.st.now).id held q.on q.all answers held_then (λ i below. left_below_now catalogue w new s x given o k n d v i held below) sure
 
-      ended_between : (e : Commit) → Has new.journal e → Wrote e rec → Precedes c.date e.view → Precedes e.view v.id → ⊥
-      ended_between e there wrote later below =
-          let u = n.led.entry e there in
-          let p = shared_holder catalogue rec u.0.members v.members (wrote_in_force catalogue w new s x given o k n d refresh e u.0 rec there (u.1, u.2) wrote) in_view in
-          ⊎_elim
-          (λ (here : p.0 ≡ s).
-          let a = above_kept s rec c kept_copy e u.0 there wrote later (u.1, u.2) (subst (Has u.0.members) here p.2) in
-          sure a.0 a.1 (doubt_on catalogue new n.shares e s rec a.0 there wrote its_holder a.1 a.2))
-          (λ (other : p.0 ≢ s). missed u.0 (u.1, u.2) p.0 p.1 p.2 p.3 other)
-          (same_site p.0 s)
+      -- each holder in the view of an entry between would have told of it
+      none_missed : (e : Commit) → Has new.journal e → Wrote e rec → Precedes c.date e.view → Precedes e.view v.id → (u : View) → AgreedAs new e.view u → (a : ℕ) → Has (holders catalogue rec) a → Has u.members a → Has v.members a → ⊥
+      none_missed e there wrote later below u agreed a its there_too here_too = ⊎_elim
+          (λ (here : a ≡ s).
+          let z = above_kept s rec c kept_copy e u there wrote later agreed (subst (Has u.members) here there_too) in
+          sure z.0 z.1 (doubt_on catalogue new n.shares e s rec z.0 there wrote its_holder z.1 z.2))
+          (λ (other : a ≢ s). missed other)
+          (same_site a s)
         where
-          missed : (u : View) → AgreedAs new e.view u → (a : ℕ) → Has (holders catalogue rec) a → Has u.members a → Has v.members a → a ≢ s → ⊥
-          missed u agreed a its there_too here_too other =
+          missed : a ≢ s → ⊥
+          missed other =
               let r = other_answer catalogue w new s x given o k n d refresh rec v q.r o.site (n.views.site s o.site d.st.now).id held q.on q.all answers held_then a its here_too other in
               let then = held_then r.0 r.1 in
               let f = answer_in catalogue w new s x given o k n d rec r.0 v (answers r.0 r.1) then in
@@ -173,6 +174,36 @@ module _ (catalogue : Catalogue) (w new : Scene) (s : ℕ) (x : SiteState) (give
               let same : g.view ≡ v = (let y = g.held in let z = then in cc) in
               not_below_itself e.view v.id below (sym g.is ∙ ap (λ (v : View). v.id) same))
               (d.st.entered e there)
+
+      ended_between : (e : Commit) → Has new.journal e → Wrote e rec → Precedes c.date e.view → Precedes e.view v.id → ⊥
+      ended_between e there wrote later below =
+          let u = n.led.entry e there in
+          let p = shared_holder catalogue rec u.0.members v.members (wrote_in_force catalogue w new s x given o k n d refresh e u.0 rec there (u.1, u.2) wrote) in_view in
+          none_missed e there wrote later below u.0 (u.1, u.2) p.0 p.1 p.2 p.3
+
+      -- the same by tables that entries give: where the table that the copy's date leaves has a majority in the view, no entry between changed the
+      -- record, and that table is in force there
+      module _ (tables : Commit → List (ℕ × Table)) (inv : Weighed tables rec catalogue new) (too : (e : Commit) → weighs tables rec e ≡ true → Wrote e rec) (used : (e : Commit) (u : View) → Has new.journal e → Wrote e rec → AgreedAs new e.view u → accessible_by (below tables rec catalogue new e.view) u.members ≡ true) (here : accessible_by (after tables rec catalogue new c.date) v.members ≡ true) where
+        abbrev did : Commit → Bool
+        did e = has (keys (last_changes e)) rec
+
+        told : (e : Commit) (u : View) (a : ℕ) → Has new.journal e → did e ≡ true → AgreedAs new e.view u → Precedes c.date e.view → Precedes e.view v.id → Has (holders catalogue rec) a → Has u.members a → Has v.members a → ⊥
+        told e u a there was agreed later low its there_too here_too = none_missed e there (has_from_test (keys (last_changes e)) rec was) later low u agreed a its there_too here_too
+
+        weighed_did : (e : Commit) → weighs tables rec e ≡ true → did e ≡ true
+        weighed_did e q = has_test (keys (last_changes e)) rec (too e q)
+
+        used_did : (e : Commit) (u : View) → Has new.journal e → did e ≡ true → AgreedAs new e.view u → accessible_by (below tables rec catalogue new e.view) u.members ≡ true
+        used_did e u there was agreed = used e u there (has_from_test (keys (last_changes e)) rec was) agreed
+
+        pub settled_between : (e : Commit) → Has new.journal e → Wrote e rec → Precedes c.date e.view → Precedes e.view v.id → ⊥
+        settled_between e there wrote later low = none_between tables rec catalogue new inv did weighed_did used_did c.date v here told e there (has_test (keys (last_changes e)) rec wrote) later low
+
+        pub settled_open : Precedes c.date v.id → OpenBy tables rec catalogue new v
+        settled_open low = record {
+          closed = ended_closed;
+          usable = subst (λ (t : Table). accessible_by t v.members ≡ true) (sym (in_force tables rec catalogue new inv did weighed_did used_did c.date v here told low)) here;
+        }
 
     usable_here : Open catalogue new rec v
     usable_here = go why

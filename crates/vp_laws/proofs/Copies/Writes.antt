@@ -1,17 +1,23 @@
 -- A copy that a step writes: for a doubt that commits, or for an entry of the step. Nothing is in doubt on it, it has the value that its
 -- entry wrote, and no entry of a later view of the site has written it.
-use Rattle.std.proofs.Common.{◌≡◌, ◌∙◌, ap, sym, subst, ℕ, true, List, ◌∷◌, ◌++◌, refl, ⊎_elim}
-use Rattle.std.specs.Prelude.{Some}
-use Rattle.vp_model.specs.Types.{Change, ViewId, View, Commit, Input, Stored, Doubt}
+use Rattle.std.proofs.Common.{◌≡◌, ◌≢◌, ◌∙◌, ap, sym, subst, ℕ, Bool, true, false, cond, List, [], ◌∷◌, ◌++◌, refl, arith, ⊎_elim}
+use Rattle.std.proofs.lemmas.Bool.Decides.{nat_tests}
+use Rattle.std.proofs.lemmas.List.Elements.{filter-append}
+use Rattle.vp_model.specs.OneCopy.{order}
+use Rattle.vp_laws.proofs.Invariant.Base.{Stands, InvBase}
+use Rattle.vp_laws.proofs.Journal.Acts.{IsQuiet, after, after_upto, after_own, after_between, under_same}
+use Rattle.vp_laws.proofs.Journal.UpTo.{upto, under, up_to_from}
+use Rattle.std.specs.Prelude.{Some, not}
+use Rattle.vp_model.specs.Types.{Change, ViewId, TxnId, View, Commit, Input, Stored, Doubt}
 use Rattle.vp_model.specs.Types.message
-use Rattle.vp_model.specs.Words.{has, keys, value_at}
+use Rattle.vp_model.specs.Words.{has, keys, value_at, view_before, same_txn}
 use Rattle.vp_model.specs.Catalogue.{Catalogue, holders}
 use Rattle.vp_model.specs.Durable.{DurableState}
 use Rattle.vp_model.specs.Transactions.{last_changes, writes_held}
 use Rattle.vp_model.specs.Site.{SiteState, Stepped}
-use Rattle.vp_laws.proofs.Lists.Members.{Has, filter_has}
+use Rattle.vp_laws.proofs.Lists.Members.{Has, filter_has, has_first, has_more, has_right, has_cons}
 use Rattle.vp_laws.proofs.Lists.Changes.{mapped_has}
-use Rattle.vp_laws.proofs.Lists.Views.{AtMost, Precedes, AtMost-same, AtMost-along, not_both, three_ways}
+use Rattle.vp_laws.proofs.Lists.Views.{AtMost, Precedes, AtMost-same, AtMost-along, Precedes-at_most, not_both, three_ways}
 use Rattle.vp_laws.proofs.Journal.Order.{Precedes-trans}
 use Rattle.vp_laws.proofs.Moves.LocalViews.{letter}
 use Rattle.vp_laws.proofs.Worlds.Scenes.{Scene, kept_at, promise_at}
@@ -19,14 +25,14 @@ use Rattle.vp_laws.proofs.Invariant.Shares.{InDoubt}
 use Rattle.vp_laws.proofs.Invariant.Entered.{AgreedAs}
 use Rattle.vp_laws.proofs.Invariant.Held.{has_copy}
 use Rattle.vp_laws.proofs.Journal.Places.{Once, has_split, stands_behind, once_later, last_value}
-use Rattle.vp_laws.proofs.Journal.ValuesAfter.{Wrote, value_after, value_up_to, value_written, value_of_last}
+use Rattle.vp_laws.proofs.Journal.ValuesAfter.{Wrote, without_entry, without_none, value_after, value_up_to, value_written, value_of_last}
 use Rattle.vp_laws.proofs.Journal.ValuesGrow.{after_is}
 use Rattle.vp_laws.proofs.Copies.Facts.{no_doubt_below}
 use Rattle.vp_laws.proofs.Keeping.NewEntries.{none_entered, journal_same, journal_with, one_entry, Entering, entering, entering_agreed, certain_now, doubt_says, agreed_was, doubt_from, fresh_no_outcome}
 use Rattle.vp_laws.proofs.Copies.Origins.{Applied, Written}
 use Rattle.vp_laws.proofs.Copies.Values.{value_now}
 use Rattle.vp_laws.proofs.Keeping.Does.{Does}
-use Rattle.vp_laws.proofs.Invariant.Copies.{FromView, InvCopies}
+use Rattle.vp_laws.proofs.Invariant.Copies.{FromView, DoubtOn, InvCopies}
 use Rattle.vp_laws.proofs.Invariant.Refresh.{InvRefresh}
 use Rattle.vp_laws.proofs.Keeping.Listed.{wrote_here, not_below_itself}
 use Rattle.vp_laws.proofs.Invariant.Known.{Known}
@@ -36,6 +42,43 @@ pair_at ws p rec value e f h = rw (sym e, sym f) h
 
 value_along : (rec : ℕ) (start value : List ℕ) (es fs : List Commit) (a b : ViewId) → es ≡ fs → a ≡ b → value_up_to rec start fs b ≡ value → value_up_to rec start es a ≡ value
 value_along rec start value es fs a b e f h = rw (e, f) h
+
+-- the entries of views up to one are among those below a higher one
+upto_under : (d v : ViewId) (es : List Commit) → Precedes d v → upto d (under v es) ≡ upto d es
+upto_under d v [] p = refl
+upto_under d v (f ∷ es) p = go (view_before f.view v) (view_before d f.view) refl refl (upto_under d v es p)
+  where
+    go : (a b : Bool) → view_before f.view v ≡ a → view_before d f.view ≡ b → upto d (under v es) ≡ upto d es → upto d (cond a (f ∷ under v es) (under v es)) ≡ cond (not b) (f ∷ upto d es) (upto d es)
+    go true true q r rest = rw r rest
+    go true false q r rest = rw r (ap (λ (l : List Commit). f ∷ l) rest)
+    go false true q r rest = rest
+    go false false q r rest = absurd (apart (up_to_from d f.view r) q)
+      where
+        apart : AtMost f.view d → view_before f.view v ≡ false → ⊥
+        apart a b = let c = up_to_from f.view v b in grind (arith, p, a, c)
+
+-- no other entry is of the transaction of one
+once_other : (front back : List Commit) (e f : Commit) → Once (front ++ e ∷ back) → Has (front ++ back) f → f.txn ≢ e.txn
+once_other [] back e f h k = h.0 f k
+once_other (c ∷ front) back e f h k = ⊎_elim
+    (λ (one : c ≡ f). λ (same : f.txn ≡ e.txn). h.0 e (has_right front (e ∷ back) e (has_first e back)) (sym same ∙ ap (λ (g : Commit). g.txn) (sym one)))
+    (λ more. once_other front back e f h.1 more)
+    (has_cons c (front ++ back) f k)
+
+stands_among : (front back : List Commit) (e f : Commit) → Has (front ++ back) f → Has (front ++ e ∷ back) f
+stands_among [] back e f k = has_more e back f k
+stands_among (c ∷ front) back e f k = ⊎_elim
+    (λ (one : c ≡ f). rw (← one) (has_first c (front ++ e ∷ back)))
+    (λ more. has_more c (front ++ e ∷ back) f (stands_among front back e f more))
+    (has_cons c (front ++ back) f k)
+
+-- the journal without the entry that stands there
+without_there : (front back : List Commit) (e : Commit) → Once (front ++ e ∷ back) → without_entry e.txn (front ++ e ∷ back) ≡ front ++ back
+without_there front back e once =
+    filter-append (λ (f : Commit). not (same_txn f.txn e.txn)) front (e ∷ back)
+    ∙ (let t : same_txn e.txn e.txn ≡ true = grind (arith, nat_tests) in ap (λ (l : List Commit). without_entry e.txn front ++ l) (rw t refl))
+    ∙ sym (filter-append (λ (f : Commit). not (same_txn f.txn e.txn)) front back)
+    ∙ without_none e.txn (front ++ back) (λ f h. once_other front back e f once h)
 
 module _ (catalogue : Catalogue) (w new : Scene) (s : ℕ) (x : SiteState) (given : Input) (o : Stepped) (k : Known catalogue w) (n : Known catalogue new) (d : Does catalogue w new s x given o) (copies : InvCopies catalogue w) (refresh : InvRefresh catalogue w) where
   -- for a doubt that commits
@@ -52,7 +95,7 @@ module _ (catalogue : Catalogue) (w new : Scene) (s : ℕ) (x : SiteState) (give
     quiet : new.journal ≡ w.journal
     quiet = journal_same catalogue w new s x given o k n d a.from (message.Outcome a.doubt.txn true) a.comes (λ q. let z = q.1 in cc)
 
-    entry : (e : Commit) × Has w.journal e × (e.txn ≡ a.doubt.txn)
+    pub entry : (e : Commit) × Has w.journal e × (e.txn ≡ a.doubt.txn)
     entry = (k.ends.told (letter a.from s (message.Outcome a.doubt.txn true)) (d.came a.from _ a.comes)).1
 
     says : (entry.0.view ≡ a.doubt.view) × (writes_held catalogue j (last_changes entry.0) ≡ a.doubt.writes)
@@ -68,7 +111,7 @@ module _ (catalogue : Catalogue) (w new : Scene) (s : ℕ) (x : SiteState) (give
         (doubt_from catalogue w new s x given o k n d j v there)
 
     -- the copy before
-    before : (b : Stored) × (value_at rec (kept_at w j).copies ≡ Some b)
+    pub before : (b : Stored) × (value_at rec (kept_at w j).copies ≡ Some b)
     before =
         let q = has_copy catalogue w s x d.up d.here.kept k.held rec (subst (Has (holders catalogue rec)) a.here holder) in
         (q.0, subst (λ (k : DurableState). value_at rec k.copies ≡ Some q.0) (d.here.kept ∙ ap (kept_at w) (sym a.here)) q.1)
@@ -110,6 +153,58 @@ module _ (catalogue : Catalogue) (w new : Scene) (s : ℕ) (x : SiteState) (give
         let at : c.date ≡ entry.0.view = sym applied_date ∙ sym says.0 in
         value_now catalogue w new s x given o k n d copies refresh c.date rec (λ e h. absurd (no_entry e h))
         ∙ after_is catalogue w.journal c.date rec j c.value holder (λ start. value_along rec start c.value w.journal (q.0 ++ entry.0 ∷ q.1) c.date entry.0.view q.2 at (value_of_last rec start c.value q.0 q.1 entry.0 wrote_value (λ f h same wrote. none_behind q.0 q.1 f q.2 h same wrote)))
+
+    -- whatever entries make of it: the content after those of views up to the doubt's is what the doubt's entry makes of the copy before
+    module _ {C : Type 0} (act : Commit → C → C) (calm : (e : Commit) → (Wrote e rec → ⊥) → IsQuiet act e) (start : C) (of : Stored → C) (base : InvBase w) (content : ((u : Doubt) → DoubtOn w j rec before.0.date u → ⊥) → after_upto act start w.journal before.0.date ≡ of before.0) (in_doubt : (u : Doubt) → DoubtOn w j rec before.0.date u → after_upto act start (without_entry u.txn w.journal) before.0.date ≡ of before.0) where
+      pub applied_content : after_upto act start w.journal entry.0.view ≡ act entry.0 (of before.0)
+      applied_content = go (has_split w.journal entry.0 entry.1)
+        where
+          go : (q : (front : List Commit) × (back : List Commit) × (w.journal ≡ front ++ entry.0 ∷ back)) → after_upto act start w.journal entry.0.view ≡ act entry.0 (of before.0)
+          go (front, back, is) =
+              ap (λ (es : List Commit). after_upto act start es entry.0.view) is
+              ∙ after_own act start front back entry.0 (λ f h same. calm f (λ did. none_behind front back f is h same did))
+              ∙ ap (act entry.0) (⊎_elim earlier (λ later. ⊎_elim equal above later) (three_ways before.0.date a.doubt.view))
+            where
+              once : Once (front ++ entry.0 ∷ back)
+              once = subst (λ (es : List Commit). Once es) is k.ends.once
+
+              -- an entry of another transaction that changed it in a view above the date is of one above the doubt's
+              other_quiet : Precedes before.0.date a.doubt.view → (f : Commit) → Has (front ++ back) f → Precedes before.0.date f.view → AtMost f.view entry.0.view → IsQuiet act f
+              other_quiet p f h low high = calm f (λ did. ⊎_elim (λ b. base j rec before.0 a.doubt f before.1 a.was applied_on (Stands.entered entry.0 entry.1 entry.2) (there f h) did low b)
+                  (λ q. ⊎_elim (λ same. level f h did same) (λ b. not_both a.doubt.view f.view b (subst (AtMost f.view) says.0 high)) q)
+                  (three_ways f.view a.doubt.view))
+                where
+                  there : (f : Commit) → Has (front ++ back) f → Has w.journal f
+                  there f h = rw is (stands_among front back entry.0 f h)
+
+                  level : (f : Commit) → Has (front ++ back) f → Wrote f rec → f.view ≡ a.doubt.view → ⊥
+                  level f h did same =
+                      let u = copies.above j rec before.0 f view.0 before.1 (there f h) did (subst (Precedes before.0.date) (sym same) p) (view.1.0, view.1.1 ∙ sym same) view.2 in
+                      once_other front back entry.0 f once h (same_txn_in_doubt f (there f h) did u ∙ sym entry.2)
+
+              earlier : Precedes before.0.date a.doubt.view → after_upto act start (front ++ back) entry.0.view ≡ of before.0
+              earlier p =
+                  let low : Precedes before.0.date entry.0.view = subst (Precedes before.0.date) (sym says.0) p in
+                  after_between act start (front ++ back) before.0.date entry.0.view (Precedes-at_most before.0.date entry.0.view low) (other_quiet p)
+                  ∙ ap (after act start) (sym (upto_under before.0.date entry.0.view (order (front ++ back)) low) ∙ ap (upto before.0.date) (sym (under_same front back entry.0)) ∙ upto_under before.0.date entry.0.view (order (front ++ entry.0 ∷ back)) low)
+                  ∙ ap (λ (es : List Commit). after_upto act start es before.0.date) (sym is)
+                  ∙ content none
+                where
+                  none : (u : Doubt) → DoubtOn w j rec before.0.date u → ⊥
+                  none u on =
+                      let named = k.guards.writes j u a.doubt rec on.0 a.was on.1 applied_on in
+                      let q = doubt_says catalogue w new s x given o k n d entry.0 (d.st.moved.journal entry.0 entry.1) j u on.0 (named ∙ sym entry.2) in
+                      not_below_itself before.0.date a.doubt.view p (sym on.2 ∙ sym q.0 ∙ says.0)
+
+              equal : before.0.date ≡ a.doubt.view → after_upto act start (front ++ back) entry.0.view ≡ of before.0
+              equal same =
+                  let t : without_entry a.doubt.txn w.journal ≡ front ++ back = ap (without_entry a.doubt.txn) is ∙ ap (λ (t : TxnId). without_entry t (front ++ entry.0 ∷ back)) (sym entry.2) ∙ without_there front back entry.0 once in
+                  ap (after_upto act start (front ++ back)) (says.0 ∙ sym same)
+                  ∙ ap (λ (es : List Commit). after_upto act start es before.0.date) (sym t)
+                  ∙ in_doubt a.doubt (a.was, applied_on, sym same)
+
+              above : Precedes a.doubt.view before.0.date → after_upto act start (front ++ back) entry.0.view ≡ of before.0
+              above p = absurd (no_doubt_below catalogue w k copies refresh j rec before.0 a.doubt before.1 a.was applied_on p)
 
     pub applied_above : (e : Commit) (v : View) → Has new.journal e → Wrote e rec → Precedes c.date e.view → AgreedAs new e.view v → Has v.members j → ⊥
     applied_above e v h wrote later agreed member = ⊎_elim earlier (λ q. ⊎_elim equal above q) (three_ways before.0.date e.view)

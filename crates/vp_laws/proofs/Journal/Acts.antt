@@ -253,6 +253,15 @@ module _ {C : Type 0} (act : Commit → C → C) where
       go false true p q rest = absurd (not_both j e.view (from_before j e.view q) (AtMost-trans e.view i j (up_to_from i e.view p) h))
       go false false p q rest = rest (act e c)
 
+  -- where each entry above a view is quiet, all entries make of it what those up to that view do
+  pub after_all : (c : C) (i : ViewId) (es : List Commit) → ((f : Commit) → Has es f → Precedes i f.view → IsQuiet f) → after c es ≡ after c (upto i es)
+  after_all c i [] quiet = refl
+  after_all c i (e ∷ es) quiet = go (view_before i e.view) refl (λ b. after_all b i es (λ f q. quiet f (has_more e es f q)))
+    where
+      go : (a : Bool) → view_before i e.view ≡ a → ((b : C) → after b es ≡ after b (upto i es)) → after (act e c) es ≡ after c (cond (not a) (e ∷ upto i es) (upto i es))
+      go true p rest = ap (λ (b : C). after b es) (quiet e (has_first e es) (from_before i e.view p) c) ∙ rest c
+      go false p rest = rest (act e c)
+
   pub after_between : (c : C) (journal : List Commit) (i j : ViewId) → AtMost i j → ((f : Commit) → Has journal f → Precedes i f.view → AtMost f.view j → IsQuiet f) → after_upto c journal j ≡ after_upto c journal i
   after_between c journal i j h quiet = after_among c i j (order journal) h (λ f q. quiet f (order_has journal f q))
 

@@ -34,7 +34,7 @@ set_value ws m rec all = go (slice_get m rec) (value_at rec ws) refl refl
     go (Some v) None e f = get_all-other rec ws m f ∙ e
     go (Some v) (Some u) e f = all u f (rw e refl)
 
-serial_value : (rec : ℕ) (es : List Commit) (m n : Values) → serial m es ≡ Some n → slice_get n rec ≡ option_map (λ start. value_in rec start es) (slice_get m rec)
+pub serial_value : (rec : ℕ) (es : List Commit) (m n : Values) → serial m es ≡ Some n → slice_get n rec ≡ option_map (λ start. value_in rec start es) (slice_get m rec)
 serial_value rec [] m n h = let same : m ≡ n = cc in rw (← same) (as_it_is (slice_get m rec))
   where
     as_it_is : (o : Option (List ℕ)) → o ≡ option_map (λ start. start) o

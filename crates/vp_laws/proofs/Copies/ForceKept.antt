@@ -1,0 +1,90 @@
+-- What is known of tables in force stays so over a step: a record that is open by the table in force in a view stays open, since no entry of a
+-- lower view changes it any more; and a new entry is of a view that has more than half by the table in force.
+use Rattle.std.proofs.Common.{◌≡◌, ◌∙◌, ap, sym, subst, ℕ, true, List, refl, ⊎_elim}
+use Rattle.std.specs.Prelude.{Some}
+use Rattle.vp_model.specs.Types.{ViewId, View, Commit, Input}
+use Rattle.vp_model.specs.Words.{keys, value_at}
+use Rattle.vp_model.specs.Catalogue.{Catalogue, holders, weights_of}
+use Rattle.vp_model.specs.Site.{SiteState, Stepped}
+use Rattle.vp_laws.proofs.Lists.Members.{Has}
+use Rattle.vp_laws.proofs.Lists.Views.{Precedes}
+use Rattle.vp_laws.proofs.Worlds.Scenes.{Scene}
+use Rattle.vp_laws.proofs.Invariant.Entered.{AgreedAs}
+use Rattle.vp_laws.proofs.Invariant.Closed.{Closed}
+use Rattle.vp_laws.proofs.Invariant.Known.{Known}
+use Rattle.vp_laws.proofs.Journal.ValuesAfter.{Wrote}
+use Rattle.vp_laws.proofs.Keeping.Closing.{closed_lasts}
+use Rattle.vp_laws.proofs.Keeping.Does.{Does}
+use Rattle.vp_laws.proofs.Keeping.Listed.{not_below_itself}
+use Rattle.vp_laws.proofs.Keeping.NewEntries.{JournalNow, journal_now, one_entry, entering, entering_agreed, agreed_was}
+use Rattle.vp_laws.proofs.Keeping.Stopping.{met_stops}
+use Rattle.vp_laws.proofs.Copies.Force.{Table, accessible_by, weighs, below, Weighed, usable_after, walk_up}
+use Rattle.vp_laws.proofs.Copies.ForceAt.{below_more}
+
+module _ (tables : Commit → List (ℕ × Table)) (rec : ℕ) where
+  -- closed for the view, and accessible in it by the table that lower views leave
+  pub record OpenBy (catalogue : Catalogue) (w : Scene) (v : View) : Type 0 where
+    pub closed : Closed catalogue w rec v
+    pub usable : accessible_by (below tables rec catalogue w v.id) v.members ≡ true
+
+  -- `too`: who changes the table changes the record. `used`: what a new entry changed is accessible in its view, by the table that lower views
+  -- leave. `given`, `sites`: a table that a new entry gives has the holders, and more than half of it is in the view
+  module _ (catalogue : Catalogue) (w new : Scene) (s : ℕ) (x : SiteState) (given : Input) (o : Stepped) (k : Known catalogue w) (n : Known catalogue new) (d : Does catalogue w new s x given o) (inv : Weighed tables rec catalogue w) (too : (e : Commit) → weighs tables rec e ≡ true → Wrote e rec) (used : (e : Commit) (v : View) → Has o.effects.commits e → Wrote e rec → AgreedAs w e.view v → accessible_by (below tables rec catalogue w e.view) v.members ≡ true) where
+    -- a new entry changed no record that is open in a higher view
+    pub open_stops : (e : Commit) (u : View) → Has o.effects.commits e → Wrote e rec → Precedes e.view u.id → OpenBy catalogue w u → ⊥
+    open_stops e u h wrote low opened =
+        let f = entering catalogue w new s x given o k n d e h in
+        let agreed = entering_agreed catalogue w new s x given o k n d e f in
+        let here = used e f.view h wrote agreed in
+        let m = walk_up tables rec catalogue w inv f.view u (subst (λ (i : ViewId). Precedes i u.id) (sym f.is) low)
+        (usable_after tables rec catalogue w inv f.view agreed.0 (subst (λ (i : ViewId). accessible_by (below tables rec catalogue w i) f.view.members ≡ true) (sym f.is) here))
+        opened.usable opened.closed in
+        met_stops catalogue w new s x given o d.up d.here.id d.led k.shares n.shares n.entered d.steps d.shares d.st e f.view rec m.site m.up h (d.st.moved.agreed f.view agreed.0, agreed.1) wrote m.holder m.member (subst (λ (i : ViewId). Precedes i m.up) f.is m.above) m.closed
+
+    -- the table in force in a view stays, where no new entry of a lower view changes it
+    pub below_stays : (i : ViewId) → ((e : Commit) → Has o.effects.commits e → Precedes e.view i → weighs tables rec e ≡ true → ⊥) → below tables rec catalogue new i ≡ below tables rec catalogue w i
+    below_stays i none = go (journal_now catalogue w new s x given o k n d)
+      where
+        go : JournalNow catalogue w new s x given o k n d → below tables rec catalogue new i ≡ below tables rec catalogue w i
+        go (JournalNow.stays e) = rw e refl
+        go (JournalNow.longer e h is) = rw is (below_more tables rec (weights_of catalogue rec) w.journal e i (λ low q. none e h low q))
+
+    -- an open record stays so
+    pub open_lasts : (v : View) → OpenBy catalogue w v → OpenBy catalogue new v
+    open_lasts v opened = record {
+      closed = closed_lasts catalogue w new s x given o d.up d.here.kept d.below.parts d.shares d.leaves d.st rec v opened.closed;
+      usable = subst (λ (t : Table). accessible_by t v.members ≡ true) (sym (below_stays v.id (λ e h low q. open_stops e v h (too e q) low opened))) opened.usable;
+    }
+
+    -- and so does all that is known of tables
+    pub weighed_keeps : ((e : Commit) (v : View) (t : Table) → Has o.effects.commits e → value_at rec (tables e) ≡ Some t → AgreedAs w e.view v → accessible_by t v.members ≡ true) → ((e : Commit) (t : Table) → Has o.effects.commits e → value_at rec (tables e) ≡ Some t → keys t ≡ holders catalogue rec) → ((e : Commit) (v : View) → Has o.effects.commits e → Wrote e rec → AgreedAs w e.view v → Closed catalogue w rec v) → ((e : Commit) (v : View) → Has w.journal e → weighs tables rec e ≡ true → AgreedAs w e.view v → OpenBy catalogue w v) → Weighed tables rec catalogue new
+    weighed_keeps given_new sites_new closed_new old = record {
+      usable = λ e v h q a. (opened e v h q a).0;
+      majority = λ e v t h is a. ⊎_elim
+          (λ was. inv.majority e v t was is (agreed_was catalogue w new s x given o k n d e v was a))
+          (λ more. given_new e v t more is (new_agreed e v more a))
+          (d.st.entered e h);
+      sites = λ e t h is. ⊎_elim (λ was. inv.sites e t was is) (λ more. sites_new e t more is) (d.st.entered e h);
+      closed = λ e v h q a. (opened e v h q a).1;
+      agreed = λ e h. let q = n.led.entry e h in (q.0, (q.1, q.2));
+    }
+      where
+        new_agreed : (e : Commit) (v : View) → Has o.effects.commits e → AgreedAs new e.view v → AgreedAs w e.view v
+        new_agreed e v h a =
+            let f = entering catalogue w new s x given o k n d e h in
+            let there = entering_agreed catalogue w new s x given o k n d e f in
+            let same : f.view ≡ v = n.views.unique f.view v (d.st.moved.agreed f.view there.0) a.0 (f.is ∙ sym a.1) in
+            (subst (Has w.agreed) same there.0, a.1)
+
+        opened : (e : Commit) (v : View) → Has new.journal e → weighs tables rec e ≡ true → AgreedAs new e.view v → (accessible_by (below tables rec catalogue new e.view) v.members ≡ true) × Closed catalogue new rec v
+        opened e v h q a = ⊎_elim
+            (λ was.
+            let b = agreed_was catalogue w new s x given o k n d e v was a in
+            let l = open_lasts v (old e v was q b) in
+            (subst (λ (i : ViewId). accessible_by (below tables rec catalogue new i) v.members ≡ true) a.1 l.usable, l.closed))
+            (λ more.
+            let b = new_agreed e v more a in (
+              subst (λ (t : Table). accessible_by t v.members ≡ true) (sym (below_stays e.view (λ g i low z. not_below_itself g.view e.view low (ap (λ (c : Commit). c.view) (one_entry catalogue w new s x given o k n d g e i more))))) (used e v more (too e q) b),
+              closed_lasts catalogue w new s x given o d.up d.here.kept d.below.parts d.shares d.leaves d.st rec v (closed_new e v more (too e q) b),
+            ))
+            (d.st.entered e h)

@@ -1,0 +1,15 @@
+pub mod Going
+pub mod Can
+pub mod Acts
+pub mod Started
+pub mod Based
+pub mod Rows
+pub mod Invited
+pub mod Sending
+pub mod Refreshed
+pub mod Held
+pub mod Certain
+pub mod OneDoubt
+pub mod Current
+pub mod Mended
+pub mod Counted

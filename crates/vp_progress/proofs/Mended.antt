@@ -1,0 +1,193 @@
+-- Whatever has happened, events that mend lead to a whole world.
+use Rattle.std.proofs.Common.{◌≡◌, ◌∙◌, ap, sym, subst, ℕ, Bool, true, false, cond, List, [], ◌∷◌, refl, ⊎_elim}
+use Rattle.std.specs.Prelude.{Option, Some, None, ◌==◌, map, option_map}
+use Rattle.vp_model.specs.Types.{ViewId, View, Owner, Lock, Doubt, Commit, Refreshing, Live, Part}
+use Rattle.vp_model.specs.Types.owner
+use Rattle.vp_model.specs.Words.{has, opening}
+use Rattle.vp_model.specs.Catalogue.{Catalogue, sites_of}
+use Rattle.vp_model.specs.Durable.{DurableState}
+use Rattle.vp_model.specs.Refresh.{refreshing_of}
+use Rattle.vp_model.specs.Site.{SiteState}
+use Rattle.vp_model.specs.Step.{step}
+use Rattle.vp_model.specs.World.{Place, WorldState, Schedule, place_of, site_of, change_place, start_place, start_world, after_step, restart_place}
+use Rattle.vp_laws.proofs.Lists.Members.{Has, has_none, has_cons, has_test, has_from_test}
+use Rattle.vp_laws.proofs.Lists.Views.{same_site}
+use Rattle.vp_laws.proofs.Lists.Numbers.{eq_self}
+use Rattle.vp_laws.proofs.Table.Locks.{LocksAt}
+use Rattle.vp_laws.proofs.Worlds.Scenes.{Scene, scene_of, place-same, place-other}
+use Rattle.vp_laws.proofs.Worlds.Sites.{With}
+use Rattle.vp_laws.proofs.Worlds.Events.{Lasts, in_last}
+use Rattle.vp_laws.proofs.Invariant.Known.{Known}
+use Rattle.vp_progress.specs.Whole.{AreUnspent, IsWhole}
+use Rattle.vp_progress.specs.Progress.{world_of, CanBeWhole}
+use Rattle.vp_progress.proofs.Going.{world_goes_on, mending_flows_not}
+use Rattle.vp_progress.proofs.Can.{Can, can_now, can_then}
+use Rattle.vp_progress.proofs.Started.{Fit, Started, starts_all}
+use Rattle.vp_progress.proofs.Based.{Based, OneEach}
+use Rattle.vp_progress.proofs.Invited.{Invited, invites_all, accepts_all}
+use Rattle.vp_progress.proofs.Held.{Holds, Fixed, fixes_view, joins_all, Quiet, empty_from}
+use Rattle.vp_progress.proofs.Certain.{doubts_at, Fewer, ends_all, coordinator_stands}
+use Rattle.vp_progress.proofs.OneDoubt.{InvOne, one_last, can_with}
+use Rattle.vp_progress.proofs.Current.{Sure, Ready, refresh_at, refreshes_all}
+
+-- ---- each site of the catalogue has its place
+
+abbrev Places : Catalogue → Scene → Type 0
+Places catalogue w = (q : ℕ) → Has (sites_of catalogue) q → (p : Place) × (place_of q w.places ≡ Some p)
+
+still_there : (s : ℕ) (f : Place → Place) (places : List Place) → ((p : Place) → (f p).id ≡ p.id) → (q : ℕ) → (p : Place) × (place_of q places ≡ Some p) → (p : Place) × (place_of q (change_place s f places) ≡ Some p)
+still_there s f places same q p =
+    ⊎_elim (λ (here : q ≡ s). rw here (f p.0, place-same s f places same ∙ ap (option_map f) (rw here at p.1))) (λ n. (p.0, place-other s q f places same n ∙ p.1)) (same_site q s)
+
+first_there : (catalogue : Catalogue) (sites : List ℕ) (q : ℕ) → Has sites q → (p : Place) × (place_of q (map (start_place catalogue) sites) ≡ Some p)
+first_there catalogue [] q h = absurd (has_none q h)
+first_there catalogue (s ∷ sites) q h = go (s == q) refl (λ k. first_there catalogue sites q k)
+  where
+    go : (b : Bool) → (s == q) ≡ b → (Has sites q → (p : Place) × (place_of q (map (start_place catalogue) sites) ≡ Some p)) → (p : Place) × (cond b (Some (start_place catalogue s)) (place_of q (map (start_place catalogue) sites)) ≡ Some p)
+    go true e rest = (start_place catalogue s, refl)
+    go false e rest = ⊎_elim (λ (one : s ≡ q). absurd (let z : (q == q) ≡ false = subst (λ (a : ℕ). (a == q) ≡ false) one e in let y = eq_self q in cc)) (λ more. rest more) (has_cons s sites q h)
+
+starts_there : (catalogue : Catalogue) → Places catalogue (scene_of (start_world catalogue))
+unfolding start_world
+starts_there catalogue q h = first_there catalogue (sites_of catalogue) q h
+
+places_last : (catalogue : Catalogue) → Lasts catalogue (Places catalogue)
+places_last catalogue = record {
+  starts = starts_there catalogue;
+  acts = λ w s x given up r h q k. still_there s (after_step (step catalogue x given)) w.places (λ p. refl) q (h q k);
+  crashes = λ w s h q k. still_there s (λ (place : Place). record place { up = None }) w.places (λ p. refl) q (h q k);
+  restarts = λ w s place e u i h q k. still_there s (restart_place catalogue) w.places (λ p. refl) q (h q k);
+}
+
+-- ---- one view
+
+module _ (catalogue : Catalogue) (ns : List ℕ) (journal : List Commit) where
+  -- all hold one view of their own
+  record Joined (w : WorldState) : Type 0 where
+    view : View
+    base : Based catalogue ns journal w
+    all : (q : ℕ) → Has ns q → Has view.members q
+    among : (q : ℕ) → Has view.members q → Has ns q
+    holds : (q : ℕ) → Has ns q → Holds catalogue view q w
+
+  joins : (first : ℕ) (rest : List ℕ) → ns ≡ first ∷ rest → ((q : ℕ) → Has ns q → Has (sites_of catalogue) q) → (w : WorldState) → Fit catalogue ns journal w → Can catalogue ns w Joined
+  joins first rest is sub w f =
+      can_then catalogue ns (Started catalogue ns journal) Joined w (starts_all catalogue ns journal w f)
+      λ w1 s. can_then catalogue ns (λ new. (id : ViewId) × (r : ℕ) × Has ns r × Invited catalogue ns journal id r new) Joined w1 (invites_all catalogue ns journal w1 first rest is sub s)
+      λ w2 i. can_then catalogue ns _ Joined w2 (accepts_all catalogue ns journal i.0 i.1 i.2 w2 i.3)
+      λ w3 a. can_then catalogue ns (λ new. (v : View) × Fixed catalogue ns journal v i.1 new) Joined w3 (fixes_view catalogue ns journal i.0 i.1 w3 i.2 a.still (λ q h n. a.done q h n))
+      λ w4 v. can_then catalogue ns _ Joined w4 (joins_all catalogue ns journal v.0 i.1 i.2 w4 v.1)
+      λ w5 h. can_now catalogue ns Joined w5 (record { view = v.0; base = h.still.base; all = h.still.all; among = h.still.among; holds = h.done })
+
+  quiet_from : (w : WorldState) (j : Joined w) → InvOne (scene_of w) → Quiet catalogue ns journal j.view w
+  quiet_from w j one = record {
+    base = j.base;
+    all = j.all;
+    among = j.among;
+    holds = j.holds;
+    one = λ q x up. subst (λ (d : DurableState). OneEach d.doubts) (sym (j.base.known.views.site q x up).kept) (one.one q);
+  }
+
+-- ---- nothing is left
+
+no_locks : (catalogue : Catalogue) (x : SiteState) → LocksAt catalogue x → x.live ≡ [] → x.parts ≡ [] → x.doubts ≡ [] → x.refresh ≡ [] → x.locks ≡ []
+no_locks catalogue x ok live parts doubts refresh = empty_from x.locks (λ l h. go l h l.owner refl)
+  where
+    go : (l : Lock) → Has x.locks l → (o : Owner) → l.owner ≡ o → ⊥
+    go l h owner.Refresh e = let r = ok.guard l h e in has_none r.0 (subst (λ (rs : List Refreshing). Has rs r.0) refresh r.1)
+    go l h (owner.Txn txn) e =
+        ⊎_elim (λ t. has_none t.0 (subst (λ (ts : List Live). Has ts t.0) live t.1))
+        (λ more. ⊎_elim (λ p. has_none p.0 (subst (λ (ps : List Part). Has ps p.0) parts p.1)) (λ d. has_none d.0 (subst (λ (ds : List Doubt). Has ds d.0) doubts d.1)) more)
+        (ok.owners l txn h e)
+
+none_listed : (rs : List Refreshing) → ((rec : ℕ) → refreshing_of rec rs ≡ None) → rs ≡ []
+none_listed [] h = refl
+none_listed (r ∷ rs) h = absurd (let e = h r.rec in let t = eq_self r.rec in let z : refreshing_of r.rec (r ∷ rs) ≡ Some r = rw t refl in let y = sym z ∙ e in cc)
+
+same_has : (xs ys : List ℕ) → ((q : ℕ) → Has xs q → Has ys q) → ((q : ℕ) → Has ys q → Has xs q) → (q : ℕ) → has xs q ≡ has ys q
+same_has xs ys f g q = go (has xs q) (has ys q) refl refl
+  where
+    go : (a b : Bool) → has xs q ≡ a → has ys q ≡ b → a ≡ b
+    go true true p r = refl
+    go false false p r = refl
+    go true false p r = let z = has_test ys q (f q (has_from_test xs q p)) in let y = sym z ∙ r in cc
+    go false true p r = let z = has_test xs q (g q (has_from_test ys q r)) in let y = sym z ∙ p in cc
+
+whole_from : (catalogue : Catalogue) (journal : List Commit) (v : View) (w : WorldState) → Ready catalogue (sites_of catalogue) journal v w → IsWhole catalogue w
+whole_from catalogue journal v w f =
+    let quiet = f.sure.quiet in
+    record {
+      view = v;
+      members = same_has v.members (sites_of catalogue) quiet.among quiet.all;
+      joined = λ a b p q. quiet.base.joined a b (has_from_test (sites_of catalogue) a p) (has_from_test (sites_of catalogue) b q);
+      sites = λ q h.
+          let here = has_from_test (sites_of catalogue) q h in
+          let g = quiet.holds q here in
+          let doubts = f.sure.sure q g.at here g.up in
+          let refresh = none_listed g.at.refresh (λ rec. ap (λ (o : Option SiteState). refreshing_of rec (refresh_at o)) (sym g.up) ∙ f.fresh q here rec) in
+          (g.at, g.up, record { held = g.held; locks = no_locks catalogue g.at (quiet.base.known.guards.site q g.at g.up) g.live g.parts doubts refresh; refresh = refresh; live = g.live; parts = g.parts; doubts = doubts });
+    }
+
+-- ---- from every schedule
+
+record Mended (catalogue : Catalogue) (journal : List Commit) (w : WorldState) : Type 0 where
+  whole : IsWhole catalogue w
+  same : w.journal ≡ journal
+
+module _ (catalogue : Catalogue) (journal : List Commit) where
+  abbrev ns : List ℕ
+  ns = sites_of catalogue
+
+  sure_from : (v : View) (w : WorldState) → Quiet catalogue ns journal v w → ((q : ℕ) → Has ns q → (c : Doubt) → Has (doubts_at (site_of w q)) c → Has ns c.txn.site → ⊥) → Sure catalogue ns journal v w
+  sure_from v w f clear = record {
+    quiet = f;
+    sure = λ q x h up. empty_from x.doubts (λ c there. clear q h c (subst (λ (o : Option SiteState). Has (doubts_at o) c) (sym up) there) (coordinator_stands catalogue w f.base.known q x c up there));
+  }
+
+  mended : (first : ℕ) (rest : List ℕ) → ns ≡ first ∷ rest → (w : WorldState) → Fit catalogue ns journal w → With (Known catalogue) InvOne (scene_of w) → Can catalogue ns w (Mended catalogue journal)
+  mended first rest is w f good =
+      can_then catalogue ns (λ new. Joined catalogue ns journal new × With (Known catalogue) InvOne (scene_of new)) (Mended catalogue journal) w
+      (can_with catalogue ns (With (Known catalogue) InvOne) (one_last catalogue) (Joined catalogue ns journal) w good (joins catalogue ns journal first rest is (λ q h. h) w f))
+      λ w1 j.
+      let v = j.0.view in
+      can_then catalogue ns (λ new. Quiet catalogue ns journal v new × Fewer w1 new × ((q : ℕ) → Has ns q → (c : Doubt) → Has (doubts_at (site_of new q)) c → Has ns c.txn.site → ⊥)) (Mended catalogue journal) w1
+      (ends_all catalogue ns journal v ns (λ q h. h) w1 (quiet_from catalogue ns journal w1 j.0 j.1.more))
+      λ w2 c. can_then catalogue ns (Ready catalogue ns journal v) (Mended catalogue journal) w2 (refreshes_all catalogue ns journal v w2 (sure_from v w2 c.0 c.2))
+      λ w3 g. can_now catalogue ns (Mended catalogue journal) w3 (record { whole = whole_from catalogue journal v w3 g; same = g.sure.quiet.base.same })
+
+  mended_none : ns ≡ [] → (w : WorldState) → w.journal ≡ journal → Can catalogue ns w (Mended catalogue journal)
+  mended_none is w same = can_now catalogue ns (Mended catalogue journal) w (record {
+    whole = record {
+      view = record { id = opening; members = [] };
+      members = λ q. ap (λ (ms : List ℕ). has ms q) (sym is);
+      joined = λ a b p q. absurd (none a p);
+      sites = λ q p. absurd (none q p);
+    };
+    same = same;
+  })
+    where
+      none : (q : ℕ) → has ns q ≡ true → ⊥
+      none q p = has_none q (subst (λ (ms : List ℕ). Has ms q) is (has_from_test ns q p))
+
+can_mend : (s : Schedule) → AreUnspent (sites_of s.catalogue) (world_of s) → Can s.catalogue (sites_of s.catalogue) (world_of s) (Mended s.catalogue (world_of s).journal)
+can_mend s u = go (sites_of s.catalogue) refl
+  where
+    go : (sites : List ℕ) → sites_of s.catalogue ≡ sites → Can s.catalogue (sites_of s.catalogue) (world_of s) (Mended s.catalogue (world_of s).journal)
+    go [] is = mended_none s.catalogue (world_of s).journal is (world_of s) refl
+    go (first ∷ rest) is =
+        let good = in_last s.catalogue (With (Known s.catalogue) InvOne) (one_last s.catalogue) s.events in
+        mended s.catalogue (world_of s).journal first rest is (world_of s)
+        (record { known = good.base; unspent = u; there = in_last s.catalogue (Places s.catalogue) (places_last s.catalogue) s.events; same = refl })
+        good
+
+-- every schedule that spends no number can be mended
+pub mends : (s : Schedule) → AreUnspent (sites_of s.catalogue) (world_of s) → CanBeWhole s
+mends s u =
+    let c = can_mend s u in
+    let is = world_goes_on s c.events (mending_flows_not s.catalogue (sites_of s.catalogue) c.events (world_of s) c.mending) in
+    record {
+      more = c.events;
+      mending = c.mending;
+      whole = subst (IsWhole s.catalogue) (sym is) c.so.whole;
+      journal = ap (λ (w : WorldState). w.journal) is ∙ c.so.same;
+    }

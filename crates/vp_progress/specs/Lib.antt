@@ -1,0 +1,4 @@
+pub mod Going
+pub mod Whole
+pub mod Progress
+pub mod Worked
