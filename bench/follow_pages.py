@@ -8,8 +8,8 @@ after the other, in one shell that begins in a folder with the repository's `ope
 a `#` is what the line prints on its standard output, if it begins as something that is printed (`PRINTED` here); `..` in it stands for anything within a
 line, `, three times` for three such lines, and a line that is a `#` alone goes on. Behind any other `#`, as behind none, nothing is printed.
 
-Where the script runs as root each run has a network, processes and a folder of its own (unshare), so that --at-once of them (8) may go on side by side;
-else one goes on after the other. Prints the first lines that differ of each run, how many runs had none, and ends with status 1 where one had.
+Blocks that begin with ```bash root are of the page where the script runs as root and finds ip and nft. There each run has a network, processes and a folder of its own (unshare), so that --at-once of them (8) may go on side by side;
+else one goes on after the other, and that is said. Prints the first lines that differ of each run, how many runs had none, and ends with status 1 where one had.
 """
 import argparse
 import collections
@@ -70,12 +70,12 @@ def is_whole(command):
     return subprocess.run(["bash", "-n"], input=command.encode(), capture_output=True).returncode == 0
 
 
-def lines_of(page):
-    """The commands of a page's blocks."""
+def lines_of(page, fences):
+    """The commands of the page's blocks that begin with one of these lines."""
     found, is_block = [], False
     for number, text in enumerate((TOP / page).read_text().splitlines(), 1):
         if text.startswith("```"):
-            is_block = text == "```bash"
+            is_block = text in fences
         elif is_block and text.strip():
             code, note = re.fullmatch(r"(.*?)(?:(?:^|\s+)#\s+(.*))?", text).groups()
             if code.strip() and (not found or is_whole(found[-1].command)):
@@ -100,7 +100,8 @@ def run(vpdb, lines, alone):
         pathlib.Path(f"{folder}/script").write_text(script_of(lines))
         words = [*(ALONE if alone else []), "bash", f"{folder}/script"]
         with open(f"{folder}/printed", "wb") as printed:
-            process = subprocess.Popen(words, cwd=folder, stdin=subprocess.DEVNULL, stdout=printed, stderr=subprocess.DEVNULL, env={**os.environ, "TMPDIR": folder})
+            process = subprocess.Popen(words, cwd=folder, stdin=subprocess.DEVNULL, stdout=printed, stderr=subprocess.DEVNULL,
+                                       env={**os.environ, "TMPDIR": folder}, start_new_session=True)
             try:
                 process.wait(SECONDS)
             except subprocess.TimeoutExpired:
@@ -138,8 +139,10 @@ def main():
     words.add_argument("--times", type=int, default=1)
     words.add_argument("--at-once", type=int, default=8)
     given = words.parse_args()
-    lines = [line for page in given.pages for line in lines_of(page)]
-    alone = os.geteuid() == 0
+    alone = os.geteuid() == 0 and all(map(shutil.which, ("ip", "nft", "unshare")))
+    if not alone:
+        print("not as root, or without ip, nft or unshare: blocks for root are left out")
+    lines = [line for page in given.pages for line in lines_of(page, ("```bash", "```bash root") if alone else ("```bash",))]
     good, often = 0, collections.Counter()
     with ThreadPoolExecutor(min(given.times, given.at_once) if alone else 1) as runs:
         for answer in runs.map(lambda _: run(given.vpdb, lines, alone), range(given.times)):

@@ -3,22 +3,25 @@
 
 usage: time_beat.py PROGRAM [--sites N] [--rounds N] [--reference FOLDER] [--beat "OPTIONS"]
 
-PROGRAM has the command `node`. A process for each of N sites (5), with its log in a temporary folder (TMPDIR says where), and a proxy between them
-that can cut. At each site a client begins, reads and writes a record of its own, which has a copy of weight 1 at every site, and commits, again
-and again. In each round:
+PROGRAM has the command `node`. A process for each of N sites (5), with its log in a temporary folder (TMPDIR says where). At each site a client begins,
+reads and commits, again and again; at the first, the middle and the last one it also writes a record of its own. Each record has a copy of weight 1 at
+every site. In each round:
 
-- Each site is killed (kill -9), and later started again. DEAD is from the kill to the first commit of a transaction that was begun after it, `all`
-  to the moment when each site that is left has had one. BACK is from the start to the first read at the site that is back, `all` likewise.
+- Each site is killed (kill -9), and later started again. DEAD is from the kill to the first commit of a write that was begun after it, `all`
+  to the moment when each client that writes and is left has had one. BACK is from the start to the first read at the site that is back, `all commit` to the
+  moment when each that writes has had a commit again.
 - The first half of the sites and the second are cut from each other, and later joined. CUT is from the cut to the first commit in the half that
-  has the majority, HEALED from the join to the first read in the other one, `all` to a read at each of its sites.
+  has the majority, HEALED from the join to the first read in the other one, `all` to a commit, or a read, at each of its sites.
 
-It prints for each kind the times, and ends with status 1 where one is above 10 seconds (30 is the longest that is waited).
+All is done in a network of its own (unshare), where nftables cuts: it needs root, iproute2 and nftables, and is skipped with a word without them. It prints
+for each kind the times, and ends with status 1 where one is above 10 seconds (30 is the longest that is waited).
 """
 import argparse
 import itertools
 import os
 import pathlib
 import random
+import shutil
 import statistics
 import subprocess
 import sys
@@ -27,12 +30,12 @@ import time
 from types import SimpleNamespace
 
 from comparison import REFERENCE, modules
-from lossy_network import Client, Loop, Proxy
-from node_processes import Nodes, catalogue, free_ports
+from lossy_network import Client, Loop
+from node_processes import Nodes, catalogue
 
 BEAT = pathlib.Path(__file__).resolve().parent.parent / "operate/beat"
 LONGEST, PATIENCE = 10.0, 30.0  # seconds that may pass, and that are waited
-CALM, AGAIN = 0.5, 0.1  # seconds between two transactions of a client, and after one that didn't commit
+CALM, AGAIN = 0.7, 0.1  # seconds between two transactions of a client, and after one that didn't commit
 LAST_NUMBER = 2**32 - 1
 
 
@@ -40,7 +43,8 @@ class Writer:
     """The client of a site, and when its transactions read and committed, as long as they were begun after `since`."""
 
     def __init__(self, trial, site):
-        self.trial, self.site, self.name = trial, site, f"r{site}"
+        self.trial, self.site, self.writes = trial, site, site in trial.writing
+        self.name = f"of{site}" if self.writes else "seen"
         self.client = Client(trial.loop, trial.reference, trial.ports)
         self.since = self.read = self.committed = 0.0
 
@@ -64,7 +68,8 @@ class Writer:
         begun = yield call("begin")
         if type(begun).__name__ != "Begun":
             return False
-        for number, (words, wanted) in enumerate(((("read", self.name), "Value"), (("write", self.name, str(random.randrange(10**6))), "Written"), (("commit",), "Committed")), 1):
+        calls = [(("read", self.name), "Value"), (("write", self.name, str(random.randrange(10**6))), "Written"), (("commit",), "Committed")]
+        for number, (words, wanted) in enumerate(calls if self.writes else calls[::2], 1):
             answer = yield call(words[0], begun.txn, number, *words[1:])
             if type(answer).__name__ != wanted:
                 if answer is None:
@@ -74,7 +79,8 @@ class Writer:
                 return False
             if start > self.since and words[0] != "write":
                 moment = "read" if words[0] == "read" else "committed"
-                setattr(self, moment, getattr(self, moment) or time.monotonic())
+                if moment == "read" or self.writes:
+                    setattr(self, moment, getattr(self, moment) or time.monotonic())
         return True
 
 
@@ -84,17 +90,20 @@ class Trial:
     def __init__(self, program, reference, count, options):
         self.reference, self.times = reference, {}
         self.sites = list(range(1, count + 1))
-        self.ports = dict(zip(self.sites, free_ports(count)))
+        self.ports = {site: 7000 + site for site in self.sites}
         self.loop = Loop()
-        self.proxy = Proxy(self.loop, random.Random(1), self.ports)
-        records = [f"record r{site} 0 " + " ".join(f"{holder}:1" for holder in self.sites) for site in self.sites]
-        texts = {site: catalogue(self.proxy.ports_at(site), records) for site in self.sites}
-        self.nodes = Nodes([program], texts, tempfile.mkdtemp(prefix="beat."))
+        self.writing = {1, (count + 1) // 2, count}
+        names = ["seen", *(f"of{site}" for site in sorted(self.writing))]
+        records = [f"record {name} 0 " + " ".join(f"{holder}:1" for holder in self.sites) for name in names]
+        text = catalogue(self.ports, records)
+        self.nodes = Nodes([program], dict.fromkeys(self.sites, text), tempfile.mkdtemp(prefix="beat."))
         self.path = os.path.join(self.nodes.folder, "catalogue")
-        with open(self.path, "wb") as file:
-            file.write(catalogue(self.ports, records))
+        pathlib.Path(self.path).write_bytes(text)
         self.writers = {site: Writer(self, site) for site in self.sites}
         self.options = options
+
+    def _writing(self, sites):
+        return [site for site in sites if site in self.writing]
 
     def _wait(self, done):
         """The seconds until it is so, or those that were waited."""
@@ -111,13 +120,15 @@ class Trial:
         for writer in self.writers.values():
             writer.watch(now)
 
-        def had(sites, combine):
-            return lambda: combine(getattr(self.writers[site], moment) for site in sites)
+        def had(sites, what, combine):
+            return lambda: combine(getattr(self.writers[site], what) for site in sites)
 
-        one = self._wait(had(first, any))
-        rest = self._wait(had(every, all))
+        one = self._wait(had(first, moment, any))
+        rest = self._wait(had(every, moment, all))
         self.times.setdefault(kind, []).append(one)
         self.times.setdefault(f"{kind}, all", []).append(one + rest)
+        if kind in ("back", "healed"):  # what comes next comes after all is as it was
+            self.times.setdefault(f"{kind}, all commit", []).append(one + rest + self._wait(had(self.writing, "committed", all)))
 
     def _calm(self):
         """Lets some time pass, of random length, so that what comes next comes at any moment of the cadence."""
@@ -125,9 +136,15 @@ class Trial:
         self.loop.at(random.uniform(1.0, 3.0), lambda: over.append(True))
         self._wait(lambda: over)
 
+    def _cut(self, major, minor):
+        """Nothing comes through between the ports of these sites any more, as on a cable that is cut: nobody is told."""
+        pairs = ", ".join(f"{self.ports[at]} . {self.ports[of]}" for one, other in itertools.product(major, minor) for at, of in ((one, other), (other, one)))
+        rules = f"table ip cut {{\nchain taken {{\ntype filter hook input priority 0\nudp sport . udp dport {{ {pairs} }} drop\n}}\n}}\n"
+        subprocess.run(["nft", "-f", "-"], input=rules, text=True, check=True)
+
     def _round(self):
         for site in self.sites:
-            others = [other for other in self.sites if other != site]
+            others = [other for other in self.writing if other != site]
             self._calm()
             self.nodes[site].kill()
             self._measure("dead", "committed", others, others)
@@ -139,10 +156,10 @@ class Trial:
         first, second = self.sites[:half], self.sites[half:]
         for major, minor in (first, second), (self.sites[-half:], self.sites[:-half]):
             self._calm()
-            self.proxy.cut = {frozenset(pair) for pair in itertools.product(major, minor)}
-            self._measure("cut", "committed", major, major)
+            self._cut(major, minor)
+            self._measure("cut", "committed", self._writing(major), self._writing(major))
             self._calm()
-            self.proxy.cut = set()
+            subprocess.run(["nft", "delete", "table", "ip", "cut"], check=True)
             self._measure("healed", "read", minor, minor)
 
     def run(self, rounds):
@@ -154,7 +171,7 @@ class Trial:
                 try:
                     for writer in self.writers.values():
                         writer.go()
-                    self._measure("start", "committed", self.sites, self.sites)
+                    self._measure("start", "committed", self.writing, self.writing)
                     for _ in range(rounds):
                         self._round()
                 finally:
@@ -172,6 +189,12 @@ def main():
     words.add_argument("--reference", default=REFERENCE)
     words.add_argument("--beat", default="")
     given = words.parse_args()
+    if os.geteuid() or not all(map(shutil.which, ("ip", "nft", "unshare"))):
+        print("skipped: it needs root, iproute2, nftables and unshare")
+        return 0
+    if "beat" not in os.environ.get("VP_ALONE", ""):
+        words = ["unshare", "--net", "sh", "-c", 'ip link set lo up && exec "$@"', "sh", sys.executable, *sys.argv]
+        os.execvpe("unshare", words, {**os.environ, "VP_ALONE": "beat"})
     reference = SimpleNamespace(**dict(zip(("base", "client"), modules(given.reference, "base", "client"))))
     times = Trial(given.program, reference, given.sites, given.beat.split()).run(given.rounds)
     longest = max(max(found) for found in times.values())

@@ -6,6 +6,8 @@ import time
 
 import frames
 
+ROUND_TRIP = 2  # turns of all sites until a request of one was answered by another
+AGAIN = 0.05  # seconds after which a site is asked again
 QUIET = 5.0  # seconds without a fault after which a port that couldn't be reached is taken to be there, if nothing came from it
 
 
@@ -17,6 +19,7 @@ class Sites:
         self._selector = selectors.DefaultSelector()
         self._sockets, self._refused = {}, {}  # when the last fault of a port that can't be reached came
         self._heard = {}  # the last answer of each site to a `begin`, and when it came
+        self._open = dict.fromkeys(ports, 0)  # how many a `begin` of each site waits for its answer
         self._invited = {}  # the view to which a site said that it invites
         for site, port in ports.items():
             self._sockets[site] = sock = socket.socket(socket.AF_INET, socket.SOCK_DGRAM)
@@ -78,18 +81,34 @@ class Sites:
                 self._invited[site] = reply.view
             elif reply.kind in frames.TO_BEGIN:
                 self._heard[site] = reply, time.monotonic()
+                self._open[site] -= 1
 
-    def look(self, seconds=0.3):
-        """Each site that answers a `begin` within so many seconds, with its answer. What was begun is aborted."""
-        start = time.monotonic()
-        for site in self.ports:
-            self.send(site, frames.begin(site))
+    def begin(self, site):
+        self.send(site, frames.begin(site))
+        self._open[site] += 1
 
-        def answered():
-            return {site: reply for site, (reply, when) in self._heard.items() if when >= start}
+    def flush(self, which, seconds):
+        """Waits until each of these sites has done all that was sent to it before: it takes its datagrams in their order, so it has once it has answered
+        each `begin`. Gives those that have in time; the others aren't waited for any more."""
+        for site in which:
+            self.begin(site)
+        self.take(seconds, lambda: all(self._open[site] <= 0 for site in which))
+        done = {site for site in which if self._open[site] <= 0}
+        self._open.update(dict.fromkeys(which, 0))
+        return done
 
-        self.take(seconds, lambda: len(answered()) == len(self.ports))
-        return answered()
+    def since(self, moment):
+        """The last answer to a `begin` of each site from which one came since that moment."""
+        return {site: reply for site, (reply, when) in self._heard.items() if when >= moment}
+
+    def look(self, seconds=0.3, which=None):
+        """Each of these sites (all) that answers a `begin`, with its answer, once all have answered or so many seconds have passed. What was begun is
+        aborted."""
+        which, start = set(self.ports if which is None else which), time.monotonic()
+        for site in which:
+            self.begin(site)
+        self.take(seconds, lambda: which <= set(self.since(start)))
+        return self.since(start)
 
     def regroup(self, site, seconds):
         """The view to which the site now invites, or None where it doesn't say so in time."""
@@ -120,43 +139,46 @@ def promise(reply):
 
 
 def until_all(sites, which, seconds, true):
-    """Looks again and again, for so many seconds at most, until it is true of the answer of each of these sites. Gives the last look."""
-    end = time.monotonic() + seconds
-    while True:
-        replies = sites.look(min(0.3, seconds))
-        if all(site in replies and true(replies[site]) for site in which) or time.monotonic() > end:
-            return replies
-        time.sleep(0.02)
+    """Asks those sites of `which` of whose answer it isn't true yet, again and again, for so many seconds at most. Gives those of which it is true."""
+    end, left = time.monotonic() + seconds, set(which)
+    while left and time.monotonic() < end:
+        replies = sites.look(min(0.3, seconds), left)
+        left = {site for site in left if site not in replies or not true(replies[site])}
+        if left:
+            sites.take(AGAIN)
+    return set(which) - left
 
 
 def make_view(sites, inviter, others, wait):
-    """Regroups at one site, which fixes the view with those of the others that accept in time, and gives its members as far as they say so.
+    """Regroups at one site, which fixes the view with those of the others that accept in time. Gives the view, or None where the site doesn't invite.
 
     Then each of them is ticked twice, so that no record is left under refresh, and no transaction in doubt whose coordinator is among them.
     """
     view = sites.regroup(inviter, wait)
     if view is None:
-        return set()
-    replies = until_all(sites, others, wait, lambda reply: promise(reply) == view)
-    members = [inviter, *(site for site in others if site in replies and promise(replies[site]) == view)]
+        return None
+    members = {inviter} | until_all(sites, others, wait, lambda reply: promise(reply) == view)
     sites.tick(inviter)
-    replies = until_all(sites, members, wait, lambda reply: held_by(reply) == view)
-    joined = {site for site in members if site in replies and held_by(replies[site]) == view}
+    joined = until_all(sites, members, wait, lambda reply: held_by(reply) == view)
     for _ in range(2):
+        for _ in range(ROUND_TRIP):
+            joined = sites.flush(joined, wait)
         sites.tick(*sorted(joined))
-        sites.take(min(0.2, wait))
-    return joined
+    sites.flush(joined, wait)
+    return view
 
 
-def mend(sites, wait):
-    """Makes a view of all sites that answer, or where they don't reach each other one for each part of them. Gives what they then hold.
+def mend(sites, wait, which=None):
+    """Makes a view of all sites that answer, or where they don't reach each other one for each part of them. Gives what they then hold. Those of
+    `which` (all) are waited for.
 
-    The site with the greatest promise invites: so nobody has promised more, and it need not invite twice.
+    The site with the greatest promise invites: so nobody has promised more, and it need not invite twice. Whom its invitation didn't reach is of another part.
     """
-    replies = sites.look()
+    replies = sites.look(which=which)
     left = set(replies)
     while left:
         inviter = max(left, key=lambda site: (promise(replies[site]), site))
-        left -= make_view(sites, inviter, sorted(left - {inviter}), wait) | {inviter}
-        replies |= sites.look()
-    return held(sites.look())
+        view = make_view(sites, inviter, left - {inviter}, wait)
+        replies |= sites.look(which=left)
+        left -= {inviter} | {site for site in left if view and promise(replies[site]) >= view}
+    return held(sites.look(which=replies))
