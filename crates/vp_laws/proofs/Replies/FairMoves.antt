@@ -44,7 +44,6 @@ use Rattle.vp_laws.proofs.Moves.Coordinator.{slice_has}
 use Rattle.vp_model.specs.Calls.{handling, kept_answer}
 use Rattle.vp_laws.proofs.Table.ToldLines.{lines_in}
 use Rattle.vp_laws.proofs.Lists.LockTables.{same_owner-self}
-use Rattle.std.specs.List.{list_any}
 use Rattle.std.specs.Option.{option_map_or}
 use Rattle.std.proofs.lemmas.Bool.{or_left, or_right}
 use Rattle.vp_laws.proofs.Lists.Numbers.{one_above, eq_self}
