@@ -1,31 +1,36 @@
 //! The decisions that some site has not acknowledged.
 
-ghost use Rattle.std.specs.Prelude.{◌≡◌, ◌==◌, IfOk, not, filter, map, if◌then◌else◌};
+ghost use Rattle.std.specs.Prelude.{◌≡◌, ◌==◌, OnOk, OnErr, not, filter, map, if◌then◌else◌};
 ghost use Rattle.vp_base.specs.declared.entry.Decision.{Decision};
 ghost use Rattle.vp_model.specs.Words.{same_txn, is_empty};
 ghost use Rattle.vp_model.specs.Durable.{with_decision, acknowledged};
 
 use std::mem;
 use vp_base::{CopyOf, Decision, Decisions, NoMemory, SiteId, Sites, TxnId};
-use vp_lists::{is_same_txn, put_in};
+use vp_lists::{is_same_txn, put};
 
-/// The decisions with this one in its place, where one of the same transaction goes. One that waits for no site is not kept.
-pub fn with_decision(
-    decisions: &Decisions,
+/// The decision takes its place, where one of the same transaction goes. One that waits for no site is not kept. Without memory
+/// the decisions stay as they are.
+pub fn keep_decision(
+    decisions: &mut Decisions,
     txn: &TxnId,
     waiting: &Sites,
-) -> Result<Decisions, NoMemory>
-    ensures { IfOk result (λ kept. kept ≡ with_decision txn.now waiting.now decisions.now) }
+) -> Result<(), NoMemory>
+    ensures ok { OnOk result (decisions.new ≡ with_decision txn.now waiting.now decisions.old) }
+    ensures err { OnErr result (decisions.new ≡ decisions.old) }
 {
-    let mut kept = decisions.copy_of()?;
-    if !waiting.as_slice().is_empty() {
-        let decision = Decision {
-            txn: *txn,
-            waiting: waiting.copy_of()?,
-        };
-        put_in(&mut kept, decision)?;
+    if waiting.as_slice().is_empty() {
+        return Ok(());
     }
-    Ok(kept)
+    let decision = Decision {
+        txn: *txn,
+        waiting: waiting.copy_of()?,
+    };
+    let none = Decisions::new(decisions.allocator());
+    let mut items = mem::replace(decisions, none).into_vec();
+    let done = put(&mut items, decision);
+    *decisions = Decisions::from_vec(items);
+    done
 }
 
 fn is_awaited(decision: &Decision) -> bool

@@ -8,8 +8,8 @@ ghost use Rattle.vp_records.specs.Applying.{AppliesSome};
 ghost use Rattle.vp_records.specs.Records.{CanBeSaved, IsLogRecord};
 
 use crate::copies::{commit_doubt, restore};
-use crate::decisions::{acknowledge, with_decision};
-use crate::doubts::{drop_doubt, with_doubt};
+use crate::decisions::{acknowledge, keep_decision};
+use crate::doubts::{drop_doubt, keep_doubt};
 use std::marker::Model;
 use vp_base::{
     Copies, CopyOf, Decisions, InDoubt, LogRecord, NoMemory, RecId, SiteId, Sites, Stored, TxnId,
@@ -183,8 +183,7 @@ impl Durable {
         ensures ok { OnOk result (self.new ≡ apply (log_record.Yes txn.now view.now writes.now) self.old) }
         ensures err { OnErr result (self.new ≡ self.old) }
     {
-        self.doubts = with_doubt(&self.doubts, txn, view, writes)?;
-        Ok(())
+        keep_doubt(&mut self.doubts, txn, view, writes)
     }
 
     /// What the transaction in doubt writes becomes copies, with its view as their date.
@@ -218,7 +217,7 @@ impl Durable {
         ensures ok { OnOk result (self.new ≡ apply (log_record.Commit txn.now view.now writes.now waiting.now) self.old) }
         ensures err { OnErr result (self.new ≡ self.old) }
     {
-        self.decisions = with_decision(&self.decisions, txn, waiting)?;
+        keep_decision(&mut self.decisions, txn, waiting)?;
         write_copies(&mut self.copies, view, writes.as_slice());
         Ok(())
     }
