@@ -29,7 +29,7 @@ apart m n h = grind (arith, nat_tests, h)
 chosen : {X : Type 0} (t u : TxnId) (a b c : X) → match_ordering (key_cmp (key_of t) (key_of u)) a b c ≡ (if same_txn t u then b else (if txn_before t u then a else c))
 chosen {X} t u a b c =
     go (nat_lt t.site u.site) (t.site == u.site) (nat_lt t.life u.life) (t.life == u.life) (nat_lt t.seq u.seq) (t.seq == u.seq)
-      (apart t.site u.site) (apart t.life u.life) (apart t.seq u.seq)
+    (apart t.site u.site) (apart t.life u.life) (apart t.seq u.seq)
   where
     go : (l1 e1 l2 e2 l3 e3 : Bool) → (l1 ≡ true → e1 ≡ false) → (l2 ≡ true → e2 ≡ false) → (l3 ≡ true → e3 ≡ false)
         → match_ordering (ordering_then (ordering_then (cond l1 Less (cond e1 Equal Greater)) (cond l2 Less (cond e2 Equal Greater))) (cond l3 Less (cond e3 Equal Greater))) a b c
@@ -131,6 +131,7 @@ module _ {T : Type 0} (txn : T → TxnId) where
     where
       chosen_key : (t : TxnId) (k : Key) (u : TxnId) → k ≡ key_of u → is_eq (key_cmp (key_of t) k) ≡ true → k ≡ key_of t
       chosen_key t k u same e = same ∙ ap key_of (same_txn-is u t (sym (by_cmp t u) ∙ ap (λ q. is_eq (key_cmp (key_of t) q)) (sym same) ∙ e))
+
       go : (o : Ordering) → (is_eq o ≡ true → e.0 ≡ key_of (txn item)) → AreKeyed txn (tree.insert_entry key_cmp es (key_of (txn item)) item) → AreKeyed txn (match_ordering o ((key_of (txn item), item) ∷ e ∷ es) ((e.0, item) ∷ es) (e ∷ tree.insert_entry key_cmp es (key_of (txn item)) item))
       go Less k r = (refl, h)
       go Equal k r = (k refl, h.1)
@@ -151,8 +152,10 @@ noted_new n (e ∷ es) h new = go (key_eq (key_of n) e.0) (ap (key_eq (key_of n)
   where
     here : has_txn (values_of (e ∷ es)) n ≡ false → same_txn e.1 n ≡ false
     here q = grind (arith, nat_tests, q)
+
     rest : has_txn (values_of (e ∷ es)) n ≡ false → has_txn (values_of es) n ≡ false
     rest q = grind (arith, nat_tests, q)
+
     go : (b : Bool) → b ≡ same_txn e.1 n → (has_txn (values_of es) n ≡ false → index.insert_entry key_eq es (key_of n) n ≡ es ++ (key_of n, n) ∷ [])
         → (if b then (e.0, n) ∷ es else e ∷ index.insert_entry key_eq es (key_of n) n) ≡ e ∷ (es ++ (key_of n, n) ∷ [])
     go true p r = let none : true ≡ false = p ∙ here new in absurd (cc)

@@ -96,6 +96,11 @@ impl<T: HasTxn + Drop> Table<T> {
     pub fn names(&self) -> Result<Vec<TxnId>, NoMemory>
         ensures { IfOk result (λ names. names.items ≡ map T.txn self.now) }
     {
-        Ok(self.tree.values().map(|item| item.name()).collect(self.alloc)?)
+        Ok(
+            self.tree
+                .values()
+                .map(|item| item.name())
+                .collect(self.alloc)?,
+        )
     }
 }
