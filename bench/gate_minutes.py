@@ -1,12 +1,13 @@
 #!/usr/bin/env python3
-"""Tells the processor minutes of the gate, crate by crate: of its first check, of its tests and of its must-fail edits.
+"""Tells what the gate costs, crate by crate: its first check, its tests and its must-fail edits, in units of one check.
 
 gate_minutes.py [FOLDER]
 
 Runs `rt ci` in FOLDER (here, if none is named) from nothing, and looks at its processes twice a second: where the kit's `rt ci` keeps what
-has passed, it is told to prove all anew. The run's own output goes to standard error, the table, in Markdown, to standard output, and
-behind it each edit with its seconds, the dearest first; so it is where this script is ended before the run. The status is the run's. Other
-work on the machine makes each job dearer: leave the machine to the run.
+has passed, it is told to prove all anew. The unit is the processor time of the first check of `vp_base` in the same run, since machines
+differ, and since other work makes each job dearer; the last line of the table says how many seconds that was. The run's own output goes
+to standard error, the table, in Markdown, to standard output, and behind it each edit with its cost, the dearest first; so it is where
+this script is ended before the run. Before `vp_base` was checked, the unit is a second. The status is the run's.
 """
 
 import os
@@ -18,6 +19,8 @@ import time
 
 TICKS = os.sysconf("SC_CLK_TCK")
 KINDS = ("check", "tests", "edits")
+# The crate whose first check is the unit.
+UNIT = "vp_base"
 # What stands in the name of the folder in which a crate is checked with an edit.
 ROOM = "/rt-edit-"
 
@@ -115,25 +118,33 @@ def look(top, jobs, known, edits):
         walk(top)
 
 
+def unit_of(jobs):
+    """The seconds of the first check of the crate that is the unit; 1 where it was not checked."""
+    return sum(seconds for (crate, kind, _, _), seconds in jobs.items() if (crate, kind) == (UNIT, "check")) or 1.0
+
+
 def table(jobs):
-    """The table, the dearest crate first, with a line of sums."""
+    """The table, the dearest crate first, with a line of sums and one of the unit."""
+    unit = unit_of(jobs)
     sums, dearest = {}, {}
     for (crate, kind, _, _), seconds in jobs.items():
-        sums.setdefault(crate, dict.fromkeys(KINDS, 0.0))[kind] += seconds
-        dearest[crate, kind] = max(dearest.get((crate, kind), 0.0), seconds)
-    lines = ["| Crate | First check | Tests | Edits | Together | Dearest edit, in seconds |", "|---|---|---|---|---|---|"]
+        sums.setdefault(crate, dict.fromkeys(KINDS, 0.0))[kind] += seconds / unit
+        dearest[crate, kind] = max(dearest.get((crate, kind), 0.0), seconds / unit)
+    lines = ["| Crate | First check | Tests | Edits | Together | Dearest edit |", "|---|---|---|---|---|---|"]
     for crate, of in sorted(sums.items(), key=lambda it: -sum(it[1].values())):
-        cells = [f"{of[kind] / 60:.1f}" for kind in KINDS]
-        lines.append(f"| `{crate}` | {' | '.join(cells)} | {sum(of.values()) / 60:.1f} | {dearest.get((crate, 'edits'), 0):.0f} |")
-    every = [sum(of[kind] for of in sums.values()) / 60 for kind in KINDS]
+        cells = [f"{of[kind]:.2f}" for kind in KINDS]
+        lines.append(f"| `{crate}` | {' | '.join(cells)} | {sum(of.values()):.2f} | {dearest.get((crate, 'edits'), 0):.2f} |")
+    every = [sum(of[kind] for of in sums.values()) for kind in KINDS]
     lines.append(f"| all | {' | '.join(f'{it:.1f}' for it in every)} | {sum(every):.1f} | |")
+    lines.append(f"| the unit, in seconds | {unit:.1f} | | | | |")
     return "\n".join(lines)
 
 
 def list_of_edits(jobs):
-    """A line for each try of an edit, with its seconds."""
-    tries = sorted(((seconds, crate, edit) for (crate, kind, edit, _), seconds in jobs.items() if kind == "edits"), reverse=True)
-    return "\n".join(f"{seconds:.0f} {crate} {edit}" for seconds, crate, edit in tries)
+    """A line for each try of an edit, with its cost."""
+    unit = unit_of(jobs)
+    tries = sorted(((seconds / unit, crate, edit) for (crate, kind, edit, _), seconds in jobs.items() if kind == "edits"), reverse=True)
+    return "\n".join(f"{cost:.2f} {crate} {edit}" for cost, crate, edit in tries)
 
 
 def gate():

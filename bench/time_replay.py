@@ -1,21 +1,18 @@
 #!/usr/bin/env python3
-"""Times `vpdb replay` on large schedules of one site, as a ratio to another program's replay of the same bytes in the same run.
+"""Counts the instructions of `vpdb replay` on large schedules of one site, as a ratio to another program's replay of the same bytes.
 
 usage: time_replay.py PROGRAM OTHER [RECORDS [LIVE]]
 
 Both programs are called with the word `replay`, and their outputs have to agree. A schedule has 256 records, or so many,
-and up to 1,024 live transactions, or so many. Three lengths are timed, 25,000, 50,000 and 100,000 events, so that growth
+and up to 1,024 live transactions, or so many. Three lengths are counted, 25,000, 50,000 and 100,000 events, so that growth
 shows.
 """
-import filecmp
 import os
 import random
 import sys
 import tempfile
 
-from time_worlds import run
-
-TIMES = 3
+from time_worlds import compare
 
 
 class Site:
@@ -77,25 +74,15 @@ def schedule(path, events, records, live):
     return len(site.numbers)
 
 
-def timed(command, path, out):
-    """The least processor time of some runs, and the most memory."""
-    runs = [run([command], path, out) for _ in range(TIMES)]
-    return min(time for time, _ in runs), max(memory for _, memory in runs)
-
-
 def main():
     program, other = sys.argv[1:3]
     records = int(sys.argv[3]) if len(sys.argv) > 3 else 256
     live = int(sys.argv[4]) if len(sys.argv) > 4 else 1024
     with tempfile.TemporaryDirectory() as folder:
-        path, mine, theirs = (os.path.join(folder, name) for name in ("schedule", "mine", "theirs"))
+        path = os.path.join(folder, "schedule")
         for events in (25000, 50000, 100000):
             left = schedule(path, events, records, live)
-            time, memory = timed(program, path, mine)
-            time_other, memory_other = timed(other, path, theirs)
-            assert filecmp.cmp(mine, theirs, shallow=False), "the outputs differ"
-            print(f"{events} events, {left} live in the end: {time:.2f} s, {memory:.0f} MiB; the other {time_other:.2f} s, {memory_other:.0f} MiB; "
-                  f"{time / time_other:.1f}x, {memory / memory_other:.1f}x", flush=True)
+            print(f"{events} events, {left} live in the end: {compare(program, other, path, folder)}", flush=True)
     return 0
 
 

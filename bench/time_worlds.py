@@ -1,22 +1,28 @@
 #!/usr/bin/env python3
-"""Times `vpdb replay` on the largest schedules of 16 sites, as a ratio to another program's replay of the same bytes in the same run.
+"""Counts the instructions of `vpdb replay` on large schedules, as a ratio to another program's replay of the same bytes.
 
-usage: time_worlds.py PROGRAM OTHER
+usage: time_worlds.py PROGRAM OTHER [KIND ..]
 
-Both programs are called with the word `replay`, and their outputs have to agree. Each kind of schedule is made at 25, 50 and 100 per cent
-of the limits on steps and messages, so that growth shows. What counts is processor time, the least of seven runs in which the two take
-turns, so that a machine's slower minutes fall on both, and the most memory.
+Both programs are called with the word `replay`, and their outputs have to agree. Each kind of schedule, or those that are named, is made
+at 25, 50 and 100 per cent of the limits on steps and messages, so that growth shows. Instructions are counted by `perf`, or by valgrind
+where the processor's counters are closed; memory is the most of one run.
 
-    flows       a site asks 15 others for 256 copies at each tick; then flows deliver, while seven pairs are cut
-    deliveries  the same messages, delivered one by one from the middle, and each once more; most are answered
-    views       one view after the other of all sites, each with all refreshes of 16 records delivered
+    flows           a site asks 15 others for 256 copies at each tick; then flows deliver, while seven pairs are cut
+    deliveries      the same messages, delivered one by one from the middle, and each once more; most are answered
+    views           one view after the other of all sites, each with all refreshes of 16 records delivered
+    unacknowledged  commits whose acknowledgements are lost: each leaves a decision, and ends at the other site in one view
+    acknowledged    the same, where the acknowledgements come after all commits, from the first to the last
+    ended           reads at another site, each of a transaction that is aborted and ends there, all in one view
+    parts           transactions of 15 sites read at one, and are aborted; their outcomes come after the last, from the first to the last
+    left            the same parts, whose site leaves its view
+    doubts          256 transactions in doubt at one site, as many as its records; their prepares come again and again
+    finished        calls on the oldest of 1,024 transactions that have ended
 """
-import resource
 import subprocess
 import sys
 import tempfile
 
-TIMES = 7
+from instructions import count
 
 # How many ticks there are and how much is delivered, so that all of it comes near 100,000 steps and 2,000,000 messages.
 FLOWS = (485, 95000)
@@ -54,31 +60,106 @@ def views(share):
     return lines
 
 
-def run(command, path, out):
-    """The processor time and the most memory, in MiB, of the command on the file."""
-    with open(path, "rb") as given, open(out, "wb") as printed:
-        before = resource.getrusage(resource.RUSAGE_CHILDREN)
-        child = subprocess.Popen(["/usr/bin/time", "-f", "%M", *command, "replay"], stdin=given, stdout=printed, stderr=subprocess.PIPE)
-        memory = child.communicate()[1].split()[-1]
-        after = resource.getrusage(resource.RUSAGE_CHILDREN)
-    return after.ru_utime + after.ru_stime - before.ru_utime - before.ru_stime, int(memory) / 1024
+def pair(*records):
+    """A catalogue of sites 1 and 2, with these record lines."""
+    return ["site 1 7001", "site 2 7002", *records, "events"]
 
 
-def main(program, other):
+def commits(each):
+    """So many committed writes at both sites, of which no acknowledgement is delivered: eight steps each, with six messages."""
+    lines = pair("record x 10 1:1 2:1")
+    for k in range(1, each + 1):
+        first = 6 * k - 5
+        lines += ["call 1 begin", f"call 1 1.1.{k} 1 write x v{k}", f"deliver {first}", f"deliver {first + 1}", f"call 1 1.1.{k} 2 commit"]
+        lines += [f"deliver {first + message}" for message in (2, 3, 4)]
+    return lines
+
+
+def unacknowledged(share):
+    return commits(int(12400 * share))
+
+
+def acknowledged(share):
+    each = int(11100 * share)
+    return commits(each) + [f"deliver {6 * k}" for k in range(1, each + 1)]
+
+
+def ended(share):
+    lines = pair("record x 10 2:1")
+    for k in range(1, int(16600 * share) + 1):
+        lines += ["call 1 begin", f"call 1 1.1.{k} 1 read x", f"deliver {3 * k - 2}", f"deliver {3 * k - 1}", f"call 1 1.1.{k} 2 abort", f"deliver {3 * k}"]
+    return lines
+
+
+def readers(each):
+    """So many transactions of each of 15 sites, in turn, read at site 16 and are aborted; no outcome is delivered. Five steps, three messages."""
+    lines = ["site %d %d" % (site, 7000 + site) for site in range(1, 17)] + ["record x 10 16:1", "events"]
+    first = 1
+    for k in range(1, each + 1):
+        for site in range(1, 16):
+            lines += [f"call {site} begin", f"call {site} {site}.1.{k} 1 read x", f"deliver {first}", f"deliver {first + 1}", f"call {site} {site}.1.{k} 2 abort"]
+            first += 3
+    return lines
+
+
+def parts(share):
+    each = int(1100 * share)
+    return readers(each) + [f"deliver {3 * k}" for k in range(1, 15 * each + 1)]
+
+
+def left(share):
+    return readers(int(1330 * share)) + ["call 16 regroup"]
+
+
+def doubts(share):
+    lines = pair(*(f"record x{k} 10 1:1 2:1" for k in range(256)))
+    for k in range(1, 257):
+        first = 4 * k - 3
+        lines += ["call 1 begin", f"call 1 1.1.{k} 1 write x{k - 1} v{k}", f"deliver {first}", f"deliver {first + 1}", f"call 1 1.1.{k} 2 commit", f"deliver {first + 2}"]
+    # their outcomes never come; their prepares are delivered again and again, and each is voted on once more
+    return lines + [f"deliver {4 * (k % 256) + 3}" for k in range(int(98400 * share))]
+
+
+def finished(share):
+    lines = ["site 1 7001", "record x 10 1:1", "events"]
+    for k in range(1, 1025):
+        lines += ["call 1 begin", f"call 1 1.1.{k} 1 commit"]
+    return lines + ["call 1 1.1.%d 1 commit" % (k % 256 + 1) for k in range(int(97900 * share))]
+
+
+KINDS = (flows, deliveries, views, unacknowledged, acknowledged, ended, parts, left, doubts, finished)
+
+
+def memory_of(command, path):
+    """The most memory of the command on the file, in MiB."""
+    with open(path, "rb") as given:
+        run = ["/usr/bin/time", "-f", "%M", *command]
+        told = subprocess.run(run, stdin=given, stdout=subprocess.DEVNULL, stderr=subprocess.PIPE, check=False).stderr
+    return int(told.split()[-1]) / 1024
+
+
+def compare(program, other, path, folder):
+    """The instructions and the memory of both on the file, in words, with their ratios. The outputs have to agree."""
+    mine, theirs = folder + "/mine", folder + "/theirs"
+    counted, counted_other = (count([command, "replay"], path, out) for command, out in ((program, mine), (other, theirs)))
+    with open(mine, "rb") as first, open(theirs, "rb") as second:
+        assert first.read() == second.read(), "the outputs differ"
+    memory, memory_other = (memory_of([command, "replay"], path) for command in (program, other))
+    return (f"{counted / 1e6:.0f} million instructions, {memory:.0f} MiB; the other {counted_other / 1e6:.0f} million, {memory_other:.0f} MiB; "
+            f"{counted / counted_other:.2f}x, {memory / memory_other:.1f}x")
+
+
+def main(program, other, *names):
     with tempfile.TemporaryDirectory() as folder:
-        for kind in (flows, deliveries, views):
+        for kind in KINDS:
+            if names and kind.__name__ not in names:
+                continue
             for share in (0.25, 0.5, 1):
                 path = folder + "/schedule"
-                with open(path, "w") as file:
+                with open(path, "w", encoding="ascii") as file:
                     file.write("\n".join(kind(share)) + "\n")
-                turns = [(run([program], path, folder + "/mine"), run([other], path, folder + "/other")) for _ in range(TIMES)]
-                found = [(min(time for time, _ in runs), max(memory for _, memory in runs)) for runs in zip(*turns)]
-                with open(folder + "/mine", "rb") as mine, open(folder + "/other", "rb") as right:
-                    assert mine.read() == right.read(), "the outputs differ"
-                (time, memory), (time_other, memory_other) = found
-                print(f"{kind.__name__} {share:4.0%}: {time:.2f} s, {memory:.0f} MiB; the other {time_other:.2f} s, {memory_other:.0f} MiB; "
-                      f"{time / time_other:.1f}x, {memory / memory_other:.1f}x", flush=True)
+                print(f"{kind.__name__} {share:4.0%}: {compare(program, other, path, folder)}", flush=True)
 
 
 if __name__ == "__main__":
-    main(*sys.argv[1:3])
+    main(*sys.argv[1:])

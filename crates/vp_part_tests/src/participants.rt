@@ -2,9 +2,7 @@
 
 use std::alloc::Global;
 use std::process::Abort;
-use vp_base::{
-    CallNo, Copies, CopyOf, RecId, Recs, SiteId, Sites, TxnId, Value, View, ViewId, Writes,
-};
+use vp_base::{CallNo, Copies, RecId, Recs, SiteId, Sites, TxnId, Value, View, ViewId, Writes};
 use vp_locks::Locks;
 use vp_participant::{Participant, Prepare, Request, Voted};
 use vp_records::Durable;
@@ -72,13 +70,11 @@ fn are_in_doubt(rt: &impl Abort, participant: &Participant, count: usize) -> boo
     known.as_slice().len() == count && doubts.as_slice().len() == count
 }
 
-/// Whether one transaction is in doubt of record 1 alone, also in a copy.
+/// Whether one transaction is in doubt of record 1 alone.
 fn shows_doubt(rt: &impl Abort, participant: &Participant) -> bool {
-    let copy = participant.copy_of().expect(rt, "memory");
     participant.doubts(RecId::new(1))
         && !participant.doubts(RecId::new(0))
         && are_in_doubt(rt, participant, 1)
-        && are_in_doubt(rt, &copy, 1)
 }
 
 /// Whether the transaction in doubt has its exclusive lock and no shared one once the site has left its view.

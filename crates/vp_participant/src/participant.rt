@@ -16,7 +16,7 @@ ghost use Rattle.vp_participant.specs.Ballots.{ballot, ballot_of, first_ballot};
 use crate::doubts::{add_doubt, add_doubted, is_in_doubt, is_written, lock_doubts, take_doubt};
 use crate::fault::{PartFault, PrepareFault};
 use crate::held::{id_of, is_held};
-use crate::parts::{drop_part, has_part, mark_voted, part_of, txns_of};
+use crate::parts::mark_voted;
 use crate::requests::{Prepare, Request};
 use std::alloc::Global;
 use std::marker::Model;
@@ -24,9 +24,10 @@ use vp_base::{
     CopyOf, Doubt, InDoubt, Lock, LogRecord, NoMemory, Owner, Part, RecId, TxnId, Txns, Value,
     View, ViewId, Writes,
 };
-use vp_lists::{copy_all, is_same_txn, put};
+use vp_lists::copy_all;
 use vp_locks::{Keeps, Locks};
 use vp_records::Durable;
+use vp_tables::{Noted, Table};
 
 /// What a part votes: yes, with the log record that is to be forced before the vote is sent, if any; or it is silent, and
 /// nothing is sent.
@@ -45,9 +46,9 @@ pub struct Settled {
 /// The parts here of other sites' transactions, those in doubt, and those that ended here in the held view. After want of
 /// memory it may only be dropped, and so may the lock table that the call was lent.
 pub struct Participant {
-    parts: Vec<Part>,
+    parts: Table<Part>,
     doubts: Vec<Doubt>,
-    ended: Vec<TxnId>,
+    ended: Noted,
 }
 
 impl Drop for Participant {
@@ -65,18 +66,7 @@ impl Model for Participant {
 
     ghost Value = { ParticipantState };
 
-    ghost view = { λ p. record { parts = p.parts.items; doubts = p.doubts.items; ended = p.ended.items } };
-}
-
-impl CopyOf for Participant {
-    fn copy_of(&self) -> Result<Participant, NoMemory> {
-        let alloc = *self.parts.allocator();
-        Ok(Participant {
-            parts: copy_all(alloc, &self.parts)?,
-            doubts: copy_all(alloc, &self.doubts)?,
-            ended: copy_all(alloc, &self.ended)?,
-        })
-    }
+    ghost view = { λ p. record { parts = p.parts; doubts = p.doubts.items; ended = p.ended } };
 }
 
 impl Participant {
@@ -93,33 +83,24 @@ impl Participant {
         let doubts = durable.doubts().as_slice();
         lock_doubts(locks, doubts)?;
         Ok(Participant {
-            parts: Vec::new(alloc),
+            parts: Table::new(alloc),
             doubts: copy_all(alloc, doubts)?,
-            ended: Vec::new(alloc),
+            ended: Noted::new(alloc),
         })
-    }
-
-    fn has_ended(&self, txn: &TxnId) -> bool
-        ensures { result ≡ has_txn self.now.ended txn.now }
-    {
-        self.ended.iter().any(|ended| is_same_txn(ended, txn))
     }
 
     /// The transaction gets a part, which has not voted. One that has a part or is in doubt stays as it is.
     fn join(&mut self, txn: &TxnId, view: ViewId) -> Result<(), NoMemory>
         ensures { OnOk result (self.new ≡ with_part txn.now view self.old) }
     {
-        if has_part(&self.parts, txn) || is_in_doubt(&self.doubts, txn) {
+        if self.parts.has(txn) || is_in_doubt(&self.doubts, txn) {
             return Ok(());
         }
-        put(
-            &mut self.parts,
-            Part {
-                txn: *txn,
-                view,
-                voted: false,
-            },
-        )
+        self.parts.put(Part {
+            txn: *txn,
+            view,
+            voted: false,
+        })
     }
 
     /// Why the transaction is refused, whatever it asks for.
@@ -128,7 +109,7 @@ impl Participant {
     {
         if !is_held(held, view) {
             Some(PrepareFault::OtherView { now: id_of(held) })
-        } else if self.has_ended(txn) {
+        } else if self.ended.has(txn) {
             Some(PrepareFault::Ended)
         } else {
             None
@@ -180,7 +161,7 @@ impl Participant {
         ensures forced { IfOk result (λ forced. forced ≡ log_record.Yes part.now.txn part.now.view writes.now) }
         ensures doubt { OnOk result (self.new ≡ with_new_doubt part.now writes.now self.old) }
     {
-        drop_part(&mut self.parts, &part.txn);
+        self.parts.remove(&part.txn);
         add_doubt(&mut self.doubts, part, writes)?;
         Ok(LogRecord::Yes {
             txn: part.txn,
@@ -241,7 +222,7 @@ impl Participant {
         if is_in_doubt(&self.doubts, &asked.txn) {
             return Ok(Voted::Yes { forced: None });
         }
-        match part_of(&self.parts, &asked.txn) {
+        match self.parts.get(&asked.txn).copied() {
             None => Ok(Voted::Silent),
             Some(part) => Ok(self.vote(locks, &part, asked)?),
         }
@@ -259,10 +240,10 @@ impl Participant {
         ensures ended { OnOk result (self.new ≡ with_ended (is_some held.entry) txn self.old) }
         ensures locks { OnOk result (locks.new ≡ without_owner (owner.Txn txn) locks.old) }
     {
-        if held.is_some() && !self.has_ended(&txn) {
-            self.ended.push(txn)?;
+        if held.is_some() {
+            self.ended.note(&txn)?;
         }
-        drop_part(&mut self.parts, &txn);
+        self.parts.remove(&txn);
         locks.release(txn);
         Ok(Settled {
             doubt: take_doubt(&mut self.doubts, &txn).map(|doubt| (
@@ -291,7 +272,7 @@ impl Participant {
     pub fn known(&self) -> Result<Txns, NoMemory>
         ensures { IfOk result (λ txns. txns ≡ known self.now) }
     {
-        let mut txns = txns_of(*self.parts.allocator(), &self.parts)?;
+        let mut txns = self.parts.names()?;
         add_doubted(&mut txns, &self.doubts)?;
         Ok(Txns::from_vec(txns))
     }
@@ -317,7 +298,7 @@ impl Keeps for Participant {
         match &lock.owner {
             Owner::Refresh => false,
             Owner::Txn(txn) if is_in_doubt(&self.doubts, txn) => lock.exclusive,
-            Owner::Txn(txn) => !has_part(&self.parts, txn),
+            Owner::Txn(txn) => !self.parts.has(txn),
         }
     }
 }

@@ -4,3 +4,4 @@ pub mod EachRecord
 pub mod Records
 pub mod Each
 pub mod Batches
+pub mod Highest

@@ -1,29 +1,32 @@
 //! The transactions in doubt.
 
-ghost use Rattle.std.specs.Prelude.{◌≡◌, IfOk};
+ghost use Rattle.std.specs.Prelude.{◌≡◌, OnOk, OnErr};
 ghost use Rattle.vp_model.specs.Durable.{put_doubt, without_doubt};
 
 use std::mem;
 use vp_base::{CopyOf, Doubt, InDoubt, NoMemory, TxnId, ViewId, Writes};
-use vp_lists::{is_same_txn, put_in};
+use vp_lists::{is_same_txn, put};
 
-/// The doubts with this one in its place, where one of the same transaction goes.
-pub fn with_doubt(
-    doubts: &InDoubt,
+/// The doubt takes its place, where one of the same transaction goes. Without memory the doubts stay as they are.
+pub fn keep_doubt(
+    doubts: &mut InDoubt,
     txn: &TxnId,
     view: &ViewId,
     writes: &Writes,
-) -> Result<InDoubt, NoMemory>
-    ensures { IfOk result (λ kept. kept ≡ put_doubt (record { txn = txn.now; view = view.now; writes = writes.now }) doubts.now) }
+) -> Result<(), NoMemory>
+    ensures ok { OnOk result (doubts.new ≡ put_doubt (record { txn = txn.now; view = view.now; writes = writes.now }) doubts.old) }
+    ensures err { OnErr result (doubts.new ≡ doubts.old) }
 {
-    let mut kept = doubts.copy_of()?;
     let doubt = Doubt {
         txn: *txn,
         view: *view,
         writes: writes.copy_of()?,
     };
-    put_in(&mut kept, doubt)?;
-    Ok(kept)
+    let none = InDoubt::new(doubts.allocator());
+    let mut items = mem::replace(doubts, none).into_vec();
+    let done = put(&mut items, doubt);
+    *doubts = InDoubt::from_vec(items);
+    done
 }
 
 /// The transaction is no longer in doubt.

@@ -8,12 +8,12 @@ ghost use Rattle.vp_records.specs.Applying.{AppliesSome};
 ghost use Rattle.vp_records.specs.Records.{CanBeSaved, IsLogRecord};
 
 use crate::copies::{commit_doubt, restore};
-use crate::decisions::{acknowledge, with_decision};
-use crate::doubts::{drop_doubt, with_doubt};
+use crate::decided::Decided;
+use crate::doubts::{drop_doubt, keep_doubt};
 use std::marker::Model;
 use vp_base::{
-    Copies, CopyOf, Decisions, InDoubt, LogRecord, NoMemory, RecId, SiteId, Sites, Stored, TxnId,
-    ViewId, Writes,
+    Copies, CopyOf, Decision, Decisions, InDoubt, LogRecord, NoMemory, RecId, SiteId, Sites,
+    Stored, TxnId, ViewId, Writes,
 };
 use vp_lists::{copy_all, find_txn, replace_at, value_at, write_copies};
 
@@ -24,7 +24,7 @@ pub struct Durable {
     life: u32,
     copies: Vec<(RecId, Stored)>,
     doubts: InDoubt,
-    decisions: Decisions,
+    decisions: Decided,
 }
 
 impl Drop for Durable {
@@ -70,7 +70,7 @@ impl Durable {
             life: 0,
             copies: copies.into_vec(),
             doubts: InDoubt::new(alloc),
-            decisions: Decisions::new(alloc),
+            decisions: Decided::new(alloc),
         }
     }
 
@@ -89,7 +89,7 @@ impl Durable {
             life,
             copies: copies.into_vec(),
             doubts,
-            decisions,
+            decisions: Decided::of(decisions),
         }
     }
 
@@ -138,7 +138,7 @@ impl Durable {
     }
 
     /// The transactions that the site committed and that some site has not acknowledged.
-    pub fn decisions(&self) -> &Decisions
+    pub fn decisions(&self) -> &Decided
         ensures { result.now ≡ self.now.decisions }
     {
         &self.decisions
@@ -183,8 +183,7 @@ impl Durable {
         ensures ok { OnOk result (self.new ≡ apply (log_record.Yes txn.now view.now writes.now) self.old) }
         ensures err { OnErr result (self.new ≡ self.old) }
     {
-        self.doubts = with_doubt(&self.doubts, txn, view, writes)?;
-        Ok(())
+        keep_doubt(&mut self.doubts, txn, view, writes)
     }
 
     /// What the transaction in doubt writes becomes copies, with its view as their date.
@@ -206,6 +205,20 @@ impl Durable {
         drop_doubt(&mut self.doubts, txn);
     }
 
+    /// The decision on the transaction is kept while a site is waited for.
+    fn keep(&mut self, txn: &TxnId, waiting: &Sites) -> Result<(), NoMemory>
+        ensures ok { OnOk result (self.new ≡ record self.old { decisions = with_decision txn.now waiting.now self.old.decisions }) }
+        ensures err { OnErr result (self.new ≡ self.old) }
+    {
+        if waiting.as_slice().is_empty() {
+            return Ok(());
+        }
+        self.decisions.put(Decision {
+            txn: *txn,
+            waiting: waiting.copy_of()?,
+        })
+    }
+
     /// The site committed a transaction of its own.
     #[tactic(auto, unfolding(vp_model::specs::Durable::apply))]
     fn commit(
@@ -218,7 +231,7 @@ impl Durable {
         ensures ok { OnOk result (self.new ≡ apply (log_record.Commit txn.now view.now writes.now waiting.now) self.old) }
         ensures err { OnErr result (self.new ≡ self.old) }
     {
-        self.decisions = with_decision(&self.decisions, txn, waiting)?;
+        self.keep(txn, waiting)?;
         write_copies(&mut self.copies, view, writes.as_slice());
         Ok(())
     }
@@ -234,7 +247,7 @@ impl Durable {
     fn acknowledge(&mut self, txn: &TxnId, site: SiteId)
         ensures { self.new ≡ apply (log_record.Acked txn.now site) self.old }
     {
-        acknowledge(&mut self.decisions, txn, site);
+        self.decisions.acknowledge(txn, site);
     }
 
     /// All is as it was saved, but for the copies that were not.
@@ -256,7 +269,7 @@ impl Durable {
         ensures err { OnErr result (self.new ≡ self.old) }
     {
         let doubts = doubts.copy_of()?;
-        self.decisions = decisions.copy_of()?;
+        self.decisions = Decided::of(decisions.copy_of()?);
         self.doubts = doubts;
         self.promise = *promise;
         self.life = life;

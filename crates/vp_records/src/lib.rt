@@ -1,11 +1,11 @@
 //! The durable part of a site: what its log records make of the catalogue's copies.
 //!
 //! A record of the log is applied by one call, which does all that the record says, or finds no memory and does nothing.
-//! For this a list that grows, or whose values are written, is made anew beside the old one, and then takes its place.
+//! What it needs memory for is made before anything changes, and then goes to its place in the lists, which grow where they are.
 #![tactic(auto)]
 
 mod copies;
-mod decisions;
+mod decided;
 mod decoding;
 mod doubts;
 mod durable;
@@ -15,7 +15,7 @@ mod kind;
 mod laws;
 mod read_records;
 
-pub use decisions::acknowledge;
+pub use decided::Decided;
 pub use decoding::decode_batch;
 pub use durable::Durable;
 pub use encoding::encode_batch;

@@ -20,12 +20,12 @@ use std::collections::VecDeque;
 use std::marker::Model;
 use std::mem;
 use vp_base::{
-    Answer, CallNo, CopyOf, Decision, Decisions, Effects, Ending, Finished, Live, MOST_FINISHED,
-    Message, NoMemory, Pending, Seq, SiteId, Sites, TxnId, ViewId,
+    Answer, CallNo, CopyOf, Decision, Effects, Ending, Finished, Live, MOST_FINISHED, Message,
+    NoMemory, Pending, Seq, SiteId, Sites, TxnId, ViewId,
 };
 use vp_catalog::has_site;
-use vp_lists::{OfTxn, find_txn, is_same_txn, put_in};
-use vp_records::acknowledge;
+use vp_lists::{OfTxn, find_txn, is_same_txn};
+use vp_records::Decided;
 
 /// The live transactions, the ends of those that have ended, and the decisions that some site has not acknowledged.
 /// `seq` is the number of the last one that began, so no live one has a number above it.
@@ -34,7 +34,7 @@ pub struct Transactions {
     pub seq: u32,
     pub live: LiveTxns,
     pub finished: VecDeque<Finished>,
-    pub decisions: Decisions,
+    pub decisions: Decided,
 }
 
 impl Model for Transactions {
@@ -117,7 +117,7 @@ impl Transactions {
             seq: 0,
             live: LiveTxns::new(alloc),
             finished: VecDeque::new(alloc),
-            decisions: Decisions::new(alloc),
+            decisions: Decided::new(alloc),
         }
     }
 
@@ -181,7 +181,7 @@ impl Transactions {
     pub fn acknowledge(&mut self, txn: &TxnId, from: SiteId)
         ensures { self.new ≡ with_acknowledged txn.now from self.old }
     {
-        acknowledge(&mut self.decisions, txn, from)
+        self.decisions.acknowledge(txn, from)
     }
 
     pub fn is_live(&self, txn: &TxnId) -> bool
@@ -264,7 +264,7 @@ impl Transactions {
         if waiting.as_slice().is_empty() {
             return Ok(());
         }
-        put_in(&mut self.decisions, Decision { txn: *txn, waiting })
+        self.decisions.put(Decision { txn: *txn, waiting })
     }
 
     /// What a call is told whose transaction is not live.

@@ -1,0 +1,15 @@
+//! The key of a transaction.
+
+ghost use Rattle.std.specs.Prelude.{◌≡◌};
+ghost use Rattle.vp_tables.specs.Keys.{key_of};
+
+use vp_base::TxnId;
+
+/// A key for a transaction, of plain numbers: keys ascend as transactions do.
+pub(crate) type TxnKey = (u8, u32, u32);
+
+pub(crate) fn key_of(txn: &TxnId) -> TxnKey
+    ensures { result ≡ key_of txn.now }
+{
+    (txn.site.get(), txn.life, txn.seq)
+}

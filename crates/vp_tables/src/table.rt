@@ -1,0 +1,106 @@
+//! Items in the order of their transactions.
+
+ghost use Rattle.std.specs.Prelude.{◌≡◌, [], OnOk, OnErr, IfOk, find, filter, map, not, option_copied};
+ghost use Rattle.std.specs.List.{list_any};
+ghost use Rattle.vp_model.specs.Words.{put, same_txn, txn_before};
+
+use crate::key::{TxnKey, key_of};
+use std::alloc::Global;
+use std::collections::BTreeMap;
+use std::marker::Model;
+use vp_base::{NoMemory, Part, TxnId};
+
+/// An item that is known by its transaction.
+pub trait HasTxn {
+    ghost use Rattle.vp_base.specs.declared.ids.TxnId.{TxnId};
+
+    ghost txn: { Self → TxnId };
+
+    fn name(&self) -> TxnId
+        ensures { result ≡ txn self.now };
+}
+
+impl HasTxn for Part {
+    ghost txn = { λ p. p.txn };
+
+    fn name(&self) -> TxnId {
+        self.txn
+    }
+}
+
+/// Items in the order of their transactions, one for each.
+#[derive(Drop)]
+pub struct Table<T: HasTxn> {
+    tree: BTreeMap<TxnKey, T>,
+    alloc: Global,
+}
+
+impl<T: HasTxn> Model for Table<T> {
+    ghost use Rattle.std.specs.Prelude.{List};
+    ghost use Rattle.std.specs.Map.{values_of};
+    ghost use Rattle.vp_tables.specs.Keys.{AreKeyed};
+
+    ghost Value = { List T };
+
+    ghost view = { λ t. values_of t.tree.entries };
+
+    ghost invariant = { λ t. AreKeyed T.txn t.tree.entries };
+}
+
+impl<T: HasTxn + Drop> Table<T> {
+    pub fn new(alloc: Global) -> Table<T>
+        ensures { result ≡ [] }
+    {
+        Table {
+            tree: BTreeMap::new(alloc),
+            alloc,
+        }
+    }
+
+    pub fn has(&self, txn: &TxnId) -> bool
+        ensures { result ≡ list_any (λ t. same_txn (T.txn t) txn.now) self.now }
+    {
+        self.tree.contains_key(&key_of(txn))
+    }
+
+    /// The item of the transaction.
+    pub fn get(&self, txn: &TxnId) -> Option<&T>
+        ensures { option_copied result ≡ find (λ t. same_txn (T.txn t) txn.now) self.now }
+    {
+        self.tree.get(&key_of(txn))
+    }
+
+    /// The item takes its place, where one of the same transaction goes. Without memory nothing changes.
+    pub fn put(&mut self, item: T) -> Result<(), NoMemory>
+        ensures ok { OnOk result (self.new ≡ put (λ a b. same_txn (T.txn a) (T.txn b)) (λ a b. txn_before (T.txn a) (T.txn b)) item self.old) }
+        ensures err { OnErr result (self.new ≡ self.old) }
+    {
+        self.tree.insert(key_of(&item.name()), item)?;
+        Ok(())
+    }
+
+    /// The transaction has no item any more.
+    pub fn remove(&mut self, txn: &TxnId)
+        ensures { self.new ≡ filter (λ t. not (same_txn (T.txn t) txn.now)) self.old }
+    {
+        self.tree.remove(&key_of(txn));
+    }
+
+    pub fn clear(&mut self)
+        ensures { self.new ≡ [] }
+    {
+        *self = Table::new(self.alloc);
+    }
+
+    /// The transactions of the items.
+    pub fn names(&self) -> Result<Vec<TxnId>, NoMemory>
+        ensures { IfOk result (λ names. names.items ≡ map T.txn self.now) }
+    {
+        Ok(
+            self.tree
+                .values()
+                .map(|item| item.name())
+                .collect(self.alloc)?,
+        )
+    }
+}
