@@ -2,7 +2,7 @@
 use Rattle.std.specs.Prelude.{◌≡◌, ◌⊎◌, ◌≤◌, ℕ, List, [], ◌∷◌, ◌++◌, length, Some, None, Result, Ok, Err}
 use Rattle.vp_model.specs.Types.{Answer, Call}
 use Rattle.vp_outside.specs.Causes.{Rose, count_after}
-use Rattle.vp_outside.specs.Links.{LinkState, Gave, Hands}
+use Rattle.vp_outside.specs.Links.{LinkState, Gave, Hands, HandsNow}
 use Rattle.vp_outside.specs.declared.sink.OutFault.{OutFault}
 use Rattle.vp_outside.specs.declared.sink.OutFault.TheVariants as output
 use Rattle.vp_outside.specs.declared.datagram.Datagram.{Datagram}
@@ -20,9 +20,9 @@ pub record Came (turns : ℕ) (arrived : List Datagram) (old new : LinkState) : 
 abbrev pub HasFailed : LinkState → LinkState → Type 0
 HasFailed old new = Rose old.faults new.faults ⊎ Rose old.losses new.losses
 
--- the one frame of the call was handed over, to that port
+-- the one frame of the call was handed over, to that port, before any datagram came
 abbrev pub IsSent : ℕ → ℕ → Call → LinkState → LinkState → Type 0
-IsSent port site words old new = Hands old.handed new.handed (call_datagram port site words ∷ [])
+IsSent port site words old new = HandsNow old new (call_datagram port site words ∷ [])
 
 -- it, or nothing
 abbrev pub MaySent : ℕ → ℕ → Call → LinkState → LinkState → Type 0

@@ -3,7 +3,7 @@ use Rattle.std.specs.Prelude.{◌≡◌, ◌⊎◌, ℕ, true, false, List, [], 
 use Rattle.vp_model.specs.Types.{Answer, Call}
 use Rattle.vp_model.specs.Texts.Answers.{answer_text}
 use Rattle.vp_outside.specs.Causes.{Rose}
-use Rattle.vp_outside.specs.Links.{LinkState, Hands, GivesNone, HandsNone}
+use Rattle.vp_outside.specs.Links.{LinkState, Hands, HandsNow, GivesNone, HandsNone}
 use Rattle.vp_outside.specs.declared.datagram.Datagram.{Datagram}
 use Rattle.vp_wire.specs.declared.frame.Body.{Body}
 use Rattle.vp_wire.specs.declared.frame.Body.TheVariants as body
@@ -70,7 +70,7 @@ signal_body signals.Stop = body.Stop
 
 module _ (port site : ℕ) (given : Signal) (old new : LinkState) where
   abbrev pub HandsSignal : Type 0
-  HandsSignal = Hands old.handed new.handed (datagram_to port (frame_of 0 site (signal_body given)) ∷ [])
+  HandsSignal = HandsNow old new (datagram_to port (frame_of 0 site (signal_body given)) ∷ [])
 
   -- Any free port was bound, and the frame was handed over.
   pub record HasSignalled : Type 0 where

@@ -51,6 +51,16 @@ fn a_node_ends_behind_its_turns(rt: HostRuntime) {
     }
 }
 
+#[test]
+fn each_turn_hands_over_before_the_next_datagram_comes(rt: HostRuntime) {
+    let alloc = rt.alloc();
+    let datagrams = said(alloc, &[BEGIN, BEGIN]).expect(&rt, "memory");
+    let ended = Setup::alone(b"").run(alloc, datagrams).expect(&rt, "a run");
+    assert!(rt;
+        matches!(ended.link.handed(), [first, last] if first.after == 1 && last.after == 2)
+    );
+}
+
 /// Bytes that are no inputs, and the call to begin from the port of the site itself.
 fn no_inputs(alloc: Global) -> Result<Vec<Datagram>, AllocError> {
     let mut datagrams = said(

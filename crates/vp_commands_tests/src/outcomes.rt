@@ -1,13 +1,13 @@
 //! What a call or a signal comes to.
 
 use crate::PORT;
-use vp_outside::Datagram;
+use vp_outside::Handed;
 use vp_status::{Defined, Status};
 
-/// Whether these bytes were handed over to the port of site 1, and nothing else.
-pub fn is_all(handed: &[Datagram], bytes: &[u8]) -> bool {
+/// Whether these bytes were handed over to the port of site 1, before any datagram was given, and nothing else.
+pub fn is_all(handed: &[Handed], bytes: &[u8]) -> bool {
     match handed {
-        [it] => it.port == PORT && it.bytes.as_slice() == bytes,
+        [it] => it.after == 0 && it.datagram.port == PORT && it.datagram.bytes.as_slice() == bytes,
         _ => false,
     }
 }

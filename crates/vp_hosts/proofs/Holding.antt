@@ -43,7 +43,7 @@ module _ (old new : List Change) (asked : asked_of new ≡ asked_of old) where
   read_holds alike holds = its_log (holds.0, alike.batches holds.0 holds.1)
 
   pub start_holds : (catalogue : Catalogue) (id : ℕ) → Steps (MayStart catalogue id) (state_after old true 0) (state_after new true 0) → AreLog (log_on old) → AreLog (log_on new)
-  start_holds catalogue id left holds = its_log (⊎_elim (λ same. (holds.0, same)) (λ more. (_, more)) (left.batches holds.0 holds.1))
+  start_holds catalogue id left holds = its_log (⊎_elim (λ same. (holds.0, same)) (λ more. (_, more.1)) (left.batches holds.0 holds.1))
 
 -- ---- what can't end a node
 

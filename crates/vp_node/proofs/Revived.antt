@@ -20,7 +20,7 @@ use Rattle.vp_runs.specs.Keeping.{durable_in}
 use Rattle.vp_runs.specs.Runs.{start_node, node_run}
 use Rattle.vp_runs.proofs.Runs.{runs_keep}
 use Rattle.vp_runs.proofs.Shaped.{runs_are_shaped}
-use Rattle.vp_node.specs.Nodes.{Keeps, MayStart}
+use Rattle.vp_node.specs.Nodes.{HasLifeLeft, Keeps, MayStart}
 use Rattle.vp_node.proofs.Kept.{has as have}
 
 module _ (catalogue : Catalogue) (id : ℕ) where
@@ -29,13 +29,15 @@ module _ (catalogue : Catalogue) (id : ℕ) where
   pub may_start_alike : (old new : Halves) → ReadAlike old new → MayStart catalogue id old new
   may_start_alike old new alike = record { batches = λ batches h. inl (alike.batches batches h); faults = alike.faults }
 
-  module _ (one : HalvesAreOneLog) (none : BadHalvesHaveNoBatches) (at : Standing) (batches : List (List LogRecord)) where
+  module _ (one : HalvesAreOneLog) (none : BadHalvesHaveNoBatches) (at : Standing) (batches : List (List LogRecord)) (lives : HasLifeLeft catalogue id batches) where
     abbrev pub begun : List LogRecord
     begun = start_record (durable_in catalogue id batches) ∷ []
 
     pub may_start_then : (a b c : Halves) → ReadAlike a b → StandsAt at batches b → MayGainAt begun at b c → MayStart catalogue id a c
     may_start_then a b c alike stands may = record {
-      batches = λ others h. subst (λ bs. HaveBatches bs c ⊎ HaveBatches (start_node catalogue id bs).batches c) (one batches others b (have stands) (alike.batches others h)) (may batches stands);
+      batches = λ others h.
+          subst (λ bs. HaveBatches bs c ⊎ (HasLifeLeft catalogue id bs × HaveBatches (start_node catalogue id bs).batches c)) (one batches others b (have stands) (alike.batches others h))
+          (⊎_elim (λ same. inl same) (λ more. inr (lives, more)) (may batches stands));
       faults = λ half place bad. absurd (none half place batches b (alike.faults half place bad) (have stands));
     }
 

@@ -1,5 +1,5 @@
 -- A node, what its disk keeps of it, and what a start and a turn make of both.
-use Rattle.std.specs.Prelude.{◌≡◌, ◌⊎◌, ◌-◌, ◌^◌, ℕ, List, IfSome}
+use Rattle.std.specs.Prelude.{◌≡◌, ◌⊎◌, ◌-◌, ◌^◌, ◌<◌, ℕ, List, IfSome}
 use Rattle.vp_model.specs.Types.{LogRecord}
 use Rattle.vp_model.specs.Catalogue.{Catalogue}
 use Rattle.vp_model.specs.Site.{SiteState}
@@ -50,9 +50,14 @@ pub record Starts (catalogue : Catalogue) (id : ℕ) (node : NodeValue) (old new
   pub site : node.site ≡ (start_node catalogue id batches).site
   pub has : Steps (λ before log. StandsAt node.at (start_node catalogue id batches).batches log) old new
 
--- Of the log that was there its batches are left, or these with the start; where it was no log it is none.
+-- these batches end in a life behind which there is another one
+abbrev pub HasLifeLeft : Catalogue → ℕ → List (List LogRecord) → Type 0
+HasLifeLeft catalogue id batches = (durable_in catalogue id batches).life < 2 ^ 32 - 1
+
+-- Of the log that was there its batches are left, or, where a life was left, these with the start; where it was no log it is none.
 pub record MayStart (catalogue : Catalogue) (id : ℕ) (old new : Halves) : Type 0 where
-  pub batches : (batches : List (List LogRecord)) → HaveBatches batches old → HaveBatches batches new ⊎ HaveBatches (start_node catalogue id batches).batches new
+  pub batches : (batches : List (List LogRecord)) → HaveBatches batches old
+      → HaveBatches batches new ⊎ (HasLifeLeft catalogue id batches × HaveBatches (start_node catalogue id batches).batches new)
   pub faults : (half place : ℕ) → AreBadLog half place old → AreBadLog half place new
 
 -- the log ends in the last life

@@ -58,10 +58,14 @@ impl Node {
         ensures lives_spent { (life : ℕ) → IsErrOf result (ends.LivesSpent life) → IsSpent catalog.now id life (D.state disk.old) }
         ensures unchanged { (half at life : ℕ) → IsErrOf result (ends.BadLog half at) ⊎ IsErrOf result (ends.LivesSpent life)
             → Steps ReadAlike (D.state disk.old) (D.state disk.new) }
+        ensures still { (half at life : ℕ) → IsErrOf result (ends.BadLog half at) ⊎ IsErrOf result (ends.LivesSpent life)
+            → (D.state disk.old).honest → IfSome (log_of (D.state disk.old)) (λ log.
+            LeavesOnly (D.state disk.old) (D.state disk.new)
+            (λ image. (D.state disk.old).may_leave (D.state disk.old).asked image ⊎ ReadAlike log image)) }
         ensures fault { OnErr result (Steps (MayStart catalog.now id) (D.state disk.old) (D.state disk.new)) }
 
-        // A crash before the first sync leaves what it might have left before the call, and a later one the batches, with the start or
-        // without.
+        // A crash before the first sync leaves what it might have left before the call, and a later one the batches, with the start, where a
+        // life was left, or without.
         ensures any_moment { (D.state disk.old).honest → IfSome (log_of (D.state disk.old)) (λ log.
             LeavesOnly (D.state disk.old) (D.state disk.new)
             (λ image. (D.state disk.old).may_leave (D.state disk.old).asked image ⊎ MayStart catalog.now id log image)) }

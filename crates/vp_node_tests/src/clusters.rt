@@ -81,8 +81,8 @@ impl Member {
     fn hand_over(&mut self, rt: &impl Abort, alloc: Global, handed: &mut Vec<OnItsWay>) {
         let ended = self.run(rt, alloc);
         for it in ended.link.handed().iter().skip(self.passed) {
-            let datagram = datagram(alloc, self.port, &it.bytes).expect(rt, "memory");
-            let to = it.port;
+            let datagram = datagram(alloc, self.port, &it.datagram.bytes).expect(rt, "memory");
+            let to = it.datagram.port;
             handed.push(OnItsWay { to, datagram }).expect(rt, "memory");
         }
         self.passed = ended.link.handed().len();

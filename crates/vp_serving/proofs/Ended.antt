@@ -8,9 +8,11 @@ use Rattle.vp_model.specs.Catalogue.{Catalogue}
 use Rattle.vp_outside.specs.Disk.{DiskState}
 use Rattle.vp_outside.specs.Links.{LinkState, Receives}
 use Rattle.vp_outside.specs.Output.{SinkState, AppendsPrefix}
+use Rattle.vp_outside.specs.declared.datagram.Handed.{Handed}
 use Rattle.vp_runs.specs.Turns.{end_line}
 use Rattle.vp_runs.specs.Runs.{NodeRun, node_run, recorded}
 use Rattle.vp_node.specs.Nodes.{NodeValue}
+use Rattle.vp_serving.specs.Handed.{handed_in}
 use Rattle.vp_serving.specs.Serving.{outside, Course, IsWhole, HasStopped, HasDone, IsBroken, IsUnwritten, Serves, either}
 use Rattle.vp_serving.specs.Telling.{Finishes}
 use Rattle.vp_serving.specs.declared.end.End.{End}
@@ -23,6 +25,9 @@ module _ (catalogue : Catalogue) (id turns count : ℕ) (stopped : Bool) (link0 
   abbrev run : NodeRun
   run = node_run catalogue id h.batches h.arrived
 
+  abbrev sent : List Handed
+  sent = handed_in catalogue id h.batches link0.given h.arrived (length h.arrived)
+
   abbrev course : (sink : SinkState) → Course catalogue id turns (outside link0 link1 sink0 sink disk0 disk1)
   course sink = record {
     batches = h.batches;
@@ -34,6 +39,7 @@ module _ (catalogue : Catalogue) (id turns count : ℕ) (stopped : Bool) (link0 
     gave = h.gave;
     counted = h.counted;
     few = let m = h.many in omega (arith, m, few);
+    moments = h.moments;
   }
 
   -- the last line was printed
@@ -62,11 +68,11 @@ module _ (catalogue : Catalogue) (id turns count : ℕ) (stopped : Bool) (link0 
       end = end_line;
       end_is = inr (refl, ⊎_elim (λ s. inl (h.stopped_is ∙ s)) (λ all. inr (h.many ∙ all)) over);
       written = recorded run ++ take cut.0 end_line;
-      handed = run.datagrams;
+      handed = sent;
       did = record { writes = Appends-trans sink0.held sink1.held sink2.held (recorded run) (take cut.0 end_line) h.did.writes cut.2; hands = h.did.hands };
       written_of = prefix_behind (recorded run) (take cut.0 end_line) end_line (prefix_take cut.0 end_line cut.1);
-      handed_of = prefix_all run.datagrams;
-      safe = safe_all catalogue id h.batches h.arrived node disk0 disk1 h.stands h.kept h.others run.datagrams (prefix_all run.datagrams);
+      handed_of = prefix_all sent;
+      safe = safe_all catalogue id h.batches h.arrived node disk0 disk1 h.stands h.kept h.others link0.given sent (prefix_all sent);
     }
 
     unwritten : IsUnwritten catalogue id turns (outside link0 link1 sink0 sink2 disk0 disk1)
@@ -75,7 +81,7 @@ module _ (catalogue : Catalogue) (id turns count : ℕ) (stopped : Bool) (link0 
       turns_done = length h.arrived;
       few = omega arith;
       last = omega arith;
-      handed = rw (take-length h.arrived) refl;
+      handed = refl;
       printed = inr (rw (take-length h.arrived) (prefix_front (recorded run) (take cut.0 end_line)));
     }
 
@@ -120,6 +126,7 @@ is_lost catalogue id turns count link0 link1 link2 sink0 sink1 disk0 disk1 node 
         gave = rw s.told h.gave;
         counted = s.given ∙ h.counted;
         few = let m = h.many in omega (arith, m, more);
+        moments = h.moments;
       };
       stopped_is = h.stopped_is;
       did = record { writes = rw (append-nil (recorded (node_run catalogue id h.batches h.arrived))) h.did.writes; hands = rw s.hands_none.same_handed h.did.hands };

@@ -1,5 +1,7 @@
 mod Begun
 mod Ended
+mod Handed
+mod Moments
 mod Prefixes
 mod Printed
 mod RunTurns

@@ -1,7 +1,7 @@
 -- Serving goes on datagram by datagram.
-use Rattle.std.proofs.Common.{◌≡◌, ⊎_elim, ℕ, ◌-◌, ◌^◌, ◌<◌, Bool, true, false, List, [], ◌∷◌, ◌++◌, length, sym, subst, arith}
+use Rattle.std.proofs.Common.{◌≡◌, ℕ, Bool, true, false, List, [], ◌∷◌, ◌++◌, length, sym, subst, arith}
 use Rattle.std.specs.Prelude.{Option, Some, None, IfSome, Result, Err}
-use Rattle.std.proofs.Math.Seq.{take-length, take-append_seam}
+use Rattle.std.proofs.Math.Seq.{take-length}
 use Rattle.vp_model.specs.Types.{LogRecord}
 use Rattle.vp_model.specs.Words.{value_at}
 use Rattle.vp_model.specs.Catalogue.{Catalogue}
@@ -10,26 +10,28 @@ use Rattle.vp_outside.specs.Causes.{count_after}
 use Rattle.vp_outside.specs.Disk.{Halves, DiskState, Becomes, Steps, Only, log_of}
 use Rattle.vp_outside.specs.Links.{Gave}
 use Rattle.vp_outside.specs.declared.datagram.Datagram.{Datagram}
+use Rattle.vp_outside.specs.declared.datagram.Handed.{Handed}
 use Rattle.vp_stable.specs.Halves.{Standing, StandsAt, HaveBatches}
 use Rattle.vp_stable.specs.Moments.{LeavesOthers}
-use Rattle.vp_runs.specs.Keeping.{durable_in, kept_with}
+use Rattle.vp_runs.specs.Keeping.{kept_with}
 use Rattle.vp_runs.specs.Runs.{NodeRun, node_run, recorded}
 use Rattle.vp_runs.proofs.Runs.{runs_keep}
 use Rattle.vp_node.specs.Keeping.{KeepsAt}
-use Rattle.vp_node.specs.Nodes.{NodeValue, IsNode, IsKept, Keeps, MaySave, turn_of}
-use Rattle.vp_serving.specs.Serving.{Outside, IsPrefix, Did, IsKeptAs, IsSafe, LeavesFrom, Serves, either}
+use Rattle.vp_node.specs.Nodes.{NodeValue, HasLifeLeft, IsNode, IsKept, Keeps, MaySave, turn_of}
+use Rattle.vp_serving.specs.Handed.{handed_in}
+use Rattle.vp_serving.specs.Serving.{Outside, KeepsAtAnyMoment, IsPrefix, Did, IsKeptAs, IsSafe, LeavesFrom, Serves, either}
 use Rattle.vp_serving.specs.Telling.{MayHaveTurned}
 use Rattle.vp_serving.specs.declared.end.End.{End}
 use Rattle.vp_node.proofs.Kept.{has}
 use Rattle.vp_outside.proofs.Passed.{one_longer}
 use Rattle.vp_serving.proofs.Prefixes.{prefix_all}
-use Rattle.vp_serving.proofs.RunTurns.{left_folds}
+use Rattle.vp_serving.proofs.Moments.{turn_leaves}
 
 -- So many datagrams came and were taken, all that their run gives was told and is kept, and no call failed.
 pub record SoFar (catalogue : Catalogue) (id count : ℕ) (stopped : Bool) (o : Outside) (node : NodeValue) : Type 0 where
   pub batches : List (List LogRecord)
   pub had : IfSome (log_of o.disk) (HaveBatches batches)
-  pub lives : (durable_in catalogue id batches).life < 2 ^ 32 - 1
+  pub lives : HasLifeLeft catalogue id batches
   pub asked : o.link'.asked ≡ value_at id catalogue.sites
   pub bound : o.link'.bound ≡ true
   pub arrived : List Datagram
@@ -40,10 +42,11 @@ pub record SoFar (catalogue : Catalogue) (id count : ℕ) (stopped : Bool) (o : 
   pub ended : stopped ≡ true → (front : List Datagram) × (last : Datagram) × (arrived ≡ front ++ last ∷ []) × ((node_run catalogue id batches front).stopped ≡ false)
   pub site : node.site ≡ (node_run catalogue id batches arrived).node.site
   pub stands : Steps (λ _ log. StandsAt node.at (node_run catalogue id batches arrived).node.batches log) o.disk o.disk'
-  pub did : Did o (recorded (node_run catalogue id batches arrived)) (node_run catalogue id batches arrived).datagrams
+  pub did : Did o (recorded (node_run catalogue id batches arrived)) (handed_in catalogue id batches o.link.given arrived (length arrived))
   pub node_is : IsNode catalogue node
   pub kept : IsKept catalogue node o.disk'
   pub others : LeavesOthers o.disk o.disk'
+  pub moments : KeepsAtAnyMoment catalogue id batches arrived o.disk o.disk'
   pub same_link : o.link'.faults ≡ o.link.faults
   pub same_sink : o.sink'.faults ≡ o.sink.faults
   pub same_disk : o.disk'.faults ≡ o.disk.faults
@@ -84,11 +87,11 @@ module _ (catalogue : Catalogue) (id : ℕ) (batches : List (List LogRecord)) (a
       by (Some log) stands keeps = (has stands, keeps.synced)
 
   -- all turns are in the log
-  pub safe_all : (handed : List Datagram) → IsPrefix handed run.datagrams → IsSafe catalogue id batches arrived handed disk disk'
-  safe_all handed front = record {
+  pub safe_all : (given : ℕ) (handed : List Handed) → IsPrefix handed (handed_in catalogue id batches given arrived (length arrived)) → IsSafe catalogue id batches given arrived handed disk disk'
+  safe_all given handed front = record {
     sure = length arrived;
     few = omega arith;
-    handed_of = rw (take-length arrived) front;
+    handed_of = front;
     left = λ honest. by (log_of disk) (disk'.logs disk.asked) stands (kept_as honest);
   }
     where
@@ -108,15 +111,15 @@ abbrev MaySaved : Catalogue → NodeValue → Datagram → (Halves → Type 0) �
 MaySaved catalogue node d images log = (image : Halves) → images image → MaySave catalogue node (turn_of catalogue node d) log image
 
 -- The last turn may be in the log, and those before it are.
-pub safe_torn : (catalogue : Catalogue) (id : ℕ) (batches : List (List LogRecord)) (front : List Datagram) (d : Datagram) (node : NodeValue) (disk disk1 disk2 : DiskState)
+pub safe_torn : (catalogue : Catalogue) (id : ℕ) (batches : List (List LogRecord)) (given : ℕ) (front : List Datagram) (d : Datagram) (node : NodeValue) (disk disk1 disk2 : DiskState)
     → node.site ≡ (node_run catalogue id batches front).node.site → (node_run catalogue id batches front).stopped ≡ false
     → Steps (λ _ log. StandsAt node.at (node_run catalogue id batches front).node.batches log) disk disk1 → LeavesOthers disk disk1
     → MayHaveTurned catalogue node d disk1 disk2
-    → IsSafe catalogue id batches (front ++ d ∷ []) (node_run catalogue id batches front).datagrams disk disk2
-safe_torn catalogue id batches front d node disk disk1 disk2 site going stands others may = record {
+    → IsSafe catalogue id batches given (front ++ d ∷ []) (handed_in catalogue id batches given (front ++ d ∷ []) (length front)) disk disk2
+safe_torn catalogue id batches given front d node disk disk1 disk2 site going stands others may = record {
   sure = length front;
   few = omega (arith, one_longer front d);
-  handed_of = rw (take-append_seam front (d ∷ [])) (prefix_all (node_run catalogue id batches front).datagrams);
+  handed_of = prefix_all (handed_in catalogue id batches given (front ++ d ∷ []) (length front));
   left = λ honest. by (log_of disk) (disk1.logs disk.asked) stands (here honest);
 }
   where
@@ -129,12 +132,7 @@ safe_torn catalogue id batches front d node disk disk1 disk2 site going stands o
         → IfSome a (λ _. (image : Halves) → disk2.may_leave disk.asked image → LeavesFrom catalogue id batches (front ++ d ∷ []) (length front) image)
     by None b stands may = tt
     by (Some a) None stands may = absurd stands
-    by (Some a) (Some log) stands may = λ image leaves.
-        let left = (may image leaves).batches (node_run catalogue id batches front).node.batches stands in
-        ⊎_elim
-        (λ e. (length front, omega arith, omega (arith, one_longer front d), (left.0, left.1, rw (take-append_seam front (d ∷ [])) e)))
-        (λ e. (length (front ++ d ∷ []), omega (arith, one_longer front d), omega arith, (left.0, left.1, rw (take-length (front ++ d ∷ [])) e)))
-        (left_folds catalogue id batches front d node site going left.0 left.2)
+    by (Some a) (Some log) stands may = λ image leaves. turn_leaves catalogue id batches front d node site going log image stands (may image leaves)
 
 -- an end that comes as a fault is that end
 pub as_end : (catalogue : Catalogue) (id turns : ℕ) (o : Outside) (result : Result End End) (e : End) → result ≡ Err e → Serves catalogue id turns o e → Serves catalogue id turns o (either result)

@@ -1,6 +1,6 @@
 -- What a turn leaves, by its answer.
 use Rattle.std.proofs.Common.{◌≡◌, ◌∙◌, inl, inr, ℕ, ◌+◌, ◌<◌, Bool, true, false, List, [], ◌∷◌, ◌++◌, length, take, refl, sym, ap, subst, arith, append-nil}
-use Rattle.std.specs.Prelude.{Ok, Err}
+use Rattle.std.specs.Prelude.{IfSome, Ok, Err}
 use Rattle.std.specs.Io.KnownBytes.{Appends}
 use Rattle.std.proofs.KnownBytes.{Appends-trans}
 use Rattle.std.proofs.Math.Seq.{take-append_seam}
@@ -8,21 +8,25 @@ use Rattle.vp_model.specs.Catalogue.{Catalogue}
 use Rattle.vp_model.specs.Step.{durable_of}
 use Rattle.vp_outside.specs.Causes.{count_after}
 use Rattle.vp_outside.specs.Disk.{DiskState, Becomes, Steps, log_of}
-use Rattle.vp_outside.specs.Links.{LinkState, Gave, Hands, StaysBound, GivesNone, Receives, received}
+use Rattle.vp_outside.specs.Links.{LinkState, Gave, Hands, HandsNow, StaysBound, GivesNone, Receives, received, handed_after}
 use Rattle.vp_outside.specs.Output.{SinkState, AppendsPrefix}
 use Rattle.vp_outside.specs.declared.datagram.Datagram.{Datagram}
+use Rattle.vp_outside.specs.declared.datagram.Handed.{Handed}
 use Rattle.vp_stable.specs.Halves.{StandsAt}
-use Rattle.vp_stable.specs.Moments.{LeavesOthers}
+use Rattle.vp_stable.specs.Moments.{LeavesOnly, LeavesOthers}
 use Rattle.vp_stable.proofs.Times.{others_join}
 use Rattle.vp_runs.specs.Turns.{Turn}
 use Rattle.vp_runs.specs.Runs.{NodeRun, node_run, recorded}
 use Rattle.vp_node.specs.Keeping.{KeepsAt}
-use Rattle.vp_node.specs.Nodes.{NodeValue, turn_of}
-use Rattle.vp_serving.specs.Serving.{outside, Course, IsPrefix, IsSafe, HasTorn, IsBroken, IsUnwritten, Serves}
+use Rattle.vp_node.specs.Nodes.{NodeValue, MaySave, turn_of}
+use Rattle.vp_serving.specs.Handed.{handed_in}
+use Rattle.vp_serving.specs.Serving.{outside, KeepsAtAnyMoment, Course, IsPrefix, IsSafe, HasTorn, IsBroken, IsUnwritten, Serves}
 use Rattle.vp_serving.specs.Telling.{HasTurned, MayHaveTurned, TellsTurn, Takes, lines_of}
 use Rattle.vp_serving.specs.declared.end.End.{End}
 use Rattle.vp_serving.specs.declared.end.End.TheVariants as ends
 use Rattle.vp_outside.proofs.Passed.{count_more, gave_more, hands_none, hands_then, one_longer}
+use Rattle.vp_serving.proofs.Handed.{prefix_handed, handed_of_front, handed_more}
+use Rattle.vp_serving.proofs.Moments.{turn_moments}
 use Rattle.vp_serving.proofs.Prefixes.{prefix_all, prefix_front, prefix_take, prefix_behind}
 use Rattle.vp_serving.proofs.RunTurns.{site_after, batches_after, datagrams_after, stopped_after, recorded_after}
 use Rattle.vp_serving.proofs.Served.{SoFar, stands_on, safe_all, safe_torn}
@@ -30,7 +34,8 @@ use Rattle.vp_serving.proofs.Served.{SoFar, stands_on, safe_all, safe_torn}
 module _ (catalogue : Catalogue) (id turns count : ℕ) (link0 link1 link2 link3 : LinkState) (sink0 sink1 sink2 : SinkState) (disk0 disk1 disk2 : DiskState) (node : NodeValue)
     (h : SoFar catalogue id count false (outside link0 link1 sink0 sink1 disk0 disk1) node) (more : count < turns)
     {E : Type 0} (buf buf' : List ℕ) (r : ℕ × ℕ) (came : Receives {E = E} buf buf' link1 link2 (Ok r))
-    (stays : StaysBound link2 link3) (gives_none : GivesNone link2 link3) (same_faults : link3.faults ≡ link2.faults) (others : LeavesOthers disk1 disk2) where
+    (stays : StaysBound link2 link3) (gives_none : GivesNone link2 link3) (same_faults : link3.faults ≡ link2.faults) (others : LeavesOthers disk1 disk2)
+    (turns_at : disk1.honest → IfSome (log_of disk1) (λ log. LeavesOnly disk1 disk2 (MaySave catalogue node (turn_of catalogue node (received r buf')) log))) where
   abbrev d : Datagram
   d = received r buf'
 
@@ -58,10 +63,8 @@ module _ (catalogue : Catalogue) (id turns count : ℕ) (link0 link1 link2 link3
   gave : Gave link0.left link3.left (front ++ d ∷ [])
   gave = rw gives_none.same_left (gave_more link0.left link1.left link2.left front d h.gave came.told)
 
-  counted : link3.given ≡ count_after link0.given (length (front ++ d ∷ []))
-  counted =
-      gives_none.same_given ∙ came.given ∙ ap (λ n. count_after n 1) h.counted ∙ count_more link0.given (length front)
-      ∙ ap (count_after link0.given) (omega (arith, one_longer front d))
+  came_now : link2.given ≡ count_after link0.given (length (front ++ d ∷ []))
+  came_now = came.given ∙ ap (λ n. count_after n 1) h.counted ∙ count_more link0.given (length front) ∙ ap (count_after link0.given) (omega (arith, one_longer front d))
 
   many : length (front ++ d ∷ []) ≡ count + 1
   many = let m = h.many in omega (arith, one_longer front d, m)
@@ -72,8 +75,23 @@ module _ (catalogue : Catalogue) (id turns count : ℕ) (link0 link1 link2 link3
   datagrams_are : after.datagrams ≡ before.datagrams ++ turn.datagrams
   datagrams_are = datagrams_after catalogue id h.batches front d node h.site h.stopped_is
 
-  hands_before : Hands link0.handed link2.handed before.datagrams
+  abbrev sent : List Handed
+  sent = handed_in catalogue id h.batches link0.given front (length front)
+
+  -- with the datagram that came the turns before it hand over the same
+  same_sent : handed_in catalogue id h.batches link0.given (front ++ d ∷ []) (length front) ≡ sent
+  same_sent = handed_of_front catalogue id h.batches link0.given front (d ∷ []) (length front) (omega arith)
+
+  all_sent : handed_in catalogue id h.batches link0.given (front ++ d ∷ []) (length (front ++ d ∷ [])) ≡ sent ++ handed_after link2.given turn.datagrams
+  all_sent =
+      handed_more catalogue id h.batches link0.given front d turn.datagrams datagrams_are
+      ∙ ap (λ n. sent ++ handed_after n turn.datagrams) (sym came_now)
+
+  hands_before : Hands link0.handed link2.handed sent
   hands_before = rw came.hands_none.same_handed h.did.hands
+
+  moments : KeepsAtAnyMoment catalogue id h.batches (front ++ d ∷ []) disk0 disk2
+  moments = turn_moments catalogue id h.batches front d node h.site h.stopped_is disk0 disk1 disk2 h.stands h.others h.moments turns_at
 
   abbrev course : (sink : SinkState) → Course catalogue id turns (outside link0 link3 sink0 sink disk0 disk2)
   course sink = record {
@@ -84,8 +102,9 @@ module _ (catalogue : Catalogue) (id turns count : ℕ) (link0 link1 link2 link3
     bound = bound;
     arrived = front ++ d ∷ [];
     gave = gave;
-    counted = counted;
+    counted = gives_none.same_given ∙ came_now;
     few = omega (arith, many, more);
+    moments = moments;
   }
 
   -- ---- the turn is done
@@ -107,7 +126,7 @@ module _ (catalogue : Catalogue) (id turns count : ℕ) (link0 link1 link2 link3
       bound = bound;
       arrived = front ++ d ∷ [];
       gave = gave;
-      counted = counted;
+      counted = gives_none.same_given ∙ came_now;
       many = many;
       stopped_is = stopped_after catalogue id h.batches front d node h.site h.stopped_is ∙ sym is;
       ended = λ _. (front, d, refl, h.stopped_is);
@@ -115,35 +134,37 @@ module _ (catalogue : Catalogue) (id turns count : ℕ) (link0 link1 link2 link3
       stands = stands;
       did = record {
         writes = rw recorded_is (Appends-trans sink0.held sink1.held sink2.held (recorded before) lines h.did.writes tells.0);
-        hands = rw datagrams_are (hands_then link0.handed link2.handed link3.handed before.datagrams turn.datagrams hands_before tells.1);
+        hands = subst (Hands link0.handed link3.handed) (sym all_sent) (hands_then link0.handed link2.handed link3.handed sent (handed_after link2.given turn.datagrams) hands_before tells.1);
       };
       node_is = turned.node_is;
       kept = turned.kept;
       others = others_join h.others others;
+      moments = moments;
       same_link = same_faults ∙ came.cause.ok ∙ h.same_link;
       same_sink = tells.2 ∙ h.same_sink;
       same_disk = turned.same_faults ∙ h.same_disk;
     }
 
     -- a beginning of it was told
-    abbrev told : (written : List ℕ) (handed : List Datagram) → IsPrefix written lines → IsPrefix handed turn.datagrams → Appends sink1.held sink2.held written → Hands link2.handed link3.handed handed
+    abbrev told : (written : List ℕ) (handed : List Datagram) → IsPrefix written lines → IsPrefix handed turn.datagrams → Appends sink1.held sink2.held written → HandsNow link2 link3 handed
         → IsBroken catalogue id turns (outside link0 link3 sink0 sink2 disk0 disk2)
     told written handed written_of handed_of writes hands =
-        let handed_in : IsPrefix (before.datagrams ++ handed) after.datagrams =
-        subst (IsPrefix (before.datagrams ++ handed)) (sym datagrams_are) (prefix_behind before.datagrams handed turn.datagrams handed_of) in
+        let now = handed_after link2.given handed in
+        let front_of_all : IsPrefix (sent ++ now) (handed_in catalogue id h.batches link0.given (front ++ d ∷ []) (length (front ++ d ∷ []))) =
+        subst (IsPrefix (sent ++ now)) (sym all_sent) (prefix_behind sent now (handed_after link2.given turn.datagrams) (prefix_handed link2.given handed turn.datagrams handed_of)) in
         record {
           course = course sink2;
           end = [];
           end_is = inl refl;
           written = recorded before ++ written;
-          handed = before.datagrams ++ handed;
+          handed = sent ++ now;
           did = record {
             writes = Appends-trans sink0.held sink1.held sink2.held (recorded before) written h.did.writes writes;
-            hands = hands_then link0.handed link2.handed link3.handed before.datagrams handed hands_before hands;
+            hands = hands_then link0.handed link2.handed link3.handed sent now hands_before hands;
           };
           written_of = subst (IsPrefix (recorded before ++ written)) (sym (append-nil (recorded after) ∙ recorded_is)) (prefix_behind (recorded before) written lines written_of);
-          handed_of = handed_in;
-          safe = safe_all catalogue id h.batches (front ++ d ∷ []) kept_now disk0 disk2 stands turned.kept (others_join h.others others) (before.datagrams ++ handed) handed_in;
+          handed_of = front_of_all;
+          safe = safe_all catalogue id h.batches (front ++ d ∷ []) kept_now disk0 disk2 stands turned.kept (others_join h.others others) link0.given (sent ++ now) front_of_all;
         }
 
     -- its lines couldn't be printed, or not all of them
@@ -153,7 +174,7 @@ module _ (catalogue : Catalogue) (id turns count : ℕ) (link0 link1 link2 link3
       turns_done = length front;
       few = omega (arith, one_longer front d);
       last = omega (arith, one_longer front d);
-      handed = rw (take-append_seam front (d ∷ [])) (append-nil before.datagrams);
+      handed = append-nil sent ∙ sym same_sent;
       printed = inr (rw (take-append_seam front (d ∷ [])) (prefix_front (recorded before) (take cut.0 lines)));
     }
 
@@ -167,11 +188,14 @@ module _ (catalogue : Catalogue) (id turns count : ℕ) (link0 link1 link2 link3
     writes_before : Appends sink0.held sink2.held (recorded before)
     writes_before = rw still.1 h.did.writes
 
-    all_before : Hands link0.handed link3.handed before.datagrams
-    all_before = rw still.0 hands_before
+    abbrev sent_before : List Handed
+    sent_before = handed_in catalogue id h.batches link0.given (front ++ d ∷ []) (length front)
 
-    safe_before : IsSafe catalogue id h.batches (front ++ d ∷ []) before.datagrams disk0 disk2
-    safe_before = safe_torn catalogue id h.batches front d node disk0 disk1 disk2 h.site h.stopped_is h.stands h.others may
+    all_before : Hands link0.handed link3.handed sent_before
+    all_before = subst (Hands link0.handed link3.handed) (sym same_sent) (rw still.0 hands_before)
+
+    safe_before : IsSafe catalogue id h.batches link0.given (front ++ d ∷ []) sent_before disk0 disk2
+    safe_before = safe_torn catalogue id h.batches link0.given front d node disk0 disk1 disk2 h.site h.stopped_is h.stands h.others may
 
     torn : HasTorn catalogue id turns (outside link0 link3 sink0 sink2 disk0 disk2)
     torn = record {
@@ -190,10 +214,11 @@ module _ (catalogue : Catalogue) (id turns count : ℕ) (link0 link1 link2 link3
       end = [];
       end_is = inl refl;
       written = recorded before;
-      handed = before.datagrams;
+      handed = sent_before;
       did = record { writes = writes_before; hands = all_before };
       written_of = subst (IsPrefix (recorded before)) (sym (append-nil (recorded after) ∙ recorded_is)) (prefix_front (recorded before) lines);
-      handed_of = subst (IsPrefix before.datagrams) (sym datagrams_are) (prefix_front before.datagrams turn.datagrams);
+      handed_of = subst (λ (hs : List Handed). IsPrefix hs (handed_in catalogue id h.batches link0.given (front ++ d ∷ []) (length (front ++ d ∷ [])))) (sym same_sent)
+          (subst (IsPrefix sent) (sym all_sent) (prefix_front sent (handed_after link2.given turn.datagrams)));
       safe = safe_before;
     }
 

@@ -1,3 +1,5 @@
 pub mod Ends
+pub mod Handed
+pub mod Laws
 pub mod Serving
 pub mod Telling

@@ -1,5 +1,5 @@
 -- How serving ends: which turns were taken, what was recorded, handed over and kept in the log.
-use Rattle.std.specs.Prelude.{◌≡◌, ◌⊎◌, ◌+◌, ◌-◌, ◌^◌, ◌<◌, ◌≤◌, ℕ, Bool, true, false, List, [], ◌∷◌, ◌++◌, length, take, IfSome, Result, Ok, Err}
+use Rattle.std.specs.Prelude.{◌≡◌, ◌⊎◌, ◌+◌, ◌<◌, ◌≤◌, ℕ, Bool, true, false, List, [], ◌∷◌, ◌++◌, length, take, IfSome, Result, Ok, Err}
 use Rattle.std.specs.Io.KnownBytes.{Appends}
 use Rattle.vp_model.specs.Types.{LogRecord}
 use Rattle.vp_model.specs.Words.{value_at}
@@ -10,11 +10,14 @@ use Rattle.vp_outside.specs.Disk.{Halves, DiskState, log_of, Steps, Only}
 use Rattle.vp_outside.specs.Links.{LinkState, Gave, Hands}
 use Rattle.vp_outside.specs.Output.{SinkState}
 use Rattle.vp_outside.specs.declared.datagram.Datagram.{Datagram}
+use Rattle.vp_outside.specs.declared.datagram.Handed.{Handed}
 use Rattle.vp_stable.specs.Halves.{HaveBatches, AreBadLog, ReadAlike}
+use Rattle.vp_stable.specs.Moments.{LeavesOnly}
 use Rattle.vp_runs.specs.Keeping.{durable_in}
 use Rattle.vp_runs.specs.Turns.{end_line}
 use Rattle.vp_runs.specs.Runs.{NodeRun, node_run, recorded}
-use Rattle.vp_node.specs.Nodes.{MayStart, IsSpent}
+use Rattle.vp_node.specs.Nodes.{HasLifeLeft, MayStart, IsSpent}
+use Rattle.vp_serving.specs.Handed.{handed_in}
 use Rattle.vp_serving.specs.declared.end.End.{End}
 use Rattle.vp_serving.specs.declared.end.End.TheVariants as ends
 
@@ -31,19 +34,40 @@ pub record Outside : Type 1 where
 abbrev pub outside : LinkState → LinkState → SinkState → SinkState → DiskState → DiskState → Outside
 outside link link' sink sink' disk disk' = record { link = link; link' = link'; sink = sink; sink' = sink'; disk = disk; disk' = disk' }
 
+-- ---- what a crash leaves of the log
+
+-- Each crash leaves a log whose fold is the durable part after so many of the turns, or after more of them.
+abbrev pub LeavesFrom : Catalogue → ℕ → List (List LogRecord) → List Datagram → ℕ → Halves → Type 0
+LeavesFrom catalogue id batches arrived sure image =
+    (n : ℕ) × (sure ≤ n) × (n ≤ length arrived)
+    × ((left : List (List LogRecord)) × HaveBatches left image × (durable_in catalogue id left ≡ durable_of (node_run catalogue id batches (take n arrived)).node.site))
+
+-- A crash at any moment of the call leaves what it might have left before, or what this step may make of the log.
+abbrev pub AtAnyMoment : (Halves → Halves → Type 0) → DiskState → DiskState → Type 0
+AtAnyMoment step disk disk' = disk.honest → IfSome (log_of disk) (λ log. LeavesOnly disk disk' (λ image. disk.may_leave disk.asked image ⊎ step log image))
+
+-- The same for a run over these datagrams: the batches that the log had, or the log after some of the turns.
+abbrev pub KeepsAtAnyMoment : Catalogue → ℕ → List (List LogRecord) → List Datagram → DiskState → DiskState → Type 0
+KeepsAtAnyMoment catalogue id batches arrived = AtAnyMoment (λ _ image. HaveBatches batches image ⊎ LeavesFrom catalogue id batches arrived 0 image)
+
 -- ---- which run it was
 
 -- the log that was recovered, and the datagrams that came
 pub record Course (catalogue : Catalogue) (id turns : ℕ) (o : Outside) : Type 0 where
   pub batches : List (List LogRecord)
   pub had : IfSome (log_of o.disk) (HaveBatches batches)
-  pub lives : (durable_in catalogue id batches).life < 2 ^ 32 - 1
+  pub lives : HasLifeLeft catalogue id batches
   pub asked : o.link'.asked ≡ value_at id catalogue.sites
   pub bound : o.link'.bound ≡ true
   pub arrived : List Datagram
   pub gave : Gave o.link.left o.link'.left arrived
   pub counted : o.link'.given ≡ count_after o.link.given (length arrived)
   pub few : length arrived ≤ turns
+  pub moments : KeepsAtAnyMoment catalogue id batches arrived o.disk o.disk'
+
+-- what the first of these turns hand over
+abbrev pub handed_by : {catalogue : Catalogue} {id turns : ℕ} {o : Outside} → Course catalogue id turns o → ℕ → List Handed
+handed_by {catalogue = catalogue} {id = id} {o = o} course = handed_in catalogue id course.batches o.link.given course.arrived
 
 -- the run over all that came
 abbrev pub run_of : {catalogue : Catalogue} {id turns : ℕ} {o : Outside} → Course catalogue id turns o → NodeRun
@@ -56,7 +80,7 @@ abbrev pub IsPrefix : {X : Type 0} → List X → List X → Type 0
 IsPrefix front whole = front ≡ take (length front) whole
 
 -- This was recorded and this was handed over, in all.
-pub record Did (o : Outside) (written : List ℕ) (handed : List Datagram) : Type 0 where
+pub record Did (o : Outside) (written : List ℕ) (handed : List Handed) : Type 0 where
   pub writes : Appends o.sink.held o.sink'.held written
   pub hands : Hands o.link.handed o.link'.handed handed
 
@@ -64,17 +88,11 @@ pub record Did (o : Outside) (written : List ℕ) (handed : List Datagram) : Typ
 abbrev pub IsKeptAs : NodeRun → DiskState → DiskState → Type 0
 IsKeptAs run disk disk' = disk.honest → IfSome (disk'.logs disk.asked) (λ log. HaveBatches run.node.batches log × Only log (disk'.may_leave disk.asked))
 
--- Each crash leaves a log whose fold is the durable part after so many of the turns, or after more of them.
-abbrev pub LeavesFrom : Catalogue → ℕ → List (List LogRecord) → List Datagram → ℕ → Halves → Type 0
-LeavesFrom catalogue id batches arrived sure image =
-    (n : ℕ) × (sure ≤ n) × (n ≤ length arrived)
-    × ((left : List (List LogRecord)) × HaveBatches left image × (durable_in catalogue id left ≡ durable_of (node_run catalogue id batches (take n arrived)).node.site))
-
 -- Each datagram that was handed over belongs to a turn that every crash leaves in the log.
-pub record IsSafe (catalogue : Catalogue) (id : ℕ) (batches : List (List LogRecord)) (arrived handed : List Datagram) (disk disk' : DiskState) : Type 0 where
+pub record IsSafe (catalogue : Catalogue) (id : ℕ) (batches : List (List LogRecord)) (given : ℕ) (arrived : List Datagram) (handed : List Handed) (disk disk' : DiskState) : Type 0 where
   pub sure : ℕ
   pub few : sure ≤ length arrived
-  pub handed_of : IsPrefix handed (node_run catalogue id batches (take sure arrived)).datagrams
+  pub handed_of : IsPrefix handed (handed_in catalogue id batches given arrived sure)
   pub left : disk.honest → IfSome (log_of disk) (λ _. (image : Halves) → disk'.may_leave disk.asked image → LeavesFrom catalogue id batches arrived sure image)
 
 -- ---- the ends
@@ -86,11 +104,14 @@ module _ (catalogue : Catalogue) (id turns : ℕ) (o : Outside) where
     pub uncounted : o.link'.given ≡ o.link.given
     pub did : Did o [] []
 
-  -- The node didn't start: no port was asked, and its log took this step.
+  -- The node didn't start: no port was asked, and its log took this step. A crash leaves what it might have left before, or what the
+  -- step may make of the log.
   pub record HasNotStarted (step : Halves → Halves → Type 0) : Type 0 where
     pub idle : IsIdle
     pub unasked : o.link'.asked ≡ o.link.asked
     pub log : Steps step o.disk o.disk'
+    pub left : o.disk.honest → IfSome (log_of o.disk) (λ log. (image : Halves) → o.disk'.may_leave o.disk.asked image → o.disk.may_leave o.disk.asked image ⊎ step log image)
+    pub moments : AtAnyMoment step o.disk o.disk'
 
   -- It started, and its port couldn't be bound.
   pub record IsUnbound : Type 0 where
@@ -99,13 +120,15 @@ module _ (catalogue : Catalogue) (id turns : ℕ) (o : Outside) where
     pub unbound : o.link'.bound ≡ false
     pub batches : List (List LogRecord)
     pub had : IfSome (log_of o.disk) (HaveBatches batches)
+    pub lives : HasLifeLeft catalogue id batches
     pub kept : IsKeptAs (node_run catalogue id batches []) o.disk o.disk'
+    pub moments : KeepsAtAnyMoment catalogue id batches [] o.disk o.disk'
 
   -- The turns that came are whole, with all that was recorded, up to this end of the recording, handed over and kept.
   pub record IsWhole (stopped : Bool) (end : List ℕ) : Type 0 where
     pub course : Course catalogue id turns o
     pub stopped_is : (run_of course).stopped ≡ stopped
-    pub did : Did o (recorded (run_of course) ++ end) (run_of course).datagrams
+    pub did : Did o (recorded (run_of course) ++ end) (handed_by course (length course.arrived))
     pub kept : IsKeptAs (run_of course) o.disk o.disk'
 
   -- The last datagram ended it: before it the run went on.
@@ -133,8 +156,8 @@ module _ (catalogue : Catalogue) (id turns : ℕ) (o : Outside) where
     pub last : Datagram
     pub arrived : course.arrived ≡ front ++ last ∷ []
     pub going : (node_run catalogue id course.batches front).stopped ≡ false
-    pub did : Did o (recorded (node_run catalogue id course.batches front)) (node_run catalogue id course.batches front).datagrams
-    pub safe : IsSafe catalogue id course.batches course.arrived (node_run catalogue id course.batches front).datagrams o.disk o.disk'
+    pub did : Did o (recorded (node_run catalogue id course.batches front)) (handed_by course (length front))
+    pub safe : IsSafe catalogue id course.batches o.link.given course.arrived (handed_by course (length front)) o.disk o.disk'
 
   -- the last line of a recording, which stands only behind a run that is over
   abbrev pub MayEnd : Course catalogue id turns o → List ℕ → Type 0
@@ -146,11 +169,11 @@ module _ (catalogue : Catalogue) (id turns : ℕ) (o : Outside) where
     pub end : List ℕ
     pub end_is : MayEnd course end
     pub written : List ℕ
-    pub handed : List Datagram
+    pub handed : List Handed
     pub did : Did o written handed
     pub written_of : IsPrefix written (recorded (run_of course) ++ end)
-    pub handed_of : IsPrefix handed (run_of course).datagrams
-    pub safe : IsSafe catalogue id course.batches course.arrived handed o.disk o.disk'
+    pub handed_of : IsPrefix handed (handed_by course (length course.arrived))
+    pub safe : IsSafe catalogue id course.batches o.link.given course.arrived handed o.disk o.disk'
 
   -- A line couldn't be printed. The lines of a turn come before its datagrams: what was handed over is whole for all turns but the last,
   -- or for all, and what is recorded of these turns was printed.
@@ -159,7 +182,7 @@ module _ (catalogue : Catalogue) (id turns : ℕ) (o : Outside) where
     pub turns_done : ℕ
     pub few : turns_done ≤ length broken.course.arrived
     pub last : length broken.course.arrived ≤ turns_done + 1
-    pub handed : broken.handed ≡ (node_run catalogue id broken.course.batches (take turns_done broken.course.arrived)).datagrams
+    pub handed : broken.handed ≡ handed_by broken.course turns_done
     pub printed : (broken.handed ≡ []) ⊎ IsPrefix (recorded (node_run catalogue id broken.course.batches (take turns_done broken.course.arrived))) broken.written
 
   -- what each end of serving says

@@ -1,12 +1,12 @@
 -- What leaves a node: the line of its start, what each turn tells, and the line of its end.
-use Rattle.std.specs.Prelude.{◌≡◌, ◌⊎◌, ◌≤◌, ℕ, Bool, true, false, List, length, take, Option, IfSome, Result, Ok, Err}
+use Rattle.std.specs.Prelude.{◌≡◌, ◌⊎◌, ◌≤◌, ℕ, Bool, true, false, List, length, take, IfSome, Result, Ok, Err}
 use Rattle.std.specs.Io.KnownBytes.{Appends}
 use Rattle.std.specs.List.{concat}
 use Rattle.vp_model.specs.Words.{value_at}
 use Rattle.vp_model.specs.Catalogue.{Catalogue}
 use Rattle.vp_outside.specs.Causes.{Rose}
 use Rattle.vp_outside.specs.Disk.{Halves, DiskState, log_of, Steps}
-use Rattle.vp_outside.specs.Links.{LinkState, Hands, GivesNone, HandsNone}
+use Rattle.vp_outside.specs.Links.{LinkState, HandsNow, GivesNone, HandsNone}
 use Rattle.vp_outside.specs.Output.{SinkState, AppendsPrefix}
 use Rattle.vp_outside.specs.declared.datagram.Datagram.{Datagram}
 use Rattle.vp_runs.specs.Turns.{turn_lines, start_line, end_line}
@@ -15,8 +15,8 @@ use Rattle.vp_serving.specs.declared.end.End.{End}
 use Rattle.vp_serving.specs.declared.end.End.TheVariants as ends
 
 -- a beginning of these was handed over
-abbrev pub HandsPrefix : Option (List Datagram) → Option (List Datagram) → List Datagram → Type 0
-HandsPrefix handed handed' datagrams = (n : ℕ) × (n ≤ length datagrams) × Hands handed handed' (take n datagrams)
+abbrev pub HandsPrefix : LinkState → LinkState → List Datagram → Type 0
+HandsPrefix link link' datagrams = (n : ℕ) × (n ≤ length datagrams) × HandsNow link link' (take n datagrams)
 
 -- ---- the beginning and the end
 
@@ -52,10 +52,10 @@ Finishes end sink sink' (Err _) = ⊥
 -- lines.
 abbrev pub Tells : List ℕ → List Datagram → LinkState → LinkState → SinkState → SinkState → Result (Unit {0}) End → Type 0
 Tells lines datagrams link link' sink sink' (Ok _) =
-    Appends sink.held sink'.held lines × Hands link.handed link'.handed datagrams × (sink'.faults ≡ sink.faults)
+    Appends sink.held sink'.held lines × HandsNow link link' datagrams × (sink'.faults ≡ sink.faults)
 Tells lines datagrams link link' sink sink' (Err ends.WriteFault) = Rose sink.faults sink'.faults × AppendsPrefix sink.held sink'.held lines × (link' ≡ link)
 Tells lines datagrams link link' sink sink' (Err ends.NoMemory) =
-    (AppendsPrefix sink.held sink'.held lines × (link' ≡ link)) ⊎ (Appends sink.held sink'.held lines × HandsPrefix link.handed link'.handed datagrams)
+    (AppendsPrefix sink.held sink'.held lines × (link' ≡ link)) ⊎ (Appends sink.held sink'.held lines × HandsPrefix link link' datagrams)
 Tells lines datagrams link link' sink sink' (Err _) = ⊥
 
 -- The site took the turn, and its log keeps it.

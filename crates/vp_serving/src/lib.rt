@@ -3,8 +3,10 @@
 #![tactic(auto)]
 
 mod end;
+mod laws;
 mod serving;
 mod telling;
 
 pub use end::End;
+pub use laws::{a_commit_is_handed_over, runs_are_handed_over};
 pub use serving::serve;

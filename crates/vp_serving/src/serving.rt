@@ -1,11 +1,12 @@
 //! Serving the datagrams of a link.
 
-ghost use Rattle.std.specs.Prelude.{◌≡◌, ◌≤◌, None, true, IsTrue};
+ghost use Rattle.std.specs.Prelude.{◌≡◌, ◌≤◌, None, true, IfSome, IsTrue};
 ghost use Rattle.vp_model.specs.Words.{has};
 ghost use Rattle.vp_model.specs.Catalogue.{sites_of};
+ghost use Rattle.vp_outside.specs.Disk.{log_of};
 ghost use Rattle.vp_outside.specs.Links.{StaysBound, GivesNone};
-ghost use Rattle.vp_stable.specs.Moments.{LeavesOthers};
-ghost use Rattle.vp_node.specs.Nodes.{IsNode, IsKept};
+ghost use Rattle.vp_stable.specs.Moments.{LeavesOnly, LeavesOthers};
+ghost use Rattle.vp_node.specs.Nodes.{IsNode, IsKept, MaySave, turn_of};
 ghost use Rattle.vp_serving.specs.Serving.{Serves, either, outside};
 ghost use Rattle.vp_serving.specs.Telling.{AsksPort, Begins, Finishes, Takes};
 
@@ -113,6 +114,9 @@ fn take_turn<L: Link, D: Disk, K: Sink>(
     ensures stays { StaysBound (L.state link.old) (L.state link.new) }
     ensures gives_none { GivesNone (L.state link.old) (L.state link.new) }
     ensures same_faults { (L.state link.new).faults ≡ (L.state link.old).faults }
+    ensures any_moment { (D.state disk.old).honest → IfSome (log_of (D.state disk.old)) (λ log.
+        LeavesOnly (D.state disk.old) (D.state disk.new)
+        (MaySave catalog.now node (turn_of catalog.now node (record { port = port; bytes = bytes.now })) log)) }
     ensures others { LeavesOthers (D.state disk.old) (D.state disk.new) }
     ensures later { (K.state sink.old).faults ≤ (K.state sink.new).faults }
 {

@@ -3,7 +3,7 @@
 ghost use Rattle.std.specs.Prelude.{◌≡◌, ◌≤◌, IfOk, IsTrue, OnOk, OnErr};
 ghost use Rattle.std.specs.Io.KnownBytes.{Appends};
 ghost use Rattle.std.specs.List.{concat};
-ghost use Rattle.vp_outside.specs.Links.{Hands, StaysBound, GivesNone};
+ghost use Rattle.vp_outside.specs.Links.{HandsNow, StaysBound, GivesNone};
 ghost use Rattle.vp_outside.specs.Output.{AppendsPrefix, HasOutCause};
 ghost use Rattle.vp_serving.specs.Telling.{HandsPrefix, Tells};
 
@@ -50,8 +50,8 @@ fn joined(lines: &Lines) -> Result<Seq<u8>, NoMemory>
 /// Hands the datagrams over, one after the other. One whose sending fails is lost.
 fn hand_over<L: Link>(link: &mut L, datagrams: &[Datagram]) -> Result<(), NoMemory>
     requires bound { IsTrue (L.state link.old).bound }
-    ensures ok { OnOk result (Hands (L.state link.old).handed (L.state link.new).handed datagrams.now) }
-    ensures err { OnErr result (HandsPrefix (L.state link.old).handed (L.state link.new).handed datagrams.now) }
+    ensures ok { OnOk result (HandsNow (L.state link.old) (L.state link.new) datagrams.now) }
+    ensures err { OnErr result (HandsPrefix (L.state link.old) (L.state link.new) datagrams.now) }
     ensures stays { StaysBound (L.state link.old) (L.state link.new) }
     ensures gives_none { GivesNone (L.state link.old) (L.state link.new) }
     ensures same_faults { (L.state link.new).faults ≡ (L.state link.old).faults }

@@ -38,7 +38,7 @@ fn a_link_gives_its_datagrams_in_order(rt: HostRuntime) {
 /// Whether the last datagram that was handed over is this one, the second of two.
 fn keeps(link: &MemLink, port: u16, bytes: &[u8]) -> bool {
     match link.handed() {
-        [_, last] => last.port == port && last.bytes.as_slice() == bytes,
+        [_, last] => last.datagram.port == port && last.datagram.bytes.as_slice() == bytes,
         _ => false,
     }
 }
@@ -82,4 +82,16 @@ fn a_long_datagram_is_cut_and_a_link_that_is_sure_goes_on_with_empty_ones(rt: Ho
     assert!(rt; first_two(&mut link, &mut buf) == Ok([(7100, MOST_GIVEN), (0, 0)]));
     assert!(rt; buf[MOST_GIVEN - 1] == 7 && buf[MOST_GIVEN] == 0);
     assert_eq!(rt; link.faults(), 0);
+}
+
+#[test]
+fn what_is_handed_over_has_the_count_of_what_was_given(rt: HostRuntime) {
+    let alloc = rt.alloc();
+    let one = datagram(alloc, 7100, b"abc").expect(&rt, "no fault");
+    let datagrams = vec![in alloc; one].expect(&rt, "no fault");
+    let mut link = MemLink::new(alloc, datagrams, Vec::new(alloc));
+    assert!(rt; link.send(7100, b"x") == Ok(()));
+    assert!(rt; given(&mut link) == Ok((7100, 3, *b"abc")));
+    assert!(rt; link.send(7100, b"y") == Ok(()));
+    assert!(rt; matches!(link.handed(), [first, last] if first.after == 0 && last.after == 1));
 }

@@ -15,14 +15,14 @@ returns-in_err-node-clause-served g c =
     let is : c.from_residual.result ≡ Err (end_of_node c.in_err-node.field-0.0) = gave_err _ _ c.from_residual.ensures.1 in
     let h = c.in_err-node.ensures in
     as_end _ _ _ _ _ _ is (unstarted c.args.catalog.now c.args.id c.args.turns (g.L.Link.state c.args.link.now) (g.K.Sink.state c.args.sink.now) (g.D.Disk.state c.args.disk.now) (g.D.Disk.state c.start.new.disk)
-    c.in_err-node.field-0.0 h.bad_log h.lives_spent h.unchanged h.fault h.cause)
+    c.in_err-node.field-0.0 h.bad_log h.lives_spent h.unchanged h.still h.fault c.start.ensures.any_moment (g.met.D.Disk.is_disk c.start.new.disk) h.cause)
 
 pub returns-in_err-begin-clause-served : goal.returns-in_err-begin-clause-served
 returns-in_err-begin-clause-served g c =
     let is : c.from_residual-in_err-begin.result ≡ Err c.in_err-begin.field-0.0 = gave_err _ _ c.from_residual-in_err-begin.ensures.1 in
     let h = c.in_ok-node.ensures in
     as_end _ _ _ _ _ _ is (unbegun c.args.catalog.now c.args.id c.args.turns (g.L.Link.state c.args.link.now) (g.L.Link.state c.begin.new.link) (g.K.Sink.state c.args.sink.now) (g.K.Sink.state c.begin.new.sink)
-    (g.D.Disk.state c.args.disk.now) (g.D.Disk.state c.start.new.disk) c.in_ok-node.node h.started h.node h.kept h.lives h.others c.begin.ensures.asked c.life.result c.life.ensures
+    (g.D.Disk.state c.args.disk.now) (g.D.Disk.state c.start.new.disk) c.in_ok-node.node h.started h.node h.kept h.lives h.others c.start.ensures.any_moment c.begin.ensures.asked c.life.result c.life.ensures
     c.in_err-begin.field-0.0 c.in_err-begin.ensures.begins)
 
 pub loop-init : goal.loop-init
@@ -30,7 +30,7 @@ loop-init g c =
     let h = c.in_ok-node.ensures in
     record {
       so_far = begun c.args.catalog.now c.args.id c.args.turns (g.L.Link.state c.args.link.now) (g.L.Link.state c.begin.new.link) (g.K.Sink.state c.args.sink.now) (g.K.Sink.state c.begin.new.sink)
-          (g.D.Disk.state c.args.disk.now) (g.D.Disk.state c.start.new.disk) c.in_ok-node.node h.started h.node h.kept h.lives h.others c.begin.ensures.asked c.life.result c.life.ensures
+          (g.D.Disk.state c.args.disk.now) (g.D.Disk.state c.start.new.disk) c.in_ok-node.node h.started h.node h.kept h.lives h.others c.start.ensures.any_moment c.begin.ensures.asked c.life.result c.life.ensures
           c.in_ok-begin.field-0 c.in_ok-begin.ensures.begins h.cause.ok;
     }
 
@@ -44,7 +44,7 @@ returns-in_err-after-clause-served g c =
     let is : c.from_residual-in_err-after.result ≡ Err c.in_err-after.field-0.0 = gave_err _ _ c.from_residual-in_err-after.ensures.1 in
     let h = c.take_turn.ensures in
     as_end _ _ _ _ _ _ is (turn_ends c.args.catalog.now c.args.id c.args.turns c.loop.counter _ _ _ _ _ _ _ _ _ _ c.loop.node c.loop.invariant.so_far (omega arith)
-    _ _ (c.in_ok-port.port, c.in_ok-port.count) c.in_ok-port.ensures h.stays h.gives_none h.same_faults h.others c.in_err-after.field-0.0 c.in_err-after.ensures.takes)
+    _ _ (c.in_ok-port.port, c.in_ok-port.count) c.in_ok-port.ensures h.stays h.gives_none h.same_faults h.others h.any_moment c.in_err-after.field-0.0 c.in_err-after.ensures.takes)
 
 pub returns-in_err-after-clause-others : goal.returns-in_err-after-clause-others
 returns-in_err-after-clause-others g c = others_join c.loop.invariant.so_far.others c.take_turn.ensures.others
@@ -56,7 +56,7 @@ loop-preserved g c =
     record {
       so_far = subst (λ b. SoFar c.args.catalog.now c.args.id (c.loop.counter + 1) b (outside (g.L.Link.state c.args.link.now) (g.L.Link.state c.take_turn.new.link) (g.K.Sink.state c.args.sink.now) (g.K.Sink.state c.take_turn.new.sink) (g.D.Disk.state c.args.disk.now) (g.D.Disk.state c.take_turn.new.disk)) c.in_ok-after.after) c.if-stop.false
           (goes_on c.args.catalog.now c.args.id c.args.turns c.loop.counter _ _ _ _ _ _ _ _ _ _ c.loop.node c.loop.invariant.so_far (omega arith)
-          _ _ (c.in_ok-port.port, c.in_ok-port.count) c.in_ok-port.ensures h.stays h.gives_none h.same_faults h.others c.in_ok-after.after takes.0 c.in_ok-after.stop takes.1 takes.2);
+          _ _ (c.in_ok-port.port, c.in_ok-port.count) c.in_ok-port.ensures h.stays h.gives_none h.same_faults h.others h.any_moment c.in_ok-after.after takes.0 c.in_ok-after.stop takes.1 takes.2);
     }
 
 pub returns-in_err-after-clause-later : goal.returns-in_err-after-clause-later
@@ -85,7 +85,7 @@ returns-then-stop-clause-served g c =
     let h = c.take_turn.ensures in
     let takes = c.in_ok-after.ensures.takes in
     let taken = goes_on c.args.catalog.now c.args.id c.args.turns c.loop.counter _ _ _ _ _ _ _ _ _ _ c.loop.node c.loop.invariant.so_far (omega arith)
-    _ _ (c.in_ok-port.port, c.in_ok-port.count) c.in_ok-port.ensures h.stays h.gives_none h.same_faults h.others c.in_ok-after.after takes.0 c.in_ok-after.stop takes.1 takes.2 in
+    _ _ (c.in_ok-port.port, c.in_ok-port.count) c.in_ok-port.ensures h.stays h.gives_none h.same_faults h.others h.any_moment c.in_ok-after.after takes.0 c.in_ok-after.stop takes.1 takes.2 in
     stops c.args.catalog.now c.args.id c.args.turns (c.loop.counter + 1) c.in_ok-after.stop _ _ _ _ _ _ c.in_ok-after.after taken (omega arith) _ c.finish.result c.if-stop.true c.finish.ensures.finishes
 
 pub returns-then-stop-clause-others : goal.returns-then-stop-clause-others

@@ -29,6 +29,9 @@ returns-in_err-log-clause-any_moment g c honest =
     (λ log image left. ⊎_elim (λ was. inl was) (λ same. inr (may_start_alike c.args.catalog.now c.args.id log image same)) left)
     disk (g.D.Disk.state c.recover.new.disk) (log_of disk) (c.recover.ensures.any_moment honest)
 
+pub returns-in_err-log-clause-still : goal.returns-in_err-log-clause-still
+returns-in_err-log-clause-still g c half at life is honest = c.recover.ensures.any_moment honest
+
 -- ---- no site starts from it
 
 pub returns-in_err-site-clause-fault : goal.returns-in_err-site-clause-fault
@@ -42,6 +45,9 @@ returns-in_err-site-clause-any_moment g c honest =
     (λ log image left. ⊎_elim (λ was. inl was) (λ same. inr (may_start_alike c.args.catalog.now c.args.id log image same)) left)
     disk (g.D.Disk.state c.recover.new.disk) (log_of disk) (c.recover.ensures.any_moment honest)
 
+pub returns-in_err-site-clause-still : goal.returns-in_err-site-clause-still
+returns-in_err-site-clause-still g c half at life is honest = c.recover.ensures.any_moment honest
+
 -- ---- its start isn't appended
 
 pub returns-in_err-append-clause-fault : goal.returns-in_err-append-clause-fault
@@ -51,7 +57,7 @@ returns-in_err-append-clause-fault g c =
     let fault = subst (λ (batch : List LogRecord). Becomes (MayGainAt batch at) ((g.D.Disk.state c.recover.new.disk).logs disk.asked) ((g.D.Disk.state c.append.new.disk).logs disk.asked)) c.in_ok-site.ensures.batch
     (rw c.recover.ensures.others.stays.same_name at c.in_err-append.ensures.fault) in
     on_err c.from_residual-in_err-append.result
-    (starts_then c.args.catalog.now c.args.id c.halves_are_one_log.ensures.batches c.halves_are_one_log.ensures.bad at c.in_ok-log.batches _ _ _ c.recover.ensures.alike c.in_ok-log.ensures.stands fault)
+    (starts_then c.args.catalog.now c.args.id c.halves_are_one_log.ensures.batches c.halves_are_one_log.ensures.bad at c.in_ok-log.batches c.in_ok-site.ensures.left _ _ _ c.recover.ensures.alike c.in_ok-log.ensures.stands fault)
 
 pub returns-in_err-append-clause-any_moment : goal.returns-in_err-append-clause-any_moment
 returns-in_err-append-clause-any_moment g c honest =
@@ -60,7 +66,7 @@ returns-in_err-append-clause-any_moment g c honest =
     let at = c.in_ok-log.log in
     let moment = subst (λ (batch : List LogRecord). IfSome (mid.logs disk.asked) (λ log. LeavesOnly mid (g.D.Disk.state c.append.new.disk) (MayGainAt batch at log))) c.in_ok-site.ensures.batch
     (subst (λ name. IfSome (mid.logs name) (λ log. LeavesOnly mid (g.D.Disk.state c.append.new.disk) (MayGainAt c.in_ok-site.begun at log))) c.recover.ensures.others.stays.same_name (c.append.ensures.any_moment (c.recover.ensures.others.honest.0 honest))) in
-    leaves_start_then c.args.catalog.now c.args.id c.halves_are_one_log.ensures.batches c.halves_are_one_log.ensures.bad at c.in_ok-log.batches disk mid (g.D.Disk.state c.append.new.disk) c.recover.ensures.others.stays.same_name
+    leaves_start_then c.args.catalog.now c.args.id c.halves_are_one_log.ensures.batches c.halves_are_one_log.ensures.bad at c.in_ok-log.batches c.in_ok-site.ensures.left disk mid (g.D.Disk.state c.append.new.disk) c.recover.ensures.others.stays.same_name
     (disk.may_leave disk.asked) _ _ c.recover.ensures.alike c.in_ok-log.ensures.stands (c.recover.ensures.any_moment honest) moment
 
 pub returns-in_err-append-clause-others : goal.returns-in_err-append-clause-others
@@ -112,7 +118,7 @@ returns-clause-any_moment g c honest =
     let at = c.in_ok-log.log in
     let moment = subst (λ (batch : List LogRecord). IfSome (mid.logs disk.asked) (λ log. LeavesOnly mid (g.D.Disk.state c.append.new.disk) (MayGainAt batch at log))) c.in_ok-site.ensures.batch
     (subst (λ name. IfSome (mid.logs name) (λ log. LeavesOnly mid (g.D.Disk.state c.append.new.disk) (MayGainAt c.in_ok-site.begun at log))) c.recover.ensures.others.stays.same_name (c.append.ensures.any_moment (c.recover.ensures.others.honest.0 honest))) in
-    leaves_start_then c.args.catalog.now c.args.id c.halves_are_one_log.ensures.batches c.halves_are_one_log.ensures.bad at c.in_ok-log.batches disk mid (g.D.Disk.state c.append.new.disk) c.recover.ensures.others.stays.same_name
+    leaves_start_then c.args.catalog.now c.args.id c.halves_are_one_log.ensures.batches c.halves_are_one_log.ensures.bad at c.in_ok-log.batches c.in_ok-site.ensures.left disk mid (g.D.Disk.state c.append.new.disk) c.recover.ensures.others.stays.same_name
     (disk.may_leave disk.asked) _ _ c.recover.ensures.alike c.in_ok-log.ensures.stands (c.recover.ensures.any_moment honest) moment
 
 pub returns-clause-others : goal.returns-clause-others
