@@ -1,0 +1,23 @@
+pub mod Extending
+pub mod Coming
+pub mod Linked
+pub mod Acted
+pub mod Given
+pub mod Held
+pub mod Turned
+pub mod Told
+pub mod Theorem
+pub mod Serial
+pub mod Nodes
+pub mod Lives
+pub mod WorkedClusters
+pub mod Asked
+pub mod Numbered
+pub mod AskedRows
+pub mod AskedSteps
+pub mod AskedKept
+pub mod Heard
+pub mod Ends
+pub mod Apart
+pub mod Addressed
+mod Together

@@ -1,0 +1,11 @@
+pub mod Cluster
+pub mod Schedules
+pub mod Serial
+pub mod Nodes
+pub mod Lives
+pub mod Ends
+pub mod Apart
+pub mod Asked
+pub mod Worked
+pub mod Laws
+pub mod Together
