@@ -1,0 +1,280 @@
+-- What serving did happened to the process.
+use Rattle.std.proofs.Common.{◌≡◌, ◌⊎◌, ◌∙◌, ap, sym, subst, ℕ, ◌+◌, ◌-◌, ◌^◌, ◌<◌, ◌≤◌, Bool, true, false, cond, List, [], ◌∷◌, ◌++◌, length, take, drop, inl, inr, refl, arith, append-nil, length-append, zero, suc, ⊎_elim}
+use Rattle.std.specs.Prelude.{Option, Some, IfSome, ◌==◌}
+use Rattle.std.proofs.lemmas.Bool.Decides.{nat_tests}
+use Rattle.std.proofs.lemmas.List.{append_assoc, take-append-drop}
+use Rattle.std.proofs.Math.Seq.{take-add, take-length}
+use Rattle.vp_model.specs.Types.{LogRecord}
+use Rattle.vp_model.specs.Words.{for_each}
+use Rattle.vp_model.specs.Catalogue.{Catalogue}
+use Rattle.vp_model.specs.Step.{durable_of}
+use Rattle.vp_outside.specs.Disk.{Halves, log_of, Only, Becomes, Steps}
+use Rattle.vp_outside.specs.Links.{Gave, Hands}
+use Rattle.vp_outside.specs.declared.datagram.Datagram.{Datagram}
+use Rattle.vp_stable.specs.Halves.{HaveBatches, ReadAlike, HalvesAreOneLog}
+use Rattle.vp_runs.specs.Arrivals.{arrival}
+use Rattle.vp_runs.specs.Keeping.{durable_in}
+use Rattle.vp_runs.specs.Turns.{turn_on}
+use Rattle.vp_runs.specs.Runs.{NodeRun, start_node, with_turn, start_of, one_turn, node_run}
+use Rattle.vp_runs.proofs.Runs.{runs_keep}
+use Rattle.vp_node.specs.Nodes.{MayStart}
+use Rattle.vp_network.specs.Ends.{Happened}
+use Rattle.vp_network.proofs.Ends.{runs_end, runs_break}
+use Rattle.vp_serving.specs.declared.end.End.{End}
+use Rattle.vp_serving.specs.declared.end.End.TheVariants as ends
+use Rattle.vp_serving.specs.Serving.{Outside, Course, IsPrefix, IsKeptAs, LeavesFrom, IsSafe, HasNotStarted, IsUnbound, IsWhole, HasTorn, Serves}
+use Rattle.vp_lives.specs.Served.{Life, told, HasLived, HasNotBegun, AllDone, PartDone, IsOnDisk, LivesIn, ServingHappens}
+
+-- ---- what a run has handed over grows
+
+over_more : (here : Catalogue) (xs ys : List Datagram) (run : NodeRun) → for_each (xs ++ ys) (one_turn here) run ≡ for_each ys (one_turn here) (for_each xs (one_turn here) run)
+over_more here [] ys run = refl
+over_more here (d ∷ xs) ys run = over_more here xs ys (one_turn here d run)
+
+one_grows : (here : Catalogue) (d : Datagram) (run : NodeRun) → (more : List Datagram) × ((one_turn here d run).datagrams ≡ run.datagrams ++ more)
+unfolding one_turn
+one_grows here d run =
+    let turn = turn_on here run.node.site (arrival here run.node.site.id d) in
+    go run.stopped (with_turn d (arrival here run.node.site.id d) turn run) turn.datagrams refl
+  where
+    go : (b : Bool) (after : NodeRun) (more : List Datagram) → after.datagrams ≡ run.datagrams ++ more → (all : List Datagram) × ((cond b run after).datagrams ≡ run.datagrams ++ all)
+    go true after more e = ([], sym (append-nil run.datagrams))
+    go false after more e = (more, e)
+
+grows : (here : Catalogue) (ds : List Datagram) (run : NodeRun) → (more : List Datagram) × ((for_each ds (one_turn here) run).datagrams ≡ run.datagrams ++ more)
+grows here [] run = ([], sym (append-nil run.datagrams))
+grows here (d ∷ ds) run =
+    let one = one_grows here d run in
+    let rest = grows here ds (one_turn here d run) in
+    (one.0 ++ rest.0, rest.1 ∙ ap (λ xs. xs ++ rest.0) one.1 ∙ append_assoc run.datagrams one.0 rest.0)
+
+run_grows : (here : Catalogue) (id : ℕ) (batches : List (List LogRecord)) (xs ys : List Datagram) → (more : List Datagram) × ((node_run here id batches (xs ++ ys)).datagrams ≡ (node_run here id batches xs).datagrams ++ more)
+unfolding node_run
+run_grows here id batches xs ys =
+    let g = grows here ys (for_each xs (one_turn here) (start_of here id batches)) in
+    (g.0, ap (λ (r : NodeRun). r.datagrams) (over_more here xs ys (start_of here id batches)) ∙ g.1)
+
+-- up to a later turn
+later_grows : (here : Catalogue) (id : ℕ) (batches : List (List LogRecord)) (arrived : List Datagram) (m n : ℕ) → m ≤ n → (more : List Datagram) × ((node_run here id batches (take n arrived)).datagrams ≡ (node_run here id batches (take m arrived)).datagrams ++ more)
+later_grows here id batches arrived m n le =
+    let sum : m + (n - m) ≡ n = omega (arith, le) in
+    let is : take n arrived ≡ take m arrived ++ take (n - m) (drop m arrived) = ap (λ k. take k arrived) (sym sum) ∙ take-add m (n - m) arrived in
+    let g = run_grows here id batches (take m arrived) (take (n - m) (drop m arrived)) in
+    (g.0, ap (λ ds. (node_run here id batches ds).datagrams) is ∙ g.1)
+
+pub a_life_left : (life : ℕ) → life < 2 ^ 32 - 1 → (life == 2 ^ 32 - 1) ≡ false
+a_life_left life h = grind (arith, nat_tests, h)
+
+pub take-within : (n : ℕ) (xs ys : List Datagram) → n ≤ length xs → take n (xs ++ ys) ≡ take n xs
+take-within zero xs ys h = refl
+take-within (suc n) [] ys h = absurd (omega (arith, h))
+take-within (suc n) (x ∷ xs) ys h = ap (λ l. x ∷ l) (take-within n xs ys (omega (arith, h)))
+
+some_log : (P : Halves → Type 0) (o : Option Halves) (log : Halves) → o ≡ Some log → IfSome o P → P log
+some_log P o log e h = subst (λ (o : Option Halves). IfSome o P) e h
+
+no_more : (xs ms rs : List Datagram) → (xs ++ ms) ++ rs ≡ xs → ms ≡ []
+no_more xs [] rs e = refl
+no_more xs (m ∷ ms) rs e =
+    let l : length xs + length (m ∷ ms) + length rs ≡ length xs = ap (λ n. n + length rs) (sym (length-append xs (m ∷ ms))) ∙ sym (length-append (xs ++ m ∷ ms) rs) ∙ ap length e in
+    let some : 1 ≤ length (m ∷ ms) = arith_some (length ms) in
+    absurd (omega (arith, l, some))
+  where
+    arith_some : (n : ℕ) → 1 ≤ suc n
+    arith_some n = omega arith
+
+module _ (halves_are_one : HalvesAreOneLog) (life : Life) (o : Outside) (on : IsOnDisk life o) where
+  abbrev here : Catalogue
+  here = told life
+
+  abbrev had : List (List LogRecord)
+  had = life.process.batches
+
+  -- the batches that were recovered are those of the process
+  same_batches : (batches : List (List LogRecord)) → IfSome (log_of o.disk) (HaveBatches batches) → batches ≡ had
+  same_batches batches h = halves_are_one batches had on.log (some_log (HaveBatches batches) (log_of o.disk) on.log on.told_before h) on.has
+
+  ends_at : (arrived : List Datagram) (n : ℕ) (left : List (List LogRecord)) → (durable_in here life.id had).life < 2 ^ 32 - 1 → durable_in here life.id left ≡ durable_of (node_run here life.id had (take n arrived)).node.site
+      → Happened life.catalogue life.cluster life.id life.sites arrived left (node_run here life.id had (take n arrived)).datagrams
+  ends_at arrived n left lives folds = runs_end life.catalogue life.cluster life.id life.process life.sites arrived n left on.at on.down (a_life_left _ lives) folds
+
+  -- all of it, with the log of the run
+  ends_whole : (arrived : List Datagram) → (durable_in here life.id had).life < 2 ^ 32 - 1 → let run = node_run here life.id had arrived in Happened life.catalogue life.cluster life.id life.sites arrived run.node.batches run.datagrams
+  ends_whole arrived lives =
+      let run = node_run here life.id had arrived in
+      let all : take (length arrived) arrived ≡ arrived = take-length arrived in
+      subst (λ ds. Happened life.catalogue life.cluster life.id life.sites arrived run.node.batches (node_run here life.id had ds).datagrams) all
+      (ends_at arrived (length arrived) run.node.batches lives (sym (runs_keep here life.id had arrived) ∙ ap (λ ds. durable_of (node_run here life.id had ds).node.site) (sym all)))
+
+  kept_lives : (arrived : List Datagram) → (durable_in here life.id had).life < 2 ^ 32 - 1 → Gave o.link.left o.link'.left arrived → Hands o.link.handed o.link'.handed (node_run here life.id had arrived).datagrams → IsKeptAs (node_run here life.id had arrived) o.disk o.disk' → HasLived life o AllDone
+  kept_lives arrived lives gave hands kept =
+      let run = node_run here life.id had arrived in
+      let k : HaveBatches run.node.batches on.log' × Only on.log' (o.disk'.may_leave o.disk.asked) = some_log (λ log. HaveBatches run.node.batches log × Only log (o.disk'.may_leave o.disk.asked)) (o.disk'.logs o.disk.asked) on.log' on.told_after (kept on.honest) in
+      record {
+        arrived = arrived;
+        gave = gave;
+        handed = run.datagrams;
+        hands = hands;
+        leaves = λ image m. record {
+          left = run.node.batches;
+          has = subst (HaveBatches run.node.batches) (sym (k.1 image m)) k.0;
+          rest = [];
+          rest_is = refl;
+          happened = subst (λ ds. Happened life.catalogue life.cluster life.id life.sites arrived run.node.batches ds) (sym (append-nil run.datagrams)) (ends_whole arrived lives);
+        };
+      }
+
+  whole : (turns : ℕ) (stopped : Bool) (end : List ℕ) → IsWhole here life.id turns o stopped end → HasLived life o AllDone
+  whole turns stopped end w =
+      let c = w.course in
+      let e = same_batches c.batches c.had in
+      kept_lives c.arrived
+      (subst (λ b. (durable_in here life.id b).life < 2 ^ 32 - 1) e c.lives)
+      c.gave
+      (subst (λ b. Hands o.link.handed o.link'.handed (node_run here life.id b c.arrived).datagrams) e w.did.hands)
+      (subst (λ b. IsKeptAs (node_run here life.id b c.arrived) o.disk o.disk') e w.kept)
+
+  safe : (turns : ℕ) (c : Course here life.id turns o) (handed : List Datagram) → Hands o.link.handed o.link'.handed handed → IsSafe here life.id c.batches c.arrived handed o.disk o.disk' → HasLived life o PartDone
+  safe turns c handed hands s0 =
+      let e = same_batches c.batches c.had in
+      let s : IsSafe here life.id had c.arrived handed o.disk o.disk' = subst (λ b. IsSafe here life.id b c.arrived handed o.disk o.disk') e s0 in
+      let lives : (durable_in here life.id had).life < 2 ^ 32 - 1 = subst (λ b. (durable_in here life.id b).life < 2 ^ 32 - 1) e c.lives in
+      record {
+        arrived = c.arrived;
+        gave = c.gave;
+        handed = handed;
+        hands = hands;
+        leaves = λ image m.
+            let l : LeavesFrom here life.id had c.arrived s.sure image = some_log (λ log. (image : Halves) → o.disk'.may_leave o.disk.asked image → LeavesFrom here life.id had c.arrived s.sure image) (log_of o.disk) on.log on.told_before (s.left on.honest) image m in
+            let n = l.0 in
+            let left = l.3.0 in
+            let sure_run = node_run here life.id had (take s.sure c.arrived) in
+            let g = later_grows here life.id had c.arrived s.sure n l.1 in
+            let cut = drop (length handed) sure_run.datagrams in
+            let is : sure_run.datagrams ≡ handed ++ cut = sym (take-append-drop (length handed) sure_run.datagrams) ∙ ap (λ ds. ds ++ cut) (sym s.handed_of) in
+            let all : (node_run here life.id had (take n c.arrived)).datagrams ≡ handed ++ (cut ++ g.0) = g.1 ∙ ap (λ ds. ds ++ g.0) is ∙ append_assoc handed cut g.0 in
+            record {
+              left = left;
+              has = l.3.1;
+              rest = cut ++ g.0;
+              rest_is = tt;
+              happened = subst (λ ds. Happened life.catalogue life.cluster life.id life.sites c.arrived left ds) all (ends_at c.arrived n left lives l.3.2);
+            };
+      }
+
+  torn : (turns : ℕ) → HasTorn here life.id turns o → HasLived life o AllDone
+  torn turns t =
+      let c = t.course in
+      let e = same_batches c.batches c.had in
+      let s : IsSafe here life.id had c.arrived (node_run here life.id had t.front).datagrams o.disk o.disk' = subst (λ b. IsSafe here life.id b c.arrived (node_run here life.id b t.front).datagrams o.disk o.disk') e t.safe in
+      let lives : (durable_in here life.id had).life < 2 ^ 32 - 1 = subst (λ b. (durable_in here life.id b).life < 2 ^ 32 - 1) e c.lives in
+      let going : (node_run here life.id had t.front).stopped ≡ false = subst (λ b. (node_run here life.id b t.front).stopped ≡ false) e t.going in
+      let handed = (node_run here life.id had t.front).datagrams in
+      record {
+        arrived = c.arrived;
+        gave = c.gave;
+        handed = handed;
+        hands = subst (λ b. Hands o.link.handed o.link'.handed (node_run here life.id b t.front).datagrams) e t.did.hands;
+        leaves = λ image m.
+            let l : LeavesFrom here life.id had c.arrived s.sure image = some_log (λ log. (image : Halves) → o.disk'.may_leave o.disk.asked image → LeavesFrom here life.id had c.arrived s.sure image) (log_of o.disk) on.log on.told_before (s.left on.honest) image m in
+            record {
+              left = l.3.0;
+              has = l.3.1;
+              rest = [];
+              rest_is = refl;
+              happened = subst (λ ds. Happened life.catalogue life.cluster life.id life.sites c.arrived l.3.0 ds) (sym (append-nil handed)) (torn_at c.arrived t.front t.last t.arrived s.sure l.0 l.3.0 lives going s.handed_of l.1 l.2 l.3.2);
+            };
+      }
+    where
+      torn_at : (arrived front : List Datagram) (last : Datagram) → arrived ≡ front ++ last ∷ [] → (sure n : ℕ) (left : List (List LogRecord)) → (durable_in here life.id had).life < 2 ^ 32 - 1 → (node_run here life.id had front).stopped ≡ false
+          → IsPrefix (node_run here life.id had front).datagrams (node_run here life.id had (take sure arrived)).datagrams → sure ≤ n → n ≤ length arrived → durable_in here life.id left ≡ durable_of (node_run here life.id had (take n arrived)).node.site
+          → Happened life.catalogue life.cluster life.id life.sites arrived left (node_run here life.id had front).datagrams
+      torn_at arrived front last is sure n left lives going prefix le few folds =
+          ⊎_elim
+          (λ (within : n ≤ length front).
+          let handed = (node_run here life.id had front).datagrams in
+          let of_front : take n arrived ≡ take n front = ap (take n) is ∙ take-within n front (last ∷ []) within in
+          let sure_run = (node_run here life.id had (take sure arrived)).datagrams in
+          let now = (node_run here life.id had (take n arrived)).datagrams in
+          let g = later_grows here life.id had arrived sure n le in
+          let m1 = run_grows here life.id had (take n front) (drop n front) in
+          let grown : handed ≡ now ++ m1.0 = ap (λ ds. (node_run here life.id had ds).datagrams) (sym (take-append-drop n front)) ∙ m1.1 ∙ ap (λ ds. (node_run here life.id had ds).datagrams ++ m1.0) (sym of_front) in
+          let cut = drop (length handed) sure_run in
+          let all : now ≡ handed ++ (cut ++ g.0) = g.1 ∙ ap (λ ds. ds ++ g.0) (sym (take-append-drop (length handed) sure_run) ∙ ap (λ ds. ds ++ cut) (sym prefix)) ∙ append_assoc handed cut g.0 in
+          let none : m1.0 ≡ [] = no_more now m1.0 (cut ++ g.0) (ap (λ ds. ds ++ (cut ++ g.0)) (sym grown) ∙ sym all) in
+          let same : now ≡ handed = sym (grown ∙ ap (λ ms. now ++ ms) none ∙ append-nil now) in
+          subst (λ ds. Happened life.catalogue life.cluster life.id life.sites arrived left ds) same (ends_at arrived n left lives folds))
+          (λ (whole : n ≡ length arrived).
+          let all : take n arrived ≡ front ++ last ∷ [] = ap (λ k. take k arrived) whole ∙ take-length arrived ∙ is in
+          subst (λ ds. Happened life.catalogue life.cluster life.id life.sites ds left (node_run here life.id had front).datagrams) (sym is)
+          (subst (Happened life.catalogue life.cluster life.id life.sites (front ++ last ∷ []) left) (append-nil (node_run here life.id had front).datagrams)
+          (runs_break life.catalogue life.cluster life.id life.process life.sites front last left 0 on.at on.down (a_life_left _ lives) going (folds ∙ ap (λ ds. durable_of (node_run here life.id had ds).node.site) all))))
+          (split n (length front) (subst (λ k. n ≤ k) (ap length is ∙ length-append front (last ∷ [])) few) (ap length is ∙ length-append front (last ∷ [])))
+        where
+          split : (n k : ℕ) → n ≤ k + 1 → length arrived ≡ k + 1 → (n ≤ k) ⊎ (n ≡ length arrived)
+          split n k h e = grind (arith, h, e)
+
+  unbound : (turns : ℕ) → IsUnbound here life.id turns o → (durable_in here life.id had).life < 2 ^ 32 - 1 → HasLived life o AllDone
+  unfolding node_run
+  unbound turns u lives =
+      let e = same_batches u.batches u.had in
+      kept_lives [] lives u.idle.none
+      (subst (λ ds. Hands o.link.handed o.link'.handed ds) (sym (none_handed had)) u.idle.did.hands)
+      (subst (λ b. IsKeptAs (node_run here life.id b []) o.disk o.disk') e u.kept)
+    where
+      none_handed : (batches : List (List LogRecord)) → (node_run here life.id batches []).datagrams ≡ []
+      none_handed batches = refl
+
+  -- part of it is handed over where all is
+  fewer : HasLived life o AllDone → HasLived life o PartDone
+  fewer h = record {
+    arrived = h.arrived;
+    gave = h.gave;
+    handed = h.handed;
+    hands = h.hands;
+    leaves = λ image m. let l = h.leaves image m in record { left = l.left; has = l.has; rest = l.rest; rest_is = tt; happened = l.happened };
+  }
+
+  -- what a read gives now is the one log
+  is_log : (image : Halves) → o.disk'.logs o.disk.asked ≡ Some image → image ≡ on.log'
+  is_log image e = let z : Some image ≡ Some on.log' = sym e ∙ on.told_after in cc
+
+  stepped : (step : Halves → Halves → Type 0) → Steps step o.disk o.disk' → step on.log on.log'
+  stepped step s = subst (λ (new : Option Halves). Becomes step (Some on.log) new) on.told_after (subst (λ (old : Option Halves). Becomes step old (o.disk'.logs o.disk.asked)) on.told_before s)
+
+  read_alike : (turns : ℕ) → HasNotStarted here life.id turns o ReadAlike → HasNotBegun life o
+  read_alike turns n = record {
+    gave = n.idle.none;
+    hands = n.idle.did.hands;
+    leaves = λ image e. inl (subst (HaveBatches had) (sym (is_log image e)) ((stepped ReadAlike n.log).batches had on.has));
+  }
+
+  may_start : (turns : ℕ) → HasNotStarted here life.id turns o (MayStart here life.id) → HasNotBegun life o
+  unfolding node_run
+  may_start turns n = record {
+    gave = n.idle.none;
+    hands = n.idle.did.hands;
+    leaves = λ image e.
+        ⊎_elim (λ (same : HaveBatches had on.log'). inl (subst (HaveBatches had) (sym (is_log image e)) same))
+        (λ (begun : HaveBatches (start_node here life.id had).batches on.log'). inr (subst (HaveBatches (start_node here life.id had).batches) (sym (is_log image e)) begun, started))
+        ((stepped (MayStart here life.id) n.log).batches had on.has);
+  }
+    where
+      started : (durable_in here life.id had).life < 2 ^ 32 - 1 → Happened life.catalogue life.cluster life.id life.sites [] (start_node here life.id had).batches []
+      started lives = ends_whole [] lives
+
+pub serving_happens : HalvesAreOneLog → ServingHappens
+serving_happens one life turns o ends.Stopped on s = whole one life o on turns true _ s.whole
+serving_happens one life turns o ends.TurnsDone on s = whole one life o on turns false _ s.whole
+serving_happens one life turns o ends.LinkFault on s = λ lives. ⊎_elim (λ u. unbound one life o on turns u lives) (λ l. whole one life o on turns false _ l.whole) s.1
+serving_happens one life turns o ends.DiskFault on s = ⊎_elim (λ n. inl (may_start one life o on turns n)) (λ t. inr (torn one life o on turns t)) s.1
+serving_happens one life turns o ends.WriteFault on s = safe one life o on turns s.1.broken.course s.1.broken.handed s.1.broken.did.hands s.1.broken.safe
+serving_happens one life turns o (ends.BadLog half at) on s = read_alike one life o on turns s.0
+serving_happens one life turns o (ends.LivesSpent spent) on s = read_alike one life o on turns s.0
+serving_happens one life turns o ends.NoMemory on s =
+    ⊎_elim (λ n. inl (may_start one life o on turns n))
+    (λ b. inr (λ lives. ⊎_elim (λ u. fewer one life o on (unbound one life o on turns u lives)) (λ b. safe one life o on turns b.course b.handed b.did.hands b.safe) b)) s
+
+pub lives_in : HalvesAreOneLog → (catalogue : Catalogue) (id turns : ℕ) (o : Outside) (end : End) → Serves catalogue id turns o end → LivesIn catalogue id o end
+lives_in one catalogue id turns o end s life is same on =
+    serving_happens one life turns o end on (subst (λ k. Serves k life.id turns o end) (sym is) (subst (λ n. Serves catalogue n turns o end) (sym same) s))

@@ -1,0 +1,10 @@
+//! What happens to a process that serves, and what a client that asks is told: from the contracts of `serve` and `ask` to clusters and schedules.
+#![tactic(auto)]
+
+mod laws;
+
+pub use laws::{clients_are_answered, kills_happen};
+
+mod lives;
+
+pub use lives::serve_a_life;
