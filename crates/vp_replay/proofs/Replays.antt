@@ -8,7 +8,7 @@ use Rattle.vp_model.specs.World.{Schedule}
 use Rattle.vp_model.specs.Texts.Trace.{trace_text}
 use Rattle.vp_model.specs.Texts.History.{history_lines}
 use Rattle.vp_schedule.specs.Document.{IsSchedule}
-use Rattle.vp_laws.proofs.Told.Runs.{one_copy_told}
+use Rattle.vp_laws.proofs.Told.OneCopy.{one_copy_told}
 use Rattle.vp_laws.proofs.Lists.Catalogues.{catalogue_apart}
 use Rattle.vp_laws.proofs.Words.Views.{each, onward}
 use Rattle.vp_laws.proofs.Words.Decisions.{decisions_agreed}

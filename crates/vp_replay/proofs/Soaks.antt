@@ -8,7 +8,7 @@ use Rattle.vp_model.specs.World.{WorldState, Run, run_of, journal_of}
 use Rattle.vp_model.specs.Generated.{generated_catalogue, made}
 use Rattle.vp_model.specs.Texts.Trace.{printed_lines}
 use Rattle.vp_onecopy.specs.Playing.{CommitsWithin}
-use Rattle.vp_laws.proofs.Told.Runs.{one_copy_told}
+use Rattle.vp_laws.proofs.Told.OneCopy.{one_copy_told}
 use Rattle.vp_laws.proofs.Lists.Catalogues.{catalogue_apart}
 use Rattle.vp_world.specs.Known.{Known}
 use Rattle.vp_replay.specs.Summary.{replies_of, summary_lines}

@@ -1,0 +1,4 @@
+pub mod Rows
+pub mod Newest
+pub mod Told
+pub mod Walked

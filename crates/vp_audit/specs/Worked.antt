@@ -1,0 +1,28 @@
+-- Worked reports: two sites that share a record.
+use Rattle.std.specs.Prelude.{ℕ, true, List, [], ◌∷◌, codes}
+use Rattle.vp_model.specs.Types.{ViewId, LogRecord}
+use Rattle.vp_model.specs.Types.log_record
+use Rattle.vp_model.specs.Words.{opening}
+use Rattle.vp_model.specs.Catalogue.{Catalogue, start_copies}
+use Rattle.vp_model.specs.Durable.{DurableState, empty_durable, apply_all}
+use Rattle.vp_model.specs.Worked.{txn, view, stored}
+
+abbrev pub both : Catalogue
+both = record { sites = (1, 7001) ∷ (2, 7002) ∷ []; records = stored (codes "x") (codes "10") ((1, 1) ∷ (2, 1) ∷ []) ∷ [] }
+
+-- the site with what these records leave
+abbrev pub site : ℕ → List LogRecord → ℕ × DurableState
+site id records = (id, apply_all records (empty_durable (start_copies both id)))
+
+abbrev pub yes : ViewId → LogRecord
+yes view = log_record.Yes (txn 1 1 1) view ((0, codes "11") ∷ [])
+
+-- one that never ran, one that is in doubt about a transaction of site 1, and one that has applied one in a later view
+abbrev pub unused : ℕ → ℕ × DurableState
+unused id = site id []
+
+abbrev pub in_doubt : ℕ × DurableState
+in_doubt = site 2 (log_record.Start 1 ∷ yes opening ∷ [])
+
+abbrev pub applied : ℕ × DurableState
+applied = site 2 (log_record.Start 1 ∷ yes (view 1 1) ∷ log_record.Outcome (txn 1 1 1) true ∷ [])
