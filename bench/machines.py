@@ -15,12 +15,12 @@ It needs root, iproute2 and nftables, and says so where they miss, with status 0
 import os
 import pathlib
 import random
-import shutil
 import subprocess
 import sys
 import tempfile
 import time
 
+import own_network
 from comparison import arguments
 from node_processes import Nodes, catalogue, wait_until
 from recordings import Fault, insist
@@ -142,11 +142,7 @@ class Trial:
 
 def main():
     program, seed, count, folder = arguments(120)
-    if os.geteuid() or not all(map(shutil.which, ("ip", "nft", "unshare", "sysctl"))):
-        print("skipped: it needs root, iproute2, nftables and unshare")
-        return 0
-    if "machines" not in os.environ.get("VP_ALONE", ""):
-        os.execvpe("unshare", ["unshare", "--net", "--mount", sys.executable, *sys.argv], {**os.environ, "VP_ALONE": "machines"})
+    own_network.enter()
     trial = Trial(program, reference_in(folder), seed, count)
     try:
         trial.run()
