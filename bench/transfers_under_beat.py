@@ -54,6 +54,7 @@ class Round:
         self.nodes = Nodes([program], dict.fromkeys(SITES, self.catalogue), tempfile.mkdtemp(prefix="transfers."))
         self.path = os.path.join(self.nodes.folder, "catalogue")
         pathlib.Path(self.path).write_bytes(self.catalogue)
+        self.callers = []
         self.over, self.commits, self.longest, self.last = False, 0, 0.0, time.monotonic()
 
     # What goes on.
@@ -91,7 +92,8 @@ class Round:
 
     def _do_transfers(self):
         shares = [self.count // CALLERS + (place < self.count % CALLERS) for place in range(CALLERS)]
-        self.callers = [self._call(transfers(self.draw, self.names, share), f"outcomes{place}") for place, share in enumerate(shares)]
+        for place, share in enumerate(shares):
+            self.callers.append(self._call(transfers(self.draw, self.names, share), f"outcomes{place}"))
         self.last = time.monotonic()
         own_network.lose(PORTS, LOST)
         self._watch()
@@ -143,8 +145,9 @@ class Round:
                     self.counts["seconds"] += int(time.monotonic() - start)
                     balances = self._balances()
                 finally:
-                    beat.terminate()
-                    beat.wait()
+                    for process in (beat, *(caller.process for caller in self.callers)):
+                        process.kill()
+                        process.wait()
                 self._stop()
                 self.loop.close()
                 self._check(balances)
