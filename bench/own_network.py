@@ -5,6 +5,8 @@ import shutil
 import subprocess
 import sys
 
+OWN = 'mkdir -p /run/netns && mount -t tmpfs none /run/netns && ip link set lo up && exec "$@"'  # namespaces that it names are its own too
+
 
 def enter():
     """Starts the script anew in a network of its own, unless it is there already. Without root, iproute2, nftables or unshare it is skipped with a word."""
@@ -12,7 +14,7 @@ def enter():
         print("skipped: it needs root, iproute2, nftables and unshare")
         sys.exit(0)
     if os.environ.get("VP_NETWORK") != sys.argv[0]:
-        words = ["unshare", "--net", "--mount", "sh", "-c", 'ip link set lo up && exec "$@"', "sh", sys.executable, *sys.argv]
+        words = ["unshare", "--net", "--mount", "sh", "-c", OWN, "sh", sys.executable, *sys.argv]
         os.execvpe("unshare", words, {**os.environ, "VP_NETWORK": sys.argv[0]})
 
 

@@ -30,9 +30,8 @@ from types import SimpleNamespace
 import own_network
 from comparison import REFERENCE, modules
 from lossy_network import Client, Loop
-from node_processes import Nodes, catalogue
+from node_processes import OPERATE, Nodes, catalogue
 
-BEAT = pathlib.Path(__file__).resolve().parent.parent / "operate/beat"
 LONGEST, PATIENCE = 10.0, 30.0  # seconds that may pass, and that are waited
 CALM, AGAIN = 0.7, 0.1  # seconds between two transactions of a client, and after one that didn't commit
 LAST_NUMBER = 2**32 - 1
@@ -160,7 +159,7 @@ class Trial:
             for node in self.nodes.values():
                 node.start_wholly()
             with open(os.path.join(self.nodes.folder, "said"), "wb") as said:
-                beat = subprocess.Popen([sys.executable, str(BEAT), self.path, *self.options], stdout=said)
+                beat = subprocess.Popen([sys.executable, str(OPERATE / "beat"), self.path, *self.options], stdout=said)
                 try:
                     for writer in self.writers.values():
                         writer.go()
