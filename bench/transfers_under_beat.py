@@ -97,7 +97,7 @@ class Round:
         self.last = time.monotonic()
         own_network.lose(PORTS, LOST)
         self._watch()
-        self.loop.at(1.0, self._harm)
+        self.loop.at(10.0, self._harm)
         self.loop.run(lambda: self.over, 3600)
         self.outcomes = [words for caller in self.callers for words in caller.outcomes()]
         insist(len(self.outcomes) == self.count, "outcomes are missing", len(self.outcomes))
