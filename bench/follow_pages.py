@@ -22,6 +22,8 @@ import sys
 import tempfile
 from concurrent.futures import ThreadPoolExecutor
 
+import own_network
+
 TOP = pathlib.Path(__file__).resolve().parent.parent
 PRINTED = re.compile(
     r"(begun|value|written|committed|aborted|inviting|noview|unknown|skipped|busy|norecord|toomanyops|inaccessible|lockheld|viewchanged|timedout|spent"
@@ -30,7 +32,7 @@ PRINTED = re.compile(
 )
 TIMES = {", twice": 2, ", three times": 3}
 SECONDS = 600  # for one run
-ALONE = ["unshare", "--net", "--pid", "--fork", "--kill-child", "--mount-proc", "sh", "-c", 'ip link set lo up && exec "$@"', "sh"]
+ALONE = ["unshare", "--net", "--pid", "--fork", "--kill-child", "--mount-proc", "sh", "-c", own_network.OWN, "sh"]
 
 
 class Line:

@@ -1,4 +1,4 @@
-"""A loop over sockets and times, a proxy between nodes that cuts, loses and repeats, and clients that don't wait."""
+"""A loop over sockets and times, a proxy between nodes that loses and repeats datagrams, and clients that don't wait."""
 import heapq
 import itertools
 import selectors
@@ -45,30 +45,8 @@ class Loop:
         self._selector.close()
 
 
-class Lossy:
-    """Drops some of the datagrams that it hands over, and repeats some a little later."""
-
-    def __init__(self, loop, draw):
-        self.loop, self.draw = loop, draw
-        self.dropping = self.repeating = 0.0  # how many of all datagrams
-        self.dropped = self.repeated = self.forwarded = 0
-
-    def pass_on(self, hand_over):
-        if self.draw.random() < self.dropping:
-            self.dropped += 1
-            return
-        self._hand_over(hand_over)
-        if self.draw.random() < self.repeating:
-            self.repeated += 1
-            self.loop.at(0.1 * self.draw.random(), lambda: self._hand_over(hand_over))
-
-    def _hand_over(self, hand_over):
-        self.forwarded += 1
-        hand_over()
-
-
-class Proxy(Lossy):
-    """Stands between each two nodes.
+class Proxy:
+    """Stands between each two nodes, drops some of their datagrams and repeats some a little later.
 
     For each node it has one socket for each other node: the port of that socket is what the first node's catalogue gives for the
     second. What comes from the first node to it is handed to the second, from the socket that stands there for the first. So each
@@ -76,9 +54,9 @@ class Proxy(Lossy):
     """
 
     def __init__(self, loop, draw, ports):
-        super().__init__(loop, draw)
-        self.ports = ports
-        self.cut = set()  # the pairs of sites, each a frozenset, between which nothing comes through
+        self.loop, self.draw, self.ports = loop, draw, ports
+        self.dropping = self.repeating = 0.0  # how many of all datagrams
+        self.dropped = self.repeated = self.forwarded = 0
         self._faces = {}
         for at, of in itertools.permutations(ports, 2):
             face = self._faces[at, of] = bound()
@@ -89,34 +67,19 @@ class Proxy(Lossy):
         return {of: self._faces[site, of].getsockname()[1] if of != site else self.ports[site] for of in self.ports}
 
     def _came(self, data, port, sender, to):
-        if port == self.ports[sender] and frozenset((sender, to)) not in self.cut:
-            self.pass_on(lambda: self._faces[to, sender].sendto(data, (HOST, self.ports[to])))
+        if port != self.ports[sender]:
+            return
+        if self.draw.random() < self.dropping:
+            self.dropped += 1
+            return
+        self._hand_over(data, sender, to)
+        if self.draw.random() < self.repeating:
+            self.repeated += 1
+            self.loop.at(0.1 * self.draw.random(), lambda: self._hand_over(data, sender, to))
 
-
-class Front(Lossy):
-    """Stands between clients and nodes: a client sends to a site's door, and has its answer from there. Each client's port has a socket of its own
-    towards each node."""
-
-    def __init__(self, loop, draw, ports):
-        super().__init__(loop, draw)
-        self.ports, self._ways, self._doors = ports, {}, {}
-        for site in ports:
-            door = self._doors[site] = bound()
-            loop.on_datagram(door, lambda data, port, site=site: self._asked(data, port, site))
-
-    def doors(self):
-        """The ports of a client's catalogue."""
-        return {site: door.getsockname()[1] for site, door in self._doors.items()}
-
-    def _asked(self, data, client, site):
-        if (client, site) not in self._ways:
-            way = self._ways[client, site] = bound()
-            self.loop.on_datagram(way, lambda answer, port: self._answered(answer, port, client, site))
-        self.pass_on(lambda: self._ways[client, site].sendto(data, (HOST, self.ports[site])))
-
-    def _answered(self, data, port, client, site):
-        if port == self.ports[site]:
-            self.pass_on(lambda: self._doors[site].sendto(data, (HOST, client)))
+    def _hand_over(self, data, sender, to):
+        self.forwarded += 1
+        self._faces[to, sender].sendto(data, (HOST, self.ports[to]))
 
 
 class Client:

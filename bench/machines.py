@@ -4,7 +4,7 @@
 usage: machines.py PROGRAM [SEED [COUNT [REFERENCE]]]
 
 COUNT transfers, 120 if nothing is said, are done by a process of `operate/call` on each machine, between six accounts with a copy at each site. Each
-machine has its node, with its log in a temporary folder (TMPDIR says where), and `operate/beat --only` for it. All the while, each two to four seconds,
+machine has its node, with its log in a temporary folder (TMPDIR says where), and `operate/beat --only` for it. All the while, each four to eight seconds,
 the link of a machine is taken down for one to four seconds, at its own end or at the switch's, or its node is killed (kill -9) and started again. Then
 all is joined, and all machines read the same balances, with the sum of the start. Their recordings are merged by the reference, replayed and serial, and
 have just the transfers that were told (see `transfers_under_beat.py`). And these are looked at: a datagram from a site's port that comes from another
@@ -15,12 +15,12 @@ It needs root, iproute2 and nftables, and says so where they miss, with status 0
 import os
 import pathlib
 import random
-import shutil
 import subprocess
 import sys
 import tempfile
 import time
 
+import own_network
 from comparison import arguments
 from node_processes import Nodes, catalogue, wait_until
 from recordings import Fault, insist
@@ -29,6 +29,7 @@ from told_transfers import Caller, Told, reference_in, script, transfers, values
 SITES, ACCOUNTS, BALANCE, LIMIT = (1, 2, 3), 6, 100, 60
 PORTS = {site: 7000 + site for site in SITES}
 ADDRESSES = "link eth0\n" + "".join(f"site {site} 10.77.0.{site}\n" for site in SITES)
+CADENCE = ("--base", 0.4, "--probe", 0.5)
 STRANGER = "10.77.0.9"
 # Sends a frame to site 1 as from an address and a port, whosever they are.
 SENDER = """import socket, struct, sys
@@ -76,7 +77,7 @@ class Trial:
             self.machines(kind, site)
             time.sleep(pause)
             self.machines({"cut": "join", "pull": "plug"}[kind], site)
-        time.sleep(self.draw.uniform(2.0, 4.0))
+        time.sleep(self.draw.uniform(4.0, 8.0))
 
     def _do_transfers(self):
         callers = [self._call(site, transfers(self.draw, self.names, self.count // len(SITES)), "outcomes") for site in SITES]
@@ -121,7 +122,7 @@ class Trial:
                 for node in self.nodes.values():
                     node.start_wholly()
                 self._try_rules()
-                beats = [subprocess.Popen(script("beat", self.path, "--only", site, behind=on(site)), stdout=subprocess.DEVNULL) for site in SITES]
+                beats = [subprocess.Popen(script("beat", self.path, "--only", site, *CADENCE, behind=on(site)), stdout=subprocess.DEVNULL) for site in SITES]
                 outcomes = self._do_transfers()
                 balances = self._balances()
                 for beat in beats:
@@ -131,7 +132,7 @@ class Trial:
                     subprocess.run(on(site, self.program, "stop", str(site)), input=self.catalogue, check=True)
                     insist(node.wait() == 0, "a node that doesn't end as it should", site)
             finally:
-                self.machines("down")
+                self.machines("down")  # ends what runs there
             told = Told(outcomes)
             told.insist_on_balances(dict.fromkeys(self.names, BALANCE), balances)
             lives = [life for node in self.nodes.values() for life in node.lives]
@@ -142,11 +143,7 @@ class Trial:
 
 def main():
     program, seed, count, folder = arguments(120)
-    if os.geteuid() or not all(map(shutil.which, ("ip", "nft", "unshare", "sysctl"))):
-        print("skipped: it needs root, iproute2, nftables and unshare")
-        return 0
-    if "machines" not in os.environ.get("VP_ALONE", ""):
-        os.execvpe("unshare", ["unshare", "--net", "--mount", sys.executable, *sys.argv], {**os.environ, "VP_ALONE": "machines"})
+    own_network.enter()
     trial = Trial(program, reference_in(folder), seed, count)
     try:
         trial.run()

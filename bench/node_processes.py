@@ -1,29 +1,21 @@
 """Nodes as processes of their own, and sockets that speak their frames. All traffic stays on 127.0.0.1."""
 import contextlib
 import os
+import pathlib
 import random
 import shutil
 import signal
-import socket
 import subprocess
+import sys
 import time
 
-HOST = "127.0.0.1"
-LONGEST = 65536
+OPERATE = pathlib.Path(__file__).resolve().parent.parent / "operate"
+sys.path.append(str(OPERATE))
+from frames import HOST, LONGEST, bound
+
 PORTS = range(20000, 32000)  # below those that the kernel gives to sockets without a port of their own
 FOREVER = 2**64 - 1
 PATIENCE = 20  # seconds
-
-
-def bound(port=0):
-    """A UDP socket on the port, or on one that the kernel chooses."""
-    sock = socket.socket(socket.AF_INET, socket.SOCK_DGRAM)
-    try:
-        sock.bind((HOST, port))
-    except OSError:
-        sock.close()
-        raise
-    return sock
 
 
 def free_ports(count):

@@ -13,15 +13,13 @@ every site. In each round:
 - The first half of the sites and the second are cut from each other, and later joined. CUT is from the cut to the first commit in the half that
   has the majority, HEALED from the join to the first read in the other one, `all` to a commit, or a read, at each of its sites.
 
-All is done in a network of its own (unshare), where nftables cuts: it needs root, iproute2 and nftables, and is skipped with a word without them. It prints
-for each kind the times, and ends with status 1 where one is above 10 seconds (30 is the longest that is waited).
+All is done in a network of its own, where nftables cuts: it needs root, iproute2 and nftables, and is skipped with a word without them. It prints for each
+kind the times, and ends with status 1 where one but those of `all commit` is above 10 seconds (30 is the longest that is waited).
 """
 import argparse
-import itertools
 import os
 import pathlib
 import random
-import shutil
 import statistics
 import subprocess
 import sys
@@ -29,11 +27,11 @@ import tempfile
 import time
 from types import SimpleNamespace
 
+import own_network
 from comparison import REFERENCE, modules
 from lossy_network import Client, Loop
-from node_processes import Nodes, catalogue
+from node_processes import OPERATE, Nodes, catalogue
 
-BEAT = pathlib.Path(__file__).resolve().parent.parent / "operate/beat"
 LONGEST, PATIENCE = 10.0, 30.0  # seconds that may pass, and that are waited
 CALM, AGAIN = 0.7, 0.1  # seconds between two transactions of a client, and after one that didn't commit
 LAST_NUMBER = 2**32 - 1
@@ -136,12 +134,6 @@ class Trial:
         self.loop.at(random.uniform(1.0, 3.0), lambda: over.append(True))
         self._wait(lambda: over)
 
-    def _cut(self, major, minor):
-        """Nothing comes through between the ports of these sites any more, as on a cable that is cut: nobody is told."""
-        pairs = ", ".join(f"{self.ports[at]} . {self.ports[of]}" for one, other in itertools.product(major, minor) for at, of in ((one, other), (other, one)))
-        rules = f"table ip cut {{\nchain taken {{\ntype filter hook input priority 0\nudp sport . udp dport {{ {pairs} }} drop\n}}\n}}\n"
-        subprocess.run(["nft", "-f", "-"], input=rules, text=True, check=True)
-
     def _round(self):
         for site in self.sites:
             others = [other for other in self.writing if other != site]
@@ -156,10 +148,10 @@ class Trial:
         first, second = self.sites[:half], self.sites[half:]
         for major, minor in (first, second), (self.sites[-half:], self.sites[:-half]):
             self._calm()
-            self._cut(major, minor)
+            own_network.cut(self.ports, major, minor)
             self._measure("cut", "committed", self._writing(major), self._writing(major))
             self._calm()
-            subprocess.run(["nft", "delete", "table", "ip", "cut"], check=True)
+            own_network.join()
             self._measure("healed", "read", minor, minor)
 
     def run(self, rounds):
@@ -167,7 +159,7 @@ class Trial:
             for node in self.nodes.values():
                 node.start_wholly()
             with open(os.path.join(self.nodes.folder, "said"), "wb") as said:
-                beat = subprocess.Popen([sys.executable, str(BEAT), self.path, *self.options], stdout=said)
+                beat = subprocess.Popen([sys.executable, str(OPERATE / "beat"), self.path, *self.options], stdout=said)
                 try:
                     for writer in self.writers.values():
                         writer.go()
@@ -189,15 +181,10 @@ def main():
     words.add_argument("--reference", default=REFERENCE)
     words.add_argument("--beat", default="")
     given = words.parse_args()
-    if os.geteuid() or not all(map(shutil.which, ("ip", "nft", "unshare"))):
-        print("skipped: it needs root, iproute2, nftables and unshare")
-        return 0
-    if "beat" not in os.environ.get("VP_ALONE", ""):
-        words = ["unshare", "--net", "sh", "-c", 'ip link set lo up && exec "$@"', "sh", sys.executable, *sys.argv]
-        os.execvpe("unshare", words, {**os.environ, "VP_ALONE": "beat"})
+    own_network.enter()
     reference = SimpleNamespace(**dict(zip(("base", "client"), modules(given.reference, "base", "client"))))
     times = Trial(given.program, reference, given.sites, given.beat.split()).run(given.rounds)
-    longest = max(max(found) for found in times.values())
+    longest = max(max(found) for kind, found in times.items() if not kind.endswith("all commit"))
     print(f"{given.sites} sites, beat {given.beat or 'as it comes'}, load {os.getloadavg()[0]:.0f}: the longest {longest:.1f} s")
     for kind, found in times.items():
         print(f"  {kind}: {len(found)} times, median {statistics.median(found):.1f}, longest {max(found):.1f} s:",

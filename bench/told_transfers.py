@@ -1,13 +1,12 @@
 """Transfers that processes of `operate/call` do between accounts, and what is asked of the outcomes that they told."""
-import pathlib
 import subprocess
 import sys
 from types import SimpleNamespace
 
 from comparison import modules
+from node_processes import OPERATE
 from recordings import has_unprinted_turn, insist, insist_on_outs, merged, serial_map
 
-OPERATE = pathlib.Path(__file__).resolve().parent.parent / "operate"
 MODULES = ("answers", "base", "catalog", "log", "messages", "node", "wire")
 DIFFERS = 15  # the status of a merge
 

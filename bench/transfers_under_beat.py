@@ -1,13 +1,13 @@
 #!/usr/bin/env python3
-"""Does transfers through `operate/call` over five nodes under `operate/beat`, with kills, restarts and cuts, and checks what became of them.
+"""Does transfers through `operate/call` over five nodes under `operate/beat`, with kills, restarts, cuts and losses, and checks what became of them.
 
 usage: transfers_under_beat.py PROGRAM [SEED [COUNT [REFERENCE]]]
 
-COUNT transfers, 2,000 if nothing is said, are done in rounds of 250, each by four processes of `operate/call` at five nodes with their logs in a temporary
-folder (TMPDIR says where), between eight accounts with copies of different weights. All the while, each two to five seconds, a node is killed (kill -9)
-and started again half a second to three seconds later, or two halves are cut from each other for one to four seconds; and of the calls and of the answers two in
-a hundred are lost, and two come twice. Then all are up and joined, and
-`operate/call` reads all accounts at each site. These are checked:
+COUNT transfers, 2,000 if nothing is said, are done in rounds of 250, each by three processes of `operate/call` at five nodes with their logs in a temporary
+folder (TMPDIR says where), between 16 accounts with copies of different weights. All the while, 20 to 35 seconds after the last harm was mended, a node is
+killed (kill -9) and started again half a second to three seconds later, or two halves are cut from each other for one to four seconds; and of the calls and
+of the answers five in a thousand are lost. Then all are up and joined, and `operate/call` reads all accounts at each site.
+These are checked:
 
 - Every site reads the same balances, with the sum of the start.
 - Where no outcome is unknown, they are what the transfers that were told `committed` make of the start.
@@ -15,7 +15,8 @@ a hundred are lost, and two come twice. Then all are up and joined, and
   in no other; such rounds are counted apart. Of the others PROGRAM replays the schedule, its check finds it serial with the balances that were read,
   each transfer that was told `committed` is in its history, and no other is there but some with an unknown outcome.
 
-It prints the longest stall, the longest time in which no commit was told. The first fault ends the run with status 1, and its folder stays.
+It prints the longest stall, the longest time in which no commit was told. The first fault ends the run with status 1, and its folder stays. All is done in
+a network of its own, where nftables cuts and loses: it needs root, iproute2 and nftables, and is skipped with a word without them.
 """
 import collections
 import itertools
@@ -27,33 +28,33 @@ import sys
 import tempfile
 import time
 
+import own_network
 from comparison import arguments
-from lossy_network import Front, Loop, Proxy
-from node_processes import Nodes, catalogue, free_ports
+from lossy_network import Loop
+from node_processes import Nodes, catalogue
 from recordings import Fault, insist
 from told_transfers import Caller, Told, reference_in, script, transfers, values_read
 
-ROUND, CALLERS, SITES, BALANCE, LIMIT = 250, 4, range(1, 6), 100, 60
-DROPPING, REPEATING = 0.02, 0.02  # of the calls, and of the answers
-WEIGHTS = ("1:1 2:1 3:1", "3:1 4:1 5:1", "1:1 2:1 3:1 4:1 5:1", "1:2 3:1 4:1 5:1", "2:1 4:3 5:3", "1:1 3:1 5:1", "2:1 3:2 4:1", "1:1 2:1 4:1 5:2")
+ROUND, CALLERS, SITES, ACCOUNTS, BALANCE, LIMIT = 250, 3, range(1, 6), 16, 100, 60
+LOST = 5  # of a thousand calls, and of a thousand answers
+PORTS = {site: 7000 + site for site in SITES}
+WEIGHTS = ("1:1 2:1 3:1", "3:1 4:1 5:1", "1:2 3:1 4:1 5:1", "2:1 4:3 5:3", "1:1 3:1 5:1", "2:1 3:2 4:1", "1:1 2:1 4:1 5:2")
 
 
 class Round:
-    """Nodes, the proxy between them, `beat`, and callers."""
+    """Nodes, `beat`, and callers."""
 
     def __init__(self, program, reference, seed, count):
         self.program, self.reference, self.count = program, reference, count
         self.draw, self.counts = random.Random(seed), collections.Counter()
-        self.names = [f"account{k}" for k in range(len(WEIGHTS))]
-        ports = dict(zip(SITES, free_ports(len(SITES))))
+        self.names = [f"account{k}" for k in range(ACCOUNTS)]
         self.loop = Loop()
-        self.proxy, self.front = Proxy(self.loop, self.draw, ports), Front(self.loop, self.draw, ports)
-        records = [f"record {name} {BALANCE} {weights}" for name, weights in zip(self.names, WEIGHTS)]
-        self.catalogue = catalogue(ports, records)
-        self.nodes = Nodes([program], {site: catalogue(self.proxy.ports_at(site), records) for site in SITES}, tempfile.mkdtemp(prefix="transfers."))
-        self.path, self.clients_path = (os.path.join(self.nodes.folder, name) for name in ("catalogue", "doors"))
+        records = [f"record {name} {BALANCE} {weights}" for name, weights in zip(self.names, itertools.cycle(WEIGHTS))]
+        self.catalogue = catalogue(PORTS, records)
+        self.nodes = Nodes([program], dict.fromkeys(SITES, self.catalogue), tempfile.mkdtemp(prefix="transfers."))
+        self.path = os.path.join(self.nodes.folder, "catalogue")
         pathlib.Path(self.path).write_bytes(self.catalogue)
-        pathlib.Path(self.clients_path).write_bytes(catalogue(self.front.doors(), records))
+        self.callers = []
         self.over, self.commits, self.longest, self.last = False, 0, 0.0, time.monotonic()
 
     # What goes on.
@@ -68,13 +69,13 @@ class Round:
             self.loop.at(self.draw.uniform(0.5, 3.0), lambda: self._mended(lambda: self.nodes[site].up or self.nodes[site].start()))
         else:
             order = self.draw.sample(SITES, len(SITES))
-            self.proxy.cut = {frozenset(pair) for pair in itertools.product(order[:2], order[2:])}
+            own_network.cut(PORTS, order[:2], order[2:])
             self.counts["cuts"] += 1
-            self.loop.at(self.draw.uniform(1.0, 4.0), lambda: self._mended(self.proxy.cut.clear))
+            self.loop.at(self.draw.uniform(1.0, 4.0), lambda: self._mended(own_network.join))
 
     def _mended(self, deed):
         deed()
-        self.loop.at(self.draw.uniform(2.0, 5.0), self._harm)
+        self.loop.at(self.draw.uniform(20.0, 35.0), self._harm)
 
     def _watch(self):
         """Notes how long no commit was told."""
@@ -87,15 +88,16 @@ class Round:
             self.loop.at(0.05, self._watch)
 
     def _call(self, lines, name, *words):
-        return Caller(script("call", self.clients_path, "--limit", LIMIT, "--vpdb", self.program, *words), lines, f"{self.nodes.folder}/{name}")
+        return Caller(script("call", self.path, "--limit", LIMIT, "--patience", 1, "--vpdb", self.program, *words), lines, f"{self.nodes.folder}/{name}")
 
     def _do_transfers(self):
         shares = [self.count // CALLERS + (place < self.count % CALLERS) for place in range(CALLERS)]
-        self.callers = [self._call(transfers(self.draw, self.names, share), f"outcomes{place}") for place, share in enumerate(shares)]
+        for place, share in enumerate(shares):
+            self.callers.append(self._call(transfers(self.draw, self.names, share), f"outcomes{place}"))
         self.last = time.monotonic()
-        self.front.dropping, self.front.repeating = DROPPING, REPEATING
+        own_network.lose(PORTS, LOST)
         self._watch()
-        self.loop.at(1.0, self._harm)
+        self.loop.at(10.0, self._harm)
         self.loop.run(lambda: self.over, 3600)
         self.outcomes = [words for caller in self.callers for words in caller.outcomes()]
         insist(len(self.outcomes) == self.count, "outcomes are missing", len(self.outcomes))
@@ -103,8 +105,8 @@ class Round:
 
     def _balances(self):
         """The balances that every site reads once all are up and joined."""
-        self.proxy.cut.clear()
-        self.front.dropping = self.front.repeating = 0.0
+        own_network.join()
+        own_network.lose(PORTS, 0)
         for node in self.nodes.values():
             if not node.up:
                 node.start()
@@ -143,8 +145,9 @@ class Round:
                     self.counts["seconds"] += int(time.monotonic() - start)
                     balances = self._balances()
                 finally:
-                    beat.terminate()
-                    beat.wait()
+                    for process in (beat, *(caller.process for caller in self.callers)):
+                        process.kill()
+                        process.wait()
                 self._stop()
                 self.loop.close()
                 self._check(balances)
@@ -153,6 +156,7 @@ class Round:
 
 def main():
     program, seed, count, folder = arguments(2000)
+    own_network.enter()
     reference = reference_in(folder)
     counts, longest = collections.Counter(), 0.0
     for place, first in enumerate(range(0, count, ROUND)):

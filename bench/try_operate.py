@@ -16,9 +16,9 @@ import sys
 import tempfile
 import time
 
-from node_processes import Node, bound, catalogue, free_ports, wait_until
+from node_processes import OPERATE, Node, bound, catalogue, free_ports, wait_until
 from recordings import Fault, insist
-from told_transfers import OPERATE, script
+from told_transfers import script
 
 TICK, PROBE = 34, 35
 NO_ANSWER, ABORTED, WRONG = 11, 1, 2
@@ -50,7 +50,7 @@ def try_cadence(folder):
     counts, probes = collections.Counter(), []
     for sock in sockets.values():
         sock.setblocking(False)
-    with beating(path, f"{folder}/said"):
+    with beating(path, f"{folder}/said", "--blind"):
         wait_until(lambda: any(taken(sock) for sock in sockets.values()), 10, "no tick comes")
         end = time.monotonic() + SECONDS
         while time.monotonic() < end:

@@ -11,7 +11,7 @@ LAST_NUMBER = 2**32 - 1  # of a call: no transaction comes so far
 HEAD = b"\x56\x01"
 CALL, REPLY, TICK, PROBE, STOP = 32, 33, 34, 35, 36
 BEGIN_CALL, REGROUP_CALL, ABORT_CALL = 1, 2, 6
-BEGUN, INVITING, NO_VIEW, SPENT, TOO_MANY_LIVE = 1, 6, 7, 17, 18
+BEGUN, INVITING, NO_VIEW, UNKNOWN, SPENT, TOO_MANY_LIVE = 1, 6, 7, 8, 17, 18
 TO_BEGIN = (BEGUN, NO_VIEW, SPENT, TOO_MANY_LIVE)  # what a `begin` is answered
 
 
@@ -80,7 +80,7 @@ class Reply(NamedTuple):
     kind: int
     site: int
     view: Optional[View]
-    txn: bytes  # that has begun, as it stands in a frame
+    txn: bytes  # that has begun or is unknown, as it stands in a frame
 
 
 def read_reply(data):
@@ -92,7 +92,7 @@ def read_reply(data):
         txn, fields = fields[:9], fields[9:]
     if kind in (BEGUN, INVITING, NO_VIEW):
         return Reply(kind, data[3], View(*struct.unpack(">QB", fields)), txn) if len(fields) == 9 else None
-    return Reply(kind, data[3], None, txn)
+    return Reply(kind, data[3], None, fields[:9] if kind == UNKNOWN else txn)
 
 
 def begin(site):
@@ -101,6 +101,11 @@ def begin(site):
 
 def regroup(site):
     return frame(CALL, site, bytes([REGROUP_CALL]))
+
+
+def numbered(site, number):
+    """A transaction that no site knows, with this number in it: its life is the last one, to which a site comes with its 4,294,967,295th start."""
+    return struct.pack(">BII", site, LAST_NUMBER, number)
 
 
 def abort(site, txn):

@@ -7,6 +7,7 @@ import time
 import frames
 
 ROUND_TRIP = 2  # turns of all sites until a request of one was answered by another
+AGAIN_LOST = 0.3  # seconds after which a question that may have been lost is asked again
 AGAIN = 0.05  # seconds after which a site is asked again
 QUIET = 5.0  # seconds without a fault after which a port that couldn't be reached is taken to be there, if nothing came from it
 
@@ -19,7 +20,7 @@ class Sites:
         self._selector = selectors.DefaultSelector()
         self._sockets, self._refused = {}, {}  # when the last fault of a port that can't be reached came
         self._heard = {}  # the last answer of each site to a `begin`, and when it came
-        self._open = dict.fromkeys(ports, 0)  # how many a `begin` of each site waits for its answer
+        self._asked, self._echoed = 0, {}  # the number of the last question of `flush`, and of the last one that each site answered
         self._invited = {}  # the view to which a site said that it invites
         for site, port in ports.items():
             self._sockets[site] = sock = socket.socket(socket.AF_INET, socket.SOCK_DGRAM)
@@ -81,21 +82,25 @@ class Sites:
                 self._invited[site] = reply.view
             elif reply.kind in frames.TO_BEGIN:
                 self._heard[site] = reply, time.monotonic()
-                self._open[site] -= 1
+            elif reply.kind == frames.UNKNOWN:
+                self._echoed[site] = reply.txn
 
     def begin(self, site):
         self.send(site, frames.begin(site))
-        self._open[site] += 1
 
     def flush(self, which, seconds):
-        """Waits until each of these sites has done all that was sent to it before: it takes its datagrams in their order, so it has once it has answered
-        each `begin`. Gives those that have in time; the others aren't waited for any more."""
-        for site in which:
-            self.begin(site)
-        self.take(seconds, lambda: all(self._open[site] <= 0 for site in which))
-        done = {site for site in which if self._open[site] <= 0}
-        self._open.update(dict.fromkeys(which, 0))
-        return done
+        """Waits until each of these sites has done all that was sent to it before, as it has once it answers a question that is sent now: it takes its
+        datagrams in their order. The question is the abort of a transaction that nobody knows. Gives the sites that answered in time."""
+        self._asked, end, left = self._asked % frames.LAST_NUMBER + 1, time.monotonic() + seconds, set(which)
+        while left and time.monotonic() < end:
+            for site in left:
+                self.send(site, frames.abort(site, frames.numbered(site, self._asked)))
+            self.take(min(AGAIN_LOST, end - time.monotonic()), lambda: not self._unanswered(left))
+            left = self._unanswered(left)
+        return set(which) - left
+
+    def _unanswered(self, which):
+        return {site for site in which if self._echoed.get(site) != frames.numbered(site, self._asked)}
 
     def since(self, moment):
         """The last answer to a `begin` of each site from which one came since that moment."""
