@@ -18,15 +18,15 @@ use Rattle.vp_runs.specs.Keeping.{durable_in}
 use Rattle.vp_runs.specs.Turns.{turn_on}
 use Rattle.vp_runs.specs.Runs.{NodeRun, start_node, with_turn, start_of, one_turn, node_run}
 use Rattle.vp_runs.proofs.Runs.{runs_go_on, runs_keep}
-use Rattle.vp_node.specs.Nodes.{NodeValue, turn_of}
+use Rattle.vp_node.specs.Nodes.{NodeValue, HasLifeLeft, turn_of}
 use Rattle.vp_node.proofs.Kept.{has}
 use Rattle.vp_network.specs.Cluster.{process_of}
 use Rattle.vp_network.specs.Ends.{Happened}
 use Rattle.vp_network.proofs.Lives.{goes}
 use Rattle.vp_network.proofs.Ends.{runs_end, runs_break}
-use Rattle.vp_lives.specs.Served.{Life, told, Leaves, HasLife, AllDone}
+use Rattle.vp_lives.specs.Served.{Life, told, Leaves, AllDone}
 use Rattle.vp_lives.specs.Killed.{run_on, IsAfter, IsKilled, KillsHappen}
-use Rattle.vp_lives.proofs.Served.{a_life_left, take-within}
+use Rattle.vp_lives.proofs.Served.{a_life_left, take-within, untouched}
 
 -- ---- the number of a node's site stays
 
@@ -75,17 +75,13 @@ module _ (life : Life) (at : process_of life.id life.cluster.processes ≡ Some 
       ap (λ n. durable_in here n left) (sym (run_id here life.id had ds) ∙ ap (λ (x : SiteState). x.id) (sym site)) ∙ folds ∙ ap durable_of site
 
   -- all of these datagrams, with a log that folds to what the site has to keep after them
-  ended : (front rest : List Datagram) (left : List (List LogRecord)) → HasLife life → durable_in here life.id left ≡ durable_of (run_on life front).node.site → Happens (front ++ rest) left (run_on life front).datagrams
+  ended : (front rest : List Datagram) (left : List (List LogRecord)) → HasLifeLeft here life.id had → durable_in here life.id left ≡ durable_of (run_on life front).node.site → Happens (front ++ rest) left (run_on life front).datagrams
   ended front rest left lives folds =
       let came : take (length front) (front ++ rest) ≡ front = take-within (length front) front rest (omega arith) ∙ take-length front in
       subst (λ ds. Happens (front ++ rest) left (run_on life ds).datagrams) came
       (runs_end life.catalogue life.cluster life.id life.process life.sites (front ++ rest) (length front) left at down (a_life_left _ lives) (folds ∙ ap (λ ds. durable_of (run_on life ds).node.site) (sym came)))
 
-  -- nothing happened
-  untouched : Happens [] had []
-  untouched = record { happenings = []; are_of = tt; alone = λ e. tt; may = λ m. tt; p = life.process; at = at; log = refl; down = down; handed_is = sym (append-nil life.cluster.handed) }
-
-  begun : HasLife life → Happens [] (start_node here life.id had).batches []
+  begun : HasLifeLeft here life.id had → Happens [] (start_node here life.id had).batches []
   unfolding node_run
   begun lives = ended [] [] (start_node here life.id had).batches lives (sym (runs_keep here life.id had []))
 
@@ -101,10 +97,10 @@ module _ (life : Life) (at : process_of life.id life.cluster.processes ≡ Some 
       (runs_break life.catalogue life.cluster life.id life.process life.sites front last left sent at down (a_life_left _ a.lives) a.goes_on folds)
 
   killed : (arrived handed : List Datagram) (image : Halves) → IsKilled life arrived handed image → Leaves life arrived handed AllDone image
-  killed arrived handed image (IsKilled.starting log has_log lives may none nothing) =
+  killed arrived handed image (IsKilled.starting log has_log may none nothing) =
       subst (λ ds. Leaves life ds handed AllDone image) (sym none)
       (subst (λ ds. Leaves life [] ds AllDone image) (sym nothing)
-      (⊎_elim (λ same. leaves [] [] image had same untouched) (λ more. leaves [] [] image (start_node here life.id had).batches more (begun lives)) (may.batches had has_log)))
+      (⊎_elim (λ same. leaves [] [] image had same (untouched life at down [])) (λ more. leaves [] [] image (start_node here life.id had).batches more.1 (begun more.0)) (may.batches had has_log)))
   killed arrived handed image (IsKilled.waiting node a k is) =
       let it = ended arrived [] k.batches a.lives (of_life arrived node node.site refl a.site k.batches k.folds) in
       subst (λ ds. Leaves life arrived ds AllDone image) (sym is)

@@ -1,29 +1,34 @@
 -- What serving did happened to the process.
-use Rattle.std.proofs.Common.{◌≡◌, ◌⊎◌, ◌∙◌, ap, sym, subst, ℕ, ◌+◌, ◌-◌, ◌^◌, ◌<◌, ◌≤◌, Bool, true, false, cond, List, [], ◌∷◌, ◌++◌, length, take, drop, inl, inr, refl, arith, append-nil, length-append, zero, suc, ⊎_elim}
-use Rattle.std.specs.Prelude.{Option, Some, IfSome, ◌==◌}
+use Rattle.std.proofs.Common.{◌≡◌, ◌⊎◌, ◌∙◌, ap, sym, subst, ℕ, ◌+◌, ◌-◌, ◌^◌, ◌<◌, ◌≤◌, Bool, true, false, cond, List, [], ◌∷◌, ◌++◌, length, take, drop, map, inl, inr, refl, arith, append-nil, length-append, zero, suc, ⊎_elim}
+use Rattle.std.specs.Prelude.{Option, Some, None, IfSome, ◌==◌}
 use Rattle.std.proofs.lemmas.Bool.Decides.{nat_tests}
-use Rattle.std.proofs.lemmas.List.{append_assoc, take-append-drop}
+use Rattle.std.proofs.lemmas.List.{append_assoc, take-append-drop, take-map, length-map}
 use Rattle.std.proofs.Math.Seq.{take-add, take-length}
 use Rattle.vp_model.specs.Types.{LogRecord}
 use Rattle.vp_model.specs.Words.{for_each}
 use Rattle.vp_model.specs.Catalogue.{Catalogue}
 use Rattle.vp_model.specs.Step.{durable_of}
-use Rattle.vp_outside.specs.Disk.{Halves, log_of, Only, Becomes, Steps}
+use Rattle.vp_outside.specs.Disk.{Halves, log_of, Only}
 use Rattle.vp_outside.specs.Links.{Gave, Hands}
 use Rattle.vp_outside.specs.declared.datagram.Datagram.{Datagram}
+use Rattle.vp_outside.specs.declared.datagram.Handed.{Handed}
 use Rattle.vp_stable.specs.Halves.{HaveBatches, ReadAlike, HalvesAreOneLog}
+use Rattle.vp_stable.specs.Moments.{LeavesOnly}
 use Rattle.vp_runs.specs.Arrivals.{arrival}
 use Rattle.vp_runs.specs.Keeping.{durable_in}
 use Rattle.vp_runs.specs.Turns.{turn_on}
 use Rattle.vp_runs.specs.Runs.{NodeRun, start_node, with_turn, start_of, one_turn, node_run}
 use Rattle.vp_runs.proofs.Runs.{runs_keep}
-use Rattle.vp_node.specs.Nodes.{MayStart}
+use Rattle.vp_node.specs.Nodes.{HasLifeLeft, MayStart}
+use Rattle.vp_network.specs.Cluster.{process_of}
 use Rattle.vp_network.specs.Ends.{Happened}
 use Rattle.vp_network.proofs.Ends.{runs_end, runs_break}
 use Rattle.vp_serving.specs.declared.end.End.{End}
 use Rattle.vp_serving.specs.declared.end.End.TheVariants as ends
-use Rattle.vp_serving.specs.Serving.{Outside, Course, IsPrefix, IsKeptAs, LeavesFrom, IsSafe, HasNotStarted, IsUnbound, IsWhole, HasTorn, Serves}
-use Rattle.vp_lives.specs.Served.{Life, told, HasLived, HasNotBegun, AllDone, PartDone, IsOnDisk, LivesIn, ServingHappens}
+use Rattle.vp_serving.specs.Handed.{datagrams_in, handed_in}
+use Rattle.vp_serving.specs.Laws.{RunsAreHandedOver}
+use Rattle.vp_serving.specs.Serving.{Outside, Course, IsPrefix, IsKeptAs, LeavesFrom, KeepsAtAnyMoment, IsSafe, HasNotStarted, IsUnbound, IsWhole, HasTorn, Serves, handed_by}
+use Rattle.vp_lives.specs.Served.{Life, told, Leaves, IsMomentary, HasLived, HasNotBegun, AllDone, PartDone, IsOnDisk, LivesIn, ServingHappens}
 
 -- ---- what a run has handed over grows
 
@@ -83,110 +88,158 @@ no_more xs (m ∷ ms) rs e =
     arith_some : (n : ℕ) → 1 ≤ suc n
     arith_some n = omega arith
 
-module _ (halves_are_one : HalvesAreOneLog) (life : Life) (o : Outside) (on : IsOnDisk life o) where
+-- nothing happened
+pub untouched : (life : Life) → process_of life.id life.cluster.processes ≡ Some life.process → life.process.up ≡ None → (arrived : List Datagram) → Happened life.catalogue life.cluster life.id life.sites arrived life.process.batches []
+untouched life at down arrived = record { happenings = []; are_of = tt; alone = λ e. tt; may = λ m. tt; p = life.process; at = at; log = refl; down = down; handed_is = sym (append-nil life.cluster.handed) }
+
+-- a beginning of datagrams, without their times
+prefix_of : (hs all : List Handed) → IsPrefix hs all → IsPrefix (datagrams_in hs) (datagrams_in all)
+prefix_of hs all h =
+    let f : Handed → Datagram = λ h. h.datagram in
+    ap (map f) h ∙ sym (take-map f (length hs) all) ∙ ap (λ n. take n (map f all)) (sym (length-map hs f))
+
+module _ (halves_are_one : HalvesAreOneLog) (handed_over : RunsAreHandedOver) (life : Life) (o : Outside) (on : IsOnDisk life o) where
   abbrev here : Catalogue
   here = told life
 
   abbrev had : List (List LogRecord)
   had = life.process.batches
 
+  abbrev run_on : List Datagram → NodeRun
+  run_on arrived = node_run here life.id had arrived
+
+  abbrev Happens : List Datagram → List (List LogRecord) → List Datagram → Type 0
+  Happens arrived left handed = Happened life.catalogue life.cluster life.id life.sites arrived left handed
+
   -- the batches that were recovered are those of the process
   same_batches : (batches : List (List LogRecord)) → IfSome (log_of o.disk) (HaveBatches batches) → batches ≡ had
   same_batches batches h = halves_are_one batches had on.log (some_log (HaveBatches batches) (log_of o.disk) on.log on.told_before h) on.has
 
-  ends_at : (arrived : List Datagram) (n : ℕ) (left : List (List LogRecord)) → (durable_in here life.id had).life < 2 ^ 32 - 1 → durable_in here life.id left ≡ durable_of (node_run here life.id had (take n arrived)).node.site
-      → Happened life.catalogue life.cluster life.id life.sites arrived left (node_run here life.id had (take n arrived)).datagrams
+  same_life : (batches : List (List LogRecord)) → IfSome (log_of o.disk) (HaveBatches batches) → HasLifeLeft here life.id batches → HasLifeLeft here life.id had
+  same_life batches h lives = subst (HasLifeLeft here life.id) (same_batches batches h) lives
+
+  ends_at : (arrived : List Datagram) (n : ℕ) (left : List (List LogRecord)) → HasLifeLeft here life.id had → durable_in here life.id left ≡ durable_of (run_on (take n arrived)).node.site
+      → Happens arrived left (run_on (take n arrived)).datagrams
   ends_at arrived n left lives folds = runs_end life.catalogue life.cluster life.id life.process life.sites arrived n left on.at on.down (a_life_left _ lives) folds
 
   -- all of it, with the log of the run
-  ends_whole : (arrived : List Datagram) → (durable_in here life.id had).life < 2 ^ 32 - 1 → let run = node_run here life.id had arrived in Happened life.catalogue life.cluster life.id life.sites arrived run.node.batches run.datagrams
+  ends_whole : (arrived : List Datagram) → HasLifeLeft here life.id had → Happens arrived (run_on arrived).node.batches (run_on arrived).datagrams
   ends_whole arrived lives =
-      let run = node_run here life.id had arrived in
+      let run = run_on arrived in
       let all : take (length arrived) arrived ≡ arrived = take-length arrived in
-      subst (λ ds. Happened life.catalogue life.cluster life.id life.sites arrived run.node.batches (node_run here life.id had ds).datagrams) all
-      (ends_at arrived (length arrived) run.node.batches lives (sym (runs_keep here life.id had arrived) ∙ ap (λ ds. durable_of (node_run here life.id had ds).node.site) (sym all)))
+      subst (λ ds. Happens arrived run.node.batches (run_on ds).datagrams) all
+      (ends_at arrived (length arrived) run.node.batches lives (sym (runs_keep here life.id had arrived) ∙ ap (λ ds. durable_of (run_on ds).node.site) (sym all)))
 
-  kept_lives : (arrived : List Datagram) → (durable_in here life.id had).life < 2 ^ 32 - 1 → Gave o.link.left o.link'.left arrived → Hands o.link.handed o.link'.handed (node_run here life.id had arrived).datagrams → IsKeptAs (node_run here life.id had arrived) o.disk o.disk' → HasLived life o AllDone
-  kept_lives arrived lives gave hands kept =
-      let run = node_run here life.id had arrived in
+  leaves_just : (arrived handed : List Datagram) (image : Halves) (left : List (List LogRecord)) → HaveBatches left image → Happens arrived left handed → Leaves life arrived handed AllDone image
+  leaves_just arrived handed image left has it = record { left = left; has = has; rest = []; rest_is = refl; happened = subst (Happens arrived left) (sym (append-nil handed)) it }
+
+  -- ---- at any moment
+
+  -- nothing happened
+  leaves_same : (arrived : List Datagram) (image : Halves) → HaveBatches had image → Leaves life arrived [] AllDone image
+  leaves_same arrived image has = leaves_just arrived [] image had has (untouched life on.at on.down arrived)
+
+  momentary : (batches : List (List LogRecord)) (arrived : List Datagram) → IfSome (log_of o.disk) (HaveBatches batches) → HasLifeLeft here life.id batches → KeepsAtAnyMoment here life.id batches arrived o.disk o.disk' → IsMomentary life o arrived
+  momentary batches arrived is lives moments image since =
+      let e = same_batches batches is in
+      let m : KeepsAtAnyMoment here life.id had arrived o.disk o.disk' = subst (λ b. KeepsAtAnyMoment here life.id b arrived o.disk o.disk') e moments in
+      let l = some_log (λ log. LeavesOnly o.disk o.disk' (λ image. o.disk.may_leave o.disk.asked image ⊎ (HaveBatches had image ⊎ LeavesFrom here life.id had arrived 0 image))) (log_of o.disk) on.log on.told_before (m on.honest) in
+      ⊎_elim inl
+      (λ now. inr (⊎_elim (λ same. ([], leaves_same arrived image same))
+      (λ from. ((run_on (take from.0 arrived)).datagrams, leaves_just arrived (run_on (take from.0 arrived)).datagrams image from.3.0 from.3.1 (ends_at arrived from.0 from.3.0 (same_life batches is lives) from.3.2)))
+      now))
+      (l.each image since)
+
+  -- ---- each end
+
+  kept_lives : (arrived : List Datagram) (handed : List Handed) → HasLifeLeft here life.id had → Gave o.link.left o.link'.left arrived → Hands o.link.handed o.link'.handed handed → datagrams_in handed ≡ (run_on arrived).datagrams → IsKeptAs (run_on arrived) o.disk o.disk' → IsMomentary life o arrived → HasLived life o AllDone
+  kept_lives arrived handed lives gave hands is kept moments =
+      let run = run_on arrived in
       let k : HaveBatches run.node.batches on.log' × Only on.log' (o.disk'.may_leave o.disk.asked) = some_log (λ log. HaveBatches run.node.batches log × Only log (o.disk'.may_leave o.disk.asked)) (o.disk'.logs o.disk.asked) on.log' on.told_after (kept on.honest) in
       record {
         arrived = arrived;
         gave = gave;
-        handed = run.datagrams;
+        handed = handed;
         hands = hands;
-        leaves = λ image m. record {
-          left = run.node.batches;
-          has = subst (HaveBatches run.node.batches) (sym (k.1 image m)) k.0;
-          rest = [];
-          rest_is = refl;
-          happened = subst (λ ds. Happened life.catalogue life.cluster life.id life.sites arrived run.node.batches ds) (sym (append-nil run.datagrams)) (ends_whole arrived lives);
-        };
+        leaves = λ image m. leaves_just arrived (datagrams_in handed) image run.node.batches (subst (HaveBatches run.node.batches) (sym (k.1 image m)) k.0) (subst (Happens arrived run.node.batches) (sym is) (ends_whole arrived lives));
+        moments = moments;
       }
+
+  -- what so many turns of a course hand over
+  of_turns : (batches : List (List LogRecord)) (given : ℕ) (arrived : List Datagram) (n : ℕ) → batches ≡ had → datagrams_in (handed_in here life.id batches given arrived n) ≡ (run_on (take n arrived)).datagrams
+  of_turns batches given arrived n e = handed_over here life.id batches given arrived n ∙ ap (λ b. (node_run here life.id b (take n arrived)).datagrams) e
 
   whole : (turns : ℕ) (stopped : Bool) (end : List ℕ) → IsWhole here life.id turns o stopped end → HasLived life o AllDone
   whole turns stopped end w =
       let c = w.course in
       let e = same_batches c.batches c.had in
-      kept_lives c.arrived
-      (subst (λ b. (durable_in here life.id b).life < 2 ^ 32 - 1) e c.lives)
-      c.gave
-      (subst (λ b. Hands o.link.handed o.link'.handed (node_run here life.id b c.arrived).datagrams) e w.did.hands)
+      kept_lives c.arrived (handed_by c (length c.arrived)) (same_life c.batches c.had c.lives) c.gave w.did.hands
+      (of_turns c.batches o.link.given c.arrived (length c.arrived) e ∙ ap (λ ds. (run_on ds).datagrams) (take-length c.arrived))
       (subst (λ b. IsKeptAs (node_run here life.id b c.arrived) o.disk o.disk') e w.kept)
+      (momentary c.batches c.arrived c.had c.lives c.moments)
 
-  safe : (turns : ℕ) (c : Course here life.id turns o) (handed : List Datagram) → Hands o.link.handed o.link'.handed handed → IsSafe here life.id c.batches c.arrived handed o.disk o.disk' → HasLived life o PartDone
-  safe turns c handed hands s0 =
+  -- what a safe end leaves
+  safe_from : (batches : List (List LogRecord)) (arrived : List Datagram) (handed : List Handed) → batches ≡ had → (s : IsSafe here life.id batches o.link.given arrived handed o.disk o.disk')
+      → IsPrefix (datagrams_in handed) (run_on (take s.sure arrived)).datagrams × ((image : Halves) → o.disk'.may_leave o.disk.asked image → LeavesFrom here life.id had arrived s.sure image)
+  safe_from batches arrived handed e s = (
+    subst (IsPrefix (datagrams_in handed)) (of_turns batches o.link.given arrived s.sure e) (prefix_of handed (handed_in here life.id batches o.link.given arrived s.sure) s.handed_of),
+    λ image m. subst (λ b. LeavesFrom here life.id b arrived s.sure image) e
+        (some_log (λ log. (image : Halves) → o.disk'.may_leave o.disk.asked image → LeavesFrom here life.id batches arrived s.sure image) (log_of o.disk) on.log on.told_before (s.left on.honest) image m),
+  )
+
+  safe : (turns : ℕ) (c : Course here life.id turns o) (handed : List Handed) → Hands o.link.handed o.link'.handed handed → IsSafe here life.id c.batches o.link.given c.arrived handed o.disk o.disk' → HasLived life o PartDone
+  safe turns c handed hands s =
       let e = same_batches c.batches c.had in
-      let s : IsSafe here life.id had c.arrived handed o.disk o.disk' = subst (λ b. IsSafe here life.id b c.arrived handed o.disk o.disk') e s0 in
-      let lives : (durable_in here life.id had).life < 2 ^ 32 - 1 = subst (λ b. (durable_in here life.id b).life < 2 ^ 32 - 1) e c.lives in
+      let f = safe_from c.batches c.arrived handed e s in
+      let lives = same_life c.batches c.had c.lives in
       record {
         arrived = c.arrived;
         gave = c.gave;
         handed = handed;
         hands = hands;
         leaves = λ image m.
-            let l : LeavesFrom here life.id had c.arrived s.sure image = some_log (λ log. (image : Halves) → o.disk'.may_leave o.disk.asked image → LeavesFrom here life.id had c.arrived s.sure image) (log_of o.disk) on.log on.told_before (s.left on.honest) image m in
+            let l = f.1 image m in
             let n = l.0 in
             let left = l.3.0 in
-            let sure_run = node_run here life.id had (take s.sure c.arrived) in
+            let sure_run = run_on (take s.sure c.arrived) in
+            let out = datagrams_in handed in
             let g = later_grows here life.id had c.arrived s.sure n l.1 in
-            let cut = drop (length handed) sure_run.datagrams in
-            let is : sure_run.datagrams ≡ handed ++ cut = sym (take-append-drop (length handed) sure_run.datagrams) ∙ ap (λ ds. ds ++ cut) (sym s.handed_of) in
-            let all : (node_run here life.id had (take n c.arrived)).datagrams ≡ handed ++ (cut ++ g.0) = g.1 ∙ ap (λ ds. ds ++ g.0) is ∙ append_assoc handed cut g.0 in
+            let cut = drop (length out) sure_run.datagrams in
+            let is : sure_run.datagrams ≡ out ++ cut = sym (take-append-drop (length out) sure_run.datagrams) ∙ ap (λ ds. ds ++ cut) (sym f.0) in
+            let all : (run_on (take n c.arrived)).datagrams ≡ out ++ (cut ++ g.0) = g.1 ∙ ap (λ ds. ds ++ g.0) is ∙ append_assoc out cut g.0 in
             record {
               left = left;
               has = l.3.1;
               rest = cut ++ g.0;
               rest_is = tt;
-              happened = subst (λ ds. Happened life.catalogue life.cluster life.id life.sites c.arrived left ds) all (ends_at c.arrived n left lives l.3.2);
+              happened = subst (Happens c.arrived left) all (ends_at c.arrived n left lives l.3.2);
             };
+        moments = momentary c.batches c.arrived c.had c.lives c.moments;
       }
 
   torn : (turns : ℕ) → HasTorn here life.id turns o → HasLived life o AllDone
   torn turns t =
       let c = t.course in
       let e = same_batches c.batches c.had in
-      let s : IsSafe here life.id had c.arrived (node_run here life.id had t.front).datagrams o.disk o.disk' = subst (λ b. IsSafe here life.id b c.arrived (node_run here life.id b t.front).datagrams o.disk o.disk') e t.safe in
-      let lives : (durable_in here life.id had).life < 2 ^ 32 - 1 = subst (λ b. (durable_in here life.id b).life < 2 ^ 32 - 1) e c.lives in
-      let going : (node_run here life.id had t.front).stopped ≡ false = subst (λ b. (node_run here life.id b t.front).stopped ≡ false) e t.going in
-      let handed = (node_run here life.id had t.front).datagrams in
+      let handed = handed_by c (length t.front) in
+      let f = safe_from c.batches c.arrived handed e t.safe in
+      let lives = same_life c.batches c.had c.lives in
+      let going : (run_on t.front).stopped ≡ false = subst (λ b. (node_run here life.id b t.front).stopped ≡ false) e t.going in
+      let came : take (length t.front) c.arrived ≡ t.front = ap (take (length t.front)) t.arrived ∙ take-within (length t.front) t.front (t.last ∷ []) (omega arith) ∙ take-length t.front in
+      let out : datagrams_in handed ≡ (run_on t.front).datagrams = of_turns c.batches o.link.given c.arrived (length t.front) e ∙ ap (λ ds. (run_on ds).datagrams) came in
       record {
         arrived = c.arrived;
         gave = c.gave;
         handed = handed;
-        hands = subst (λ b. Hands o.link.handed o.link'.handed (node_run here life.id b t.front).datagrams) e t.did.hands;
+        hands = t.did.hands;
         leaves = λ image m.
-            let l : LeavesFrom here life.id had c.arrived s.sure image = some_log (λ log. (image : Halves) → o.disk'.may_leave o.disk.asked image → LeavesFrom here life.id had c.arrived s.sure image) (log_of o.disk) on.log on.told_before (s.left on.honest) image m in
-            record {
-              left = l.3.0;
-              has = l.3.1;
-              rest = [];
-              rest_is = refl;
-              happened = subst (λ ds. Happened life.catalogue life.cluster life.id life.sites c.arrived l.3.0 ds) (sym (append-nil handed)) (torn_at c.arrived t.front t.last t.arrived s.sure l.0 l.3.0 lives going s.handed_of l.1 l.2 l.3.2);
-            };
+            let l = f.1 image m in
+            leaves_just c.arrived (datagrams_in handed) image l.3.0 l.3.1
+            (subst (Happens c.arrived l.3.0) (sym out) (torn_at c.arrived t.front t.last t.arrived t.safe.sure l.0 l.3.0 lives going (subst (λ ds. IsPrefix ds (run_on (take t.safe.sure c.arrived)).datagrams) out f.0) l.1 l.2 l.3.2));
+        moments = momentary c.batches c.arrived c.had c.lives c.moments;
       }
     where
-      torn_at : (arrived front : List Datagram) (last : Datagram) → arrived ≡ front ++ last ∷ [] → (sure n : ℕ) (left : List (List LogRecord)) → (durable_in here life.id had).life < 2 ^ 32 - 1 → (node_run here life.id had front).stopped ≡ false
+      torn_at : (arrived front : List Datagram) (last : Datagram) → arrived ≡ front ++ last ∷ [] → (sure n : ℕ) (left : List (List LogRecord)) → HasLifeLeft here life.id had → (node_run here life.id had front).stopped ≡ false
           → IsPrefix (node_run here life.id had front).datagrams (node_run here life.id had (take sure arrived)).datagrams → sure ≤ n → n ≤ length arrived → durable_in here life.id left ≡ durable_of (node_run here life.id had (take n arrived)).node.site
           → Happened life.catalogue life.cluster life.id life.sites arrived left (node_run here life.id had front).datagrams
       torn_at arrived front last is sure n left lives going prefix le few folds =
@@ -214,13 +267,13 @@ module _ (halves_are_one : HalvesAreOneLog) (life : Life) (o : Outside) (on : Is
           split : (n k : ℕ) → n ≤ k + 1 → length arrived ≡ k + 1 → (n ≤ k) ⊎ (n ≡ length arrived)
           split n k h e = grind (arith, h, e)
 
-  unbound : (turns : ℕ) → IsUnbound here life.id turns o → (durable_in here life.id had).life < 2 ^ 32 - 1 → HasLived life o AllDone
+  unbound : (turns : ℕ) → IsUnbound here life.id turns o → HasLived life o AllDone
   unfolding node_run
-  unbound turns u lives =
+  unbound turns u =
       let e = same_batches u.batches u.had in
-      kept_lives [] lives u.idle.none
-      (subst (λ ds. Hands o.link.handed o.link'.handed ds) (sym (none_handed had)) u.idle.did.hands)
+      kept_lives [] [] (same_life u.batches u.had u.lives) u.idle.none u.idle.did.hands (sym (none_handed had))
       (subst (λ b. IsKeptAs (node_run here life.id b []) o.disk o.disk') e u.kept)
+      (momentary u.batches [] u.had u.lives u.moments)
     where
       none_handed : (batches : List (List LogRecord)) → (node_run here life.id batches []).datagrams ≡ []
       none_handed batches = refl
@@ -233,48 +286,45 @@ module _ (halves_are_one : HalvesAreOneLog) (life : Life) (o : Outside) (on : Is
     handed = h.handed;
     hands = h.hands;
     leaves = λ image m. let l = h.leaves image m in record { left = l.left; has = l.has; rest = l.rest; rest_is = tt; happened = l.happened };
+    moments = h.moments;
   }
 
-  -- what a read gives now is the one log
-  is_log : (image : Halves) → o.disk'.logs o.disk.asked ≡ Some image → image ≡ on.log'
-  is_log image e = let z : Some image ≡ Some on.log' = sym e ∙ on.told_after in cc
+  -- ---- where the node didn't start
 
-  stepped : (step : Halves → Halves → Type 0) → Steps step o.disk o.disk' → step on.log on.log'
-  stepped step s = subst (λ (new : Option Halves). Becomes step (Some on.log) new) on.told_after (subst (λ (old : Option Halves). Becomes step old (o.disk'.logs o.disk.asked)) on.told_before s)
-
-  read_alike : (turns : ℕ) → HasNotStarted here life.id turns o ReadAlike → HasNotBegun life o
-  read_alike turns n = record {
+  not_begun : (step : Halves → Halves → Type 0) → ((image : Halves) → step on.log image → Leaves life [] [] AllDone image) → (turns : ℕ) → HasNotStarted here life.id turns o step → HasNotBegun life o
+  not_begun step leaves turns n = record {
     gave = n.idle.none;
     hands = n.idle.did.hands;
-    leaves = λ image e. inl (subst (HaveBatches had) (sym (is_log image e)) ((stepped ReadAlike n.log).batches had on.has));
+    leaves = λ image m.
+        ⊎_elim inl (λ it. inr (leaves image it))
+        (some_log (λ log. (image : Halves) → o.disk'.may_leave o.disk.asked image → o.disk.may_leave o.disk.asked image ⊎ step log image) (log_of o.disk) on.log on.told_before (n.left on.honest) image m);
+    moments = λ image since.
+        ⊎_elim inl (λ it. inr ([], leaves image it))
+        ((some_log (λ log. LeavesOnly o.disk o.disk' (λ image. o.disk.may_leave o.disk.asked image ⊎ step log image)) (log_of o.disk) on.log on.told_before (n.moments on.honest)).each image since);
   }
+
+  read_alike : (turns : ℕ) → HasNotStarted here life.id turns o ReadAlike → HasNotBegun life o
+  read_alike turns n = not_begun ReadAlike (λ image alike. leaves_same [] image (alike.batches had on.has)) turns n
 
   may_start : (turns : ℕ) → HasNotStarted here life.id turns o (MayStart here life.id) → HasNotBegun life o
   unfolding node_run
-  may_start turns n = record {
-    gave = n.idle.none;
-    hands = n.idle.did.hands;
-    leaves = λ image e.
-        ⊎_elim (λ (same : HaveBatches had on.log'). inl (subst (HaveBatches had) (sym (is_log image e)) same))
-        (λ (begun : HaveBatches (start_node here life.id had).batches on.log'). inr (subst (HaveBatches (start_node here life.id had).batches) (sym (is_log image e)) begun, started))
-        ((stepped (MayStart here life.id) n.log).batches had on.has);
-  }
+  may_start turns n = not_begun (MayStart here life.id) (λ image may. ⊎_elim (λ same. leaves_same [] image same) (λ begun. leaves_just [] [] image (start_node here life.id had).batches begun.1 (started begun.0)) (may.batches had on.has)) turns n
     where
-      started : (durable_in here life.id had).life < 2 ^ 32 - 1 → Happened life.catalogue life.cluster life.id life.sites [] (start_node here life.id had).batches []
+      started : HasLifeLeft here life.id had → Happens [] (start_node here life.id had).batches []
       started lives = ends_whole [] lives
 
-pub serving_happens : HalvesAreOneLog → ServingHappens
-serving_happens one life turns o ends.Stopped on s = whole one life o on turns true _ s.whole
-serving_happens one life turns o ends.TurnsDone on s = whole one life o on turns false _ s.whole
-serving_happens one life turns o ends.LinkFault on s = λ lives. ⊎_elim (λ u. unbound one life o on turns u lives) (λ l. whole one life o on turns false _ l.whole) s.1
-serving_happens one life turns o ends.DiskFault on s = ⊎_elim (λ n. inl (may_start one life o on turns n)) (λ t. inr (torn one life o on turns t)) s.1
-serving_happens one life turns o ends.WriteFault on s = safe one life o on turns s.1.broken.course s.1.broken.handed s.1.broken.did.hands s.1.broken.safe
-serving_happens one life turns o (ends.BadLog half at) on s = read_alike one life o on turns s.0
-serving_happens one life turns o (ends.LivesSpent spent) on s = read_alike one life o on turns s.0
-serving_happens one life turns o ends.NoMemory on s =
-    ⊎_elim (λ n. inl (may_start one life o on turns n))
-    (λ b. inr (λ lives. ⊎_elim (λ u. fewer one life o on (unbound one life o on turns u lives)) (λ b. safe one life o on turns b.course b.handed b.did.hands b.safe) b)) s
+pub serving_happens : HalvesAreOneLog → RunsAreHandedOver → ServingHappens
+serving_happens one over life turns o ends.Stopped on s = whole one over life o on turns true _ s.whole
+serving_happens one over life turns o ends.TurnsDone on s = whole one over life o on turns false _ s.whole
+serving_happens one over life turns o ends.LinkFault on s = ⊎_elim (λ u. unbound one over life o on turns u) (λ l. whole one over life o on turns false _ l.whole) s.1
+serving_happens one over life turns o ends.DiskFault on s = ⊎_elim (λ n. inl (may_start one over life o on turns n)) (λ t. inr (torn one over life o on turns t)) s.1
+serving_happens one over life turns o ends.WriteFault on s = safe one over life o on turns s.1.broken.course s.1.broken.handed s.1.broken.did.hands s.1.broken.safe
+serving_happens one over life turns o (ends.BadLog half at) on s = read_alike one over life o on turns s.0
+serving_happens one over life turns o (ends.LivesSpent spent) on s = read_alike one over life o on turns s.0
+serving_happens one over life turns o ends.NoMemory on s =
+    ⊎_elim (λ n. inl (may_start one over life o on turns n))
+    (λ b. inr (⊎_elim (λ u. fewer one over life o on (unbound one over life o on turns u)) (λ b. safe one over life o on turns b.course b.handed b.did.hands b.safe) b)) s
 
-pub lives_in : HalvesAreOneLog → (catalogue : Catalogue) (id turns : ℕ) (o : Outside) (end : End) → Serves catalogue id turns o end → LivesIn catalogue id o end
-lives_in one catalogue id turns o end s life is same on =
-    serving_happens one life turns o end on (subst (λ k. Serves k life.id turns o end) (sym is) (subst (λ n. Serves catalogue n turns o end) (sym same) s))
+pub lives_in : HalvesAreOneLog → RunsAreHandedOver → (catalogue : Catalogue) (id turns : ℕ) (o : Outside) (end : End) → Serves catalogue id turns o end → LivesIn catalogue id o end
+lives_in one over catalogue id turns o end s life is same on =
+    serving_happens one over life turns o end on (subst (λ k. Serves k life.id turns o end) (sym is) (subst (λ n. Serves catalogue n turns o end) (sym same) s))

@@ -4,9 +4,9 @@ use Rattle.vp_outside.specs.Disk.{Halves}
 use Rattle.vp_outside.specs.declared.datagram.Datagram.{Datagram}
 use Rattle.vp_stable.specs.Halves.{HaveBatches}
 use Rattle.vp_runs.specs.Runs.{NodeRun, node_run}
-use Rattle.vp_node.specs.Nodes.{NodeValue, Keeps, MayStart, MaySave, turn_of}
+use Rattle.vp_node.specs.Nodes.{NodeValue, HasLifeLeft, Keeps, MayStart, MaySave, turn_of}
 use Rattle.vp_network.specs.Cluster.{process_of}
-use Rattle.vp_lives.specs.Served.{Life, told, Leaves, HasLife, AllDone}
+use Rattle.vp_lives.specs.Served.{Life, told, Leaves, AllDone}
 
 -- the run of its node over these datagrams
 abbrev pub run_on : Life → List Datagram → NodeRun
@@ -14,7 +14,7 @@ run_on life arrived = node_run (told life) life.id life.process.batches arrived
 
 -- A life was left, these datagrams came, and this is the node after their turns, which goes on.
 pub record IsAfter (life : Life) (came : List Datagram) (node : NodeValue) : Type 0 where
-  pub lives : HasLife life
+  pub lives : HasLifeLeft (told life) life.id life.process.batches
   pub site : node.site ≡ (run_on life came).node.site
   pub goes_on : (run_on life came).stopped ≡ false
 
@@ -25,7 +25,7 @@ IsKeptBy life node image = Keeps (told life) node image (λ left. left ≡ image
 -- Where it was killed: these datagrams had come, those had been handed over, and this is what the crash leaves of its log.
 pub data IsKilled (life : Life) (arrived handed : List Datagram) (image : Halves) : Type 0 where
   -- in the start of its node
-  starting : (log : Halves) → HaveBatches life.process.batches log → HasLife life → MayStart (told life) life.id log image → arrived ≡ [] → handed ≡ [] → IsKilled life arrived handed image
+  starting : (log : Halves) → HaveBatches life.process.batches log → MayStart (told life) life.id log image → arrived ≡ [] → handed ≡ [] → IsKilled life arrived handed image
   -- between two turns
   waiting : (node : NodeValue) → IsAfter life arrived node → IsKeptBy life node image → handed ≡ (run_on life arrived).datagrams → IsKilled life arrived handed image
   -- in the turn of the last datagram, of which nothing was handed over yet

@@ -9,7 +9,7 @@ ghost use Rattle.vp_lives.specs.Served.{LivesIn};
 use vp_base::SiteId;
 use vp_catalog::Catalog;
 use vp_outside::{Disk, Link, Sink};
-use vp_serving::{End, serve};
+use vp_serving::{End, runs_are_handed_over, serve};
 use vp_stable::halves_are_one_log;
 
 /// Serves as `serve` does. Whatever the end is, on an honest disk, it is what happened to a process of a cluster: its log is what a crash
@@ -31,5 +31,6 @@ pub fn serve_a_life<L: Link, D: Disk, K: Sink>(
         (outside (L.state link.old) (L.state link.new) (K.state sink.old) (K.state sink.new) (D.state disk.old) (D.state disk.new)) result }
 {
     halves_are_one_log();
+    runs_are_handed_over();
     serve(catalog, id, link, disk, sink, turns)
 }
