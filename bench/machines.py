@@ -29,7 +29,6 @@ from told_transfers import Caller, Told, reference_in, script, transfers, values
 SITES, ACCOUNTS, BALANCE, LIMIT = (1, 2, 3), 6, 100, 60
 PORTS = {site: 7000 + site for site in SITES}
 ADDRESSES = "link eth0\n" + "".join(f"site {site} 10.77.0.{site}\n" for site in SITES)
-CADENCE = ("--base", 0.4, "--probe", 0.5)
 STRANGER = "10.77.0.9"
 # Sends a frame to site 1 as from an address and a port, whosever they are.
 SENDER = """import socket, struct, sys
@@ -96,24 +95,31 @@ class Trial:
 
     # What the rules let through.
 
-    def _try_rules(self):
-        """Sends frames to site 1 from where they may not come, and then one from where it may: only that one is taken."""
+    def try_rules(self):
+        """Sends frames to site 1 from where they may not come, and then from where they may: only those are taken."""
+        with Nodes(on(1, self.program), {1: self.catalogue}, tempfile.mkdtemp(prefix="rules.")) as nodes:
+            self.machines("up")
+            try:
+                self._send_all(nodes[1].start_wholly())
+            finally:
+                self.machines("down")  # with what it knows of connections: those of forged datagrams would stand in the way of right ones
+
+    @staticmethod
+    def _send_all(recording):
         subprocess.run(["ip", "netns", "add", "vp-9"], check=True)
         for words in ("link add eth0 type veth peer name port9 netns vp-hub", f"addr add {STRANGER}/24 dev eth0", "link set eth0 up"):
             subprocess.run(["ip", "-n", "vp-9", *words.split()], check=True)
         subprocess.run(["ip", "-n", "vp-hub", "link", "set", "port9", "master", "br0", "up"], check=True)
-        recording = self.nodes[1].lives[-1]
-        before = len(recording.lines())
         wrong = [(9, STRANGER, 7002, PROBE_OF_2), (9, STRANGER, 7100, TICK_1), (9, "127.0.0.1", 7002, PROBE_OF_2), (9, "127.0.0.1", 7100, TICK_1),
                  (3, "10.77.0.3", 7002, PROBE_OF_2), (2, "10.77.0.2", 7001, TICK_1)]
         for site, address, port, frame in wrong:
             subprocess.run(on(site, sys.executable, "-c", SENDER, address, str(port), frame), check=True)
         time.sleep(0.5)
-        insist(len(recording.lines()) == before, "a datagram that the rules should have dropped", recording.lines()[before:])
+        insist(len(recording.lines()) == 1, "a datagram that the rules should have dropped", recording.lines())
         for port, frame in ((7002, PROBE_OF_2), (7100, TICK_1)):
             subprocess.run(on(2, sys.executable, "-c", SENDER, "10.77.0.2", str(port), frame), check=True)
         wanted = [f"in {PROBE_OF_2}", f"in {TICK_1}"]
-        wait_until(lambda: recording.lines()[before:] == wanted, 10, "a datagram that the rules should have let through")
+        wait_until(lambda: [line for line in recording.lines() if line[:2] != "ou"][1:] == wanted, 10, "a datagram that the rules should have let through")
 
     def run(self):
         with self.nodes:
@@ -121,8 +127,7 @@ class Trial:
             try:
                 for node in self.nodes.values():
                     node.start_wholly()
-                self._try_rules()
-                beats = [subprocess.Popen(script("beat", self.path, "--only", site, *CADENCE, behind=on(site)), stdout=subprocess.DEVNULL) for site in SITES]
+                beats = [subprocess.Popen(script("beat", self.path, "--only", site, "--probe", 0.7, behind=on(site)), stdout=subprocess.DEVNULL) for site in SITES]
                 outcomes = self._do_transfers()
                 balances = self._balances()
                 for beat in beats:
@@ -146,6 +151,7 @@ def main():
     own_network.enter()
     trial = Trial(program, reference_in(folder), seed, count)
     try:
+        trial.try_rules()
         trial.run()
     except (Fault, TimeoutError) as fault:
         print(f"seed {seed}, folder {trial.nodes.folder}:", *fault.args)

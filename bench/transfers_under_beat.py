@@ -4,9 +4,9 @@
 usage: transfers_under_beat.py PROGRAM [SEED [COUNT [REFERENCE]]]
 
 COUNT transfers, 2,000 if nothing is said, are done in rounds of 250, each by three processes of `operate/call` at five nodes with their logs in a temporary
-folder (TMPDIR says where), between 16 accounts with copies of different weights. All the while, 20 to 35 seconds after the last harm was mended, a node is
+folder (TMPDIR says where), between 16 accounts with copies of different weights. All the while, 2 to 5 seconds after the last harm was mended, a node is
 killed (kill -9) and started again half a second to three seconds later, or two halves are cut from each other for one to four seconds; and of the calls and
-of the answers five in a thousand are lost. Then all are up and joined, and `operate/call` reads all accounts at each site.
+of the answers ten in a thousand are lost. Then all are up and joined, and `operate/call` reads all accounts at each site.
 These are checked:
 
 - Every site reads the same balances, with the sum of the start.
@@ -36,7 +36,7 @@ from recordings import Fault, insist
 from told_transfers import Caller, Told, reference_in, script, transfers, values_read
 
 ROUND, CALLERS, SITES, ACCOUNTS, BALANCE, LIMIT = 250, 3, range(1, 6), 16, 100, 60
-LOST = 5  # of a thousand calls, and of a thousand answers
+LOST = 10  # of a thousand calls, and of a thousand answers
 PORTS = {site: 7000 + site for site in SITES}
 WEIGHTS = ("1:1 2:1 3:1", "3:1 4:1 5:1", "1:2 3:1 4:1 5:1", "2:1 4:3 5:3", "1:1 3:1 5:1", "2:1 3:2 4:1", "1:1 2:1 4:1 5:2")
 
@@ -75,7 +75,7 @@ class Round:
 
     def _mended(self, deed):
         deed()
-        self.loop.at(self.draw.uniform(20.0, 35.0), self._harm)
+        self.loop.at(self.draw.uniform(2.0, 5.0), self._harm)
 
     def _watch(self):
         """Notes how long no commit was told."""
@@ -97,7 +97,7 @@ class Round:
         self.last = time.monotonic()
         own_network.lose(PORTS, LOST)
         self._watch()
-        self.loop.at(10.0, self._harm)
+        self.loop.at(1.0, self._harm)
         self.loop.run(lambda: self.over, 3600)
         self.outcomes = [words for caller in self.callers for words in caller.outcomes()]
         insist(len(self.outcomes) == self.count, "outcomes are missing", len(self.outcomes))
