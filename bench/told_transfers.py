@@ -1,4 +1,6 @@
 """Transfers that processes of `operate/call` do between accounts, and what is asked of the outcomes that they told."""
+import os
+import signal
 import subprocess
 import sys
 from types import SimpleNamespace
@@ -27,12 +29,18 @@ class Caller:
     def __init__(self, words, lines, out):
         self.out = out
         with open(out, "wb") as said:
-            self.process = subprocess.Popen(words, stdin=subprocess.PIPE, stdout=said)
+            self.process = subprocess.Popen(words, stdin=subprocess.PIPE, stdout=said, start_new_session=True)
         self.process.stdin.write("".join(line + "\n" for line in lines).encode())
         self.process.stdin.close()
 
     def is_over(self):
         return self.process.poll() is not None
+
+    def kill(self):
+        """Ends it, with the client that it may be waiting for."""
+        if not self.is_over():
+            os.killpg(self.process.pid, signal.SIGKILL)
+            self.process.wait()
 
     def outcomes(self):
         """The words of each outcome."""

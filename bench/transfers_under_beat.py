@@ -145,9 +145,10 @@ class Round:
                     self.counts["seconds"] += int(time.monotonic() - start)
                     balances = self._balances()
                 finally:
-                    for process in (beat, *(caller.process for caller in self.callers)):
-                        process.kill()
-                        process.wait()
+                    beat.terminate()
+                    beat.wait()
+                    for caller in self.callers:
+                        caller.kill()
                 self._stop()
                 self.loop.close()
                 self._check(balances)
