@@ -3,13 +3,15 @@
 
 usage: replay_examples.py VPDB
 
-NAME.schedule has NAME.printed, what `vpdb replay` prints of it, and NAME.checked, what `vpdb check` prints of that. Ends with status 1 where one differs.
+NAME.schedule has NAME.printed, what `vpdb replay` prints of it, and NAME.checked, what `vpdb check` prints of that. The test of the gate has the
+same texts (crates/vp_replay_tests/src/examples.rt). Ends with status 1 where one differs.
 """
 import pathlib
 import subprocess
 import sys
 
-EXAMPLES = pathlib.Path(__file__).resolve().parent.parent / "docs/examples"
+TOP = pathlib.Path(__file__).resolve().parent.parent
+EXAMPLES, TESTED = TOP / "docs/examples", TOP / "crates/vp_replay_tests/src/examples.rt"
 
 
 def printed(vpdb, command, text):
@@ -23,6 +25,9 @@ def main():
         for said, name in ((replayed, ".printed"), (printed(sys.argv[1], "check", replayed), ".checked")):
             if said != schedule.with_suffix(name).read_bytes():
                 different.append(schedule.with_suffix(name).name)
+        for name in (".schedule", ".printed"):
+            if f'"\\\n{schedule.with_suffix(name).read_text()}";' not in TESTED.read_text():
+                different.append(f"{schedule.with_suffix(name).name} in {TESTED.name}")
     print(f"{len(schedules)} schedules,", f"different: {' '.join(different)}" if different else "each as it is kept")
     return 1 if different or not schedules else 0
 
