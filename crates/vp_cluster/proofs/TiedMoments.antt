@@ -333,7 +333,7 @@ module _ (catalogue : Catalogue) (k : IsCatalogue catalogue) (m : Moment) (momen
       where
         by_up : (place : Place) → place_of s m.before.places ≡ Some place → (up : Option SiteState) → place.up ≡ up → Done (cond (is_some up) None (Some (Asked.restarts place.id (started catalogue place.id place.durable)))) → Tied
         by_up place at None down done = restarts_now place at down done
-        by_up place at (Some x) up done = restarts_nothing done (λ port h. (x, ap (λ (place : Place). place.up) (let z = sym h.place_is ∙ at in cc) ∙ up))
+        by_up place at (Some x) up done = restarts_nothing done (λ port h. let same : h.place ≡ place = (let z = sym h.place_is ∙ at in cc) in (x, ap (λ (place : Place). place.up) same ∙ up))
 
         go : (found : Option Place) → place_of s m.before.places ≡ found → Tied
         go None at = restarts_nothing (nothing_done (restart_is_asked None at)) (λ port h. absurd (let z = sym h.place_is ∙ at in cc))

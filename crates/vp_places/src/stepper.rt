@@ -1,6 +1,7 @@
 //! Who does the steps of the sites.
 
-ghost use Rattle.std.specs.Prelude.{◌≡◌, OnOk, IfOk, ⊤};
+ghost use Rattle.std.specs.Prelude.{◌≡◌, OnOk, IfOk, Option, ⊤};
+ghost use Rattle.vp_model.specs.Site.{SiteState};
 ghost use Rattle.vp_model.specs.Step.{step};
 ghost use Rattle.vp_places.specs.Asked.{started, IfStarted};
 
@@ -44,6 +45,7 @@ pub trait Stepper {
         id: SiteId,
         durable: &Durable,
     ) -> Result<Site, StartFault>
+        requires { (site : Option SiteState) × may catalog.now (Asked.restarts id site) self.old }
         ensures did { IfStarted result (λ site. did (Asked.restarts id site) self.old self.new) }
         ensures started { may catalog.now (Asked.restarts id (started catalog.now id durable.now)) self.old → IfStarted result (λ site. site ≡ started catalog.now id durable.now) };
 }
