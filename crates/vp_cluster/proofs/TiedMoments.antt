@@ -332,8 +332,8 @@ module _ (catalogue : Catalogue) (k : IsCatalogue catalogue) (m : Moment) (momen
     restarted = go (place_of s m.before.places) refl
       where
         by_up : (place : Place) → place_of s m.before.places ≡ Some place → (up : Option SiteState) → place.up ≡ up → Done (cond (is_some up) None (Some (Asked.restarts place.id (started catalogue place.id place.durable)))) → Tied
-        by_up place at None down done = restarts_now place at down done
-        by_up place at (Some x) up done = restarts_nothing done (λ port h. let same : h.place ≡ place = (let z = sym h.place_is ∙ at in cc) in (x, ap (λ (place : Place). place.up) same ∙ up))
+        by_up place at None down does_so = restarts_now place at down does_so
+        by_up place at (Some x) up does_so = restarts_nothing does_so (λ port h. let same : h.place ≡ place = (let z = sym h.place_is ∙ at in cc) in (x, ap (λ (place : Place). place.up) same ∙ up))
 
         go : (found : Option Place) → place_of s m.before.places ≡ found → Tied
         go None at = restarts_nothing (nothing_done (restart_is_asked None at)) (λ port h. absurd (let z = sym h.place_is ∙ at in cc))

@@ -207,7 +207,7 @@ impl Front {
 
     /// Stops the site that takes the event within that step; none where it appends no batch. All else is dropped.
     fn stop(self, event: &Event, stop: &Stop) -> Result<Option<StoppedSite>, NoMemory>
-        requires announces { IsEvent event.now }
+        requires event { IsEvent event.now }
         requires lent { MayStop event.now self }
         ensures stops { IfOk result (StopsIn event.now self) }
         ensures kept { IfOk result (λ at. IfSome at (λ it. it.left.kept ≡ is_kept stop.now)) }

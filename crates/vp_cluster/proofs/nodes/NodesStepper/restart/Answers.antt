@@ -1,6 +1,8 @@
 use Rattle.std.proofs.Common.{sym, subst}
-use Rattle.vp_hosts.specs.Ports.{HasHost}
-use Rattle.vp_cluster.specs.Nodes.{NodesValue}
+use Rattle.vp_places.specs.Asked.{started, IfStarted}
+use Rattle.vp_hosts.specs.Hosts.{Restarts}
+use Rattle.vp_hosts.specs.Ports.{HasHost, ChangesOf}
+use Rattle.vp_cluster.specs.Nodes.{NodesValue, MayRestart}
 use Rattle.vp_cluster.proofs.Starting.{has_host, starts_so}
 use Rattle.vp_cluster.proofs.nodes.NodesStepper.restart.Goals as goal
 
@@ -11,4 +13,7 @@ restart_at-requires-clause-there c =
 
 pub returns-clause-started : goal.returns-clause-started
 returns-clause-started c = λ may.
-    starts_so c.restart_at.result c.args.arg2.now c.args.id c.args.arg4.now c.args.self.now c.self.inside.catalog c.restart_at.new.hosts may c.self.view_is c.deref_mut.ensures.value c.restart_at.ensures.restarts
+    starts_so c.args.arg2.now c.args.id c.args.arg4.now c.args.self.now c.restart_at.new.hosts may c.restart_at.result
+    (subst (λ (nodes : NodesValue). IfStarted c.restart_at.result (λ it. ChangesOf nodes.catalogue c.args.id (Restarts nodes.catalogue it) nodes.hosts c.restart_at.new.hosts)) c.self.view_is
+    (subst (λ hosts. IfStarted c.restart_at.result (λ it. ChangesOf c.self.inside.catalog c.args.id (Restarts c.self.inside.catalog it) hosts c.restart_at.new.hosts)) c.deref_mut.ensures.value
+    c.restart_at.ensures.restarts))
