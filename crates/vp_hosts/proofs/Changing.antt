@@ -9,8 +9,8 @@ use Rattle.vp_model.specs.Words.{value_at}
 use Rattle.vp_model.specs.Catalogue.{Catalogue}
 use Rattle.vp_model.specs.Site.{SiteState}
 use Rattle.vp_site.specs.declared.fault.StartFault.{StartFault}
-use Rattle.vp_site.specs.declared.fault.StartFault.TheVariants as fault
 use Rattle.vp_places.specs.Asked.{IfStarted}
+use Rattle.vp_places.proofs.Started.{if_started_weaker}
 use Rattle.vp_hosts.specs.Hosts.{HostValue, address_of, IsHost, Lends, Stays, Restarts}
 use Rattle.vp_hosts.specs.Ports.{AreHosts, HasHost, LendsAt, ChangesAt, ChangesOf, host_at}
 use Rattle.vp_hosts.proofs.Replaced.{finds_new, finds_others, maps_same, all_set}
@@ -88,8 +88,7 @@ has_place catalogue site hosts (at, host, listed, there) port is none =
 -- the restart of one host is that of its site
 pub restarted_so : (r : Result SiteState StartFault) (catalogue : Catalogue) (site port : ℕ) (hosts : List HostValue) (d after : HostValue) (i : ℕ) → value_at site catalogue.sites ≡ Some port → position (λ (host : HostValue). host.port == port) hosts ≡ Some i
     → address_of after ≡ address_of (get_or hosts i d) → IfStarted r (λ it. Restarts catalogue it (get_or hosts i d) after) → IfStarted r (λ it. ChangesOf catalogue site (Restarts catalogue it) hosts (set hosts i after))
-restarted_so (Ok it) catalogue site port hosts d after i listed some same h =
-    at_own_port catalogue site port (Restarts catalogue (Some it)) hosts (set hosts i after) listed (one_changes port (Restarts catalogue (Some it)) hosts d after i some same h)
-restarted_so (Err (fault.LivesSpent life)) catalogue site port hosts d after i listed some same h =
-    (h.0, at_own_port catalogue site port (Restarts catalogue None) hosts (set hosts i after) listed (one_changes port (Restarts catalogue None) hosts d after i some same h.1))
-restarted_so (Err fault.NoMemory) catalogue site port hosts d after i listed some same h = tt
+restarted_so r catalogue site port hosts d after i listed some same h =
+    if_started_weaker r (λ it. Restarts catalogue it (get_or hosts i d) after) (λ it. ChangesOf catalogue site (Restarts catalogue it) hosts (set hosts i after))
+    (λ it restarts. at_own_port catalogue site port (Restarts catalogue it) hosts (set hosts i after) listed (one_changes port (Restarts catalogue it) hosts d after i some same restarts))
+    h

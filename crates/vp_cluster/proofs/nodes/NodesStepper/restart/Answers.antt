@@ -1,8 +1,9 @@
-use Rattle.std.proofs.Common.{sym, subst}
+use Rattle.std.proofs.Common.{◌≡◌, sym, subst}
 use Rattle.vp_places.specs.Asked.{started, IfStarted}
+use Rattle.vp_places.proofs.Started.{if_started_weaker}
 use Rattle.vp_hosts.specs.Hosts.{Restarts}
 use Rattle.vp_hosts.specs.Ports.{HasHost, ChangesOf}
-use Rattle.vp_cluster.specs.Nodes.{NodesValue, MayRestart}
+use Rattle.vp_cluster.specs.Nodes.{NodesValue}
 use Rattle.vp_cluster.proofs.Starting.{has_host, starts_so}
 use Rattle.vp_cluster.proofs.nodes.NodesStepper.restart.Goals as goal
 
@@ -13,7 +14,9 @@ restart_at-requires-clause-there c =
 
 pub returns-clause-started : goal.returns-clause-started
 returns-clause-started c = λ may.
-    starts_so c.args.arg2.now c.args.id c.args.arg4.now c.args.self.now c.restart_at.new.hosts may c.restart_at.result
-    (subst (λ (nodes : NodesValue). IfStarted c.restart_at.result (λ it. ChangesOf nodes.catalogue c.args.id (Restarts nodes.catalogue it) nodes.hosts c.restart_at.new.hosts)) c.self.view_is
-    (subst (λ hosts. IfStarted c.restart_at.result (λ it. ChangesOf c.self.inside.catalog c.args.id (Restarts c.self.inside.catalog it) hosts c.restart_at.new.hosts)) c.deref_mut.ensures.value
+    let nodes = c.args.self.now in
+    if_started_weaker c.restart_at.result (λ site. ChangesOf nodes.catalogue c.args.id (Restarts nodes.catalogue site) nodes.hosts c.restart_at.new.hosts) (λ site. site ≡ started c.args.arg2.now c.args.id c.args.arg4.now)
+    (starts_so c.args.arg2.now c.args.id c.args.arg4.now nodes c.restart_at.new.hosts may)
+    (subst (λ (nodes : NodesValue). IfStarted c.restart_at.result (λ site. ChangesOf nodes.catalogue c.args.id (Restarts nodes.catalogue site) nodes.hosts c.restart_at.new.hosts)) c.self.view_is
+    (subst (λ hosts. IfStarted c.restart_at.result (λ site. ChangesOf c.self.inside.catalog c.args.id (Restarts c.self.inside.catalog site) hosts c.restart_at.new.hosts)) c.deref_mut.ensures.value
     c.restart_at.ensures.restarts))
