@@ -3,7 +3,7 @@ use Rattle.std.proofs.Common.{◌≡◌, ◌∙◌, ap, sym, subst, ℕ, List, c
 use Rattle.std.specs.Prelude.{◌==◌, Option, Some, None, IfSome, is_some, option_map, option_and_then}
 use Rattle.vp_catalog.specs.Document.{IsCatalogue}
 use Rattle.vp_wire.specs.Grammar.{IsFrame}
-use Rattle.vp_model.specs.Types.{Event, Input, Sent, Effects}
+use Rattle.vp_model.specs.Types.{Event, Sent, Effects}
 use Rattle.vp_model.specs.Words.{value_at}
 use Rattle.vp_model.specs.Catalogue.{Catalogue, sites_of}
 use Rattle.vp_model.specs.Site.{SiteState}
@@ -29,8 +29,8 @@ use Rattle.vp_kept.proofs.Coming.{has_port}
 use Rattle.vp_hosts.specs.declared.letter.Letter.{Letter}
 use Rattle.vp_hosts.specs.Letters.{as_received}
 use Rattle.vp_cluster.specs.Letters.{letter_of}
-use Rattle.vp_hosts.specs.Hosts.{HostValue, IsAt, Lends, turn_at}
-use Rattle.vp_hosts.specs.Ports.{host_at, LendsAt}
+use Rattle.vp_hosts.specs.Hosts.{IsAt, Lends, turn_at}
+use Rattle.vp_hosts.specs.Ports.{LendsAt}
 use Rattle.vp_cluster.specs.Nodes.{NodesValue, MayStep, MayRestart, MayDo}
 use Rattle.vp_cluster.specs.Clusters.{HasSite, AreTied}
 use Rattle.vp_cluster.proofs.Lent.{none_lent, site_lent}

@@ -1,6 +1,6 @@
 -- A letter that comes changes the nodes as it changes their hosts.
 use Rattle.std.proofs.Common.{◌≡◌, sym, subst, List, ◌++◌, length, take, map}
-use Rattle.std.specs.Prelude.{Option, Some, None, Result, Ok, Err, OnOk}
+use Rattle.std.specs.Prelude.{Option, Some, Result, Ok, Err, OnOk}
 use Rattle.vp_model.specs.Types.{Event}
 use Rattle.vp_model.specs.Catalogue.{Catalogue}
 use Rattle.vp_model.specs.Site.{SiteState}

@@ -1,5 +1,4 @@
 -- What holds of the site that a restart answers.
-use Rattle.std.proofs.Common.{◌≡◌}
 use Rattle.std.specs.Prelude.{Option, Some, None, Result, Ok, Err}
 use Rattle.vp_model.specs.Site.{SiteState}
 use Rattle.vp_site.specs.declared.fault.StartFault.{StartFault}

@@ -1,5 +1,4 @@
 use Rattle.std.proofs.Common.{◌∙◌, sym}
-use Rattle.vp_hosts.specs.Hosts.{Restarts}
 use Rattle.vp_hosts.proofs.Changing.{hosts_still, has_port, has_place, restarted_so}
 use Rattle.vp_hosts.proofs.hosts.restart_at.Goals as goal
 

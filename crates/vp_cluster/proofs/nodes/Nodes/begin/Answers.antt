@@ -1,4 +1,4 @@
-use Rattle.std.proofs.Common.{None, refl}
+use Rattle.std.proofs.Common.{refl}
 use Rattle.vp_cluster.proofs.Found.{nodes_begin}
 use Rattle.vp_cluster.proofs.nodes.Nodes.begin.Goals as goal
 

@@ -1,4 +1,4 @@
-use Rattle.std.proofs.Common.{◌≡◌, ◌∙◌, inr, ap, sym, subst}
+use Rattle.std.proofs.Common.{◌∙◌, inr, ap, sym, subst}
 use Rattle.std.specs.Prelude.{Option, None, Result, Err}
 use Rattle.vp_stable.specs.Halves.{Standing}
 use Rattle.vp_node.specs.Nodes.{NodeValue}
