@@ -1,10 +1,10 @@
 -- The letter that brings a step to its site, and the host that it comes to.
-use Rattle.std.proofs.Common.{◌≡◌, ◌∙◌, ap, sym, subst, ℕ, List}
-use Rattle.std.specs.Prelude.{◌==◌, Option, Some, IfSome, option_and_then}
+use Rattle.std.proofs.Common.{◌≡◌, ◌∙◌, ap, sym, subst, ℕ, List, cond, refl}
+use Rattle.std.specs.Prelude.{◌==◌, Option, Some, None, IfSome, is_some, option_map, option_and_then}
 use Rattle.vp_catalog.specs.Document.{IsCatalogue}
 use Rattle.vp_wire.specs.Grammar.{IsFrame}
-use Rattle.vp_model.specs.Types.{Event, Input, Sent, Effects}
-use Rattle.vp_model.specs.Types.event
+use Rattle.vp_model.specs.Types.{Event, Sent, Effects}
+use Rattle.vp_model.specs.Words.{value_at}
 use Rattle.vp_model.specs.Catalogue.{Catalogue, sites_of}
 use Rattle.vp_model.specs.Site.{SiteState}
 use Rattle.vp_model.specs.Step.{step, durable_of}
@@ -15,21 +15,23 @@ use Rattle.vp_laws.specs.ShapeLaws.{IsEvent, IsPlace, IsWorld, message_frame}
 use Rattle.vp_laws.proofs.Lists.Items.{all_at}
 use Rattle.vp_laws.proofs.Lists.Members.{Has, find_has}
 use Rattle.vp_laws.proofs.Shapes.Moves.{some_at}
-use Rattle.vp_laws.proofs.Worlds.Scenes.{scene_of, kept_in, up-place}
+use Rattle.vp_laws.proofs.Worlds.Scenes.{scene_of, kept_in, place-id, up-place}
 use Rattle.vp_laws.proofs.Invariant.Views.{InvViews}
 use Rattle.vp_runs.specs.declared.arrival.Arrival.TheVariants as arrives
 use Rattle.vp_runs.specs.Arrivals.{arrival}
 use Rattle.vp_runs.specs.Keeping.{durable_in}
 use Rattle.vp_runs.specs.Turns.{Turn, turn_on, step_turn}
-use Rattle.vp_world.specs.Steps.{step_of, IsReady}
+use Rattle.vp_places.specs.Asked.{Asked, started, restart_asked}
+use Rattle.vp_world.specs.Steps.{asked_of, IsReady}
 use Rattle.vp_kept.specs.Kept.{kept_in as batches_in}
-use Rattle.vp_kept.proofs.Happened.{Acts, IsPlain, Effect, named}
+use Rattle.vp_kept.proofs.Happened.{Acts, Effect}
+use Rattle.vp_kept.proofs.Coming.{has_port}
 use Rattle.vp_hosts.specs.declared.letter.Letter.{Letter}
 use Rattle.vp_hosts.specs.Letters.{as_received}
 use Rattle.vp_cluster.specs.Letters.{letter_of}
-use Rattle.vp_hosts.specs.Hosts.{HostValue, IsAt, Lends, turn_at}
-use Rattle.vp_hosts.specs.Ports.{host_at, LendsAt}
-use Rattle.vp_cluster.specs.Nodes.{NodesValue, HostsAnnounced, Announced, MayStep}
+use Rattle.vp_hosts.specs.Hosts.{IsAt, Lends, turn_at}
+use Rattle.vp_hosts.specs.Ports.{LendsAt}
+use Rattle.vp_cluster.specs.Nodes.{NodesValue, MayStep, MayRestart, MayDo}
 use Rattle.vp_cluster.specs.Clusters.{HasSite, AreTied}
 use Rattle.vp_cluster.proofs.Lent.{none_lent, site_lent}
 use Rattle.vp_cluster.proofs.TiedLetters.{Brings, brought}
@@ -53,12 +55,6 @@ site_shaped catalogue w id x world up =
 -- what each site has to keep is what its log folds to
 abbrev pub Folds : Catalogue → List Moment → WorldState → Type 0
 Folds catalogue moments w = (id : ℕ) (place : Place) → place_of id w.places ≡ Some place → Has (sites_of catalogue) id → durable_in catalogue id (batches_in catalogue id moments) ≡ place.durable
-
--- the hosts stay as they are of an event that is neither a crash nor a restart
-pub hosts_stay : (e : Event) (catalogue : Catalogue) (old new : List HostValue) → IsPlain e → HostsAnnounced e catalogue old new → new ≡ old
-hosts_stay (event.Crash s) catalogue old new plain h = absurd plain
-hosts_stay (event.Restart s) catalogue old new plain h = absurd plain
-hosts_stay e catalogue old new plain h = h
 
 -- a step of a site, over nodes that are tied to what came before
 module _ (catalogue : Catalogue) (k : IsCatalogue catalogue) (m : Moment) (moments : List Moment) (old : NodesValue) (facts : Facts catalogue m) (tied : AreTied catalogue moments m.before old) (s : ℕ) (a : Acts catalogue m s) where
@@ -94,16 +90,11 @@ module _ (catalogue : Catalogue) (k : IsCatalogue catalogue) (m : Moment) (momen
       ap (λ (c : Catalogue). turn_at c a.x (as_received letter.0)) tied.catalogue_is
       ∙ ap (turn_on catalogue a.x) (ap (λ (id : ℕ). arrival catalogue id (as_received letter.0)) is_id ∙ letter.2.comes)
 
-  pub plain : IsPlain m.line.event
-  plain = (named m.line.event m.before s a.given a.gives).0
-
-  pub lent : step_of m.line.event m.before ≡ Some (a.x, a.given)
+  pub lent : asked_of catalogue m.line.event m.before ≡ Some (Asked.steps m.line.event a.x a.given)
   lent = site_lent catalogue m.before m.line.event s a.x a.given a.gives a.up (ap (λ (n : Moment). is_step n.line.shown) (sym facts.next_is) ∙ ap is_step a.shown_is)
 
-  pub comes : (nodes : NodesValue) → nodes.catalogue ≡ old.catalogue → arrival nodes.catalogue a.x.id (as_received letter.0) ≡ arrives.Gives a.given
-  comes nodes same = ap (λ (c : Catalogue). arrival c a.x.id (as_received letter.0)) (same ∙ tied.catalogue_is) ∙ ap (λ (id : ℕ). arrival catalogue id (as_received letter.0)) is_id ∙ letter.2.comes
-
-  -- ---- nodes that are told of it
+  pub comes : arrival old.catalogue a.x.id (as_received letter.0) ≡ arrives.Gives a.given
+  comes = ap (λ (c : Catalogue). arrival c a.x.id (as_received letter.0)) tied.catalogue_is ∙ ap (λ (id : ℕ). arrival catalogue id (as_received letter.0)) is_id ∙ letter.2.comes
 
   module _ (folds : Folds catalogue moments m.before) where
     lends : Lends catalogue a.x own.host
@@ -117,28 +108,65 @@ module _ (catalogue : Catalogue) (k : IsCatalogue catalogue) (m : Moment) (momen
     }
 
     -- the site can be lent to the host that the letter comes to
-    pub lends_at : (nodes : NodesValue) → nodes.catalogue ≡ old.catalogue → nodes.hosts ≡ old.hosts → LendsAt nodes.catalogue a.x letter.0.to nodes.hosts
-    lends_at nodes same hosts = (own.host, ap (host_at letter.0.to) hosts ∙ own.host_is, subst (λ (c : Catalogue). Lends c a.x own.host) (sym (same ∙ tied.catalogue_is)) lends)
+    pub lends_at : LendsAt old.catalogue a.x letter.0.to old.hosts
+    lends_at = (own.host, own.host_is, subst (λ (c : Catalogue). Lends c a.x own.host) (sym tied.catalogue_is) lends)
 
-    may_step : (told : NodesValue) → Announced m.line.event old told → MayStep catalogue a.x a.given told
-    may_step told announced = record {
+    may_step : MayStep catalogue m.line.event a.x a.given old
+    may_step = record {
+      formed = facts.event_is;
       letter = letter.0;
-      coming_is = announced.coming_is ∙ ap (λ (c : Catalogue). letter_of c old.letters m.line.event) tied.catalogue_is ∙ letter.1;
-      comes = comes told announced.same_catalogue;
-      lent = lends_at told announced.same_catalogue (hosts_stay m.line.event old.catalogue old.hosts told.hosts plain announced.hosts);
-      same_catalogue = announced.same_catalogue ∙ tied.catalogue_is;
+      letter_is = ap (λ (c : Catalogue). letter_of c old.letters m.line.event) tied.catalogue_is ∙ letter.1;
+      comes = comes;
+      lent = lends_at;
+      same_catalogue = tied.catalogue_is;
     }
 
 -- ---- any event
 
-abbrev IfLent : Catalogue → NodesValue → Option (SiteState × Input) → Type 0
-IfLent catalogue told o = IfSome o (λ it. MayStep catalogue it.0 it.1 told)
+abbrev IfAsked : Catalogue → NodesValue → Option Asked → Type 0
+IfAsked catalogue nodes o = IfSome o (λ a. MayDo catalogue a nodes)
 
--- nodes that are tied to what came before may do the step of the next event
+crash_ready : (catalogue : Catalogue) (nodes : NodesValue) (s : ℕ) (o : Option SiteState) → IfAsked catalogue nodes (option_map (λ _. Asked.crashes s) o)
+crash_ready catalogue nodes s None = tt
+crash_ready catalogue nodes s (Some x) = tt
+
+module _ (catalogue : Catalogue) (m : Moment) (moments : List Moment) (old : NodesValue) (facts : Facts catalogue m) (tied : AreTied catalogue moments m.before old) (folds : Folds catalogue moments m.before) (s : ℕ) where
+  may_restart : (place : Place) → place_of s m.before.places ≡ Some place → place.up ≡ None → MayRestart catalogue place.id (started catalogue place.id place.durable) old
+  may_restart place at down =
+      let known = facts.views.known s place at in
+      let p = has_port catalogue.sites s known in
+      let h = tied.sites s p.0 p.1 in
+      let same : h.place ≡ place = (let z = sym h.place_is ∙ at in cc) in
+      let id : place.id ≡ s = place-id s m.before.places place at in
+      record {
+        port = p.0;
+        host = h.host;
+        port_is = ap (λ (c : Catalogue). value_at place.id c.sites) tied.catalogue_is ∙ ap (λ (id : ℕ). value_at id catalogue.sites) id ∙ p.1;
+        host_is = h.host_is;
+        id_is = h.id_is ∙ sym id;
+        batches = batches_in catalogue s moments;
+        down = subst (λ (up : Option SiteState). IsAt (batches_in catalogue s moments) up h.host) (ap (λ (place : Place). place.up) same ∙ down) h.at;
+        site_is =
+            sym (ap (λ (c : Catalogue). started c place.id (durable_in c place.id (batches_in catalogue s moments))) tied.catalogue_is
+            ∙ ap (λ (id : ℕ). started catalogue place.id (durable_in catalogue id (batches_in catalogue s moments))) id
+            ∙ ap (started catalogue place.id) (folds s place at known));
+        same_catalogue = tied.catalogue_is;
+      }
+
+  restart_ready : (found : Option Place) → place_of s m.before.places ≡ found → IfAsked catalogue old (option_and_then (restart_asked catalogue) found)
+  restart_ready None at = tt
+  restart_ready (Some place) at = go place.up refl
+    where
+      go : (up : Option SiteState) → place.up ≡ up → IfAsked catalogue old (cond (is_some up) None (Some (Asked.restarts place.id (started catalogue place.id place.durable))))
+      go None down = may_restart place at down
+      go (Some x) up = tt
+
+-- nodes that are tied to what came before may do what the next event asks
 pub ready_on : (catalogue : Catalogue) (k : IsCatalogue catalogue) (m : Moment) (moments : List Moment) (old : NodesValue) → Facts catalogue m → AreTied catalogue moments m.before old → Folds catalogue moments m.before → Effect catalogue m
-    → IsReady Announced (MayStep catalogue) m.line.event m.before old
-ready_on catalogue k m moments old facts tied folds (Effect.acts s a others) = λ told announced. subst (IfLent catalogue told) (sym (lent catalogue k m moments old facts tied s a)) (may_step catalogue k m moments old facts tied s a folds told announced)
-ready_on catalogue k m moments old facts tied folds (Effect.crashes s is sent here others) = λ told announced. subst (IfLent catalogue told) (ap (λ (e : Event). step_of e m.before) (sym is)) tt
-ready_on catalogue k m moments old facts tied folds (Effect.restarts s is sent here others) = λ told announced. subst (IfLent catalogue told) (ap (λ (e : Event). step_of e m.before) (sym is)) tt
+    → IsReady MayDo catalogue m.line.event m.before old
+ready_on catalogue k m moments old facts tied folds (Effect.acts s a others) = subst (IfAsked catalogue old) (sym (lent catalogue k m moments old facts tied s a)) (may_step catalogue k m moments old facts tied s a folds)
+ready_on catalogue k m moments old facts tied folds (Effect.crashes s is sent here others) = subst (λ (e : Event). IsReady MayDo catalogue e m.before old) (sym is) (crash_ready catalogue old s (site_of m.before s))
+ready_on catalogue k m moments old facts tied folds (Effect.restarts s is sent here others) =
+    subst (λ (e : Event). IsReady MayDo catalogue e m.before old) (sym is) (restart_ready catalogue m moments old facts tied folds s (place_of s m.before.places) refl)
 ready_on catalogue k m moments old facts tied folds (Effect.stands plain none sent all) =
-    λ told announced. subst (IfLent catalogue told) (sym (none_lent catalogue m.before m.line.event plain (ap (λ (n : Moment). is_step n.line.shown) (sym facts.next_is) ∙ none))) tt
+    subst (IfAsked catalogue old) (sym (none_lent catalogue m.before m.line.event plain (ap (λ (n : Moment). is_step n.line.shown) (sym facts.next_is) ∙ none))) tt

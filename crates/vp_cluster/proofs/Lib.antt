@@ -5,6 +5,7 @@ mod Filed
 mod Found
 mod Lent
 pub mod Running
+mod Starting
 pub mod Tied
 mod TiedLetters
 mod TiedMoments

@@ -24,7 +24,7 @@ use Rattle.vp_stable.specs.Halves.{HaveBatches}
 use Rattle.vp_kept.specs.Kept.{kept, kept_in}
 use Rattle.vp_hosts.specs.Hosts.{HostValue, address_of, site_log, log_in, IsHost}
 use Rattle.vp_hosts.specs.Ports.{AreHosts, host_at}
-use Rattle.vp_cluster.specs.Nodes.{NodesValue, Begin, Announced, MayStep, Posts}
+use Rattle.vp_cluster.specs.Nodes.{NodesValue, Begin, MayDo, Does}
 use Rattle.vp_cluster.specs.Clusters.{AreTied}
 use Rattle.vp_cluster.specs.Ran.{AreLogs, Runs}
 use Rattle.vp_cluster.specs.declared.cluster.Ran.{Ran}
@@ -99,7 +99,7 @@ pub runs_nothing : (s : Schedule) (result : Result Ran WorldEnd) (text : List �
 runs_nothing s result text e = rw e (begun_none text (trace_text_within world_limits s) text refl)
 
 -- nodes in their first lives are ready for a schedule that was read
-pub run_is_ready : (s : Schedule) → IsSchedule s → (begun : NodesValue) → Begin s.catalogue begun → IsReadyFor IsEvent Announced Posts (MayStep s.catalogue) (moments_of s) begun
+pub run_is_ready : (s : Schedule) → IsSchedule s → (begun : NodesValue) → Begin s.catalogue begun → IsReadyFor MayDo Does s.catalogue (moments_of s) begun
 run_is_ready s is begun begins = nodes_are_ready s is.catalogue_is (events_formed (sites_of s.catalogue) s.events is.events_are) begun begins
 
 module _ (s : Schedule) (is : IsSchedule s) (old new : List ℕ) where
@@ -116,7 +116,7 @@ module _ (s : Schedule) (is : IsSchedule s) (old new : List ℕ) where
   run_is_left known result plays e = rw e (begun_whole old (trace_text_within world_limits s) new (shown plays.2))
 
   -- it is done
-  pub run_is_done : (known : Known) (begun ended : NodesValue) → Plays SeesLine BeginsLine s (Ok known) old new → Begin s.catalogue begun → StepsAll Announced Posts (moments_of s) begun ended → AreHosts ended.catalogue ended.hosts
+  pub run_is_done : (known : Known) (begun ended : NodesValue) → Plays SeesLine BeginsLine s (Ok known) old new → Begin s.catalogue begun → StepsAll Does s.catalogue (moments_of s) begun ended → AreHosts ended.catalogue ended.hosts
       → (limit_reached world_limits s ≡ None) × (new ≡ old ++ trace_text s) × (known.world.journal ≡ (run_of s).world.journal) × AreLogs s (map site_log ended.hosts)
   run_is_done known begun ended plays begins steps are =
       let tied = nodes_are_tied s is.catalogue_is (events_formed (sites_of s.catalogue) s.events is.events_are) begun ended begins steps in (

@@ -22,7 +22,7 @@ use Rattle.vp_kept.proofs.Nodes.{sent_are}
 use Rattle.vp_kept.proofs.Folds.{folds_first}
 use Rattle.vp_kept.proofs.Coming.{has_port}
 use Rattle.vp_playing.specs.Played.{StepsAll, IsReadyFor}
-use Rattle.vp_cluster.specs.Nodes.{NodesValue, Begin, Announced, MayStep, Posts}
+use Rattle.vp_cluster.specs.Nodes.{NodesValue, Begin, MayDo, Does}
 use Rattle.vp_cluster.specs.Clusters.{HasSite, AreTied}
 use Rattle.vp_cluster.proofs.TiedLetters.{has_site}
 use Rattle.vp_cluster.proofs.Acting.{Facts, Folds, site_shaped, ready_on}
@@ -50,7 +50,7 @@ module _ (catalogue : Catalogue) (k : IsCatalogue catalogue) where
   abbrev Kept : List Moment → WorldState → NodesValue → Type 0
   Kept moments w nodes = AreTied catalogue moments w nodes × Folds catalogue moments w
 
-  goes_on : (moments rest : List Moment) (w v : WorldState) (old new : NodesValue) → ((m : Moment) → Has rest m → Facts catalogue m) → Kept moments w old → Follow catalogue w rest v → StepsAll Announced Posts rest old new → Kept (moments ++ rest) v new
+  goes_on : (moments rest : List Moment) (w v : WorldState) (old new : NodesValue) → ((m : Moment) → Has rest m → Facts catalogue m) → Kept moments w old → Follow catalogue w rest v → StepsAll Does catalogue rest old new → Kept (moments ++ rest) v new
   goes_on moments [] w v old new facts kept f e =
       subst (λ (ms : List Moment). Kept ms v new) (sym (append-nil moments))
       (subst (λ (w : WorldState). Kept moments w new) f (subst (Kept moments w) (sym e) kept))
@@ -101,26 +101,26 @@ module _ (s : Schedule) (k : IsCatalogue s.catalogue) (i : AllByRecursion IsEven
   }
 
   -- nodes that have done the first moments are tied to these
-  front_kept : (ms more : List Moment) → moments_of s ≡ ms ++ more → (w : WorldState) (begun now : NodesValue) → Begin s.catalogue begun → Follow s.catalogue (start_world s.catalogue) ms w → StepsAll Announced Posts ms begun now
+  front_kept : (ms more : List Moment) → moments_of s ≡ ms ++ more → (w : WorldState) (begun now : NodesValue) → Begin s.catalogue begun → Follow s.catalogue (start_world s.catalogue) ms w → StepsAll Does s.catalogue ms begun now
       → AreTied s.catalogue ms w now × Folds s.catalogue ms w
   front_kept ms more are w begun now begin along h =
       goes_on s.catalogue k [] ms (start_world s.catalogue) w begun now (λ m has. facts m (subst (λ all. Has all m) (sym are) (has_left ms more m has))) (first_tied s.catalogue k begun begin, first_folds s.catalogue k) along h
 
-  pub front_tied : (ms more : List Moment) → moments_of s ≡ ms ++ more → (w : WorldState) (begun now : NodesValue) → Begin s.catalogue begun → Follow s.catalogue (start_world s.catalogue) ms w → StepsAll Announced Posts ms begun now → AreTied s.catalogue ms w now
+  pub front_tied : (ms more : List Moment) → moments_of s ≡ ms ++ more → (w : WorldState) (begun now : NodesValue) → Begin s.catalogue begun → Follow s.catalogue (start_world s.catalogue) ms w → StepsAll Does s.catalogue ms begun now → AreTied s.catalogue ms w now
   front_tied ms more are w begun now begin along h = (front_kept ms more are w begun now begin along h).0
 
-  pub front_folds : (ms more : List Moment) → moments_of s ≡ ms ++ more → (w : WorldState) (begun now : NodesValue) → Begin s.catalogue begun → Follow s.catalogue (start_world s.catalogue) ms w → StepsAll Announced Posts ms begun now → Folds s.catalogue ms w
+  pub front_folds : (ms more : List Moment) → moments_of s ≡ ms ++ more → (w : WorldState) (begun now : NodesValue) → Begin s.catalogue begun → Follow s.catalogue (start_world s.catalogue) ms w → StepsAll Does s.catalogue ms begun now → Folds s.catalogue ms w
   front_folds ms more are w begun now begin along h = (front_kept ms more are w begun now begin along h).1
 
   -- nodes that have done all moments are tied to the schedule
-  pub nodes_are_tied : (begun ended : NodesValue) → Begin s.catalogue begun → StepsAll Announced Posts (moments_of s) begun ended → AreTied s.catalogue (moments_of s) (run_of s).world ended
+  pub nodes_are_tied : (begun ended : NodesValue) → Begin s.catalogue begun → StepsAll Does s.catalogue (moments_of s) begun ended → AreTied s.catalogue (moments_of s) (run_of s).world ended
   nodes_are_tied begun ended begin h = front_tied (moments_of s) [] (sym (append-nil (moments_of s))) (run_of s).world begun ended begin (moments_follow s.catalogue s.events) h
 
   -- in their first lives the nodes are ready for the schedule
-  pub nodes_are_ready : (begun : NodesValue) → Begin s.catalogue begun → IsReadyFor IsEvent Announced Posts (MayStep s.catalogue) (moments_of s) begun
+  pub nodes_are_ready : (begun : NodesValue) → Begin s.catalogue begun → IsReadyFor MayDo Does s.catalogue (moments_of s) begun
   nodes_are_ready begun begin before rest m now are done =
       let has : Has (moments_of s) m = subst (λ (all : List Moment). Has all m) (sym are) (has_right before (m ∷ rest) m (has_first m rest)) in
       let fact = facts m has in
       let along = follow_front s.catalogue before rest m (start_world s.catalogue) (run_of s).world (subst (λ (ms : List Moment). Follow s.catalogue (start_world s.catalogue) ms (run_of s).world) are (moments_follow s.catalogue s.events)) in
       let (tied, folds) = front_kept before (m ∷ rest) are m.before begun now begin along.0 done in
-      (fact.event_is, ready_on s.catalogue k m before now fact tied folds (subst (Effect s.catalogue) (sym fact.next_is) (effect s.catalogue m.number m.line.event m.before)))
+      ready_on s.catalogue k m before now fact tied folds (subst (Effect s.catalogue) (sym fact.next_is) (effect s.catalogue m.number m.line.event m.before))

@@ -1,10 +1,12 @@
 -- Nodes that do what one moment brings stay tied to it.
-use Rattle.std.proofs.Common.{◌≡◌, ◌≢◌, ◌∙◌, ap, sym, subst, ℕ, ◌+◌, false, List, ◌∷◌, [], ◌++◌, length, map, refl, ⊎_elim}
-use Rattle.std.specs.Prelude.{Option, Some, None, take}
+use Rattle.std.proofs.Common.{◌≡◌, ◌≢◌, ◌∙◌, ap, sym, subst, ℕ, ◌+◌, ◌-◌, ◌^◌, ◌==◌, cond, true, false, arith, List, ◌∷◌, [], ◌++◌, length, map, refl, ⊎_elim}
+use Rattle.std.specs.Prelude.{Option, Some, None, is_some, option_map, option_and_then, take}
+use Rattle.std.specs.Option.{option_map_or}
+use Rattle.std.proofs.lemmas.Bool.Decides.{nat_tests}
 use Rattle.std.proofs.lemmas.List.{map-append}
 use Rattle.std.proofs.lemmas.List.Sums.{fold-append}
 use Rattle.vp_catalog.specs.Document.{IsCatalogue}
-use Rattle.vp_model.specs.Types.{LogRecord, Event, Input, Sent, Effects}
+use Rattle.vp_model.specs.Types.{LogRecord, Event, Sent, Effects}
 use Rattle.vp_model.specs.Types.event
 use Rattle.vp_model.specs.Words.{value_at}
 use Rattle.vp_model.specs.Catalogue.{Catalogue, sites_of}
@@ -12,7 +14,7 @@ use Rattle.vp_model.specs.Durable.{DurableState, apply_all}
 use Rattle.vp_model.specs.Site.{SiteState, Stepped}
 use Rattle.vp_model.specs.Step.{step, start, durable_of}
 use Rattle.vp_model.specs.Told.{is_step}
-use Rattle.vp_model.specs.World.{Place, Moment, place_of, after_step, restart_place}
+use Rattle.vp_model.specs.World.{Place, Moment, place_of, site_of, after_step, restart_place}
 use Rattle.vp_laws.proofs.Lists.Members.{Has, has_right}
 use Rattle.vp_laws.proofs.Lists.Views.{same_site}
 use Rattle.vp_laws.proofs.Worlds.Scenes.{place-id}
@@ -26,19 +28,27 @@ use Rattle.vp_kept.specs.Kept.{with_life, kept_after, kept_in as batches_in}
 use Rattle.vp_kept.proofs.Happened.{Leaves, LeavesIt, LeavesOthers, Acts, put_down, RestartEffect, IsPlain, Effect, happened}
 use Rattle.vp_kept.proofs.Folds.{folds_on}
 use Rattle.vp_turns.specs.declared.turned.TurnEffects.{TurnEffects}
+use Rattle.vp_places.specs.Asked.{Asked, started, restart_asked}
 use Rattle.vp_places.specs.Places.{Did}
-use Rattle.vp_world.specs.Steps.{step_of, DoesEvent}
+use Rattle.vp_world.specs.Steps.{asked_of, DoesEvent}
 use Rattle.vp_hosts.specs.declared.letter.Letter.{Letter}
 use Rattle.vp_hosts.specs.Letters.{as_received}
 use Rattle.vp_cluster.specs.Letters.{sent_from, letter_of, letter_for}
 use Rattle.vp_hosts.specs.Hosts.{HostValue, IsAt, node_at, turn_at, Takes, Crashes, Restarts}
 use Rattle.vp_hosts.specs.Ports.{host_at, ChangesOf}
-use Rattle.vp_cluster.specs.Nodes.{NodesValue, HostsAnnounced, Announced, Comes, Posts}
+use Rattle.vp_cluster.specs.Nodes.{NodesValue, Comes, Posts, ChangesHost, Does}
 use Rattle.vp_cluster.specs.Clusters.{HasSite, AreTied}
 use Rattle.vp_cluster.proofs.TiedLetters.{ports_differ, Brings, posted}
 use Rattle.vp_cluster.proofs.Lent.{none_lent}
-use Rattle.vp_cluster.proofs.Acting.{Facts, Folds, hosts_stay}
+use Rattle.vp_cluster.proofs.Acting.{Facts, Folds}
 use Rattle.vp_cluster.proofs.Acting as acting
+
+-- a place that starts, or can't
+spent_none : (catalogue : Catalogue) (place : Place) → place.durable.life ≡ 2 ^ 32 - 1 → started catalogue place.id place.durable ≡ None
+spent_none catalogue place spent = let last : (place.durable.life == 2 ^ 32 - 1) ≡ true = grind (arith, nat_tests, spent) in rw last refl
+
+left_some : (catalogue : Catalogue) (place : Place) → place.durable.life ≢ 2 ^ 32 - 1 → started catalogue place.id place.durable ≡ Some (start catalogue place.id place.durable)
+left_some catalogue place left = let more : (place.durable.life == 2 ^ 32 - 1) ≡ false = grind (arith, nat_tests, left) in rw more refl
 
 module _ (catalogue : Catalogue) (m : Moment) (moments : List Moment) (old new : NodesValue) where
   abbrev pub Before : ℕ → ℕ → Type 0
@@ -102,42 +112,42 @@ module _ (catalogue : Catalogue) (m : Moment) (moments : List Moment) (old new :
         (same_site id s)
 
 module _ (catalogue : Catalogue) (k : IsCatalogue catalogue) (m : Moment) (moments : List Moment) (old new : NodesValue) (facts : Facts catalogue m) (tied : AreTied catalogue moments m.before old) (folds : Folds catalogue moments m.before)
-    (does : DoesEvent Announced Posts m.line.event m.before old new) where
+    (does : DoesEvent Does catalogue m.line.event m.before old new) where
   abbrev Tied : Type 0
   Tied = AreTied catalogue (moments ++ m ∷ []) m.after new
+
+  abbrev Sites : Type 0
+  Sites = (id port : ℕ) → value_at id catalogue.sites ≡ Some port → After catalogue m moments old new id port
 
   abbrev log : ℕ → List (List LogRecord)
   log id = batches_in catalogue id moments
 
-  at_catalogue : (P : Catalogue → Type 0) → P old.catalogue → P catalogue
-  at_catalogue P h = subst P tied.catalogue_is h
-
   listed : (id port : ℕ) → value_at id catalogue.sites ≡ Some port → Has (sites_of catalogue) id
   listed id port at = facts.views.known id (tied.sites id port at).place (tied.sites id port at).place_is
 
-  -- the nodes to which the event was announced
-  abbrev told : NodesValue
-  told = does.0
+  abbrev Done : Option Asked → Type 0
+  Done o = Did Does o old new
 
-  announced : Announced m.line.event old told
-  announced = does.1
-
-  abbrev Done : Option (SiteState × Input) → Type 0
-  Done o = Did (λ (it : SiteState × Input). Posts it.0 it.1) o told new
-
-  -- where nothing is lent, no more is done
-  no_more : step_of m.line.event m.before ≡ None → new ≡ told
-  no_more none = subst Done none does.2
+  -- where nothing is asked for, nothing is done
+  nothing_done : asked_of catalogue m.line.event m.before ≡ None → new ≡ old
+  nothing_done none = subst Done none does
 
   letters_stay : m.after.sent ≡ m.before.sent → new.letters ≡ old.letters → new.letters ≡ map (letter_for catalogue) m.after.sent
   letters_stay sent same = same ∙ tied.letters ∙ ap (map (letter_for catalogue)) (sym sent)
 
-  tied_so : new.catalogue ≡ told.catalogue → ((id port : ℕ) → value_at id catalogue.sites ≡ Some port → HasSite catalogue (moments ++ m ∷ []) m.after new id port) → new.letters ≡ map (letter_for catalogue) m.after.sent → Tied
-  tied_so same sites letters = record { catalogue_is = same ∙ announced.same_catalogue ∙ tied.catalogue_is; sites = sites; letters = letters }
+  tied_so : new.catalogue ≡ old.catalogue → Sites → new.letters ≡ map (letter_for catalogue) m.after.sent → Tied
+  tied_so same sites letters = record { catalogue_is = same ∙ tied.catalogue_is; sites = sites; letters = letters }
 
-  -- the same where no more is done
-  tied_still : new ≡ told → ((id port : ℕ) → value_at id catalogue.sites ≡ Some port → HasSite catalogue (moments ++ m ∷ []) m.after new id port) → m.after.sent ≡ m.before.sent → Tied
-  tied_still same sites sent = tied_so (ap (λ (nodes : NodesValue). nodes.catalogue) same) sites (letters_stay sent (ap (λ (nodes : NodesValue). nodes.letters) same ∙ announced.letters_stay))
+  -- the same where nothing is done
+  tied_still : new ≡ old → Sites → m.after.sent ≡ m.before.sent → Tied
+  tied_still same sites sent = tied_so (ap (λ (nodes : NodesValue). nodes.catalogue) same) sites (letters_stay sent (ap (λ (nodes : NodesValue). nodes.letters) same))
+
+  -- the host of this site alone may change, and stays
+  unchanged : new ≡ old → (s : ℕ) → ChangesOf catalogue s (λ h host. host ≡ h) old.hosts new.hosts
+  unchanged same s = record { there = λ port e. record { there = λ host found. (host, ap (host_at port) hosts ∙ found, refl); others = λ other differs. ap (host_at other) hosts }; nowhere = λ none. hosts }
+    where
+      hosts : new.hosts ≡ old.hosts
+      hosts = ap (λ (nodes : NodesValue). nodes.hosts) same
 
   -- ---- a step
 
@@ -151,13 +161,13 @@ module _ (catalogue : Catalogue) (k : IsCatalogue catalogue) (m : Moment) (momen
     abbrev letter : (letter : Letter) × (letter_of catalogue old.letters m.line.event ≡ Some letter) × Brings catalogue k s a.given letter
     letter = acting.letter catalogue k m moments old facts tied s a
 
-    posts : Posts a.x a.given told new
-    posts = subst Done (acting.lent catalogue k m moments old facts tied s a) does.2
+    posts : Posts m.line.event a.x old new
+    posts = subst Done (acting.lent catalogue k m moments old facts tied s a) does
 
-    comes : Comes letter.0 a.x told new
+    comes : Comes letter.0 a.x old new
     comes =
-        let same : posts.letter ≡ letter.0 = (let z = sym posts.coming_is ∙ announced.coming_is ∙ ap (λ (c : Catalogue). letter_of c old.letters m.line.event) tied.catalogue_is ∙ letter.1 in cc) in
-        subst (λ (letter : Letter). Comes letter a.x told new) same posts.comes
+        let same : posts.letter ≡ letter.0 = (let z = sym posts.letter_is ∙ ap (λ (c : Catalogue). letter_of c old.letters m.line.event) tied.catalogue_is ∙ letter.1 in cc) in
+        subst (λ (letter : Letter). Comes letter a.x old new) same posts.comes
 
     abbrev turn_effects : TurnEffects
     turn_effects = comes.1
@@ -168,14 +178,11 @@ module _ (catalogue : Catalogue) (k : IsCatalogue catalogue) (m : Moment) (momen
     is_id : a.x.id ≡ s
     is_id = acting.is_id catalogue k m moments old facts tied s a
 
-    hosts_same : told.hosts ≡ old.hosts
-    hosts_same = hosts_stay m.line.event old.catalogue old.hosts told.hosts (acting.plain catalogue k m moments old facts tied s a) announced.hosts
+    host_now : (after : HostValue) × (host_at letter.0.to new.hosts ≡ Some after) × Takes old.catalogue (as_received letter.0) a.x own.host after comes.0 turn_effects
+    host_now = comes.2.there own.host own.host_is
 
-    host_now : (after : HostValue) × (host_at letter.0.to new.hosts ≡ Some after) × Takes told.catalogue (as_received letter.0) a.x own.host after comes.0 turn_effects
-    host_now = comes.2.there own.host (ap (host_at letter.0.to) hosts_same ∙ own.host_is)
-
-    turn_is : turn_at told.catalogue a.x (as_received letter.0) ≡ taken
-    turn_is = ap (λ (c : Catalogue). turn_at c a.x (as_received letter.0)) announced.same_catalogue ∙ acting.turn_is catalogue k m moments old facts tied s a
+    turn_is : turn_at old.catalogue a.x (as_received letter.0) ≡ taken
+    turn_is = acting.turn_is catalogue k m moments old facts tied s a
 
     done : IsAt (after_turn (node_at a.x (log s)) taken).batches (Some taken.site) host_now.0
     done =
@@ -187,8 +194,8 @@ module _ (catalogue : Catalogue) (k : IsCatalogue catalogue) (m : Moment) (momen
 
     as_many : length turn_effects.effects.messages ≡ length effects.messages
     as_many =
-        let stepped = host_now.2.stepped a.given (acting.comes catalogue k m moments old facts tied s a told announced.same_catalogue) in
-        ap (λ (o : Stepped). length o.effects.messages) stepped ∙ ap (λ (c : Catalogue). length (step c a.x a.given).effects.messages) (announced.same_catalogue ∙ tied.catalogue_is)
+        let stepped = host_now.2.stepped a.given (acting.comes catalogue k m moments old facts tied s a) in
+        ap (λ (o : Stepped). length o.effects.messages) stepped ∙ ap (λ (c : Catalogue). length (step c a.x a.given).effects.messages) tied.catalogue_is
 
     left : (after_step (step catalogue a.x a.given) own.place).durable ≡ durable_of (step catalogue a.x a.given).site
     left = ap (apply_all effects.records) (acting.durable_is catalogue k m moments old facts tied s a) ∙ step-folds catalogue a.x a.given
@@ -206,7 +213,7 @@ module _ (catalogue : Catalogue) (k : IsCatalogue catalogue) (m : Moment) (momen
         let there : value_at s catalogue.sites ≡ Some port = ap (λ (id : ℕ). value_at id catalogue.sites) (sym same) ∙ at in
         let to : letter.0.to ≡ port = (let z = sym letter.2.to_is ∙ there in cc) in
         subst (λ (id : ℕ). HasSite catalogue (moments ++ m ∷ []) m.after new id port) (sym same) (subst (HasSite catalogue (moments ++ m ∷ []) m.after new s) to own_now))
-        (λ (n : id ≢ s). stays catalogue m moments old new id port (tied.sites id port at) (others id n) (comes.2.others port (ports_differ catalogue k id s port letter.0.to at letter.2.to_is n) ∙ ap (host_at port) hosts_same))
+        (λ (n : id ≢ s). stays catalogue m moments old new id port (tied.sites id port at) (others id n) (comes.2.others port (ports_differ catalogue k id s port letter.0.to at letter.2.to_is n)))
         (same_site id s)
 
     -- each message is from this site to one of the catalogue
@@ -224,8 +231,8 @@ module _ (catalogue : Catalogue) (k : IsCatalogue catalogue) (m : Moment) (momen
 
     letters_now : new.letters ≡ map (letter_for catalogue) m.after.sent
     letters_now =
-        comes.3 ∙ ap (λ (letters : List Letter). told.letters ++ letters) letters_more
-        ∙ ap (λ (letters : List Letter). letters ++ map (letter_for catalogue) effects.messages) (announced.letters_stay ∙ tied.letters)
+        comes.3 ∙ ap (λ (letters : List Letter). old.letters ++ letters) letters_more
+        ∙ ap (λ (letters : List Letter). letters ++ map (letter_for catalogue) effects.messages) tied.letters
         ∙ sym (map-append (letter_for catalogue) m.before.sent effects.messages)
         ∙ ap (map (letter_for catalogue)) (sym a.sent_is)
 
@@ -234,56 +241,110 @@ module _ (catalogue : Catalogue) (k : IsCatalogue catalogue) (m : Moment) (momen
 
   -- ---- a crash
 
-  crashed : (s : ℕ) → m.line.event ≡ event.Crash s → m.after.sent ≡ m.before.sent → ((place : Place) → place_of s m.before.places ≡ Some place → Leaves catalogue m s (Some (put_down place)) (λ b. b)) → LeavesOthers catalogue m s → Tied
-  crashed s is sent own others =
-      let same : new ≡ told = no_more (ap (λ (e : Event). step_of e m.before) is) in
-      let changes = at_catalogue (λ c. ChangesOf c s (Crashes c) old.hosts new.hosts) (subst (ChangesOf old.catalogue s (Crashes old.catalogue) old.hosts) (ap (λ (nodes : NodesValue). nodes.hosts) (sym same)) (subst (λ (e : Event). HostsAnnounced e old.catalogue old.hosts told.hosts) is announced.hosts)) in
-      tied_still same
-      (changed catalogue m moments old new k s (Crashes catalogue) changes others tied.sites
-      (λ port h host there crashes. turns catalogue m moments old new s port (put_down h.place) (λ b. b) (own h.place h.place_is) host there (crashes.stays.same_id ∙ h.id_is) (crashes.down (log s) h.place.up h.at)))
-      sent
+  module _ (s : ℕ) (is : m.line.event ≡ event.Crash s) (sent : m.after.sent ≡ m.before.sent) (own : (place : Place) → place_of s m.before.places ≡ Some place → Leaves catalogue m s (Some (put_down place)) (λ b. b)) (others : LeavesOthers catalogue m s) where
+    crash_asked : asked_of catalogue m.line.event m.before ≡ option_map (λ _. Asked.crashes s) (site_of m.before s)
+    crash_asked = ap (λ (e : Event). asked_of catalogue e m.before) is
+
+    goes_down : (port : ℕ) (h : HasSite catalogue moments m.before old s port) (host : HostValue) → host_at port new.hosts ≡ Some host → host.id ≡ h.host.id → IsAt (log s) None host → HasSite catalogue (moments ++ m ∷ []) m.after new s port
+    goes_down port h host there id at = turns catalogue m moments old new s port (put_down h.place) (λ b. b) (own h.place h.place_is) host there (id ∙ h.id_is) at
+
+    -- a site that is down stays so
+    down_already : site_of m.before s ≡ None → Tied
+    down_already none =
+        let same : new ≡ old = nothing_done (crash_asked ∙ ap (option_map (λ _. Asked.crashes s)) none) in
+        tied_still same
+        (changed catalogue m moments old new k s (λ h host. host ≡ h) (unchanged same s) others tied.sites
+        (λ port h host there is. goes_down port h host there (ap (λ (host : HostValue). host.id) is)
+        (subst (λ (host : HostValue). IsAt (log s) None host) (sym is)
+        (subst (λ (up : Option SiteState). IsAt (log s) up h.host) (ap (option_and_then (λ (place : Place). place.up)) (sym h.place_is) ∙ none) h.at))))
+        sent
+
+    crashes_now : (x : SiteState) → site_of m.before s ≡ Some x → Tied
+    crashes_now x up =
+        let done : ChangesHost s (Crashes old.catalogue) old new = subst Done (crash_asked ∙ ap (option_map (λ _. Asked.crashes s)) up) does in
+        let changes = subst (λ (c : Catalogue). ChangesOf c s (Crashes c) old.hosts new.hosts) tied.catalogue_is done.hosts in
+        tied_so done.same_catalogue
+        (changed catalogue m moments old new k s (Crashes catalogue) changes others tied.sites (λ port h host there crashes. goes_down port h host there crashes.stays.same_id (crashes.down (log s) h.place.up h.at)))
+        (letters_stay sent done.letters_stay)
+
+    crashed : Tied
+    crashed = go (site_of m.before s) refl
+      where
+        go : (o : Option SiteState) → site_of m.before s ≡ o → Tied
+        go None none = down_already none
+        go (Some x) up = crashes_now x up
 
   -- ---- a restart
 
-  module _ (s port : ℕ) (h : HasSite catalogue moments m.before old s port) (host : HostValue) (there : host_at port new.hosts ≡ Some host) (restarts : Restarts catalogue h.host host) where
-    it : LeavesIt catalogue m s → IsAt (log s) h.place.up host → HasSite catalogue (moments ++ m ∷ []) m.after new s port
-    it l at = turns catalogue m moments old new s port h.place (λ b. b) (record { place_is = l.place_is ∙ h.place_is; log_is = l.log_is }) host there (restarts.stays.same_id ∙ h.id_is) at
+  module _ (s port : ℕ) (h : HasSite catalogue moments m.before old s port) (host : HostValue) (there : host_at port new.hosts ≡ Some host) where
+    it : host.id ≡ h.host.id → LeavesIt catalogue m s → IsAt (log s) h.place.up host → HasSite catalogue (moments ++ m ∷ []) m.after new s port
+    it id l at = turns catalogue m moments old new s port h.place (λ b. b) (record { place_is = l.place_is ∙ h.place_is; log_is = l.log_is }) host there (id ∙ h.id_is) at
 
-    was : (up : Option SiteState) → h.place.up ≡ up → IsAt (log s) up h.host
-    was up u = subst (λ (up : Option SiteState). IsAt (log s) up h.host) u h.at
+    -- a site that is up stays so
+    up_already : (x : SiteState) → h.place.up ≡ Some x → host ≡ h.host → RestartEffect catalogue m s h.place → HasSite catalogue (moments ++ m ∷ []) m.after new s port
+    up_already x u same (RestartEffect.is_up y v l) = it (ap (λ (host : HostValue). host.id) same) l (subst (λ (host : HostValue). IsAt (log s) h.place.up host) (sym same) h.at)
+    up_already x u same (RestartEffect.spent down life l) = absurd (let z = sym u ∙ down in cc)
+    up_already x u same (RestartEffect.starts down left l) = absurd (let z = sym u ∙ down in cc)
 
-    folded : durable_in catalogue h.host.id (log s) ≡ h.place.durable
-    folded = ap (λ (id : ℕ). durable_in catalogue id (log s)) h.id_is ∙ folds s h.place h.place_is (facts.views.known s h.place h.place_is)
+    module _ (restarts : Restarts catalogue (started catalogue h.place.id h.place.durable) h.host host) where
+      folded : durable_in catalogue h.host.id (log s) ≡ h.place.durable
+      folded = ap (λ (id : ℕ). durable_in catalogue id (log s)) h.id_is ∙ folds s h.place h.place_is (facts.views.known s h.place h.place_is)
 
-    begun : h.place.up ≡ None → IsAt (start_node catalogue h.host.id (log s)).batches (Some (start_node catalogue h.host.id (log s)).site) host → IsAt (with_life (h.place.durable.life + 1) (log s)) (restart_place catalogue h.place).up host
-    begun down at =
-        let id : h.host.id ≡ h.place.id = h.id_is ∙ sym (place-id s m.before.places h.place h.place_is) in
-        subst (λ (id : ℕ). IsAt (with_life (h.place.durable.life + 1) (log s)) (Some (start catalogue id h.place.durable)) host) id
-        (subst (λ (d : DurableState). IsAt (with_life (d.life + 1) (log s)) (Some (start catalogue h.host.id d)) host) folded at)
+      at_now : (site : Option SiteState) → started catalogue h.place.id h.place.durable ≡ site → IsAt (option_map_or (λ _. (start_node catalogue h.host.id (log s)).batches) site (log s)) site host
+      at_now site is = subst (λ (site : Option SiteState). IsAt (option_map_or (λ _. (start_node catalogue h.host.id (log s)).batches) site (log s)) site host) is (restarts.at (log s) h.place.up h.at)
 
-    restarted_so : RestartEffect catalogue m s h.place → HasSite catalogue (moments ++ m ∷ []) m.after new s port
-    restarted_so (RestartEffect.is_up x u l) = it l (subst (λ (up : Option SiteState). IsAt (log s) up host) (sym u) (restarts.up (log s) x (was (Some x) u)))
-    restarted_so (RestartEffect.spent down life l) =
-        it l (subst (λ (up : Option SiteState). IsAt (log s) up host) (sym down) (restarts.spent (log s) (was None down) (ap (λ (d : DurableState). d.life) folded ∙ life)))
-    restarted_so (RestartEffect.starts down left l) =
-        turns catalogue m moments old new s port (restart_place catalogue h.place) (with_life (h.place.durable.life + 1)) l host there (restarts.stays.same_id ∙ h.id_is)
-        (begun down (restarts.down (log s) (was None down) (λ spent. left (ap (λ (d : DurableState). d.life) (sym folded) ∙ spent))))
+      begun : IsAt (start_node catalogue h.host.id (log s)).batches (Some (start catalogue h.place.id h.place.durable)) host → IsAt (with_life (h.place.durable.life + 1) (log s)) (restart_place catalogue h.place).up host
+      begun at = subst (λ (d : DurableState). IsAt (with_life (d.life + 1) (log s)) (Some (start catalogue h.place.id h.place.durable)) host) folded at
 
-  restarted : (s : ℕ) → m.line.event ≡ event.Restart s → m.after.sent ≡ m.before.sent → ((place : Place) → place_of s m.before.places ≡ Some place → RestartEffect catalogue m s place) → LeavesOthers catalogue m s → Tied
-  restarted s is sent own others =
-      let same : new ≡ told = no_more (ap (λ (e : Event). step_of e m.before) is) in
-      let changes = at_catalogue (λ c. ChangesOf c s (Restarts c) old.hosts new.hosts) (subst (ChangesOf old.catalogue s (Restarts old.catalogue) old.hosts) (ap (λ (nodes : NodesValue). nodes.hosts) (sym same)) (subst (λ (e : Event). HostsAnnounced e old.catalogue old.hosts told.hosts) is announced.hosts)) in
-      tied_still same
-      (changed catalogue m moments old new k s (Restarts catalogue) changes others tied.sites (λ port h host there restarts. restarted_so s port h host there restarts (own h.place h.place_is)))
-      sent
+      restarted_so : h.place.up ≡ None → RestartEffect catalogue m s h.place → HasSite catalogue (moments ++ m ∷ []) m.after new s port
+      restarted_so none (RestartEffect.is_up x u l) = absurd (let z = sym u ∙ none in cc)
+      restarted_so none (RestartEffect.spent down life l) = it restarts.stays.same_id l (subst (λ (up : Option SiteState). IsAt (log s) up host) (sym down) (at_now None (spent_none catalogue h.place life)))
+      restarted_so none (RestartEffect.starts down left l) =
+          turns catalogue m moments old new s port (restart_place catalogue h.place) (with_life (h.place.durable.life + 1)) l host there (restarts.stays.same_id ∙ h.id_is)
+          (begun (at_now (Some (start catalogue h.place.id h.place.durable)) (left_some catalogue h.place left)))
+
+  module _ (s : ℕ) (is : m.line.event ≡ event.Restart s) (sent : m.after.sent ≡ m.before.sent) (own : (place : Place) → place_of s m.before.places ≡ Some place → RestartEffect catalogue m s place) (others : LeavesOthers catalogue m s) where
+    restart_is_asked : (found : Option Place) → place_of s m.before.places ≡ found → asked_of catalogue m.line.event m.before ≡ option_and_then (restart_asked catalogue) found
+    restart_is_asked found at = ap (λ (e : Event). asked_of catalogue e m.before) is ∙ ap (option_and_then (restart_asked catalogue)) at
+
+    -- nothing is asked for
+    restarts_nothing : new ≡ old → ((port : ℕ) (h : HasSite catalogue moments m.before old s port) → (x : SiteState) × (h.place.up ≡ Some x)) → Tied
+    restarts_nothing same up =
+        tied_still same
+        (changed catalogue m moments old new k s (λ h host. host ≡ h) (unchanged same s) others tied.sites
+        (λ port h host there is. up_already s port h host there (up port h).0 (up port h).1 is (own h.place h.place_is)))
+        sent
+
+    -- a site that is down starts
+    restarts_now : (place : Place) → place_of s m.before.places ≡ Some place → place.up ≡ None → ChangesHost place.id (Restarts old.catalogue (started catalogue place.id place.durable)) old new → Tied
+    restarts_now place at down done =
+        let hosts = subst (λ (c : Catalogue). ChangesOf c place.id (Restarts c (started catalogue place.id place.durable)) old.hosts new.hosts) tied.catalogue_is done.hosts in
+        let changes = subst (λ (id : ℕ). ChangesOf catalogue id (Restarts catalogue (started catalogue place.id place.durable)) old.hosts new.hosts) (place-id s m.before.places place at) hosts in
+        tied_so done.same_catalogue
+        (changed catalogue m moments old new k s (Restarts catalogue (started catalogue place.id place.durable)) changes others tied.sites
+        (λ port h host there restarts.
+        let same : place ≡ h.place = (let z = sym at ∙ h.place_is in cc) in
+        restarted_so s port h host there (subst (λ (place : Place). Restarts catalogue (started catalogue place.id place.durable) h.host host) same restarts)
+        (ap (λ (place : Place). place.up) (sym same) ∙ down) (own h.place h.place_is)))
+        (letters_stay sent done.letters_stay)
+
+    restarted : Tied
+    restarted = go (place_of s m.before.places) refl
+      where
+        by_up : (place : Place) → place_of s m.before.places ≡ Some place → (up : Option SiteState) → place.up ≡ up → Done (cond (is_some up) None (Some (Asked.restarts place.id (started catalogue place.id place.durable)))) → Tied
+        by_up place at None down does_so = restarts_now place at down does_so
+        by_up place at (Some x) up does_so = restarts_nothing does_so (λ port h. let same : h.place ≡ place = (let z = sym h.place_is ∙ at in cc) in (x, ap (λ (place : Place). place.up) same ∙ up))
+
+        go : (found : Option Place) → place_of s m.before.places ≡ found → Tied
+        go None at = restarts_nothing (nothing_done (restart_is_asked None at)) (λ port h. absurd (let z = sym h.place_is ∙ at in cc))
+        go (Some place) at = by_up place at place.up refl (subst Done (restart_is_asked (Some place) at) does)
 
   -- ---- any moment
 
   quiet : IsPlain m.line.event → is_step m.line.shown ≡ false → m.after.sent ≡ m.before.sent → ((id : ℕ) → LeavesIt catalogue m id) → Tied
   quiet plain none sent all =
-      let same : new ≡ told = no_more (none_lent catalogue m.before m.line.event plain (ap (λ (n : Moment). is_step n.line.shown) (sym facts.next_is) ∙ none)) in
-      let hosts : new.hosts ≡ old.hosts = ap (λ (nodes : NodesValue). nodes.hosts) same ∙ hosts_stay m.line.event old.catalogue old.hosts told.hosts plain announced.hosts in
-      tied_still same (λ id port at. stays catalogue m moments old new id port (tied.sites id port at) (all id) (ap (host_at port) hosts)) sent
+      let same : new ≡ old = nothing_done (none_lent catalogue m.before m.line.event plain (ap (λ (n : Moment). is_step n.line.shown) (sym facts.next_is) ∙ none)) in
+      tied_still same (λ id port at. stays catalogue m moments old new id port (tied.sites id port at) (all id) (ap (host_at port) (ap (λ (nodes : NodesValue). nodes.hosts) same))) sent
 
   pub tied_on : Effect catalogue m → Tied
   tied_on (Effect.acts s a others) = acted s a others

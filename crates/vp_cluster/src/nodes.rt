@@ -2,10 +2,10 @@
 
 ghost use Rattle.std.specs.Prelude.{◌≡◌, OnOk, IfOk, IfSome, Some, None, length, map};
 ghost use Rattle.vp_laws.specs.ShapeLaws.{IsEvent};
-ghost use Rattle.vp_hosts.specs.Hosts.{Crashes, Restarts, site_log};
+ghost use Rattle.vp_hosts.specs.Hosts.{site_log};
 ghost use Rattle.vp_cluster.specs.Letters.{letter_of};
-ghost use Rattle.vp_hosts.specs.Ports.{ChangesOf, LendsAt};
-ghost use Rattle.vp_cluster.specs.Nodes.{Begin, Comes, HostsAnnounced, StopsWith};
+ghost use Rattle.vp_hosts.specs.Ports.{LendsAt};
+ghost use Rattle.vp_cluster.specs.Nodes.{Begin, Comes, StopsWith};
 ghost use Rattle.vp_runs.specs.Arrivals.{arrival};
 ghost use Rattle.vp_turns.specs.Taking.{IsStepOf};
 ghost use Rattle.vp_hosts.specs.Letters.{as_received};
@@ -22,17 +22,17 @@ use vp_hosts::{
     Host, Letter, Logs, Stop, StoppedLog, begin_all, crash_at, logs_of, restart_at, stop_at,
     take_at,
 };
-use vp_places::{Site, Stepper};
+use vp_places::{Site, StartFault, Stepper};
+use vp_records::Durable;
 use vp_turns::TurnEffects;
 use vp_wire::Body;
 
-/// The hosts of the sites of a catalogue, the letters of the messages that were sent, in order, and the letter that the next step brings.
+/// The hosts of the sites of a catalogue, and the letters of the messages that were sent, in order.
 #[derive(Drop)]
 pub struct Nodes {
     catalog: Catalog,
     hosts: Vec<Host>,
     letters: SentLetters,
-    coming: Option<Letter>,
 }
 
 impl Model for Nodes {
@@ -41,7 +41,7 @@ impl Model for Nodes {
 
     ghost Value = { NodesValue };
 
-    ghost view = { λ n. record { catalogue = n.catalog; hosts = n.hosts.items; letters = n.letters; coming = n.coming } };
+    ghost view = { λ n. record { catalogue = n.catalog; hosts = n.hosts.items; letters = n.letters } };
 
     ghost invariant = { λ n. AreHosts n.catalog n.hosts.items };
 }
@@ -55,7 +55,6 @@ impl Nodes {
         Ok(Nodes {
             hosts: begin_all(&catalog)?,
             letters: SentLetters::none(alloc),
-            coming: None,
             catalog,
         })
     }
@@ -141,64 +140,35 @@ impl Nodes {
             Some(letter) => self.stop_by(site, &letter, stop),
         }
     }
-
-    fn crash(&mut self, site: SiteId)
-        ensures hosts { ChangesOf self.old.catalogue site (Crashes self.old.catalogue) self.old.hosts self.new.hosts }
-        ensures letters { self.new.letters ≡ self.old.letters }
-        ensures same { self.new.catalogue ≡ self.old.catalogue }
-    {
-        crash_at(&mut self.hosts, &self.catalog, site);
-    }
-
-    fn restart(&mut self, site: SiteId) -> Result<(), NoMemory>
-        ensures hosts { OnOk result (ChangesOf self.old.catalogue site (Restarts self.old.catalogue) self.old.hosts self.new.hosts) }
-        ensures letters { OnOk result (self.new.letters ≡ self.old.letters) }
-        ensures same { OnOk result (self.new.catalogue ≡ self.old.catalogue) }
-    {
-        restart_at(&mut self.hosts, &self.catalog, site)
-    }
-
-    /// A crash or a restart is done.
-    fn change(&mut self, event: &Event) -> Result<(), NoMemory>
-        ensures hosts { OnOk result (HostsAnnounced event.now self.old.catalogue self.old.hosts self.new.hosts) }
-        ensures letters { OnOk result (self.new.letters ≡ self.old.letters) }
-        ensures same { OnOk result (self.new.catalogue ≡ self.old.catalogue) }
-    {
-        match event {
-            Event::Crash { site } => {
-                self.crash(*site);
-                Ok(())
-            }
-            Event::Restart { site } => self.restart(*site),
-            _ => Ok(()),
-        }
-    }
 }
 
 impl Stepper for Nodes {
-    ghost use Rattle.vp_laws.specs.ShapeLaws.{IsEvent};
-    ghost use Rattle.vp_cluster.specs.Nodes.{Announced, MayStep, Posts};
+    ghost use Rattle.vp_cluster.specs.Nodes.{MayDo, Does};
 
-    ghost announces = { IsEvent };
+    ghost may = { MayDo };
 
-    ghost announced = { Announced };
+    ghost did = { Does };
 
-    ghost may = { MayStep };
-
-    ghost did = { Posts };
-
-    /// A crash and a restart are done at once; the letter of another event waits for the step that takes it.
-    fn announce(&mut self, event: &Event) -> Result<(), NoMemory> {
-        self.change(event)?;
-        self.coming = self.letter(event)?;
-        Ok(())
-    }
-
-    /// The letter that waits comes, with the site.
-    fn step(&mut self, _: &Catalog, site: Site, _: &Input) -> Result<(Site, Effects), NoMemory> {
-        match self.coming.take() {
+    /// The event's letter comes, with the site.
+    fn step(
+        &mut self,
+        _: &Catalog,
+        event: &Event,
+        site: Site,
+        _: &Input,
+    ) -> Result<(Site, Effects), NoMemory> {
+        match self.letter(event)? {
             None => unreachable!(),
             Some(letter) => self.take(site, &letter),
         }
+    }
+
+    fn crash(&mut self, site: SiteId) {
+        crash_at(&mut self.hosts, &self.catalog, site);
+    }
+
+    /// The site starts from the log of its host.
+    fn restart(&mut self, _: &Catalog, id: SiteId, _: &Durable) -> Result<Site, StartFault> {
+        restart_at(&mut self.hosts, &self.catalog, id)
     }
 }

@@ -8,8 +8,11 @@ use Rattle.vp_lists.proofs.Found.{find_none, find_some}
 use Rattle.vp_model.specs.Words.{value_at}
 use Rattle.vp_model.specs.Catalogue.{Catalogue}
 use Rattle.vp_model.specs.Site.{SiteState}
-use Rattle.vp_hosts.specs.Hosts.{HostValue, address_of, IsHost, Lends, Stays}
-use Rattle.vp_hosts.specs.Ports.{AreHosts, LendsAt, ChangesAt, ChangesOf}
+use Rattle.vp_site.specs.declared.fault.StartFault.{StartFault}
+use Rattle.vp_places.specs.Asked.{IfStarted}
+use Rattle.vp_places.proofs.Started.{if_started_weaker}
+use Rattle.vp_hosts.specs.Hosts.{HostValue, address_of, IsHost, Lends, Stays, Restarts}
+use Rattle.vp_hosts.specs.Ports.{AreHosts, HasHost, LendsAt, ChangesAt, ChangesOf, host_at}
 use Rattle.vp_hosts.proofs.Replaced.{finds_new, finds_others, maps_same, all_set}
 
 module _ (port : ℕ) (does : HostValue → HostValue → Type 0) (hosts : List HostValue) where
@@ -70,3 +73,22 @@ at_own_port catalogue site port does old new is h = record {
   there = λ p e. subst (λ p. ChangesAt p does old new) (let z = sym is ∙ e in cc) h;
   nowhere = λ none. absurd (let z = sym is ∙ none in cc);
 }
+
+-- a site with a host has a port, and a host there
+pub has_port : (catalogue : Catalogue) (site : ℕ) (hosts : List HostValue) → HasHost catalogue site hosts → value_at site catalogue.sites ≡ None → ⊥
+has_port catalogue site hosts (port, host, listed, at) none = let z = sym listed ∙ none in cc
+
+pub has_place : (catalogue : Catalogue) (site : ℕ) (hosts : List HostValue) → HasHost catalogue site hosts → (port : ℕ) → value_at site catalogue.sites ≡ Some port → position (λ (host : HostValue). host.port == port) hosts ≡ None → ⊥
+has_place catalogue site hosts (at, host, listed, there) port is none =
+    let same : at ≡ port = (let z = sym listed ∙ is in cc) in
+    let no = find_none (λ (host : HostValue). host.port == port) hosts none in
+    let yes : host_at port hosts ≡ Some host = subst (λ p. host_at p hosts ≡ Some host) same there in
+    cc
+
+-- the restart of one host is that of its site
+pub restarted_so : (r : Result SiteState StartFault) (catalogue : Catalogue) (site port : ℕ) (hosts : List HostValue) (d after : HostValue) (i : ℕ) → value_at site catalogue.sites ≡ Some port → position (λ (host : HostValue). host.port == port) hosts ≡ Some i
+    → address_of after ≡ address_of (get_or hosts i d) → IfStarted r (λ it. Restarts catalogue it (get_or hosts i d) after) → IfStarted r (λ it. ChangesOf catalogue site (Restarts catalogue it) hosts (set hosts i after))
+restarted_so r catalogue site port hosts d after i listed some same h =
+    if_started_weaker r (λ it. Restarts catalogue it (get_or hosts i d) after) (λ it. ChangesOf catalogue site (Restarts catalogue it) hosts (set hosts i after))
+    (λ it restarts. at_own_port catalogue site port (Restarts catalogue it) hosts (set hosts i after) listed (one_changes port (Restarts catalogue it) hosts d after i some same restarts))
+    h

@@ -1,5 +1,5 @@
 -- What a start, a turn and a crash make of a host.
-use Rattle.std.proofs.Common.{◌≡◌, ◌∙◌, inr, inl, ℕ, ◌<◌, ◌^◌, List, [], true, false, refl, sym, ap, subst, arith}
+use Rattle.std.proofs.Common.{◌≡◌, ◌∙◌, inr, inl, ℕ, ◌<◌, ◌^◌, ◌-◌, ◌==◌, List, [], true, false, refl, sym, ap, subst, arith}
 use Rattle.std.specs.declared.option.Option.{Option}
 use Rattle.std.specs.declared.option.Option.TheVariants.{Some, None}
 use Rattle.std.specs.Prelude.{is_some, IfSome}
@@ -9,7 +9,7 @@ use Rattle.vp_model.specs.Words.{has, value_at, keys}
 use Rattle.vp_model.specs.Catalogue.{Catalogue, sites_of}
 use Rattle.vp_model.specs.Site.{SiteState}
 use Rattle.vp_model.specs.Step.{start}
-use Rattle.vp_laws.proofs.Lists.Items.{none_of}
+use Rattle.std.proofs.lemmas.Bool.Decides.{nat_tests}
 use Rattle.vp_outside.specs.Disk.{Steps, DiskState, log_of}
 use Rattle.vp_disks.specs.Changes.{asked_of, changes_of, content_of, state_after}
 use Rattle.vp_disks.specs.declared.changes.Change.{Change}
@@ -22,9 +22,11 @@ use Rattle.vp_runs.specs.Turns.{Turn, turn_on}
 use Rattle.vp_node.specs.Nodes.{NodeValue, IsNode, IsKept, Starts, IsSpent, Gives, Saves}
 use Rattle.vp_turns.specs.Taking.{IsStepOf}
 use Rattle.vp_turns.specs.declared.turned.TurnEffects.{TurnEffects}
+use Rattle.vp_places.specs.Asked.{started}
+use Rattle.vp_runs.specs.Keeping.{durable_in}
 use Rattle.vp_node.proofs.Kept.{has as have}
 use Rattle.vp_node.proofs.Turning.{settled}
-use Rattle.vp_hosts.specs.Hosts.{HostValue, IsHost, IsAt, Lends, Takes, Crashes, Restarts, Begins, is_spent, log_in, told, node_at, turn_at}
+use Rattle.vp_hosts.specs.Hosts.{HostValue, IsHost, IsAt, Lends, Takes, Crashes, Restarts, Begins, log_in, told, node_at, turn_at}
 
 -- a site with a port is a site
 pub listed : (id port : ℕ) (sites : List (ℕ × ℕ)) → value_at id sites ≡ Some port → has (keys sites) id ≡ true
@@ -37,10 +39,13 @@ no_batches = (0, record { first = 0; second = 0; of_first = none; of_second = no
     none : HasGeneration 0 []
     none = inr (λ batch first. let e = first.open_ in cc, refl)
 
--- the life of a site that starts behind the last one would be none
-pub last_life : (catalogue : Catalogue) (id : ℕ) (batches : List (List LogRecord)) → is_spent catalogue id batches → (start_node catalogue id batches).site.life < 2 ^ 32 → ⊥
+-- a site that starts in a life within the type has that left
+life_left : (catalogue : Catalogue) (id : ℕ) (batches : List (List LogRecord)) → (start_node catalogue id batches).site.life < 2 ^ 32 → started catalogue id (durable_in catalogue id batches) ≡ Some (start_node catalogue id batches).site
 unfolding start
-last_life catalogue id batches spent lives = omega (arith, spent, lives)
+life_left catalogue id batches lives = let left : ((durable_in catalogue id batches).life == 2 ^ 32 - 1) ≡ false = grind (arith, nat_tests, lives) in rw left refl
+
+none_left : (catalogue : Catalogue) (id : ℕ) (batches : List (List LogRecord)) → (durable_in catalogue id batches).life ≡ 2 ^ 32 - 1 → started catalogue id (durable_in catalogue id batches) ≡ None
+none_left catalogue id batches spent = let last : ((durable_in catalogue id batches).life == 2 ^ 32 - 1) ≡ true = grind (arith, nat_tests, spent) in rw last refl
 
 -- the disk that keeps what a node has to keep keeps its log
 log_kept : (catalogue : Catalogue) (node : NodeValue) (disk : DiskState) → IsKept catalogue node disk → AreKept node.at disk
@@ -50,9 +55,6 @@ log_kept catalogue node disk kept honest = settled catalogue node (disk.may_leav
 
 abbrev pub host_with : ℕ → ℕ → List Change → Option Standing → HostValue
 host_with id port disk log = record { id = id; port = port; disk = disk; log = log }
-
-not_up : (batches : List (List LogRecord)) (site : SiteState) (id port : ℕ) (disk : List Change) → IsAt batches (Some site) (host_with id port disk None) → ⊥
-not_up batches site id port disk h = let e = h.is_up in cc
 
 -- a host whose site is down
 pub down : (catalogue : Catalogue) (id port : ℕ) (disk : List Change) → value_at id catalogue.sites ≡ Some port → IsHost catalogue (host_with id port disk None)
@@ -141,53 +143,36 @@ module _ (catalogue : Catalogue) (id port : ℕ) (old new : List Change) where
         subst (λ name. StandsAt node.at (start_node catalogue id batches).batches (content_of (changes_of name new))) (sym asked) there in
         record { has = have stands; is_up = refl; stands = stands }
 
-    pub started : value_at id catalogue.sites ≡ Some port → IsKept catalogue node (state_after new true 0) → IsHost catalogue (begun node)
-    started is kept = record { port_is = is; kept = log_kept catalogue node (state_after new true 0) kept }
+    started_so : value_at id catalogue.sites ≡ Some port → IsKept catalogue node (state_after new true 0) → IsHost catalogue (begun node)
+    started_so is kept = record { port_is = is; kept = log_kept catalogue node (state_after new true 0) kept }
 
     pub begins : old ≡ [] → value_at id catalogue.sites ≡ Some port → IsKept catalogue node (state_after new true 0) → Begins catalogue id port (begun node)
     begins empty is kept = record {
-      is_host = started is kept;
+      is_host = started_so is kept;
       id_is = refl;
       port_is = refl;
       first = starts_at [] (subst (λ changes. HaveBatches [] (content_of (changes_of (asked_of changes) changes))) (sym empty) no_batches);
     }
 
-    pub restarts : IsHost catalogue at_rest → node.site.life < 2 ^ 32 → IsKept catalogue node (state_after new true 0) → Restarts catalogue at_rest (begun node)
-    restarts is lives kept = record {
-      stays = record { host = started is.port_is kept; same_id = refl; same_port = refl };
-      up = λ batches site h. absurd (not_up batches site id port old h);
-      spent = λ batches h last.
-          let same : starts.batches ≡ batches = one starts.batches batches (log_in at_rest) starts.had h.has in
-          let site : node.site ≡ (start_node catalogue id batches).site = starts.site ∙ ap (λ bs. (start_node catalogue id bs).site) same in
-          absurd (last_life catalogue id batches last (subst (λ (s : SiteState). s.life < 2 ^ 32) site lives));
-      down = λ batches h left. starts_at batches h.has;
+    -- where its log stood before it doesn't matter
+    pub restarts : (log : Option Standing) → value_at id catalogue.sites ≡ Some port → node.site.life < 2 ^ 32 → IsKept catalogue node (state_after new true 0) → Restarts catalogue (Some node.site) (host_with id port old log) (begun node)
+    restarts log is lives kept = record {
+      stays = record { host = started_so is kept; same_id = refl; same_port = refl };
+      site_is = λ batches up h. ap Some (site_is batches h.has) ∙ sym (life_left catalogue id batches (subst (λ (s : SiteState). s.life < 2 ^ 32) (site_is batches h.has) lives));
+      at = λ batches up h. subst (λ (s : SiteState). IsAt (start_node catalogue id batches).batches (Some s) (begun node)) (sym (site_is batches h.has)) (starts_at batches h.has);
     }
+      where
+        site_is : (batches : List (List LogRecord)) → HaveBatches batches (log_in at_rest) → node.site ≡ (start_node catalogue id batches).site
+        site_is batches has = starts.site ∙ ap (λ bs. (start_node catalogue id bs).site) (one starts.batches batches (log_in at_rest) starts.had has)
 
   -- no life is left
-  pub is_over : HalvesAreOneLog → asked_of new ≡ asked_of old → (life : ℕ) → IsHost catalogue at_rest → IsSpent catalogue id life (state_after old true 0)
-      → Steps ReadAlike (state_after old true 0) (state_after new true 0) → Restarts catalogue at_rest (host_with id port new None)
-  is_over one asked life is spent alike = record {
-    stays = record { host = down catalogue id port new is.port_is; same_id = refl; same_port = refl };
-    up = λ batches site h. absurd (not_up batches site id port old h);
-    spent = λ batches h last. record { has = subst (λ name. HaveBatches batches (content_of (changes_of name new))) (sym asked) (alike.batches batches h.has); is_up = refl; stands = tt };
-    down = λ batches h left.
-        let same : spent.1.0 ≡ batches = one spent.1.0 batches (log_in at_rest) spent.1.1 h.has in
-        absurd (left (subst (λ bs. is_spent catalogue id bs) same (spent.1.2 ∙ spent.0)));
+  pub is_over : (log : Option Standing) → HalvesAreOneLog → asked_of new ≡ asked_of old → (life : ℕ) → value_at id catalogue.sites ≡ Some port → IsSpent catalogue id life (state_after old true 0)
+      → Steps ReadAlike (state_after old true 0) (state_after new true 0) → Restarts catalogue None (host_with id port old log) (host_with id port new None)
+  is_over log one asked life is spent alike = record {
+    stays = record { host = down catalogue id port new is; same_id = refl; same_port = refl };
+    site_is = λ batches up h. sym (none_left catalogue id batches (subst (λ bs. (durable_in catalogue id bs).life ≡ 2 ^ 32 - 1) (one spent.1.0 batches (log_in at_rest) spent.1.1 h.has) (spent.1.2 ∙ spent.0)));
+    at = λ batches up h. record { has = subst (λ name. HaveBatches batches (content_of (changes_of name new))) (sym asked) (alike.batches batches h.has); is_up = refl; stands = tt };
   }
-
--- a start of a host whose site is down
-pub goes_up : (catalogue : Catalogue) (host : HostValue) (new : List Change) (node : NodeValue) → is_some host.log ≡ false → HalvesAreOneLog → asked_of new ≡ asked_of host.disk
-    → Starts catalogue host.id node (told host) (state_after new true 0) → IsHost catalogue host → node.site.life < 2 ^ 32 → IsKept catalogue node (state_after new true 0)
-    → Restarts catalogue host (host_with host.id host.port new (Some node.at))
-goes_up catalogue host new node rests one asked starts is lives kept =
-    subst (λ (log : Option Standing). IsHost catalogue (host_with host.id host.port host.disk log) → Restarts catalogue (host_with host.id host.port host.disk log) (host_with host.id host.port new (Some node.at)))
-    (sym (none_of host.log rests)) (λ known. restarts catalogue host.id host.port host.disk new one asked node starts known lives kept) is
-
-pub stays_down : (catalogue : Catalogue) (host : HostValue) (new : List Change) (life : ℕ) → is_some host.log ≡ false → HalvesAreOneLog → asked_of new ≡ asked_of host.disk
-    → IsSpent catalogue host.id life (told host) → Steps ReadAlike (told host) (state_after new true 0) → IsHost catalogue host → Restarts catalogue host (host_with host.id host.port new None)
-stays_down catalogue host new life rests one asked spent alike is =
-    subst (λ (log : Option Standing). IsHost catalogue (host_with host.id host.port host.disk log) → Restarts catalogue (host_with host.id host.port host.disk log) (host_with host.id host.port new None))
-    (sym (none_of host.log rests)) (λ known. is_over catalogue host.id host.port host.disk new one asked life known spent alike) is
 
 -- ---- the same, of a host by its parts
 
@@ -244,14 +229,13 @@ module _ (catalogue : Catalogue) (parts host : HostValue) (same : parts ≡ host
         (subst (λ h. Takes catalogue d site h (host_with parts.id parts.port new (Some after.at)) after.site turn_effects) same
         (takes catalogue d site parts new from after turn_effects up (known is) asked there.0 there.1 there.2 kept))
 
-  module _ (one : HalvesAreOneLog) (rests : is_some parts.log ≡ false) (is : IsHost catalogue host) (new : List Change) (asked : asked_of new ≡ asked_of parts.disk) where
+  module _ (one : HalvesAreOneLog) (is : IsHost catalogue host) (new : List Change) (asked : asked_of new ≡ asked_of parts.disk) where
     pub parts_go_up : (node : NodeValue) (apart : SiteState × Standing) → apart ≡ (node.site, node.at) → Starts catalogue parts.id node (told parts) (state_after new true 0) → node.site.life < 2 ^ 32
-        → IsKept catalogue node (state_after new true 0) → Restarts catalogue host (host_with parts.id parts.port new (Some apart.1))
+        → IsKept catalogue node (state_after new true 0) → Restarts catalogue (Some apart.0) host (host_with parts.id parts.port new (Some apart.1))
     parts_go_up node apart is_apart starts lives kept =
-        subst (λ (apart : SiteState × Standing). Restarts catalogue host (host_with parts.id parts.port new (Some apart.1))) (sym is_apart)
-        (subst (λ h. Restarts catalogue h (host_with parts.id parts.port new (Some node.at))) same (goes_up catalogue parts new node rests one asked starts (known is) lives kept))
+        subst (λ (apart : SiteState × Standing). Restarts catalogue (Some apart.0) host (host_with parts.id parts.port new (Some apart.1))) (sym is_apart)
+        (subst (λ h. Restarts catalogue (Some node.site) h (host_with parts.id parts.port new (Some node.at))) same (restarts catalogue parts.id parts.port parts.disk new one asked node starts parts.log (known is).port_is lives kept))
 
-    pub parts_stay_down : (life : ℕ) → IsSpent catalogue parts.id life (told parts) → Steps ReadAlike (told parts) (state_after new true 0) → Restarts catalogue host (host_with parts.id parts.port new parts.log)
+    pub parts_stay_down : (life : ℕ) → IsSpent catalogue parts.id life (told parts) → Steps ReadAlike (told parts) (state_after new true 0) → Restarts catalogue None host (host_with parts.id parts.port new None)
     parts_stay_down life spent alike =
-        subst (λ (log : Option Standing). Restarts catalogue host (host_with parts.id parts.port new log)) (sym (none_of parts.log rests))
-        (subst (λ h. Restarts catalogue h (host_with parts.id parts.port new None)) same (stays_down catalogue parts new life rests one asked spent alike (known is)))
+        subst (λ h. Restarts catalogue None h (host_with parts.id parts.port new None)) same (is_over catalogue parts.id parts.port parts.disk new parts.log one asked life (known is).port_is spent alike)

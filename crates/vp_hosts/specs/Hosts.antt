@@ -1,5 +1,6 @@
 -- A host: a site's port and disk, and the log that it keeps while the site is up.
-use Rattle.std.specs.Prelude.{◌≡◌, ◌≢◌, ℕ, ◌-◌, ◌^◌, true, List, [], Option, Some, None, IfSome, IfNone, is_some}
+use Rattle.std.specs.Prelude.{◌≡◌, ◌≢◌, ℕ, true, List, [], Option, Some, None, IfSome, IfNone, is_some}
+use Rattle.std.specs.Option.{option_map_or}
 use Rattle.vp_model.specs.Types.{LogRecord}
 use Rattle.vp_model.specs.Words.{value_at}
 use Rattle.vp_model.specs.Catalogue.{Catalogue}
@@ -19,6 +20,7 @@ use Rattle.vp_runs.specs.Runs.{NodeState, start_node, after_turn}
 use Rattle.vp_runs.specs.Turns.{Turn, turn_on}
 use Rattle.vp_turns.specs.Taking.{IsStepOf}
 use Rattle.vp_turns.specs.declared.turned.TurnEffects.{TurnEffects}
+use Rattle.vp_places.specs.Asked.{started}
 use Rattle.vp_hosts.specs.declared.host.StoppedLog.{StoppedLog}
 
 -- what contracts see of a host: its site with its port, what was done to its disk, and where its log stands while the site is up
@@ -108,17 +110,11 @@ pub record Crashes (catalogue : Catalogue) (old new : HostValue) : Type 0 where
   pub stays : Stays catalogue old new
   pub down : (batches : List (List LogRecord)) (up : Option SiteState) → IsAt batches up old → IsAt batches None new
 
--- the log ends in the last life
-abbrev pub is_spent : Catalogue → ℕ → List (List LogRecord) → Type 0
-is_spent catalogue id batches = (durable_in catalogue id batches).life ≡ 2 ^ 32 - 1
-
--- Where its site is down and a life is left, that starts from its log.
-pub record Restarts (catalogue : Catalogue) (old new : HostValue) : Type 0 where
+-- Its site starts from its log as this one, whether it was up or down; or, where none is given, its lives are spent, and it is down.
+pub record Restarts (catalogue : Catalogue) (site : Option SiteState) (old new : HostValue) : Type 0 where
   pub stays : Stays catalogue old new
-  pub up : (batches : List (List LogRecord)) (site : SiteState) → IsAt batches (Some site) old → IsAt batches (Some site) new
-  pub spent : (batches : List (List LogRecord)) → IsAt batches None old → is_spent catalogue old.id batches → IsAt batches None new
-  pub down : (batches : List (List LogRecord)) → IsAt batches None old → (is_spent catalogue old.id batches → ⊥)
-      → IsAt (start_node catalogue old.id batches).batches (Some (start_node catalogue old.id batches).site) new
+  pub site_is : (batches : List (List LogRecord)) (up : Option SiteState) → IsAt batches up old → site ≡ started catalogue old.id (durable_in catalogue old.id batches)
+  pub at : (batches : List (List LogRecord)) (up : Option SiteState) → IsAt batches up old → IsAt (option_map_or (λ _. (start_node catalogue old.id batches).batches) site batches) site new
 
 -- It is the host of this site in its first life.
 pub record Begins (catalogue : Catalogue) (id port : ℕ) (host : HostValue) : Type 0 where

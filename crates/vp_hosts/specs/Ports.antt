@@ -24,6 +24,10 @@ host_at port hosts = find (λ (host : HostValue). host.port == port) hosts
 abbrev pub LendsAt : Catalogue → SiteState → ℕ → List HostValue → Type 0
 LendsAt catalogue site port hosts = (host : HostValue) × (host_at port hosts ≡ Some host) × Lends catalogue site host
 
+-- there is a host for this site
+abbrev pub HasHost : Catalogue → ℕ → List HostValue → Type 0
+HasHost catalogue site hosts = (port : ℕ) × (host : HostValue) × (value_at site catalogue.sites ≡ Some port) × (host_at port hosts ≡ Some host)
+
 -- The host at this port changes so, and the others stay.
 pub record ChangesAt (port : ℕ) (does : HostValue → HostValue → Type 0) (old new : List HostValue) : Type 0 where
   pub there : (host : HostValue) → host_at port old ≡ Some host → (after : HostValue) × (host_at port new ≡ Some after) × does host after

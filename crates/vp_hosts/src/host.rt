@@ -6,6 +6,7 @@ ghost use Rattle.vp_hosts.specs.Letters.{as_received};
 ghost use Rattle.vp_hosts.specs.Stops.{is_kept};
 ghost use Rattle.vp_model.specs.Words.{value_at};
 ghost use Rattle.vp_outside.specs.Disk.{half_of};
+ghost use Rattle.vp_places.specs.Asked.{IfStarted};
 
 use crate::letter::Letter;
 use crate::stopping::{Stop, append_stopped};
@@ -15,7 +16,7 @@ use vp_base::{NoMemory, Seq, SiteId, Word};
 use vp_catalog::Catalog;
 use vp_disks::SureDisk;
 use vp_node::{Node, NodeEnd};
-use vp_site::Site;
+use vp_site::{Site, StartFault};
 use vp_stable::{Log, halves_are_one_log};
 use vp_turns::{TurnEffects, arrival, take};
 
@@ -182,25 +183,25 @@ impl Host {
         }))
     }
 
-    /// The log gets the start of the site's next life, where that is down and a life is left. Without memory the site stays down.
-    pub fn restart(&mut self, catalog: &Catalog) -> Result<(), NoMemory>
+    /// The site starts from the log in its next life, and is handed over; where it was up, that one is gone. Without memory, or where its
+    /// lives are spent, it is down.
+    pub fn restart(&mut self, catalog: &Catalog) -> Result<Site, StartFault>
         requires host { IsHost catalog.now self.old }
-        ensures restarts { OnOk result (Restarts catalog.now self.old self.new) }
+        ensures restarts { IfStarted result (λ site. Restarts catalog.now site self.old self.new) }
         ensures host { IsHost catalog.now self.new }
         ensures place { address_of self.new ≡ address_of self.old }
     {
-        if self.log.is_some() {
-            return Ok(());
-        }
+        // a site that was up is gone
+        self.log.take();
         halves_are_one_log();
         match Node::start(catalog, self.id, &mut self.disk) {
             Ok(node) => {
-                let (_, log) = node.into_parts();
+                let (site, log) = node.into_parts();
                 self.log = Some(log);
-                Ok(())
+                Ok(site)
             }
-            Err(NodeEnd::LivesSpent { .. }) => Ok(()),
-            Err(NodeEnd::NoMemory) => Err(NoMemory),
+            Err(NodeEnd::LivesSpent { life }) => Err(StartFault::LivesSpent { life }),
+            Err(NodeEnd::NoMemory) => Err(StartFault::NoMemory),
             // this disk never fails, and its log is one that this host has left
             Err(NodeEnd::DiskFault) => unreachable!(),
             Err(NodeEnd::BadLog { .. }) => unreachable!(),

@@ -5,7 +5,8 @@ ghost use Rattle.std.specs.List.{position};
 ghost use Rattle.vp_hosts.specs.Hosts.{Takes, Crashes, Restarts, Stops, site_log};
 ghost use Rattle.vp_hosts.specs.Letters.{as_received};
 ghost use Rattle.vp_hosts.specs.Stops.{is_kept};
-ghost use Rattle.vp_hosts.specs.Ports.{AreBegun, AreHosts, LendsAt, ChangesAt, ChangesOf};
+ghost use Rattle.vp_hosts.specs.Ports.{AreBegun, AreHosts, HasHost, LendsAt, ChangesAt, ChangesOf};
+ghost use Rattle.vp_places.specs.Asked.{IfStarted};
 
 use crate::host::{Host, SiteLog, StoppedLog};
 use crate::letter::Letter;
@@ -13,7 +14,7 @@ use crate::stopping::Stop;
 use std::alloc::Global;
 use vp_base::{NoMemory, SiteId};
 use vp_catalog::Catalog;
-use vp_site::Site;
+use vp_site::{Site, StartFault};
 use vp_turns::TurnEffects;
 
 /// A host for each site of the catalogue, in its first life.
@@ -97,17 +98,22 @@ pub fn crash_at(hosts: &mut [Host], catalog: &Catalog, site: SiteId)
     }
 }
 
-/// The host of the site restarts.
-pub fn restart_at(hosts: &mut [Host], catalog: &Catalog, site: SiteId) -> Result<(), NoMemory>
-    requires { AreHosts catalog.now hosts.old }
-    ensures restarts { OnOk result (ChangesOf catalog.now site (Restarts catalog.now) hosts.old hosts.new) }
+/// The site starts from the log of its host in its next life, and is handed over.
+pub fn restart_at(
+    hosts: &mut [Host],
+    catalog: &Catalog,
+    site: SiteId,
+) -> Result<Site, StartFault>
+    requires hosts { AreHosts catalog.now hosts.old }
+    requires there { HasHost catalog.now site hosts.old }
+    ensures restarts { IfStarted result (λ it. ChangesOf catalog.now site (Restarts catalog.now it) hosts.old hosts.new) }
     ensures hosts { AreHosts catalog.now hosts.new }
 {
     let Some(port) = catalog.port(site) else {
-        return Ok(());
+        unreachable!()
     };
-    match index_of(hosts, port) {
-        None => Ok(()),
-        Some(i) => hosts[i].restart(catalog),
-    }
+    let Some(i) = index_of(hosts, port) else {
+        unreachable!()
+    };
+    hosts[i].restart(catalog)
 }

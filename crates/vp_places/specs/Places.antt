@@ -1,5 +1,5 @@
 -- What a step of a site gives beside the site, and how a site starts again.
-use Rattle.std.specs.Prelude.{◌≡◌, ◌<◌, ◌+◌, ◌-◌, ◌^◌, ◌==◌, ◌&&◌, ℕ, Bool, not, if◌then◌else◌, is_some, List, Option, Some, None, option_map, option_and_then, Result, Ok, Err}
+use Rattle.std.specs.Prelude.{◌≡◌, ◌+◌, ◌-◌, ◌^◌, ◌==◌, ◌&&◌, ℕ, Bool, not, if◌then◌else◌, is_some, List, Option, Some, None, option_map, option_and_then}
 use Rattle.std.specs.Option.{option_map_or}
 use Rattle.vp_model.specs.Types.{ViewId, View, Input, Shown}
 use Rattle.vp_model.specs.Types.shown
@@ -8,8 +8,6 @@ use Rattle.vp_model.specs.Catalogue.{Catalogue}
 use Rattle.vp_model.specs.Site.{SiteState, Stepped}
 use Rattle.vp_model.specs.Step.{step}
 use Rattle.vp_model.specs.World.{Place, place_of, after_step, restart_place}
-use Rattle.vp_site.specs.declared.fault.StartFault.{StartFault}
-use Rattle.vp_site.specs.declared.fault.StartFault.TheVariants as fault
 use Rattle.vp_places.specs.declared.place.Taken.{Taken}
 
 -- the view that the site had invited to, and holds now
@@ -38,14 +36,6 @@ Did does (Some a) old new = does a old new
 -- a place whose site goes down
 abbrev pub crashed_place : Place → Place
 crashed_place place = record place { up = None }
-
--- how a site starts
-
--- a life is left, or all are spent
-abbrev pub BeginsLife : Catalogue → Place → Place → Result (Unit {0}) StartFault → Type 0
-BeginsLife catalogue old new (Ok _) = (old.durable.life < 2 ^ 32 - 1) × (new ≡ restart_place catalogue old)
-BeginsLife catalogue old new (Err (fault.LivesSpent life)) = (old.durable.life ≡ 2 ^ 32 - 1) × (life ≡ 2 ^ 32 - 1) × (new ≡ old)
-BeginsLife catalogue old new (Err fault.NoMemory) = Unit {0}
 
 -- the site is down and has a life left
 abbrev pub restarts : Place → Bool

@@ -8,5 +8,5 @@ mod stepper;
 pub use place::Taken;
 pub use places::Places;
 pub use stepper::{ByThemselves, Stepper};
-// what a step is lent
-pub use vp_site::Site;
+// what a step is lent, and why a restart has none
+pub use vp_site::{Site, StartFault};

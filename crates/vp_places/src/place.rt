@@ -2,15 +2,17 @@
 
 ghost use Rattle.std.specs.Prelude.{◌≡◌, ◌==◌, ◌-◌, ◌^◌, ◌&&◌, not, OnOk, IfOk, IfSome, is_some, if◌then◌else◌, option_map, option_to_list, option_copied, option_and_then, Some, None};
 ghost use Rattle.std.specs.Option.{option_map_or};
-ghost use Rattle.vp_model.specs.Durable.{apply_all};
+ghost use Rattle.vp_base.specs.declared.entry.LogRecord.TheVariants as log_record;
+ghost use Rattle.vp_model.specs.Durable.{apply, apply_all};
 ghost use Rattle.vp_model.specs.Generated.{newest};
 ghost use Rattle.vp_model.specs.Step.{step};
 ghost use Rattle.vp_model.specs.World.{start_place, after_step};
-ghost use Rattle.vp_places.specs.Places.{newly_agreed, taken, stepped_place, BeginsLife, crashed_place, restarted_place, restart_line, Did};
+ghost use Rattle.vp_places.specs.Asked.{Asked, restart_asked};
+ghost use Rattle.vp_places.specs.Places.{newly_agreed, taken, stepped_place, crashed_place, restarted_place, restart_line, Did};
 
 use crate::stepper::Stepper;
 use std::marker::Model;
-use vp_base::{CopyOf, Effects, Input, LogRecord, Newest, NoMemory, Shown, SiteId, View, ViewId};
+use vp_base::{CopyOf, Effects, Event, Input, LogRecord, Newest, NoMemory, Shown, SiteId, View, ViewId};
 use vp_catalog::Catalog;
 use vp_lists::is_same_view;
 use vp_records::Durable;
@@ -57,17 +59,21 @@ fn newly_agreed(inviting: Option<ViewId>, held: Option<&View>) -> Result<Option<
 
 impl Place {
     /// The site in its first life.
-    #[tactic(auto, unfolding(vp_model::specs::Durable::apply))]
+    #[tactic(auto, unfolding(vp_model::specs::Step::start))]
     pub fn start(catalog: &Catalog, id: SiteId) -> Result<Place, NoMemory>
         ensures { IfOk result (λ place. place ≡ start_place catalog.now id) }
     {
-        let mut place = Place {
-            id,
-            durable: Durable::empty(catalog.copies(id)?),
-            up: None,
-        };
-        match place.begin_life(catalog) {
-            Ok(()) => Ok(place),
+        let durable = Durable::empty(catalog.copies(id)?);
+        match Site::start(catalog, id, durable.copy_of()?) {
+            Ok((site, _)) => {
+                let mut place = Place {
+                    id,
+                    durable,
+                    up: None,
+                };
+                place.begin_life(site)?;
+                Ok(place)
+            }
             // a first life is never the last one
             Err(StartFault::LivesSpent { .. }) => unreachable!(),
             Err(StartFault::NoMemory) => Err(NoMemory),
@@ -104,67 +110,76 @@ impl Place {
         self.up.take()
     }
 
-    /// The site starts with its durable part. Without memory the place may only be dropped.
-    fn begin_life(&mut self, catalog: &Catalog) -> Result<(), StartFault>
-        ensures { BeginsLife catalog.now self.old self.new result }
+    /// The site is up, in a life that its log has from here on. Without memory the place may only be dropped.
+    fn begin_life(&mut self, site: Site) -> Result<(), NoMemory>
+        ensures { OnOk result (self.new ≡ record self.old { durable = apply (log_record.Start site.life) self.old.durable; up = Some site }) }
     {
-        let (site, entry) = Site::start(catalog, self.id, self.durable.copy_of()?)?;
-        self.durable.apply(&entry)?;
+        self.durable.apply(&LogRecord::Start { life: site.life() })?;
         self.up = Some(site);
         Ok(())
     }
 
     /// The site starts again, where it is down and a life is left. Without memory the place may only be dropped.
-    #[tactic(auto, unfolding(vp_model::specs::Durable::apply))]
-    pub fn restart(&mut self, catalog: &Catalog) -> Result<Shown, NoMemory>
+    #[tactic(auto, unfolding(vp_model::specs::Step::start))]
+    pub fn restart<S: Stepper>(
+        &mut self,
+        catalog: &Catalog,
+        stepper: &mut S,
+    ) -> Result<Shown, NoMemory>
+        requires { IfSome (restart_asked catalog.now self.old) (λ a. S.may catalog.now a stepper.old) }
         ensures place { OnOk result (self.new ≡ restarted_place catalog.now self.old) }
         ensures shown { IfOk result (λ shown. shown ≡ restart_line self.old) }
+        ensures did { OnOk result (Did S.did (restart_asked catalog.now self.old) stepper.old stepper.new) }
     {
         if self.is_up() {
             return Ok(Shown::Up { site: self.id });
         }
-        match self.begin_life(catalog) {
-            Ok(()) => Ok(Shown::Life {
-                life: self.durable.life(),
-            }),
+        match stepper.restart(catalog, self.id, &self.durable) {
+            Ok(site) => {
+                let life = site.life();
+                self.begin_life(site)?;
+                Ok(Shown::Life { life })
+            }
             Err(StartFault::LivesSpent { life }) => Ok(Shown::LivesSpent { life }),
             Err(StartFault::NoMemory) => Err(NoMemory),
         }
     }
 
-    /// An input comes to the site; nothing is taken where it is down. Without memory the place may only be dropped.
+    /// The event brings an input to the site; nothing is taken where it is down. Without memory the place may only be dropped.
     pub fn step<S: Stepper>(
         &mut self,
         catalog: &Catalog,
+        event: &Event,
         input: &Input,
         stepper: &mut S,
     ) -> Result<Option<Taken>, NoMemory>
-        requires { IfSome self.old.up (λ site. S.may catalog.now site input.now stepper.old) }
+        requires { IfSome self.old.up (λ site. S.may catalog.now (Asked.steps event.now site input.now) stepper.old) }
         ensures taken { IfOk result (λ t. t ≡ option_map (λ site. taken site (step catalog.now site input.now)) self.old.up) }
         ensures place { OnOk result (self.new ≡ stepped_place catalog.now input.now self.old) }
-        ensures did { OnOk result (Did (λ site. S.did site input.now) self.old.up stepper.old stepper.new) }
+        ensures did { OnOk result (Did (λ site. S.did (Asked.steps event.now site input.now)) self.old.up stepper.old stepper.new) }
     {
         match self.up.take() {
             None => Ok(None),
-            Some(site) => Ok(Some(self.step_up(site, catalog, input, stepper)?)),
+            Some(site) => Ok(Some(self.step_up(site, catalog, event, input, stepper)?)),
         }
     }
 
-    /// An input comes to this site, which is up.
+    /// The event brings an input to this site, which is up.
     fn step_up<S: Stepper>(
         &mut self,
         site: Site,
         catalog: &Catalog,
+        event: &Event,
         input: &Input,
         stepper: &mut S,
     ) -> Result<Taken, NoMemory>
-        requires { S.may catalog.now site input.now stepper.old }
+        requires { S.may catalog.now (Asked.steps event.now site input.now) stepper.old }
         ensures taken { IfOk result (λ t. t ≡ taken site (step catalog.now site input.now)) }
         ensures place { OnOk result (self.new ≡ after_step (step catalog.now site input.now) self.old) }
-        ensures did { OnOk result (S.did site input.now stepper.old stepper.new) }
+        ensures did { OnOk result (S.did (Asked.steps event.now site input.now) stepper.old stepper.new) }
     {
         let inviting = site.inviting();
-        let (site, effects) = stepper.step(catalog, site, input)?;
+        let (site, effects) = stepper.step(catalog, event, site, input)?;
         let agreed = newly_agreed(inviting, site.held())?;
         self.take_back(site, effects.records.as_slice())?;
         Ok(Taken { effects, agreed })

@@ -8,13 +8,14 @@ ghost use Rattle.vp_model.specs.Catalogue.{sites_of};
 ghost use Rattle.vp_model.specs.Generated.{newest};
 ghost use Rattle.vp_model.specs.Step.{step};
 ghost use Rattle.vp_model.specs.World.{start_place, place_of, change_place};
+ghost use Rattle.vp_places.specs.Asked.{Asked, restart_asked};
 ghost use Rattle.vp_places.specs.Places.{site_in, taken, stepped_place, crashed_place, restarted_place, restart_line, Did};
 
 use crate::place::{Place, Taken};
 use crate::stepper::Stepper;
 use std::alloc::Global;
 use std::marker::Model;
-use vp_base::{Input, Newest, NoMemory, Shown, SiteId};
+use vp_base::{Event, Input, Newest, NoMemory, Shown, SiteId};
 use vp_catalog::Catalog;
 use vp_site::Site;
 
@@ -62,23 +63,24 @@ fn find_place(places: &[Place], id: SiteId) -> Option<&Place>
     places.iter().find(|place| place.id() == id)
 }
 
-/// An input comes to the site; nothing is taken where it is down.
+/// The event brings an input to the site; nothing is taken where it is down.
 #[tactic(auto, using(vp_lists::proofs::Found::first_changes, vp_lists::proofs::Found::first_places))]
 fn step_at<S: Stepper>(
     places: &mut [Place],
     catalog: &Catalog,
     id: SiteId,
+    event: &Event,
     input: &Input,
     stepper: &mut S,
 ) -> Result<Option<Taken>, NoMemory>
-    requires { IfSome (site_in id places.old) (λ site. S.may catalog.now site input.now stepper.old) }
+    requires { IfSome (site_in id places.old) (λ site. S.may catalog.now (Asked.steps event.now site input.now) stepper.old) }
     ensures taken { IfOk result (λ t. t ≡ option_map (λ site. taken site (step catalog.now site input.now)) (site_in id places.old)) }
     ensures places { OnOk result (places.new ≡ change_place id (stepped_place catalog.now input.now) places.old) }
-    ensures did { OnOk result (Did (λ site. S.did site input.now) (site_in id places.old) stepper.old stepper.new) }
+    ensures did { OnOk result (Did (λ site. S.did (Asked.steps event.now site input.now)) (site_in id places.old) stepper.old stepper.new) }
 {
     match place_at(places, id) {
         None => Ok(None),
-        Some(i) => places[i].step(catalog, input, stepper),
+        Some(i) => places[i].step(catalog, event, input, stepper),
     }
 }
 
@@ -96,13 +98,20 @@ fn take_at(places: &mut [Place], id: SiteId) -> Option<Site>
 
 /// The site starts again, where it is down and a life is left.
 #[tactic(auto, using(vp_lists::proofs::Found::first_changes, vp_lists::proofs::Found::first_places))]
-fn restart_at(places: &mut [Place], catalog: &Catalog, id: SiteId) -> Result<Shown, NoMemory>
+fn restart_at<S: Stepper>(
+    places: &mut [Place],
+    catalog: &Catalog,
+    id: SiteId,
+    stepper: &mut S,
+) -> Result<Shown, NoMemory>
+    requires { IfSome (option_and_then (restart_asked catalog.now) (place_of id places.old)) (λ a. S.may catalog.now a stepper.old) }
     ensures places { OnOk result (places.new ≡ change_place id (restarted_place catalog.now) places.old) }
     ensures shown { IfOk result (λ s. s ≡ option_map_or restart_line (place_of id places.old) shown.Nothing) }
+    ensures did { OnOk result (Did S.did (option_and_then (restart_asked catalog.now) (place_of id places.old)) stepper.old stepper.new) }
 {
     match place_at(places, id) {
         None => Ok(Shown::Nothing),
-        Some(i) => places[i].restart(catalog),
+        Some(i) => places[i].restart(catalog, stepper),
     }
 }
 
@@ -135,20 +144,21 @@ impl Places {
         }
     }
 
-    /// An input comes to the site; nothing is taken where it is down. Without memory the places may only be dropped.
+    /// The event brings an input to the site; nothing is taken where it is down. Without memory the places may only be dropped.
     pub fn step<S: Stepper>(
         &mut self,
         catalog: &Catalog,
         id: SiteId,
+        event: &Event,
         input: &Input,
         stepper: &mut S,
     ) -> Result<Option<Taken>, NoMemory>
-        requires { IfSome (site_in id self.old) (λ site. S.may catalog.now site input.now stepper.old) }
+        requires { IfSome (site_in id self.old) (λ site. S.may catalog.now (Asked.steps event.now site input.now) stepper.old) }
         ensures taken { IfOk result (λ t. t ≡ option_map (λ site. taken site (step catalog.now site input.now)) (site_in id self.old)) }
         ensures places { OnOk result (self.new ≡ change_place id (stepped_place catalog.now input.now) self.old) }
-        ensures did { OnOk result (Did (λ site. S.did site input.now) (site_in id self.old) stepper.old stepper.new) }
+        ensures did { OnOk result (Did (λ site. S.did (Asked.steps event.now site input.now)) (site_in id self.old) stepper.old stepper.new) }
     {
-        step_at(&mut self.items, catalog, id, input, stepper)
+        step_at(&mut self.items, catalog, id, event, input, stepper)
     }
 
     /// The site goes down, where it is up, and is handed out.
@@ -160,10 +170,17 @@ impl Places {
     }
 
     /// The site starts again, where it is down and a life is left. Without memory the places may only be dropped.
-    pub fn restart(&mut self, catalog: &Catalog, id: SiteId) -> Result<Shown, NoMemory>
+    pub fn restart<S: Stepper>(
+        &mut self,
+        catalog: &Catalog,
+        id: SiteId,
+        stepper: &mut S,
+    ) -> Result<Shown, NoMemory>
+        requires { IfSome (option_and_then (restart_asked catalog.now) (place_of id self.old)) (λ a. S.may catalog.now a stepper.old) }
         ensures places { OnOk result (self.new ≡ change_place id (restarted_place catalog.now) self.old) }
         ensures shown { IfOk result (λ s. s ≡ option_map_or restart_line (place_of id self.old) shown.Nothing) }
+        ensures did { OnOk result (Did S.did (option_and_then (restart_asked catalog.now) (place_of id self.old)) stepper.old stepper.new) }
     {
-        restart_at(&mut self.items, catalog, id)
+        restart_at(&mut self.items, catalog, id, stepper)
     }
 }

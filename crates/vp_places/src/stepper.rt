@@ -1,70 +1,83 @@
 //! Who does the steps of the sites.
 
-ghost use Rattle.std.specs.Prelude.{◌≡◌, OnOk, IfOk, ⊤};
+ghost use Rattle.std.specs.Prelude.{◌≡◌, OnOk, IfOk, Option, ⊤};
+ghost use Rattle.vp_model.specs.Site.{SiteState};
 ghost use Rattle.vp_model.specs.Step.{step};
+ghost use Rattle.vp_places.specs.Asked.{started, IfStarted};
 
-use vp_base::{Effects, Event, Input, NoMemory};
+use vp_base::{CopyOf, Effects, Event, Input, NoMemory, SiteId};
 use vp_catalog::Catalog;
-use vp_site::Site;
+use vp_records::Durable;
+use vp_site::{Site, StartFault};
 
-/// Who does the steps of the sites of a world. Each event is announced to it before it happens, and a site is lent for its step.
+/// Who does the steps of the sites of a world: a site is lent for its step, and handed over where it starts again.
 pub trait Stepper {
-    ghost use Rattle.vp_model.specs.Types.{Event, Input};
     ghost use Rattle.vp_model.specs.Catalogue.{Catalogue};
-    ghost use Rattle.vp_model.specs.Site.{SiteState};
+    ghost use Rattle.vp_places.specs.Asked.{Asked};
 
-    /// The events that may be announced to it.
-    ghost announces: { Event → Type 0 };
+    /// What it may be asked for.
+    ghost may: { Catalogue → Asked → Self → Type 0 };
 
-    /// What it makes of the event that is announced, by its states before and after.
-    ghost announced: { Event → Self → Self → Type 0 };
+    /// What it makes of what it is asked for, by its states before and after.
+    ghost did: { Asked → Self → Self → Type 0 };
 
-    /// The steps that it may be asked for.
-    ghost may: { Catalogue → SiteState → Input → Self → Type 0 };
-
-    /// What the step of this site with this input makes of it.
-    ghost did: { SiteState → Input → Self → Self → Type 0 };
-
-    /// Tells it the event that happens next.
-    fn announce(&mut self, event: &Event) -> Result<(), NoMemory>
-        requires { announces event.now }
-        ensures { OnOk result (announced event.now self.old self.new) };
-
-    /// Does what the input does to the site. Without memory the site is gone, as in a crash.
+    /// Does what the input, which the event brings, does to the site. Without memory the site is gone, as in a crash.
     fn step(
         &mut self,
         catalog: &Catalog,
+        event: &Event,
         site: Site,
         input: &Input,
     ) -> Result<(Site, Effects), NoMemory>
-        requires { may catalog.now site input.now self.old }
+        requires { may catalog.now (Asked.steps event.now site input.now) self.old }
         ensures stepped { IfOk result (λ r. record { site = r.0; effects = r.1 } ≡ step catalog.now site input.now) }
-        ensures did { OnOk result (did site input.now self.old self.new) };
+        ensures did { OnOk result (did (Asked.steps event.now site input.now) self.old self.new) };
+
+    /// The site goes down.
+    fn crash(&mut self, site: SiteId)
+        ensures { did (Asked.crashes site) self.old self.new };
+
+    /// Starts the site, which is down, in its next life. The world keeps this durable part of it; whoever keeps it too may start the site
+    /// from what it has itself, which is the same.
+    fn restart(
+        &mut self,
+        catalog: &Catalog,
+        id: SiteId,
+        durable: &Durable,
+    ) -> Result<Site, StartFault>
+        requires { (site : Option SiteState) × may catalog.now (Asked.restarts id site) self.old }
+        ensures did { IfStarted result (λ site. did (Asked.restarts id site) self.old self.new) }
+        ensures started { may catalog.now (Asked.restarts id (started catalog.now id durable.now)) self.old → IfStarted result (λ site. site ≡ started catalog.now id durable.now) };
 }
 
-/// Sites that do their steps by themselves.
+/// Sites that do their steps by themselves, and start from what the world keeps of them.
 #[derive(Clone, Copy, Drop)]
 pub struct ByThemselves;
 
 impl Stepper for ByThemselves {
-    ghost announces = { λ _. ⊤ };
+    ghost may = { λ _ _ _. ⊤ };
 
-    ghost announced = { λ _ _ _. ⊤ };
-
-    ghost may = { λ _ _ _ _. ⊤ };
-
-    ghost did = { λ _ _ _ _. ⊤ };
-
-    fn announce(&mut self, _: &Event) -> Result<(), NoMemory> {
-        Ok(())
-    }
+    ghost did = { λ _ _ _. ⊤ };
 
     fn step(
         &mut self,
         catalog: &Catalog,
+        _: &Event,
         site: Site,
         input: &Input,
     ) -> Result<(Site, Effects), NoMemory> {
         site.step(catalog, input)
+    }
+
+    fn crash(&mut self, _: SiteId) {}
+
+    fn restart(
+        &mut self,
+        catalog: &Catalog,
+        id: SiteId,
+        durable: &Durable,
+    ) -> Result<Site, StartFault> {
+        let (site, _) = Site::start(catalog, id, durable.copy_of()?)?;
+        Ok(site)
     }
 }

@@ -1,11 +1,11 @@
 -- What an observer sees as the events of a schedule are played.
 use Rattle.std.specs.Prelude.{◌≡◌, ◌⊎◌, ℕ, false, List, [], ◌∷◌, ◌++◌, map, Some, None, Result, Ok, Err}
 use Rattle.std.specs.List.{list_any, before_first}
-use Rattle.vp_model.specs.Types.{Event, Input, Line}
+use Rattle.vp_model.specs.Types.{Event, Line}
 use Rattle.vp_model.specs.Catalogue.{Catalogue}
-use Rattle.vp_model.specs.Site.{SiteState}
 use Rattle.vp_model.specs.World.{WorldState, Moment, Run, Schedule, run_of}
 use Rattle.vp_model.specs.Limits.{world_limits, is_over, limit_in, limit_reached, lines_within}
+use Rattle.vp_places.specs.Asked.{Asked}
 use Rattle.vp_world.specs.Known.{Known}
 use Rattle.vp_world.specs.Steps.{DoesEvent, IsReady}
 use Rattle.vp_world.specs.Limits.{limit_of}
@@ -33,14 +33,13 @@ abbrev pub SeesSome : {S : Type 0} → (sees begins : ℕ × Line → S → S �
 SeesSome sees begins [] old new = new ≡ old
 SeesSome {S} sees begins (line ∷ lines) old new = (new ≡ old) ⊎ (begins line old new ⊎ ((mid : S) × sees line old mid × SeesSome sees begins lines mid new))
 
--- whoever does the steps, before and after those of these moments
-abbrev pub StepsAll : {S : Type 0} → (Event → S → S → Type 0) → (SiteState → Input → S → S → Type 0) → List Moment → S → S → Type 0
-StepsAll announced did moments old new = SeesAll (λ (m : Moment). DoesEvent announced did m.line.event m.before) moments old new
+-- whoever does the steps, before and after what these moments ask
+abbrev pub StepsAll : {S : Type 0} → (Asked → S → S → Type 0) → Catalogue → List Moment → S → S → Type 0
+StepsAll did catalogue moments old new = SeesAll (λ (m : Moment). DoesEvent did catalogue m.line.event m.before) moments old new
 
--- it may do the step of each of these moments, once it has done those before
-abbrev pub IsReadyFor : {S : Type 0} → (announces : Event → Type 0) → (announced : Event → S → S → Type 0) → (did : SiteState → Input → S → S → Type 0) → (may : SiteState → Input → S → Type 0) → List Moment → S → Type 0
-IsReadyFor {S} announces announced did may moments old = (before rest : List Moment) (m : Moment) (now : S) → moments ≡ before ++ m ∷ rest → StepsAll announced did before old now
-    → announces m.line.event × IsReady announced may m.line.event m.before now
+-- it may be asked for what each of these moments asks, once it has done what those before ask
+abbrev pub IsReadyFor : {S : Type 0} → (may : Catalogue → Asked → S → Type 0) → (did : Asked → S → S → Type 0) → Catalogue → List Moment → S → Type 0
+IsReadyFor {S} may did catalogue moments old = (before rest : List Moment) (m : Moment) (now : S) → moments ≡ before ++ m ∷ rest → StepsAll did catalogue before old now → IsReady may catalogue m.line.event m.before now
 
 -- The steps of the run are done, and the observer has seen the event's own lines and then theirs; or a limit ends them, and it has seen the
 -- event's own lines and those of the steps before; or there is no memory, and it has seen some of these.

@@ -19,10 +19,9 @@ fn play_step<S: Stepper, O: Observer>(
     stepper: &mut S,
     observer: &mut O,
 ) -> Result<World, WorldEnd>
-    requires announces { S.announces event.now }
-    requires ready { IsReady S.announced (S.may world.catalogue) event.now world.world stepper.old }
+    requires { IsReady S.may world.catalogue event.now world.world stepper.old }
     ensures seen { Sees O.sees O.begins world.catalogue [] (one_step world.catalogue number event.now (run_in world.world)) result observer.old observer.new }
-    ensures stepped { OnOk result (StepsAll S.announced S.did (one_step world.catalogue number event.now (run_in world.world)).moments stepper.old stepper.new) }
+    ensures stepped { OnOk result (StepsAll S.did world.catalogue (one_step world.catalogue number event.now (run_in world.world)).moments stepper.old stepper.new) }
 {
     match world.next_by(event, stepper) {
         Err(end) => Err(end),
@@ -41,8 +40,8 @@ fn play_flow<S: Stepper, O: Observer>(
     stepper: &mut S,
     observer: &mut O,
 ) -> Result<World, WorldEnd>
-    requires { IsReadyFor S.announces S.announced S.did (S.may world.catalogue) (flow world.catalogue number count (run_in world.world)).moments stepper.old }
-    ensures stepped { OnOk result (StepsAll S.announced S.did (flow world.catalogue number count (run_in world.world)).moments stepper.old stepper.new) }
+    requires { IsReadyFor S.may S.did world.catalogue (flow world.catalogue number count (run_in world.world)).moments stepper.old }
+    ensures stepped { OnOk result (StepsAll S.did world.catalogue (flow world.catalogue number count (run_in world.world)).moments stepper.old stepper.new) }
     ensures seen { Sees O.sees O.begins world.catalogue [] (flow world.catalogue number count (run_in world.world)) result observer.old observer.new }
 {
     let mut world = world;
@@ -84,8 +83,8 @@ pub fn play_event<S: Stepper, O: Observer>(
     stepper: &mut S,
     observer: &mut O,
 ) -> Result<World, WorldEnd>
-    requires ready { IsReadyFor S.announces S.announced S.did (S.may world.catalogue) (one_event world.catalogue number event.now (run_in world.world)).moments stepper.old }
-    ensures stepped { OnOk result (StepsAll S.announced S.did (one_event world.catalogue number event.now (run_in world.world)).moments stepper.old stepper.new) }
+    requires ready { IsReadyFor S.may S.did world.catalogue (one_event world.catalogue number event.now (run_in world.world)).moments stepper.old }
+    ensures stepped { OnOk result (StepsAll S.did world.catalogue (one_event world.catalogue number event.now (run_in world.world)).moments stepper.old stepper.new) }
     ensures seen { Sees O.sees O.begins world.catalogue (own_line number event.now) (one_event world.catalogue number event.now (run_in world.world)) result
         observer.old observer.new }
 {
@@ -105,8 +104,8 @@ pub fn play<S: Stepper, O: Observer>(
     observer: &mut O,
 ) -> Result<World, WorldEnd>
     requires few { length events.now ≤ 100000 }
-    requires ready { IsReadyFor S.announces S.announced S.did (S.may catalog) (moments_of (schedule_of catalog events.now)) stepper.old }
-    ensures stepped { OnOk result (StepsAll S.announced S.did (moments_of (schedule_of catalog events.now)) stepper.old stepper.new) }
+    requires ready { IsReadyFor S.may S.did catalog (moments_of (schedule_of catalog events.now)) stepper.old }
+    ensures stepped { OnOk result (StepsAll S.did catalog (moments_of (schedule_of catalog events.now)) stepper.old stepper.new) }
     ensures played { Plays O.sees O.begins (schedule_of catalog events.now) result observer.old observer.new }
 {
     let mut world = World::new(catalog)?;

@@ -25,7 +25,7 @@ use Rattle.vp_playing.proofs.Seen.{sees_append}
 use Rattle.vp_stopping.specs.declared.stopped.Steps.{Steps}
 use Rattle.vp_stopping.specs.declared.stopped.Front.{Front}
 use Rattle.vp_stopping.specs.Left.{next_single, left_then}
-use Rattle.vp_cluster.specs.Nodes.{NodesValue, Begin, Announced, MayStep, Posts}
+use Rattle.vp_cluster.specs.Nodes.{NodesValue, Begin, MayDo, Does}
 use Rattle.vp_cluster.specs.Letters.{letter_of}
 use Rattle.vp_cluster.specs.Clusters.{AreTied}
 use Rattle.vp_hosts.specs.Ports.{LendsAt}
@@ -47,7 +47,7 @@ pub record Comes (s : Schedule) (j : ℕ) (steps : Steps) (nodes : NodesValue) (
   pub none : limit_in world_limits ms ≡ None
   pub begun : NodesValue
   pub begins : Begin s.catalogue begun
-  pub nodes_are : StepsAll Announced Posts ms begun nodes
+  pub nodes_are : StepsAll Does s.catalogue ms begun nodes
 
 pub comes_first : (s : Schedule) (front : Front) → IsBegun s front → Comes s 0 front.steps front.nodes front.left
 comes_first s front h = record {
@@ -134,15 +134,15 @@ module _ (s : Schedule) (is : IsSchedule s) (j : ℕ) (steps : Steps) (nodes : N
     comes_formed = events_are s.catalogue s.events formed m has_it
 
     -- the nodes may do it
-    pub comes_ready : IsReady Announced (MayStep steps.world.catalogue) e steps.world.world nodes
+    pub comes_ready : IsReady MayDo steps.world.catalogue e steps.world.world nodes
     comes_ready =
-        subst (λ (k : Known). IsReady Announced (MayStep k.catalogue) e k.world nodes) (sym known)
-        (nodes_are_ready s is.catalogue_is formed h.begun h.begins h.ms grows.0 m nodes moments_are h.nodes_are).1
+        subst (λ (k : Known). IsReady MayDo k.catalogue e k.world nodes) (sym known)
+        (nodes_are_ready s is.catalogue_is formed h.begun h.begins h.ms grows.0 m nodes moments_are h.nodes_are)
 
     -- it is done
     pub comes_on : (after : Steps) (now : NodesValue) (behind : List Event)
         → HaveDone steps.world.catalogue (steps.done ++ e ∷ []) (next steps.world.catalogue e steps.world.world).world after → exceeded world_limits (next steps.world.catalogue e steps.world.world).world ≡ None
-        → DoesEvent Announced Posts e steps.world.world nodes now → behind ≡ left_then steps.world.world left → Comes s (j + 1) after now behind
+        → DoesEvent Does steps.world.catalogue e steps.world.world nodes now → behind ≡ left_then steps.world.world left → Comes s (j + 1) after now behind
     comes_on after now behind done none does left_is =
         let k = known in
         let none_here : exceeded world_limits v ≡ None = subst (λ (k : Known). exceeded world_limits (next k.catalogue e k.world).world ≡ None) k none in
@@ -159,8 +159,8 @@ module _ (s : Schedule) (is : IsSchedule s) (j : ℕ) (steps : Steps) (nodes : N
           begun = h.begun;
           begins = h.begins;
           nodes_are =
-              sees_append (λ (m : Moment). DoesEvent Announced Posts m.line.event m.before) h.ms (m ∷ []) h.begun nodes now h.nodes_are
-              (now, subst (λ (k : Known). DoesEvent Announced Posts e k.world nodes now) k does, refl);
+              sees_append (λ (m : Moment). DoesEvent Does s.catalogue m.line.event m.before) h.ms (m ∷ []) h.begun nodes now h.nodes_are
+              (now, subst (λ (k : Known). DoesEvent Does k.catalogue e k.world nodes now) k does, refl);
         }
 
     -- a limit ends it

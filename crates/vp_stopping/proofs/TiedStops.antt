@@ -176,7 +176,7 @@ module _ (catalogue : Catalogue) (k : IsCatalogue catalogue) (m : Moment) (momen
           let it : a.x ≡ site = (let z = sym a.up ∙ ap (site_of m.before) same ∙ up in cc) in
           let own : (acting.letter catalogue k m moments old facts tied s a).0 ≡ letter = (let z = sym (comes s a) ∙ at in cc) in
           subst (λ (l : Letter). LendsAt old.catalogue site l.to old.hosts) own
-          (subst (λ (x : SiteState). LendsAt old.catalogue x (acting.letter catalogue k m moments old facts tied s a).0.to old.hosts) it (acting.lends_at catalogue k m moments old facts tied s a folds old refl refl))
+          (subst (λ (x : SiteState). LendsAt old.catalogue x (acting.letter catalogue k m moments old facts tied s a).0.to old.hosts) it (acting.lends_at catalogue k m moments old facts tied s a folds))
       by (Effect.crashes s is sent own others) = absurd (let z = sym (unnamed (ap (site_named m.before) is)).0 ∙ takes in cc)
       by (Effect.restarts s is sent own others) = absurd (let z = sym (unnamed (ap (site_named m.before) is)).0 ∙ takes in cc)
       by (Effect.stands plain none sent all) = absurd (let z = sym (idle none) ∙ takes in cc)

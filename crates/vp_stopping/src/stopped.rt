@@ -10,7 +10,7 @@ ghost use Rattle.vp_stops.specs.Stopped.{appender, message_taken, pass_over, run
 ghost use Rattle.vp_world.specs.Limits.{Ends};
 ghost use Rattle.vp_world.specs.Steps.{taker, DoesEvent, IsReady};
 ghost use Rattle.vp_stopping.specs.Left.{CanRise, left_then, next_single};
-ghost use Rattle.vp_cluster.specs.Nodes.{Announced, MayStep, Posts};
+ghost use Rattle.vp_cluster.specs.Nodes.{MayDo, Does};
 ghost use Rattle.vp_hosts.specs.Stops.{is_kept};
 ghost use Rattle.vp_stopping.specs.RanStopped.{RunsStopped};
 ghost use Rattle.vp_stopping.specs.Singles.{AreBefore, ComesTo, GoesOn, HaveDone, IsBegun, MayStop, StopsIn, moment_in, run_in_place};
@@ -67,11 +67,10 @@ impl Steps {
 
     /// Does one step, whose site is lent to the stepper.
     fn step_by<S: Stepper>(self, event: Event, stepper: &mut S) -> Result<Steps, WorldEnd>
-        requires announces { S.announces event }
-        requires ready { IsReady S.announced (S.may self.world.catalogue) event self.world.world stepper.old }
+        requires { IsReady S.may self.world.catalogue event self.world.world stepper.old }
         ensures done { IfOk result (HaveDone self.world.catalogue (self.done ++ event ∷ []) (next self.world.catalogue event self.world.world).world) }
         ensures end { Ends (refused world_limits self.world.catalogue event self.world.world) result }
-        ensures did { OnOk result (DoesEvent S.announced S.did event self.world.world stepper.old stepper.new) }
+        ensures did { OnOk result (DoesEvent S.did self.world.catalogue event self.world.world stepper.old stepper.new) }
     {
         let Steps { world, mut done } = self;
         let world = world.next_by(&event, stepper)?.into_world()?;
@@ -190,12 +189,11 @@ impl Front {
 
     /// Does the step, in which the nodes do that of its site.
     fn step(self, event: Event) -> Result<Front, WorldEnd>
-        requires announces { IsEvent event }
-        requires ready { IsReady Announced (MayStep self.steps.world.catalogue) event self.steps.world.world self.nodes }
+        requires { IsReady MayDo self.steps.world.catalogue event self.steps.world.world self.nodes }
         ensures done { IfOk result (λ new. HaveDone self.steps.world.catalogue (self.steps.done ++ event ∷ [])
             (next self.steps.world.catalogue event self.steps.world.world).world new.steps) }
         ensures left { IfOk result (λ new. new.left ≡ self.left) }
-        ensures nodes { IfOk result (λ new. DoesEvent Announced Posts event self.steps.world.world self.nodes new.nodes) }
+        ensures nodes { IfOk result (λ new. DoesEvent Does self.steps.world.catalogue event self.steps.world.world self.nodes new.nodes) }
         ensures end { Ends (refused world_limits self.steps.world.catalogue event self.steps.world.world) result }
     {
         let Front {
@@ -209,7 +207,7 @@ impl Front {
 
     /// Stops the site that takes the event within that step; none where it appends no batch. All else is dropped.
     fn stop(self, event: &Event, stop: &Stop) -> Result<Option<StoppedSite>, NoMemory>
-        requires announces { IsEvent event.now }
+        requires event { IsEvent event.now }
         requires lent { MayStop event.now self }
         ensures stops { IfOk result (StopsIn event.now self) }
         ensures kept { IfOk result (λ at. IfSome at (λ it. it.left.kept ≡ is_kept stop.now)) }

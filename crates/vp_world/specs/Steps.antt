@@ -5,11 +5,11 @@ use Rattle.vp_model.specs.Types.event
 use Rattle.vp_model.specs.Types.input
 use Rattle.vp_model.specs.Types.shown
 use Rattle.vp_model.specs.Catalogue.{Catalogue}
-use Rattle.vp_model.specs.Site.{SiteState}
-use Rattle.vp_model.specs.World.{WorldState, Moved, site_of, message_at, is_cut, next}
+use Rattle.vp_model.specs.World.{WorldState, Moved, place_of, site_of, message_at, is_cut, next}
 use Rattle.vp_model.specs.Justified.{site_named}
 use Rattle.vp_model.specs.Told.{is_step}
 use Rattle.vp_places.specs.declared.place.Taken.{Taken}
+use Rattle.vp_places.specs.Asked.{Asked, restart_asked}
 use Rattle.vp_places.specs.Places.{Did}
 
 -- the world with what a step of a site gives
@@ -42,28 +42,30 @@ taker_now (event.Tick site) w = if_up w site
 taker_now (event.Probe site) w = if_up w site
 taker_now _ w = None
 
--- a site that is up, with what comes to it
-abbrev pub step_at : WorldState → ℕ → Input → Option (SiteState × Input)
-step_at w id given = option_map (λ site. (site, given)) (site_of w id)
+-- what the event asks of a site that is up, to which it brings this
+abbrev pub step_at : WorldState → Event → ℕ → Input → Option Asked
+step_at w e id given = option_map (λ site. Asked.steps e site given) (site_of w id)
 
-abbrev pub step_by : WorldState → Sent → Option (SiteState × Input)
-step_by w sent = if is_cut w sent.from sent.to then None else step_at w sent.to (input.Message sent.from sent.message)
+abbrev pub step_by : WorldState → Event → Sent → Option Asked
+step_by w e sent = if is_cut w sent.from sent.to then None else step_at w e sent.to (input.Message sent.from sent.message)
 
--- the site whose step the event is now, with what comes to it
-abbrev pub step_of : Event → WorldState → Option (SiteState × Input)
-step_of (event.Call site words) w = step_at w site (input.Call 0 words)
-step_of (event.Deliver k) w = option_and_then (step_by w) (message_at w k)
-step_of (event.Tick site) w = step_at w site input.Tick
-step_of (event.Probe site) w = step_at w site input.Probe
-step_of _ w = None
+-- what the event asks now of whoever does the steps of the sites
+abbrev pub asked_of : Catalogue → Event → WorldState → Option Asked
+asked_of catalogue (event.Call site words) w = step_at w (event.Call site words) site (input.Call 0 words)
+asked_of catalogue (event.Deliver k) w = option_and_then (step_by w (event.Deliver k)) (message_at w k)
+asked_of catalogue (event.Tick site) w = step_at w (event.Tick site) site input.Tick
+asked_of catalogue (event.Probe site) w = step_at w (event.Probe site) site input.Probe
+asked_of catalogue (event.Crash site) w = option_map (λ _. Asked.crashes site) (site_of w site)
+asked_of catalogue (event.Restart site) w = option_and_then (restart_asked catalogue) (place_of site w.places)
+asked_of catalogue _ w = None
 
--- the event is announced to whoever does the steps, who then does its step
-abbrev pub DoesEvent : {S : Type 0} → (Event → S → S → Type 0) → (SiteState → Input → S → S → Type 0) → Event → WorldState → S → S → Type 0
-DoesEvent {S} announced did e w old new = (told : S) × announced e old told × Did (λ it. did it.0 it.1) (step_of e w) told new
+-- it may be asked for that
+abbrev pub IsReady : {S : Type 0} → (Catalogue → Asked → S → Type 0) → Catalogue → Event → WorldState → S → Type 0
+IsReady may catalogue e w stepper = IfSome (asked_of catalogue e w) (λ a. may catalogue a stepper)
 
--- it may do the step of the event in this world, once that was announced to it
-abbrev pub IsReady : {S : Type 0} → (Event → S → S → Type 0) → (SiteState → Input → S → Type 0) → Event → WorldState → S → Type 0
-IsReady {S} announced may e w old = (told : S) → announced e old told → IfSome (step_of e w) (λ it. may it.0 it.1 told)
+-- and does it
+abbrev pub DoesEvent : {S : Type 0} → (Asked → S → S → Type 0) → Catalogue → Event → WorldState → S → S → Type 0
+DoesEvent did catalogue e w old new = Did did (asked_of catalogue e w) old new
 
 -- the world where this message counts as delivered too
 abbrev pub passed_over : ℕ → WorldState → WorldState

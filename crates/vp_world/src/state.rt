@@ -1,15 +1,16 @@
 //! What the world keeps, and what an event does to it.
 
-ghost use Rattle.std.specs.Prelude.{◌≡◌, ◌≤◌, ◌<◌, ◌+◌, ◌++◌, ◌∷◌, OnOk, OnErr, IfOk, IfSome, IsSome, Some, None, if◌then◌else◌, length, option_to_list};
+ghost use Rattle.std.specs.Prelude.{◌≡◌, ◌≤◌, ◌<◌, ◌+◌, ◌++◌, ◌∷◌, OnOk, OnErr, IfOk, IfSome, IsSome, Some, None, if◌then◌else◌, length, option_map, option_and_then, option_to_list};
 ghost use Rattle.vp_base.specs.declared.event.Event.TheVariants as event;
 ghost use Rattle.vp_base.specs.declared.event.Input.TheVariants as input;
 ghost use Rattle.vp_base.specs.declared.event.Shown.TheVariants as shown;
-ghost use Rattle.vp_model.specs.World.{start_world, flowing, message_at, shows, at_site, deliver, crash, cut, heal, restart, happens, next};
+ghost use Rattle.vp_model.specs.World.{start_world, place_of, site_of, flowing, message_at, shows, at_site, deliver, crash, cut, heal, restart, happens, next};
 ghost use Rattle.vp_model.specs.Limits.{world_limits, refused};
 ghost use Rattle.vp_world.specs.Limits.{Ends, Does, too_many_steps, with_line};
 ghost use Rattle.vp_mail.specs.Queues.{AreSited};
 ghost use Rattle.vp_world.specs.Known.{IsWithinLimits};
-ghost use Rattle.vp_world.specs.Steps.{takes_in, if_up, receiver, taker_now, passed_over, step_at, step_by, step_of};
+ghost use Rattle.vp_world.specs.Steps.{takes_in, if_up, receiver, taker_now, passed_over, step_at, step_by, IsReady, DoesEvent};
+ghost use Rattle.vp_places.specs.Asked.{Asked, restart_asked};
 ghost use Rattle.vp_places.specs.Places.{Did};
 ghost use Rattle.vp_world.specs.Heads.{is_open, head_of, lesser};
 
@@ -217,21 +218,22 @@ impl State {
         Ok(step_line(effects, first))
     }
 
-    /// An input comes to a site, where it is up. Where the messages are too many, or without memory, the state may only be dropped,
+    /// The event brings an input to a site, where it is up. Where the messages are too many, or without memory, the state may only be dropped,
     /// as after each call below.
     fn at_site<S: Stepper>(
         &mut self,
         catalog: &Catalog,
+        event: &Event,
         id: SiteId,
         input: &Input,
         stepper: &mut S,
     ) -> Result<Shown, WorldEnd>
         requires few { length self.old.sent ≤ 2000000 }
-        requires may { IfSome (step_at self.old id input.now) (λ it. S.may catalog.now it.0 it.1 stepper.old) }
+        requires may { IfSome (step_at self.old event.now id input.now) (λ a. S.may catalog.now a stepper.old) }
         ensures does { Does (at_site catalog.now id input.now self.old) self.new result }
-        ensures did { OnOk result (Did (λ it. S.did it.0 it.1) (step_at self.old id input.now) stepper.old stepper.new) }
+        ensures did { OnOk result (Did S.did (step_at self.old event.now id input.now) stepper.old stepper.new) }
     {
-        match self.places.step(catalog, id, input, stepper)? {
+        match self.places.step(catalog, id, event, input, stepper)? {
             None => Ok(Shown::Down { site: id }),
             Some(taken) => self.take_in(taken),
         }
@@ -247,9 +249,9 @@ impl State {
     ) -> Result<Shown, WorldEnd>
         requires few { length self.old.sent ≤ 2000000 }
         requires numbered { message_at self.old k ≡ Some sent }
-        requires may { IfSome (step_by self.old sent) (λ it. S.may catalog.now it.0 it.1 stepper.old) }
+        requires may { IfSome (step_by self.old (event.Deliver k) sent) (λ a. S.may catalog.now a stepper.old) }
         ensures does { Does (deliver catalog.now k sent self.old) self.new result }
-        ensures did { OnOk result (Did (λ it. S.did it.0 it.1) (step_by self.old sent) stepper.old stepper.new) }
+        ensures did { OnOk result (Did S.did (step_by self.old (event.Deliver k) sent) stepper.old stepper.new) }
     {
         let from = sent.from;
         let to = sent.to;
@@ -261,7 +263,8 @@ impl State {
         }
         self.mail.deliver(k, &sent)?;
         let message = sent.into_message();
-        self.at_site(catalog, to, &Input::Message { from, message }, stepper)
+        let input = Input::Message { from, message };
+        self.at_site(catalog, &Event::Deliver { k }, to, &input, stepper)
     }
 
     fn deliver<S: Stepper>(
@@ -271,9 +274,9 @@ impl State {
         stepper: &mut S,
     ) -> Result<Shown, WorldEnd>
         requires few { length self.old.sent ≤ 2000000 }
-        requires may { IfSome (step_of (event.Deliver k) self.old) (λ it. S.may catalog.now it.0 it.1 stepper.old) }
+        requires may { IsReady S.may catalog.now (event.Deliver k) self.old stepper.old }
         ensures does { Does (happens catalog.now (event.Deliver k) self.old) self.new result }
-        ensures did { OnOk result (Did (λ it. S.did it.0 it.1) (step_of (event.Deliver k) self.old) stepper.old stepper.new) }
+        ensures did { OnOk result (DoesEvent S.did catalog.now (event.Deliver k) self.old stepper.old stepper.new) }
     {
         match self.mail.message(k)? {
             None => Ok(Shown::NoMessage),
@@ -333,39 +336,49 @@ impl State {
         }
     }
 
-    fn crash(&mut self, id: SiteId) -> Shown
+    fn crash<S: Stepper>(&mut self, id: SiteId, stepper: &mut S) -> Shown
         ensures shown { shows (with_line result self.new) result ≡ crash id self.old }
         ensures sent { (with_line result self.new).sent ≡ self.old.sent }
+        ensures did { Did S.did (option_map (λ _. Asked.crashes id) (site_of self.old id)) stepper.old stepper.new }
     {
         if self.places.is_up(id) {
             self.places.take_site(id);
+            stepper.crash(id);
             Shown::Nothing
         } else {
             Shown::Down { site: id }
         }
     }
 
-    fn restart(&mut self, catalog: &Catalog, id: SiteId) -> Result<Shown, NoMemory>
+    fn restart<S: Stepper>(
+        &mut self,
+        catalog: &Catalog,
+        id: SiteId,
+        stepper: &mut S,
+    ) -> Result<Shown, NoMemory>
+        requires may { IfSome (option_and_then (restart_asked catalog.now) (place_of id self.old.places)) (λ a. S.may catalog.now a stepper.old) }
         ensures shown { IfOk result (λ line. shows (with_line line self.new) line ≡ restart catalog.now id self.old) }
         ensures sent { IfOk result (λ line. (with_line line self.new).sent ≡ self.old.sent) }
+        ensures did { OnOk result (Did S.did (option_and_then (restart_asked catalog.now) (place_of id self.old.places)) stepper.old stepper.new) }
     {
-        self.places.restart(catalog, id)
+        self.places.restart(catalog, id, stepper)
     }
 
     fn call<S: Stepper>(
         &mut self,
         catalog: &Catalog,
+        event: &Event,
         site: SiteId,
         call: &Call,
         stepper: &mut S,
     ) -> Result<Shown, WorldEnd>
         requires few { length self.old.sent ≤ 2000000 }
-        requires may { IfSome (step_at self.old site (input.Call 0 call.now)) (λ it. S.may catalog.now it.0 it.1 stepper.old) }
+        requires may { IfSome (step_at self.old event.now site (input.Call 0 call.now)) (λ a. S.may catalog.now a stepper.old) }
         ensures does { Does (at_site catalog.now site (input.Call 0 call.now) self.old) self.new result }
-        ensures did { OnOk result (Did (λ it. S.did it.0 it.1) (step_at self.old site (input.Call 0 call.now)) stepper.old stepper.new) }
+        ensures did { OnOk result (Did S.did (step_at self.old event.now site (input.Call 0 call.now)) stepper.old stepper.new) }
     {
         let call = call.copy_of()?;
-        self.at_site(catalog, site, &Input::Call { from: 0, call }, stepper)
+        self.at_site(catalog, event, site, &Input::Call { from: 0, call }, stepper)
     }
 
     #[tactic(auto, unfolding(vp_model::specs::World::happens))]
@@ -376,16 +389,16 @@ impl State {
         stepper: &mut S,
     ) -> Result<Shown, WorldEnd>
         requires few { length self.old.sent ≤ 2000000 }
-        requires may { IfSome (step_of event.now self.old) (λ it. S.may catalog.now it.0 it.1 stepper.old) }
+        requires may { IsReady S.may catalog.now event.now self.old stepper.old }
         ensures does { Does (happens catalog.now event.now self.old) self.new result }
-        ensures did { OnOk result (Did (λ it. S.did it.0 it.1) (step_of event.now self.old) stepper.old stepper.new) }
+        ensures did { OnOk result (DoesEvent S.did catalog.now event.now self.old stepper.old stepper.new) }
     {
         match event {
-            Event::Call { site, call } => self.call(catalog, *site, call, stepper),
+            Event::Call { site, call } => self.call(catalog, event, *site, call, stepper),
             Event::Deliver { k } => self.deliver(catalog, *k, stepper),
             Event::Flow { .. } => Ok(Shown::Nothing),
-            Event::Tick { site } => self.at_site(catalog, *site, &Input::Tick, stepper),
-            Event::Probe { site } => self.at_site(catalog, *site, &Input::Probe, stepper),
+            Event::Tick { site } => self.at_site(catalog, event, *site, &Input::Tick, stepper),
+            Event::Probe { site } => self.at_site(catalog, event, *site, &Input::Probe, stepper),
             Event::Cut { a, b } => {
                 self.cuts.cut(*a, *b)?;
                 Ok(Shown::Nothing)
@@ -394,8 +407,8 @@ impl State {
                 self.cuts.heal(*a, *b);
                 Ok(Shown::Nothing)
             }
-            Event::Crash { site } => Ok(self.crash(*site)),
-            Event::Restart { site } => Ok(self.restart(catalog, *site)?),
+            Event::Crash { site } => Ok(self.crash(*site, stepper)),
+            Event::Restart { site } => Ok(self.restart(catalog, *site, stepper)?),
         }
     }
 
@@ -407,11 +420,11 @@ impl State {
         stepper: &mut S,
     ) -> Result<Shown, WorldEnd>
         requires within { IsWithinLimits self.old }
-        requires may { IfSome (step_of event.now self.old) (λ it. S.may catalog.now it.0 it.1 stepper.old) }
+        requires may { IsReady S.may catalog.now event.now self.old stepper.old }
         ensures shown { IfOk result (λ line. shows (with_line line self.new) line ≡ next catalog.now event.now self.old) }
         ensures within { IfOk result (λ line. IsWithinLimits (with_line line self.new)) }
         ensures end { Ends (refused world_limits catalog.now event.now self.old) result }
-        ensures did { OnOk result (Did (λ it. S.did it.0 it.1) (step_of event.now self.old) stepper.old stepper.new) }
+        ensures did { OnOk result (DoesEvent S.did catalog.now event.now self.old stepper.old stepper.new) }
     {
         self.count_step()?;
         self.happen(catalog, event, stepper)

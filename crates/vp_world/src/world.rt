@@ -63,18 +63,16 @@ impl World {
         Ok((happened.into_world()?, line))
     }
 
-    /// The same, where another one does the step of the event's site; the event is announced to it before that. The world goes on once its
-    /// line was shown. After an error the world is gone.
+    /// The same, where another one does what the event asks of its site: a step, a crash or a restart. The world goes on once its line was
+    /// shown. After an error the world is gone.
     pub fn next_by<S: Stepper>(self, event: &Event, stepper: &mut S) -> Result<Happened, WorldEnd>
-        requires announces { S.announces event.now }
-        requires ready { IsReady S.announced (S.may self.catalogue) event.now self.world stepper.old }
+        requires { IsReady S.may self.catalogue event.now self.world stepper.old }
         ensures world { IfOk result (λ r. r.0 ≡ record { catalogue = self.catalogue; world = (next self.catalogue event.now self.world).world }) }
         ensures line { IfOk result (λ r. r.1 ≡ record { event = event.now; shown = (next self.catalogue event.now self.world).shown }) }
         ensures end { Ends (refused world_limits self.catalogue event.now self.world) result }
-        ensures did { OnOk result (DoesEvent S.announced S.did event.now self.world stepper.old stepper.new) }
+        ensures did { OnOk result (DoesEvent S.did self.catalogue event.now self.world stepper.old stepper.new) }
     {
         let World { catalog, mut state } = self;
-        stepper.announce(event)?;
         let shown = state.next(&catalog, event, stepper)?;
         let line = Line {
             event: event.copy_of()?,

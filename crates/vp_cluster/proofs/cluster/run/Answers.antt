@@ -1,10 +1,9 @@
 use Rattle.std.proofs.Common.{rules, ◌≡◌, ◌∙◌, ◌++◌, ap, sym, subst, Ok, Err}
 use Rattle.vp_model.specs.World.{Schedule, moments_of}
-use Rattle.vp_laws.specs.ShapeLaws.{IsEvent}
 use Rattle.vp_model.specs.Texts.Trace.{trace_text}
 use Rattle.vp_playing.specs.Played.{schedule_of, StepsAll, IsReadyFor}
 use Rattle.vp_hosts.specs.Ports.{AreHosts}
-use Rattle.vp_cluster.specs.Nodes.{NodesValue, Begin, Announced, MayStep, Posts}
+use Rattle.vp_cluster.specs.Nodes.{NodesValue, Begin, MayDo, Does}
 use Rattle.vp_cluster.specs.Ran.{AreLogs, Runs}
 use Rattle.vp_node.proofs.Faults.{gave_err}
 use Rattle.vp_cluster.proofs.Running.{runs_nothing, run_is_ready, run_is_cut, run_is_left, run_is_done, same_plays}
@@ -25,7 +24,7 @@ returns c =
     let begun = c.in_ok-nodes.nodes in
     let begins = subst (λ catalogue. Begin catalogue begun) (c.in_ok-copy_of.ensures ∙ ap (λ (s : Schedule). s.catalogue) c.schedule.view_is) c.in_ok-nodes.ensures in
     let hosts = subst (λ (nodes : NodesValue). AreHosts nodes.catalogue nodes.hosts) c.nodes.view_is c.nodes.invariant in
-    let steps = subst (λ (s : Schedule). StepsAll Announced Posts (moments_of s) begun c.play-played.new.stepper) same c.in_ok-world.ensures.stepped in
+    let steps = subst (λ (s : Schedule). StepsAll Does s.catalogue (moments_of s) begun c.play-played.new.stepper) same c.in_ok-world.ensures.stepped in
     let plays = same_plays _ c.args.schedule.now (Ok c.in_ok-world.world) c.replace.result.items c.play-played.new.observer same c.in_ok-world.ensures.played in
     let done = run_is_done c.args.schedule.now c.requires c.replace.result.items c.play-played.new.observer c.in_ok-world.world begun c.play-played.new.stepper plays begins steps hosts in (
       done.0,
@@ -48,7 +47,7 @@ play-played-requires-clause-ready c =
     let same : schedule_of c.in_ok-catalog.catalog c.as_slice.result.now ≡ c.args.schedule.now = ap (λ x. schedule_of x c.as_slice.result.now) c.in_ok-catalog.ensures ∙ ap (schedule_of c.schedule.inside.catalog) c.as_slice.ensures ∙ c.schedule.view_is in
     let begun = c.in_ok-nodes.nodes in
     let begins = subst (λ catalogue. Begin catalogue begun) (c.in_ok-copy_of.ensures ∙ ap (λ (s : Schedule). s.catalogue) c.schedule.view_is) c.in_ok-nodes.ensures in
-    subst (λ (s : Schedule). IsReadyFor IsEvent Announced Posts (MayStep s.catalogue) (moments_of s) begun) (sym same) (run_is_ready c.args.schedule.now c.requires begun begins)
+    subst (λ (s : Schedule). IsReadyFor MayDo Does s.catalogue (moments_of s) begun) (sym same) (run_is_ready c.args.schedule.now c.requires begun begins)
 
 pub returns-in_err-copy_of-2 : goal.returns-in_err-copy_of-2
 returns-in_err-copy_of-2 c =

@@ -4,5 +4,5 @@ use Rattle.vp_places.proofs.Changed.{changed_here}
 use Rattle.vp_places.proofs.places.restart_at.Goals as goal
 
 pub returns-in-Some-clause-places : goal.returns-in-Some-clause-places
-returns-in-Some-clause-places c =
+returns-in-Some-clause-places g c =
     on_ok_weaker c.restart.result (λ e. changed_here c.args.id c.in-Some.i (restarted_place c.args.catalog.now) c.args.places.now c.place_at.result c.index-places-i.result c.restart.new.self c.place_at.ensures.place c.in-Some.is e) c.restart.ensures.place

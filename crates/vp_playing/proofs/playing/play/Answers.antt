@@ -17,7 +17,7 @@ loop-event-init g c =
       catalogue = ap (λ (k : Known). k.catalogue) start;
       count = refl;
       so_far = play_starts g.O.Observer.sees (schedule_of c.args.catalog c.args.events.now) c.in_ok-world.world.world c.args.observer.now (ap (λ (k : Known). k.world) start);
-      stepped = stepping_starts g.S.Stepper.announced g.S.Stepper.did (schedule_of c.args.catalog c.args.events.now) c.in_ok-world.world.world c.args.stepper.now (ap (λ (k : Known). k.world) start);
+      stepped = stepping_starts g.S.Stepper.did (schedule_of c.args.catalog c.args.events.now) c.in_ok-world.world.world c.args.stepper.now (ap (λ (k : Known). k.world) start);
     }
 
 pub returns-in_err-world-2-clause-played : goal.returns-in_err-world-2-clause-played
@@ -34,7 +34,7 @@ pub play_event-requires : goal.play_event-requires
 play_event-requires g c =
     let h = c.loop-event.invariant in
     record {
-      ready = event_is_ready g.S.Stepper.announces g.S.Stepper.announced g.S.Stepper.did (schedule_of c.args.catalog c.args.events.now) c.loop-event.event-index c.loop-event.number c.loop-event.world c.args.stepper.now c.loop-event.stepper h.catalogue h.count h.stepped c.event-item.result (search rules) (search rules) g.S.Stepper.may c.requires.ready;
+      ready = event_is_ready g.S.Stepper.did (schedule_of c.args.catalog c.args.events.now) c.loop-event.event-index c.loop-event.number c.loop-event.world c.args.stepper.now c.loop-event.stepper h.catalogue h.count h.stepped c.event-item.result (search rules) (search rules) g.S.Stepper.may c.requires.ready;
     }
 
 pub loop-event-preserved : goal.loop-event-preserved
@@ -44,7 +44,7 @@ loop-event-preserved g c =
     let turn =
     play_goes_on g.O.Observer.sees g.O.Observer.begins s c.loop-event.event-index c.loop-event.number c.loop-event.world c.args.observer.now c.loop-event.observer h.catalogue h.count h.so_far c.event-item.result (search rules) (search rules) c.in_ok-world-2.world c.play_event.new.observer (search rules) in
     let done =
-    event_did g.S.Stepper.announces g.S.Stepper.announced g.S.Stepper.did s c.loop-event.event-index c.loop-event.number c.loop-event.world c.args.stepper.now c.loop-event.stepper h.catalogue h.count h.stepped c.event-item.result (search rules) (search rules) g.O.Observer.sees g.O.Observer.begins (own_line (c.loop-event.number + 1) c.event-item.result) c.in_ok-world-2.world c.loop-event.observer c.play_event.new.observer c.play_event.new.stepper (search rules) (search rules) in
+    event_did g.S.Stepper.did s c.loop-event.event-index c.loop-event.number c.loop-event.world c.args.stepper.now c.loop-event.stepper h.catalogue h.count h.stepped c.event-item.result (search rules) (search rules) g.O.Observer.sees g.O.Observer.begins (own_line (c.loop-event.number + 1) c.event-item.result) c.in_ok-world-2.world c.loop-event.observer c.play_event.new.observer c.play_event.new.stepper (search rules) (search rules) in
     record { catalogue = turn.0; count = ap (λ n. n + 1) h.count; so_far = turn.1; stepped = done }
 
 pub returns-clause-played : goal.returns-clause-played
@@ -54,7 +54,7 @@ returns-clause-played g c =
 
 pub returns-clause-stepped : goal.returns-clause-stepped
 returns-clause-stepped g c =
-    stepping_ends g.S.Stepper.announced g.S.Stepper.did (schedule_of c.args.catalog c.args.events.now) c.loop-event.event-index c.loop-event.world.world c.args.stepper.now c.loop-event.stepper c.loop-event.invariant.stepped (search rules)
+    stepping_ends g.S.Stepper.did (schedule_of c.args.catalog c.args.events.now) c.loop-event.event-index c.loop-event.world.world c.args.stepper.now c.loop-event.stepper c.loop-event.invariant.stepped (search rules)
 
 pub returns-in_err-world-clause-played : goal.returns-in_err-world-clause-played
 returns-in_err-world-clause-played g c =

@@ -9,5 +9,5 @@ invariant-loop-event g l = record {
   catalogue : l.world.catalogue ≡ l.fn.catalog;
   count : l.number ≡ l.event-index;
   so_far : Played g.O.Observer.sees (schedule_of l.fn.catalog l.events) l.event-index l.world.world l.fn.observer l.observer;
-  stepped : Stepping g.S.Stepper.announced g.S.Stepper.did (schedule_of l.fn.catalog l.events) l.event-index l.world.world l.fn.stepper l.stepper;
+  stepped : Stepping g.S.Stepper.did (schedule_of l.fn.catalog l.events) l.event-index l.world.world l.fn.stepper l.stepper;
 }

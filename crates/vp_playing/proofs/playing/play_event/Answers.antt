@@ -22,9 +22,8 @@ returns-in_err-show_own_line-clause-seen g c =
 
 pub play_flow-requires : goal.play_flow-requires
 play_flow-requires g c =
-    flow_is_ready g.S.Stepper.announces g.S.Stepper.announced g.S.Stepper.did (g.S.Stepper.may c.args.world.catalogue) c.args.world.catalogue c.args.number c.in-Flow.count c.args.event.now c.args.world.world c.args.stepper.now c.in-Flow.is c.requires.ready
+    flow_is_ready g.S.Stepper.may g.S.Stepper.did c.args.world.catalogue c.args.number c.in-Flow.count c.args.event.now c.args.world.world c.args.stepper.now c.in-Flow.is c.requires.ready
 
 pub play_step-requires : goal.play_step-requires
 play_step-requires g c =
-    let is_ready = other_is_ready g.S.Stepper.announces g.S.Stepper.announced g.S.Stepper.did (g.S.Stepper.may c.args.world.catalogue) c.args.world.catalogue c.args.number c.args.event.now c.args.world.world c.args.stepper.now c.in_default.not-Flow c.requires.ready in
-    record { announces = is_ready.0; ready = is_ready.1 }
+    other_is_ready g.S.Stepper.may g.S.Stepper.did c.args.world.catalogue c.args.number c.args.event.now c.args.world.world c.args.stepper.now c.in_default.not-Flow c.requires.ready

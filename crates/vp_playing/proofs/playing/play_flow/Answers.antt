@@ -11,7 +11,7 @@ pub loop-init : goal.loop-init
 loop-init g c = record {
   catalogue = refl;
   so_far = flow_starts g.O.Observer.sees c.args.world.catalogue c.args.number c.args.count c.args.world.world c.args.observer.now;
-  stepped = delivering_starts g.S.Stepper.announced g.S.Stepper.did c.args.world.catalogue c.args.number c.args.count c.args.world.world c.args.stepper.now;
+  stepped = delivering_starts g.S.Stepper.did c.args.world.catalogue c.args.number c.args.count c.args.world.world c.args.stepper.now;
 }
 
 pub returns-in-None-clause-seen : goal.returns-in-None-clause-seen
@@ -23,17 +23,12 @@ returns-in-None-clause-seen g c =
 pub returns-in-None-clause-stepped : goal.returns-in-None-clause-stepped
 returns-in-None-clause-stepped g c =
     let h = c.loop.invariant in
-    flow_stopped g.S.Stepper.announces g.S.Stepper.announced g.S.Stepper.did c.args.world.catalogue c.args.number c.args.count c.args.world.world c.loop.counter c.loop.world c.args.stepper.now c.loop.stepper h.catalogue h.stepped (search rules) (search rules)
+    flow_stopped g.S.Stepper.did c.args.world.catalogue c.args.number c.args.count c.args.world.world c.loop.counter c.loop.world c.args.stepper.now c.loop.stepper h.catalogue h.stepped (search rules) (search rules)
 
-pub play_step-requires-clause-announces : goal.play_step-requires-clause-announces
-play_step-requires-clause-announces g c =
+pub play_step-requires : goal.play_step-requires
+play_step-requires g c =
     let h = c.loop.invariant in
-    (delivery_is_ready g.S.Stepper.announces g.S.Stepper.announced g.S.Stepper.did c.args.world.catalogue c.args.number c.args.count c.args.world.world c.loop.counter c.loop.world c.args.stepper.now c.loop.stepper h.catalogue h.stepped c.in-Some.k (search rules) (search rules) g.S.Stepper.may c.requires).0
-
-pub play_step-requires-clause-ready : goal.play_step-requires-clause-ready
-play_step-requires-clause-ready g c =
-    let h = c.loop.invariant in
-    (delivery_is_ready g.S.Stepper.announces g.S.Stepper.announced g.S.Stepper.did c.args.world.catalogue c.args.number c.args.count c.args.world.world c.loop.counter c.loop.world c.args.stepper.now c.loop.stepper h.catalogue h.stepped c.in-Some.k (search rules) (search rules) g.S.Stepper.may c.requires).1
+    delivery_is_ready g.S.Stepper.did c.args.world.catalogue c.args.number c.args.count c.args.world.world c.loop.counter c.loop.world c.args.stepper.now c.loop.stepper h.catalogue h.stepped c.in-Some.k (search rules) (search rules) g.S.Stepper.may c.requires
 
 pub returns-in_err-world-in-Some-clause-seen : goal.returns-in_err-world-in-Some-clause-seen
 returns-in_err-world-in-Some-clause-seen g c =
@@ -50,7 +45,7 @@ loop-preserved g c =
     let turn =
     flow_turns_on g.O.Observer.sees g.O.Observer.begins c.args.world.catalogue c.args.number c.args.count c.args.world.world c.loop.counter c.loop.world c.args.observer.now c.loop.observer h.catalogue h.so_far c.in-Some.k c.in_ok-world-in-Some.world c.play_step.new.observer (search rules) (search rules) (search rules) in
     let done =
-    delivery_did g.S.Stepper.announces g.S.Stepper.announced g.S.Stepper.did c.args.world.catalogue c.args.number c.args.count c.args.world.world c.loop.counter c.loop.world c.args.stepper.now c.loop.stepper h.catalogue h.stepped c.in-Some.k (search rules) (search rules) g.O.Observer.sees g.O.Observer.begins [] c.in_ok-world-in-Some.world c.loop.observer c.play_step.new.observer c.play_step.new.stepper (search rules) (search rules) in
+    delivery_did g.S.Stepper.did c.args.world.catalogue c.args.number c.args.count c.args.world.world c.loop.counter c.loop.world c.args.stepper.now c.loop.stepper h.catalogue h.stepped c.in-Some.k (search rules) (search rules) g.O.Observer.sees g.O.Observer.begins [] c.in_ok-world-in-Some.world c.loop.observer c.play_step.new.observer c.play_step.new.stepper (search rules) (search rules) in
     record { catalogue = turn.0; so_far = turn.1; stepped = done }
 
 pub returns-clause-seen : goal.returns-clause-seen
@@ -62,4 +57,4 @@ returns-clause-seen g c =
 pub returns-clause-stepped : goal.returns-clause-stepped
 returns-clause-stepped g c =
     let h = c.loop.invariant in
-    flow_ended g.S.Stepper.announces g.S.Stepper.announced g.S.Stepper.did c.args.world.catalogue c.args.number c.args.count c.args.world.world c.loop.counter c.loop.world c.args.stepper.now c.loop.stepper h.catalogue h.stepped (search rules)
+    flow_ended g.S.Stepper.did c.args.world.catalogue c.args.number c.args.count c.args.world.world c.loop.counter c.loop.world c.args.stepper.now c.loop.stepper h.catalogue h.stepped (search rules)

@@ -31,4 +31,4 @@ returns-in_ok-into_world-in-Ok-clause-seen g c =
 
 pub returns-in_ok-into_world-in-Ok-clause-stepped : goal.returns-in_ok-into_world-in-Ok-clause-stepped
 returns-in_ok-into_world-in-Ok-clause-stepped g c =
-    step_did g.S.Stepper.announced g.S.Stepper.did c.args.world.catalogue c.args.number c.args.event.now c.args.world.world c.args.stepper.now c.next_by.new.stepper (search rules)
+    step_did g.S.Stepper.did c.args.world.catalogue c.args.number c.args.event.now c.args.world.world c.args.stepper.now c.next_by.new.stepper (search rules)

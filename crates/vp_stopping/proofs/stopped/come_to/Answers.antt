@@ -1,6 +1,6 @@
 use Rattle.std.proofs.Common.{◌≡◌, ◌<◌, ◌+◌, ◌-◌, ◌∙◌, ℕ, sym, subst, refl, arith}
 use Rattle.vp_node.proofs.Faults.{gave_err}
-use Rattle.vp_stopping.proofs.Coming.{Comes, comes_first, comes_over, comes_formed, comes_ready, comes_on, comes_ends, comes_before}
+use Rattle.vp_stopping.proofs.Coming.{Comes, comes_first, comes_over, comes_ready, comes_on, comes_ends, comes_before}
 use Rattle.vp_stopping.proofs.stopped.come_to.Goals as goal
 
 pub loop-init : goal.loop-init
@@ -12,14 +12,9 @@ returns-in-None c =
     comes_over c.args.schedule.now c.requires.schedule (c.loop.counter - 1) c.loop.front.steps c.loop.front.nodes c.loop.front.left c.loop.invariant.comes
     (sym c.in_ok-next.ensures.next ∙ c.in-None.is) c.args.step few
 
-pub step-requires-clause-ready : goal.step-requires-clause-ready
-step-requires-clause-ready c =
+pub step-requires : goal.step-requires
+step-requires c =
     comes_ready c.args.schedule.now c.requires.schedule (c.loop.counter - 1) c.loop.front.steps c.loop.front.nodes c.loop.front.left c.loop.invariant.comes
-    c.in-Some.event (sym c.in_ok-next.ensures.next ∙ c.in-Some.is)
-
-pub step-requires-clause-announces : goal.step-requires-clause-announces
-step-requires-clause-announces c =
-    comes_formed c.args.schedule.now c.requires.schedule (c.loop.counter - 1) c.loop.front.steps c.loop.front.nodes c.loop.front.left c.loop.invariant.comes
     c.in-Some.event (sym c.in_ok-next.ensures.next ∙ c.in-Some.is)
 
 pub returns-in_err-front-in-Some : goal.returns-in_err-front-in-Some

@@ -23,8 +23,8 @@ returns-in_default c =
     nothing_there c.args.schedule.now c.args.stop.now.step (is_kept c.args.stop.now)
     (subst (λ (o : Option (Front × Event)). ComesTo c.args.schedule.now c.args.stop.now.step (Ok o)) c.in_default.is c.in_ok-front.ensures)
 
-pub stop-requires-clause-announces : goal.stop-requires-clause-announces
-stop-requires-clause-announces c =
+pub stop-requires-clause-event : goal.stop-requires-clause-event
+stop-requires-clause-event c =
     let came : c.in_ok-front.field-0 ≡ Some (c.in-Some.front, c.in-Some.event) = cc in
     let h : IsBefore c.args.schedule.now c.args.stop.now.step c.in-Some.front c.in-Some.event = subst (λ (o : Option (Front × Event)). ComesTo c.args.schedule.now c.args.stop.now.step (Ok o)) came c.in_ok-front.ensures in
     h.formed

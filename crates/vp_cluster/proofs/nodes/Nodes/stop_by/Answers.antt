@@ -13,7 +13,7 @@ returns-clause-stops c =
     let long : c.self.inside.hosts.len ≡ length c.stop_at.new.hosts = omega (arith, c.stop_at.auto.hosts, c.deref_mut.ensures.len) in
     let items : (with_items c.self.inside.hosts c.stop_at.new.hosts).items ≡ c.stop_at.new.hosts = ap (λ n. take n (c.stop_at.new.hosts ++ drop (length c.stop_at.new.hosts) c.self.inside.hosts.items)) long ∙ take-append_seam c.stop_at.new.hosts (drop (length c.stop_at.new.hosts) c.self.inside.hosts.items) in
     answered_so c.stop_at.result _ _
-    (λ kept h. letter_stops c.args.letter.now c.args.site c.self.inside.catalog c.self.inside.hosts.items c.stop_at.new.hosts c.self.inside.letters c.self.inside.coming kept c.args.self.now
-    (record { catalogue = c.self.inside.catalog; hosts = (with_items c.self.inside.hosts c.stop_at.new.hosts).items; letters = c.self.inside.letters; coming = c.self.inside.coming }) c.self.view_is items
+    (λ kept h. letter_stops c.args.letter.now c.args.site c.self.inside.catalog c.self.inside.hosts.items c.stop_at.new.hosts c.self.inside.letters kept c.args.self.now
+    (record { catalogue = c.self.inside.catalog; hosts = (with_items c.self.inside.hosts c.stop_at.new.hosts).items; letters = c.self.inside.letters }) c.self.view_is items
     (subst (λ hosts. ChangesAt c.args.letter.now.to (λ host next. Stops c.self.inside.catalog (as_received c.args.letter.now) c.args.site host next kept) hosts c.stop_at.new.hosts) c.deref_mut.ensures.value h))
     c.stop_at.ensures.stops

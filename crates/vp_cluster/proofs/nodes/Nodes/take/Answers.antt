@@ -19,8 +19,8 @@ returns-clause-comes c =
     let long : c.self.inside.hosts.len ≡ length c.take_at.new.hosts = omega (arith, c.take_at.auto.hosts, c.deref_mut.ensures.len) in
     let items : (with_items c.self.inside.hosts c.take_at.new.hosts).items ≡ c.take_at.new.hosts = ap (λ n. take n (c.take_at.new.hosts ++ drop (length c.take_at.new.hosts) c.self.inside.hosts.items)) long ∙ take-append_seam c.take_at.new.hosts (drop (length c.take_at.new.hosts) c.self.inside.hosts.items) in
     let put = c.in_ok-put_letters.ensures ∙ ap (λ messages. c.self.inside.letters ++ map (sent_from letter.to) (take (length messages) turn_effects.datagrams)) c.as_slice-count.ensures in
-    subst (λ hosts. Comes letter c.args.site c.args.self.now (record { catalogue = c.self.inside.catalog; hosts = hosts; letters = c.put_letters.new.letters; coming = c.self.inside.coming })) (sym items)
-    (letter_came letter c.args.site c.in_ok-site.site turn_effects c.self.inside.catalog c.self.inside.hosts.items c.take_at.new.hosts c.self.inside.letters c.put_letters.new.letters c.self.inside.coming c.args.self.now c.self.view_is came put)
+    subst (λ hosts. Comes letter c.args.site c.args.self.now (record { catalogue = c.self.inside.catalog; hosts = hosts; letters = c.put_letters.new.letters })) (sym items)
+    (letter_came letter c.args.site c.in_ok-site.site turn_effects c.self.inside.catalog c.self.inside.hosts.items c.take_at.new.hosts c.self.inside.letters c.put_letters.new.letters c.args.self.now c.self.view_is came put)
 
 pub returns-clause-stepped : goal.returns-clause-stepped
 returns-clause-stepped c =

@@ -10,7 +10,7 @@ use Rattle.vp_world.proofs.Moves.{restarts_so, restart_sends_none, both_ok}
 use Rattle.vp_world.proofs.state.State.restart.Goals as goal
 
 pub returns-clause-shown : goal.returns-clause-shown
-returns-clause-shown c =
+returns-clause-shown g c =
     let w = the_view c.self.inside in
     let new : WorldState = record w { places = c.restart.new.self } in
     let named : Shown = option_map_or restart_line (place_of c.args.id w.places) shown.Nothing in
