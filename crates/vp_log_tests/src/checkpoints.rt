@@ -101,7 +101,7 @@ fn a_log_is_read_without_a_recovery(rt: HostRuntime) {
     let alloc = rt.alloc();
     let one = checkpoint(&rt, alloc, 1, 1);
     assert!(rt; peeks(&rt, alloc, (b"", b""), 0, None));
-    assert!(rt; peeks(&rt, alloc, (b"\0", &one[..GATE]), 0, None));
+    assert!(rt; peeks(&rt, alloc, (b"\0", &CHECKPOINT[..GATE]), 0, None));
     assert!(rt; peeks(&rt, alloc, (START, b""), 1, Some((0, 1))));
     assert!(rt; peeks(&rt, alloc, (START, &one), 1, Some((1, 1))));
     let open = changed_to(&rt, alloc, GATE, 1);
