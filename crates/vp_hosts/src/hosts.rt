@@ -99,11 +99,7 @@ pub fn crash_at(hosts: &mut [Host], catalog: &Catalog, site: SiteId)
 }
 
 /// The site starts from the log of its host in its next life, and is handed over.
-pub fn restart_at(
-    hosts: &mut [Host],
-    catalog: &Catalog,
-    site: SiteId,
-) -> Result<Site, StartFault>
+pub fn restart_at(hosts: &mut [Host], catalog: &Catalog, site: SiteId) -> Result<Site, StartFault>
     requires hosts { AreHosts catalog.now hosts.old }
     requires there { HasHost catalog.now site hosts.old }
     ensures restarts { IfStarted result (λ it. ChangesOf catalog.now site (Restarts catalog.now it) hosts.old hosts.new) }

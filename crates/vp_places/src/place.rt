@@ -12,7 +12,9 @@ ghost use Rattle.vp_places.specs.Places.{newly_agreed, taken, stepped_place, cra
 
 use crate::stepper::Stepper;
 use std::marker::Model;
-use vp_base::{CopyOf, Effects, Event, Input, LogRecord, Newest, NoMemory, Shown, SiteId, View, ViewId};
+use vp_base::{
+    CopyOf, Effects, Event, Input, LogRecord, Newest, NoMemory, Shown, SiteId, View, ViewId,
+};
 use vp_catalog::Catalog;
 use vp_lists::is_same_view;
 use vp_records::Durable;

@@ -378,7 +378,13 @@ impl State {
         ensures did { OnOk result (Did S.did (step_at self.old event.now site (input.Call 0 call.now)) stepper.old stepper.new) }
     {
         let call = call.copy_of()?;
-        self.at_site(catalog, event, site, &Input::Call { from: 0, call }, stepper)
+        self.at_site(
+            catalog,
+            event,
+            site,
+            &Input::Call { from: 0, call },
+            stepper,
+        )
     }
 
     #[tactic(auto, unfolding(vp_model::specs::World::happens))]
