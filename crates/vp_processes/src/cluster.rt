@@ -6,10 +6,7 @@ use std::process::{Child, Command, Stdio};
 use std::{env, fs, io};
 
 /// How often ports are chosen again, where another program takes one that was free.
-pub const TRIES: usize = 20;
-
-/// The ports that the sites have, and then the one that clients have, where no other program has one of them.
-const PORTS: [u16; 4] = [7001, 7002, 7003, 7100];
+const TRIES: usize = 20;
 
 /// The sites, and the logs of their nodes.
 const SITES: [(&str, &str); 3] = [("1", "cluster1"), ("2", "cluster2"), ("3", "cluster3")];
@@ -25,12 +22,14 @@ const LOGS: [&str; 6] = [
 ];
 
 /// Sites and calls at them, one after the other, and what each is answered.
-const CALLS: [(&str, &str, &str); 5] = [
+const CALLS: [(&str, &str, &str); 7] = [
     ("1", "begin", "begun 1.1.1 0@0\n"),
     ("1", "1.1.1 1 write x 11", "written 1.1.1 1\n"),
-    ("1", "1.1.1 2 commit", "committed 1.1.1 2\n"),
+    ("1", "1.1.1 2 read x", "value 1.1.1 2 11\n"),
+    ("1", "1.1.1 3 commit", "committed 1.1.1 3\n"),
     ("2", "begin", "begun 2.1.1 0@0\n"),
     ("2", "2.1.1 1 read x", "value 2.1.1 1 11\n"),
+    ("2", "2.1.1 2 commit", "committed 2.1.1 2\n"),
 ];
 
 fn free_socket(rt: HostRuntime) -> io::Result<UdpSocket> {
@@ -38,35 +37,17 @@ fn free_socket(rt: HostRuntime) -> io::Result<UdpSocket> {
 }
 
 /// A port that no socket has now.
-pub fn free_port(rt: HostRuntime) -> io::Result<u16> {
+fn free_port(rt: HostRuntime) -> io::Result<u16> {
     let address = free_socket(rt)?.local_addr();
     Ok(address?.port())
 }
 
-/// Ports that no socket has now. Where two are the same no node starts, and others are chosen.
-fn free_ports(rt: HostRuntime) -> io::Result<[u16; 4]> {
-    Ok([
-        free_port(rt)?,
-        free_port(rt)?,
-        free_port(rt)?,
-        free_port(rt)?,
-    ])
-}
-
-/// Three sites with a copy of x each.
-fn three_sites(rt: HostRuntime, ports: &[u16; 4]) -> io::Result<String> {
-    let [one, two, three, _] = ports;
+/// Three sites with a copy of x each, at ports that no socket has now. Where two are the same no node starts, and others are chosen.
+fn three_sites(rt: HostRuntime) -> io::Result<String> {
+    let (one, two, three) = (free_port(rt)?, free_port(rt)?, free_port(rt)?);
     Ok(format!(in rt.alloc();
         "site 1 {one}\nsite 2 {two}\nsite 3 {three}\nrecord x 10 1:1 2:1 3:1\n"
     )?)
-}
-
-/// Ends nodes that aren't told to stop.
-fn end(nodes: &mut [Child]) {
-    for node in nodes.iter_mut() {
-        let _ = node.kill();
-        let _ = node.wait();
-    }
 }
 
 /// Whether the next line that a node prints is this one.
@@ -94,8 +75,6 @@ pub struct Cluster {
     by_words: &'static str,
     /// What each process reads.
     catalogue: String,
-    /// The clients' port.
-    port: u16,
 }
 
 impl Drop for Cluster {
@@ -104,19 +83,17 @@ impl Drop for Cluster {
             rt: _,
             by_words: _,
             catalogue: _,
-            port: _,
         } = self;
     }
 }
 
 impl Cluster {
-    fn new(rt: HostRuntime, by_words: &'static str, ports: &[u16; 4]) -> io::Result<Cluster> {
-        let catalogue = three_sites(rt, ports)?;
+    fn new(rt: HostRuntime, by_words: &'static str) -> io::Result<Cluster> {
+        let catalogue = three_sites(rt)?;
         Ok(Cluster {
             rt,
             by_words,
             catalogue,
-            port: ports[3],
         })
     }
 
@@ -152,28 +129,26 @@ impl Cluster {
     }
 
     /// Starts a client of this call at a site.
-    fn client(&self, port: u16, site: &'static str, call: &'static str) -> io::Result<Child> {
+    fn client(&self, site: &'static str, call: &'static str) -> io::Result<Child> {
+        let port = free_port(self.rt)?;
         let port = format!(in self.rt.alloc(); "{port}")?;
         self.start(&[self.by_words, "client", &port, "16", site, call])
     }
 
     /// Whether a client's call at a site is answered so.
     fn answers(&self, site: &'static str, call: &'static str, answer: &str) -> io::Result<bool> {
-        let mut port = self.port;
         for _ in 0..TRIES {
-            let client = self.client(port, site, call)?;
-            let output = client.wait_with_output(self.rt.alloc())?;
+            let output = self.client(site, call)?.wait_with_output(self.rt.alloc())?;
             if output.status.success() {
-                return Ok(output.stdout.as_slice() == answer.as_bytes());
+                return Ok(output.stdout.starts_with(answer.as_bytes()));
             }
-            port = free_port(self.rt)?;
         }
         Ok(false)
     }
 
     /// Starts the node of a site, which has to print this line first. Its port is bound before that.
     fn node(&self, site: &'static str, log: &'static str, line: &[u8; 8]) -> io::Result<Child> {
-        let mut node = self.start(&[self.by_words, "node", site, log, "100"])?;
+        let mut node = self.start(&[self.by_words, "node", site, log, "1000"])?;
         if prints(&mut node, line) {
             Ok(node)
         } else {
@@ -181,34 +156,14 @@ impl Cluster {
         }
     }
 
-    /// Starts a node for each site on an empty log. Where one can't be started those before it are ended.
+    /// Starts a node for each site on an empty log.
     fn nodes(&self) -> io::Result<Vec<Child>> {
         self.remove_logs();
         let mut nodes = Vec::new(self.rt.alloc());
-        match self.start_nodes(&mut nodes) {
-            Ok(()) => Ok(nodes),
-            Err(fault) => {
-                end(&mut nodes);
-                Err(fault)
-            }
-        }
-    }
-
-    fn start_nodes(&self, nodes: &mut Vec<Child>) -> io::Result<()> {
         for (site, log) in &SITES {
             nodes.push(self.node(site, log, b"start 1\n")?)?;
         }
-        Ok(())
-    }
-
-    /// The status of another process on the log of site 1, while its node has that, and whether it tells the fault of its disk alone.
-    pub fn started_beside(&self) -> io::Result<(Option<i32>, bool)> {
-        let beside = self.start(&[self.by_words, "node", "1", "cluster1", "100"])?;
-        let output = beside.wait_with_output(self.rt.alloc())?;
-        Ok((
-            output.status.code(),
-            output.stdout.as_slice() == b"disk fault\n".as_slice(),
-        ))
+        Ok(nodes)
     }
 
     /// Whether the node of a site can be told to stop.
@@ -248,19 +203,10 @@ impl Cluster {
         Ok(None)
     }
 
-    /// Whether the node of site 1, which starts its second life, ends well when it is stopped. Where its port was taken meanwhile, its next
-    /// life starts at another one.
-    pub fn starts_again(&mut self) -> io::Result<bool> {
-        for line in [b"start 2\n", b"start 3\n", b"start 4\n"] {
-            match self.node("1", "cluster1", line) {
-                Ok(mut node) => return self.stops("1", &mut node),
-                Err(fault) if fault.kind() == io::ErrorKind::AddrInUse => {
-                    self.catalogue = three_sites(self.rt, &free_ports(self.rt)?)?;
-                }
-                Err(fault) => return Err(fault),
-            }
-        }
-        Ok(false)
+    /// Whether the node of site 1, which starts its second life, ends well when it is stopped.
+    pub fn starts_again(&self) -> io::Result<bool> {
+        let mut node = self.node("1", "cluster1", b"start 2\n")?;
+        self.stops("1", &mut node)
     }
 
     /// Removes the logs that there are.
@@ -275,12 +221,11 @@ impl Cluster {
 /// taken meanwhile, ports are chosen again.
 /// `by_words` is the word behind which this program, started again, does what the others say.
 pub fn started(rt: HostRuntime, by_words: &'static str) -> io::Result<(Cluster, Vec<Child>)> {
-    let mut ports = PORTS;
     for _ in 0..TRIES {
-        let cluster = Cluster::new(rt, by_words, &ports)?;
+        let cluster = Cluster::new(rt, by_words)?;
         match cluster.nodes() {
             Ok(nodes) => return Ok((cluster, nodes)),
-            Err(fault) if fault.kind() == io::ErrorKind::AddrInUse => ports = free_ports(rt)?,
+            Err(fault) if fault.kind() == io::ErrorKind::AddrInUse => {}
             Err(fault) => return Err(fault),
         }
     }

@@ -2,7 +2,5 @@
 #![tactic(auto)]
 
 mod cluster;
-mod streams;
 
 pub use cluster::{Cluster, started};
-pub use streams::run_closed;
