@@ -8,6 +8,7 @@ The pages are README.md, those of docs/, bench/README.md and the READMEs of the 
 of bench/ by its name alone.
 Prints what leads nowhere, and ends with status 1 where there is any.
 """
+import collections
 import pathlib
 import re
 import sys
@@ -34,12 +35,13 @@ def prose(text):
 
 def anchors(path):
     """The anchors of a page's headings, as they are made of them: two alike are numbered."""
-    found = []
+    found, seen = [], collections.Counter()
     for _, line in prose(path.read_text(encoding="utf-8")):
         if heading := re.match(r"#+ (.*)", line):
             words = re.sub(r"\[([^][]*)\]\([^()]*\)", r"\1", heading.group(1)).lower()
             anchor = re.sub(r"[^\w\- ]", "", words).replace(" ", "-")
-            found.append(anchor if anchor not in found else f"{anchor}-{sum(other.startswith(anchor) for other in found)}")
+            found.append(f"{anchor}-{seen[anchor]}" if seen[anchor] else anchor)
+            seen[anchor] += 1
     return found
 
 
