@@ -43,7 +43,9 @@ SAID = [
     (TRUST, "refuse_memory.py", "; {done:,} needed none of what was refused"),
     (TRUST, "under_valgrind.py", "{plain:,} and {sanitized:,} inputs |"),
     (TRUST, "wrong_rows.py", "{inputs:,} | [each refused]"),
-    (TRUST, "try_edits.py", "{outside_crates} crates (`try_edits.py`) | {outside} edits |"),
+    (TRUST, "try_edits.py", "{refused} were refused by their crates' own proofs while the gate tried them, and {claims} false claims and {definitions} wrong definitions"),
+    (TRUST, "rt plant", "{inputs} bodies"),
+    (TRUST, "more wrong lines", "of {outside_crates} crates (`try_edits.py`) | {outside} edits |"),
     (TRUST, "Must-fail edits", "1 to {most} wrong lines in each of {gate_crates} crates, {gate} in all"),
     (README, "compare_decode.py", "{inputs:,} inputs: {found}; {frames:,} are frames, {refused:,} are refused |"),
     (README, "compare_batches.py", "{inputs:,} inputs: {found}; {refused:,} are refused |"),
@@ -68,15 +70,16 @@ SAID = [
     (README, "transfers_under_beat.py", "{inputs:,} transfers in {rounds} rounds, with {kills} kills and {cuts} cuts: {said:,} reported as committed, {unknown} unknown"),
     (README, "machines.py", "{inputs:,} transfers in {runs} runs, with {harms} kills and cuts: all committed but {unknown} with an unknown outcome"),
     (README, "replay_examples.py", "{inputs} schedules, each as it is kept |"),
+    (README, "length_of_log.py", "{inputs:,} turns with {checkpoints} checkpoints"),
     (README, "wrong_rows.py", "each of the {inputs} wrong rows was refused"),
 ]
 
 
 def main():
     runs = read_runs()
-    missing = [f"runs.csv names {name}, which isn't in bench/" for name in sorted(runs) if not (BENCH / name).is_file()]
+    missing = [f"runs.csv names {name}, which isn't in bench/" for name in sorted(runs) if name.endswith(".py") and not (BENCH / name).is_file()]
     sums = {name: summed(rows) for name, rows in runs.items()}
-    sums["try_edits.py"] = sums["Must-fail edits"] = edits()
+    sums["more wrong lines"] = sums["Must-fail edits"] = edits()
     for page, name, sentence in SAID:
         said = sentence.format(**sums[name])
         if sys.argv[1:] != ["--check"]:
