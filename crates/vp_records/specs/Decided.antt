@@ -14,13 +14,14 @@ AreAwaited decisions = AllByRecursion (λ (d : Decision). is_empty d.waiting ≡
 abbrev pub IsHighest : TxnId → List Decision → Type 0
 IsHighest txn decisions = AllByRecursion (λ (d : Decision). txn_before txn d.txn ≡ false) decisions
 
--- the decision in place of that on the same transaction, which goes where the new one waits for no site
+-- with this decision in place of that on its transaction, and without that where this one waits for no site
 abbrev pub with_changed : Decision → List Decision → List Decision
 with_changed d decisions =
     if is_empty d.waiting
     then filter (λ (e : Decision). not (same_txn e.txn d.txn)) decisions
     else change_first (λ (e : Decision). same_txn e.txn d.txn) (λ e. d) decisions
 
+-- the decisions that are kept so
 abbrev pub decisions_in : Form → List Decision
 decisions_in (form.ByTxn table) = table
 decisions_in (form.Listed list) = list
