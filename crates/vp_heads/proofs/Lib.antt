@@ -1,0 +1,3 @@
+pub mod HeadTexts
+pub mod Steps
+pub mod Apart

@@ -1,0 +1,39 @@
+//! What the lines of a head say so far.
+
+ghost use Rattle.std.specs.Prelude.{◌≡◌};
+ghost use Rattle.vp_heads.specs.Heads.{blank, Allows, Adds};
+
+use crate::line::HeadLine;
+use std::alloc::Global;
+use vp_catalog::{Catalog, CatalogFault};
+
+/// The catalogue of a head that is being read, and whether the key line has come.
+#[derive(Drop)]
+pub struct Head {
+    pub catalog: Catalog,
+    pub opened: bool,
+}
+
+impl Head {
+    /// What no lines say, which takes no memory.
+    pub fn new(alloc: Global) -> Head
+        ensures { result ≡ blank }
+    {
+        Head {
+            catalog: Catalog::new(alloc),
+            opened: false,
+        }
+    }
+
+    /// Adds what the line of this number says. After an `Err` nothing is added.
+    pub fn add(&mut self, line: HeadLine, number: usize) -> Result<(), CatalogFault>
+        requires { Allows self.old line }
+        ensures { Adds self.old line number self.new result }
+    {
+        match line {
+            HeadLine::Entry(entry) => self.catalog.add(entry, number)?,
+            HeadLine::Key => self.opened = true,
+        }
+        Ok(())
+    }
+}

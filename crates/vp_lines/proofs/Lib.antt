@@ -1,0 +1,2 @@
+mod Newlines
+pub mod Finding

@@ -1,0 +1,16 @@
+-- The lines of some bytes.
+use Rattle.std.specs.Prelude.{ℕ, ◌==◌, if◌then◌else◌, List, [], ◌∷◌}
+
+-- Whole lines, each without its newline, and what stands behind the last newline.
+pub record Split : Type 0 where
+  pub lines : List (List ℕ)
+  pub rest : List ℕ
+
+-- with one more byte, which is no newline, in front of it
+abbrev pub with_byte : ℕ → List (List ℕ) → List ℕ → Split
+with_byte c [] rest = record { lines = []; rest = c ∷ rest }
+with_byte c (l ∷ ls) rest = record { lines = (c ∷ l) ∷ ls; rest = rest }
+
+abbrev pub split : List ℕ → Split
+split [] = record { lines = []; rest = [] }
+split (c ∷ cs) = let s = split cs in if c == 10 then record { lines = [] ∷ s.lines; rest = s.rest } else with_byte c s.lines s.rest
