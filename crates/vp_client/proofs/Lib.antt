@@ -1,3 +1,5 @@
 pub mod Found
 pub mod Asked
+pub mod Conversations
+mod Shaped
 mod Given

@@ -1,10 +1,10 @@
 //! Asking a site.
 
-ghost use Rattle.std.specs.Prelude.{◌≡◌, IsTrue};
+ghost use Rattle.std.specs.Prelude.{◌≡◌, IsTrue, IfOk};
 ghost use Rattle.vp_base.specs.Calls.{IsCall};
 ghost use Rattle.vp_outside.specs.Links.{Sends, StaysBound};
 ghost use Rattle.vp_runs.specs.Asking.{call_frame};
-ghost use Rattle.vp_wire.specs.Grammar.{frame_bytes};
+ghost use Rattle.vp_wire.specs.Grammar.{frame_bytes, IsAnswer};
 ghost use Rattle.vp_client.specs.Asked.{Asks, of_output};
 ghost use Rattle.vp_client.specs.declared.asking.AskFault.TheVariants.{LinkFault as LinkFailed, NoMemory as OutOfMemory};
 
@@ -66,6 +66,7 @@ pub fn ask<L: Link>(
     requires call { IsCall call.now }
     ensures asks { Asks port site call.now turns (L.state link.old) (L.state link.new) result }
     ensures stays { StaysBound (L.state link.old) (L.state link.new) }
+    ensures shaped { IfOk result IsAnswer }
 {
     send_call(alloc, link, port, site, call)?;
     let mut buf = [0; MOST_GIVEN];

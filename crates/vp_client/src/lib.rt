@@ -6,4 +6,4 @@ mod asking;
 mod claims;
 
 pub use asking::{AskFault, ask};
-pub use claims::answers_are_given;
+pub use claims::{answers_are_given, answers_are_shaped, conversations_hand_over};

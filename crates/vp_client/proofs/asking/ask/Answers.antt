@@ -7,6 +7,7 @@ use Rattle.vp_client.specs.Asked.{Asks}
 use Rattle.vp_client.specs.declared.asking.AskFault.{AskFault}
 use Rattle.vp_client.specs.declared.asking.AskFault.TheVariants as faults
 use Rattle.vp_client.proofs.Asked.{goes_on, goes_past, answered, forgotten, at_port}
+use Rattle.vp_client.proofs.Shaped.{answers_are_shaped}
 use Rattle.vp_client.proofs.asking.ask.Goals as goal
 
 pub loop-preserved-then-from-port : goal.loop-preserved-then-from-port
@@ -31,6 +32,11 @@ returns-in-Some-clause-asks g c =
     let own : c.in_ok-from.from ≡ c.args.port = grind (arith, nat_tests, u) in
     let found : answer_of c.args.port c.args.site c.args.call.now (record { port = c.args.port; bytes = take c.in_ok-from.count c.receive.new.buf }) ≡ Some c.in-Some.answer = search rules in
     answered _ _ _ c.args.turns _ c.loop.counter _ _ _ _ (c.in_ok-from.from, c.in_ok-from.count) c.loop.invariant.so_far c.in_ok-from.ensures c.in-Some.answer few (at_port _ _ _ _ _ _ _ own found)
+
+pub returns-in-Some-clause-shaped : goal.returns-in-Some-clause-shaped
+returns-in-Some-clause-shaped g c =
+    let found : answer_of c.args.port c.args.site c.args.call.now (record { port = c.args.port; bytes = take c.in_ok-from.count c.receive.new.buf }) ≡ Some c.in-Some.answer = search rules in
+    answers_are_shaped _ _ _ _ _ found
 
 pub loop-preserved : goal.loop-preserved
 loop-preserved g c =
