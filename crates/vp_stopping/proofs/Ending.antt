@@ -29,7 +29,7 @@ use Rattle.vp_stopping.specs.declared.stopped.Steps.{Steps}
 use Rattle.vp_stopping.specs.declared.stopped.Stopped.{Stopped}
 use Rattle.vp_stopping.specs.declared.stopped.StoppedSite.{StoppedSite}
 use Rattle.vp_stopping.specs.Left.{CanRise}
-use Rattle.vp_stopping.specs.Behind.{IsBehind, Waits}
+use Rattle.vp_stopping.specs.AfterStop.{IsAfterStop, Waits}
 use Rattle.vp_stopping.specs.Singles.{ComesTo, IsBefore, GoesOn, StopsIn, StopsOf, moment_in}
 use Rattle.vp_stopping.specs.RanStopped.{LeavesLog, RunsStopped}
 use Rattle.vp_cluster.proofs.Acting.{Facts}
@@ -55,7 +55,7 @@ pub came_ends : (s : Schedule) (step : ℕ) (kept : Bool) (why : WorldEnd) (r : 
 came_ends s step kept (end.Limit what much) r ended is = rw is (ended_first s step kept what much ended)
 came_ends s step kept end.NoMemory r ended is = rw is tt
 
--- ---- the run went on behind the stop
+-- ---- the run went on after the stop
 
 pub all_done : (s : Schedule) (step : ℕ) (left : StoppedLog) (it : Stopped) → GoesOn s step left (Ok it) → LeavesLog step left.kept s left.log → RunsStopped s step left.kept (Ok (Some it))
 all_done s step left it goes leaves = (
@@ -199,7 +199,7 @@ taker_again s is step front e h again f g site takes = taker_is s is step again 
 
 -- what it has left is what it has to keep there
 pub waits_again : (s : Schedule) (is : IsSchedule s) (step : ℕ) (front : Front) (e : Event) (h : IsBefore s step front e) (at : StoppedSite) (stops : StopsIn e front (Some at)) (again : Front) (f : Event) (g : IsBefore s step again f)
-    → IsBehind again.steps.world.catalogue (stopped_world again.steps.world.catalogue at.left.kept at.site (moment_in again.steps.world.catalogue f again.steps.world.world)) (record { nodes = at.nodes; stopped = Some at.site })
+    → IsAfterStop again.steps.world.catalogue (stopped_world again.steps.world.catalogue at.left.kept at.site (moment_in again.steps.world.catalogue f again.steps.world.world)) (record { nodes = at.nodes; stopped = Some at.site })
 waits_again s is step front e h at stops again f g =
     let waits = has_waited s is step front e h at stops in
     let here = subst (λ (m : Moment). Waits s.catalogue (stopped_world s.catalogue at.left.kept at.site m) at.site at.nodes) (same_moment s is step front e h again f g) waits in

@@ -33,7 +33,7 @@ use Rattle.vp_cluster.specs.Clusters.{AreTied}
 use Rattle.vp_cluster.proofs.Acting.{Facts, Folds}
 use Rattle.vp_cluster.proofs.Acting as acting
 use Rattle.vp_stopping.specs.Singles.{StopsOf}
-use Rattle.vp_stopping.specs.Behind.{Waits}
+use Rattle.vp_stopping.specs.AfterStop.{Waits}
 use Rattle.vp_stopping.proofs.InPlace.{taken_single}
 use Rattle.vp_stopping.proofs.Waiting.{stopped_place}
 
@@ -137,7 +137,7 @@ module _ (catalogue : Catalogue) (k : IsCatalogue catalogue) (m : Moment) (momen
   taker_acts : (s : ℕ) (a : Acts catalogue m s) → taker catalogue e m.before ≡ Some s
   taker_acts s a = taker_by (Some s) (names catalogue m s a) ∙ ap (λ b. if b then Some s else None) (steps catalogue m s a)
 
-  -- what the site has left is what it has to keep, in the world behind the stop
+  -- what the site has left is what it has to keep, in the world after the stop
   module _ (folds : (id : ℕ) (place : Place) → place_of id m.before.places ≡ Some place → durable_in catalogue id (batches_in catalogue id moments) ≡ place.durable) (s : ℕ) (a : Acts catalogue m s) where
     abbrev stood : Place
     stood = (acting.own catalogue k m moments old facts tied s a).place

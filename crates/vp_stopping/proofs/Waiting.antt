@@ -1,4 +1,4 @@
--- Behind a stop: what the site that stopped has left is what it has to keep, until it starts.
+-- After a stop: what the site that stopped has left is what it has to keep, until it starts.
 use Rattle.std.proofs.Common.{◌≡◌, ◌≢◌, ◌∙◌, ap, sym, subst, ℕ, Bool, true, false, cond, refl}
 use Rattle.std.specs.Prelude.{◌==◌, Option, Some, None, IfSome, is_some, if◌then◌else◌, option_map, option_and_then}
 use Rattle.std.specs.Option.{option_map_or}
@@ -19,8 +19,8 @@ use Rattle.vp_places.specs.Asked.{Asked, started, restart_asked}
 use Rattle.vp_places.specs.Places.{Did}
 use Rattle.vp_world.specs.Steps.{step_at, step_by, IsReady, DoesEvent}
 use Rattle.vp_cluster.specs.Nodes.{MayRestart}
-use Rattle.vp_stopping.specs.declared.behind.Behind.{Behind}
-use Rattle.vp_stopping.specs.Behind.{MayBehind, DoesBehind, Waits, IsBehind}
+use Rattle.vp_stopping.specs.declared.after_stop.AfterStop.{AfterStop}
+use Rattle.vp_stopping.specs.AfterStop.{MayAfterStop, DoesAfterStop, Waits, IsAfterStop}
 use Rattle.vp_stopping.proofs.InPlace.{place_world}
 
 -- ---- which site it is
@@ -56,9 +56,9 @@ stopped_place catalogue m kept s stood stepped single at then_ = ap (λ (w : Wor
 
 -- ---- what may be asked
 
-module _ (catalogue : Catalogue) (w : WorldState) (behind : Behind) where
+module _ (catalogue : Catalogue) (w : WorldState) (behind : AfterStop) where
   abbrev IfAsked : Option Asked → Type 0
-  IfAsked o = IfSome o (λ a. MayBehind catalogue a behind)
+  IfAsked o = IfSome o (λ a. MayAfterStop catalogue a behind)
 
   stepping : (e : Event) (given : Input) (o : Option SiteState) → IfAsked (option_map (λ site. Asked.steps e site given) o)
   stepping e given None = tt
@@ -93,7 +93,7 @@ module _ (catalogue : Catalogue) (w : WorldState) (behind : Behind) where
         same_catalogue = waits.same_catalogue;
       }
 
-  module _ (h : IsBehind catalogue w behind) where
+  module _ (h : IsAfterStop catalogue w behind) where
     starting : (s : ℕ) (found : Option Place) → place_of s w.places ≡ found → IfAsked (option_and_then (restart_asked catalogue) found)
     starting s None at = tt
     starting s (Some place) at = go place.up
@@ -102,7 +102,7 @@ module _ (catalogue : Catalogue) (w : WorldState) (behind : Behind) where
         go (Some x) = tt
         go None = λ is. may_start s place at (subst (λ o. IfSome o (λ id. Waits catalogue w id behind.nodes)) is h)
 
-    pub behind_ready : (e : Event) → IsReady MayBehind catalogue e w behind
+    pub behind_ready : (e : Event) → IsReady MayAfterStop catalogue e w behind
     behind_ready (event.Call s words) = stepping (event.Call s words) (input.Call 0 words) (site_of w s)
     behind_ready (event.Deliver k) = delivering k (message_at w k)
     behind_ready (event.Flow count) = tt
@@ -115,12 +115,12 @@ module _ (catalogue : Catalogue) (w : WorldState) (behind : Behind) where
 
 -- ---- what is done then
 
-module _ (catalogue : Catalogue) (w : WorldState) (old new : Behind) where
+module _ (catalogue : Catalogue) (w : WorldState) (old new : AfterStop) where
   abbrev Done : Option Asked → Type 0
-  Done o = Did DoesBehind o old new
+  Done o = Did DoesAfterStop o old new
 
   abbrev IfDone : Event → Type 0
-  IfDone e = DoesEvent DoesBehind catalogue e w old new
+  IfDone e = DoesEvent DoesAfterStop catalogue e w old new
 
   step_stays : (e : Event) (given : Input) (o : Option SiteState) → Done (option_map (λ site. Asked.steps e site given) o) → new ≡ old
   step_stays e given None d = d
@@ -173,8 +173,8 @@ module _ (catalogue : Catalogue) (w : WorldState) (old new : Behind) where
     It = Effect catalogue (moment 0 w e (next catalogue e w))
 
     -- no site stopped that hasn't started since
-    none_waits : old.stopped ≡ None → It → IsBehind catalogue v new
-    none_waits none it = subst (λ (b : Behind). IsBehind catalogue v b) (sym (stays it)) (subst (λ o. IfSome o (λ id. Waits catalogue v id old.nodes)) (sym none) tt)
+    none_waits : old.stopped ≡ None → It → IsAfterStop catalogue v new
+    none_waits none it = subst (λ (b : AfterStop). IsAfterStop catalogue v b) (sym (stays it)) (subst (λ o. IfSome o (λ id. Waits catalogue v id old.nodes)) (sym none) tt)
       where
         nobody : (s : ℕ) → old.stopped ≢ Some s
         nobody s is = let z = sym none ∙ is in cc
@@ -187,9 +187,9 @@ module _ (catalogue : Catalogue) (w : WorldState) (old new : Behind) where
 
     -- one has
     module _ (id : ℕ) (is_it : old.stopped ≡ Some id) (waits : Waits catalogue w id old.nodes) where
-      still : new ≡ old → (place : Place) → place_of id v.places ≡ Some place → place.up ≡ None → waits.place.durable ≡ place.durable → IsBehind catalogue v new
+      still : new ≡ old → (place : Place) → place_of id v.places ≡ Some place → place.up ≡ None → waits.place.durable ≡ place.durable → IsAfterStop catalogue v new
       still same place at down durable =
-          subst (λ (b : Behind). IsBehind catalogue v b) (sym same)
+          subst (λ (b : AfterStop). IsAfterStop catalogue v b) (sym same)
           (subst (λ o. IfSome o (λ id. Waits catalogue v id old.nodes)) (sym is_it) (record {
             place = place;
             place_is = at;
@@ -205,13 +205,13 @@ module _ (catalogue : Catalogue) (w : WorldState) (old new : Behind) where
             same_catalogue = waits.same_catalogue;
           }))
 
-      unchanged : new ≡ old → place_of id v.places ≡ place_of id w.places → IsBehind catalogue v new
+      unchanged : new ≡ old → place_of id v.places ≡ place_of id w.places → IsAfterStop catalogue v new
       unchanged same at = still same waits.place (at ∙ waits.place_is) waits.is_down refl
 
       is_not_up : (x : SiteState) → site_of w id ≡ Some x → ⊥
       is_not_up x up = let down : site_of w id ≡ None = ap (option_and_then (λ (p : Place). p.up)) waits.place_is ∙ waits.is_down in let z = sym down ∙ up in cc
 
-      one_waits : It → IsBehind catalogue v new
+      one_waits : It → IsAfterStop catalogue v new
       one_waits (Effect.acts s a others) =
           unchanged (plain_stays e (named e w s a.given a.gives).0 d) (others id (λ same. is_not_up a.x (ap (site_of w) same ∙ a.up))).place_is
       one_waits (Effect.stands plain none sent all) = unchanged (plain_stays e plain d) (all id).place_is
@@ -220,14 +220,14 @@ module _ (catalogue : Catalogue) (w : WorldState) (old new : Behind) where
           same_nodes : new ≡ old
           same_nodes = crash_stays s (site_of w s) (subst (λ (e : Event). IfDone e) is d)
 
-          go : (b : Bool) → (id == s) ≡ b → IsBehind catalogue v new
+          go : (b : Bool) → (id == s) ≡ b → IsAfterStop catalogue v new
           go true t =
               let same : id ≡ s = eqb-true id s t in
               still same_nodes (put_down waits.place) (ap (λ s. place_of s v.places) same ∙ (own waits.place (ap (λ s. place_of s w.places) (sym same) ∙ waits.place_is)).place_is) refl refl
           go false t = unchanged same_nodes (others id (λ same. let z : (id == s) ≡ true = ap (λ n. id == n) (sym same) ∙ eq_self id in let y = sym z ∙ t in cc)).place_is
       one_waits (Effect.restarts s is sent own others) = go (id == s) refl
         where
-          go : (b : Bool) → (id == s) ≡ b → IsBehind catalogue v new
+          go : (b : Bool) → (id == s) ≡ b → IsAfterStop catalogue v new
           go true t =
               let same : id ≡ s = eqb-true id s t in
               let none : new.stopped ≡ None = that_starts s waits.place (is_it ∙ ap Some same) (ap (λ s. place_of s w.places) (sym same) ∙ waits.place_is) waits.is_down (subst (λ (e : Event). IfDone e) is d) in
@@ -237,9 +237,9 @@ module _ (catalogue : Catalogue) (w : WorldState) (old new : Behind) where
               unchanged (other_stays s (λ other. differ (let z = sym is_it ∙ other in cc)) (place_of s w.places) refl (subst (λ (e : Event). IfDone e) is d)) (others id differ).place_is
 
     -- so it is behind each step
-    pub behind_on : IsBehind catalogue w old → IsBehind catalogue v new
+    pub behind_on : IsAfterStop catalogue w old → IsAfterStop catalogue v new
     behind_on h = go old.stopped refl h
       where
-        go : (o : Option ℕ) → old.stopped ≡ o → IfSome o (λ id. Waits catalogue w id old.nodes) → IsBehind catalogue v new
+        go : (o : Option ℕ) → old.stopped ≡ o → IfSome o (λ id. Waits catalogue w id old.nodes) → IsAfterStop catalogue v new
         go None none h = none_waits none (effect catalogue 0 e w)
         go (Some id) is h = one_waits id is h (effect catalogue 0 e w)

@@ -1,4 +1,4 @@
-pub mod Behind
+pub mod AfterStop
 pub mod Left
 pub mod RanStopped
 pub mod Singles

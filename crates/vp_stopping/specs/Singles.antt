@@ -82,7 +82,7 @@ StopsIn e front (Some it) = (taker front.steps.world.catalogue e front.steps.wor
     × ((site : SiteState) → site_of front.steps.world.world it.site ≡ Some site → StopsOf e site (Some it.left) front.nodes it.nodes)
     × (it.nodes.catalogue ≡ front.nodes.catalogue)
 
--- The run behind the stop comes to its end, with the log that was left there, or a limit ends it.
+-- The run after the stop comes to its end, with the log that was left there, or a limit ends it.
 abbrev pub GoesOn : Schedule → ℕ → StoppedLog → Result Stopped WorldEnd → Type 0
 GoesOn s step left (Ok it) = (stopped step left.kept s ≡ Some it.schedule) × (limit_reached world_limits it.schedule ≡ None) × (it.commits ≡ journal_of it.schedule) × (it.log ≡ left.log)
 GoesOn s step left (Err (end.Limit what limit)) = (limit ≡ limit_of what) × ((t : Schedule) × (stopped step left.kept s ≡ Some t) × (limit_reached world_limits t ≡ Some what))

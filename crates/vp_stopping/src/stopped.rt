@@ -9,14 +9,14 @@ ghost use Rattle.vp_schedule.specs.Document.{IsSchedule};
 ghost use Rattle.vp_stops.specs.Stopped.{appender, message_taken, pass_over, run_in, singles, stop_at, stopped_world};
 ghost use Rattle.vp_world.specs.Limits.{Ends};
 ghost use Rattle.vp_world.specs.Steps.{taker, DoesEvent, IsReady};
-ghost use Rattle.vp_stopping.specs.Behind.{IsBehind};
+ghost use Rattle.vp_stopping.specs.AfterStop.{IsAfterStop};
 ghost use Rattle.vp_stopping.specs.Left.{CanRise, left_then, next_single};
 ghost use Rattle.vp_cluster.specs.Nodes.{MayDo, Does};
 ghost use Rattle.vp_hosts.specs.Stops.{is_kept};
 ghost use Rattle.vp_stopping.specs.RanStopped.{RunsStopped};
 ghost use Rattle.vp_stopping.specs.Singles.{AreBefore, ComesTo, GoesOn, HaveDone, IsBegun, MayStop, StopsIn, moment_in, run_in_place};
 
-use crate::behind::Behind;
+use crate::after_stop::AfterStop;
 use crate::left::Left;
 use vp_base::{Commits, CopyOf, Event, Events, NoMemory, SiteId};
 use vp_catalog::Catalog;
@@ -104,7 +104,7 @@ impl Steps {
         Ok(())
     }
 
-    /// The site crashes in the step of the event, or behind it where that is kept.
+    /// The site crashes in the step of the event, or after it where that is kept.
     fn crash(self, site: SiteId, event: Event, kept: bool) -> Result<Steps, WorldEnd>
         requires taken { taker self.world.catalogue event self.world.world ≡ Some site }
         ensures done { IfOk result (HaveDone self.world.catalogue (self.done ++ stop_at kept site event)
@@ -134,9 +134,9 @@ impl Steps {
         Ok(steps)
     }
 
-    /// Does all that is left behind a stop.
-    fn go_on(self, left: Left, behind: Behind) -> Result<Steps, WorldEnd>
-        requires { IsBehind self.world.catalogue self.world.world behind }
+    /// Does all that is left after a stop.
+    fn go_on(self, left: Left, behind: AfterStop) -> Result<Steps, WorldEnd>
+        requires { IsAfterStop self.world.catalogue self.world.world behind }
         ensures done { IfOk result (HaveDone self.world.catalogue (self.done ++ singles (run_from self.world.catalogue 1 left (run_in self.world.world)).moments)
             (run_from self.world.catalogue 1 left (run_in self.world.world)).world) }
         ensures end { Ends (limit_in world_limits (run_from self.world.catalogue 1 left (run_in self.world.world)).moments) result }
@@ -258,7 +258,7 @@ fn come_to(schedule: &Schedule, step: u32) -> Result<Option<(Front, Event)>, Wor
     }
 }
 
-/// The site stops in the step of the event, and the run goes on behind that to the end; the site starts from what it has left.
+/// The site stops in the step of the event, and the run goes on after that to the end; the site starts from what it has left.
 fn go_on(
     schedule: &Schedule,
     front: Front,
@@ -267,7 +267,7 @@ fn go_on(
 ) -> Result<Stopped, WorldEnd>
     requires taken { taker front.steps.world.catalogue event front.steps.world.world ≡ Some at.site }
     requires rise { AllByRecursion CanRise front.left }
-    requires waits { IsBehind front.steps.world.catalogue
+    requires waits { IsAfterStop front.steps.world.catalogue
         (stopped_world front.steps.world.catalogue at.left.kept at.site (moment_in front.steps.world.catalogue event front.steps.world.world))
         (record { nodes = at.nodes; stopped = Some at.site }) }
     ensures { (step : ℕ) (h : AreBefore schedule.now step event front.steps front.left) → appender schedule.now.catalogue h.m ≡ Some at.site → GoesOn schedule.now step at.left result }
@@ -285,7 +285,7 @@ fn go_on(
     let before = steps.world.messages() as u32;
     let steps = steps.stop(site, event, kept)?;
     left.raise(before + 1, steps.world.messages() as u32 - before)?;
-    let behind = Behind {
+    let behind = AfterStop {
         nodes,
         stopped: Some(site),
     };
@@ -294,7 +294,7 @@ fn go_on(
 }
 
 /// Runs the schedule through nodes up to a step, and stops the site that takes it within the append of its batch. The site is down then, and
-/// nothing that the step sends is handed over; the run goes on behind that, and the site starts from its log as it was left, which is answered.
+/// nothing that the step sends is handed over; the run goes on after that, and the site starts from its log as it was left, which is answered.
 /// None where there is no such step, or it appends no batch.
 pub fn run_stopped(schedule: &Schedule, stop: &Stop) -> Result<Option<Stopped>, WorldEnd>
     requires schedule { IsSchedule schedule.now }

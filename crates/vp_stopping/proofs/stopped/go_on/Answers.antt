@@ -2,7 +2,7 @@ use Rattle.std.proofs.Common.{◌∙◌, ◌≤◌, Some, ap, length, sym, subst
 use Rattle.vp_model.specs.World.{Schedule}
 use Rattle.vp_node.proofs.Faults.{gave_err}
 use Rattle.vp_world.specs.Known.{Known}
-use Rattle.vp_stopping.specs.Behind.{IsBehind}
+use Rattle.vp_stopping.specs.AfterStop.{IsAfterStop}
 use Rattle.vp_stopping.specs.declared.stopped.Stopped.{Stopped}
 use Rattle.vp_stopping.proofs.Going.{raised_so, rest_done, rest_ends, stop_ends, stop_grows}
 use Rattle.vp_stopping.proofs.stopped.go_on.Goals as goal
@@ -19,7 +19,7 @@ overflow_sub-messages c =
     omega (arith, grows, c.messages-before.ensures.count, c.messages.ensures.count)
 
 pub go_on-requires : goal.go_on-requires
-go_on-requires c = subst (λ (k : Known). IsBehind k.catalogue k.world (record { nodes = c.args.at.nodes; stopped = Some c.args.at.site })) (sym c.in_ok-steps.ensures.done.0) c.requires.waits
+go_on-requires c = subst (λ (k : Known). IsAfterStop k.catalogue k.world (record { nodes = c.args.at.nodes; stopped = Some c.args.at.site })) (sym c.in_ok-steps.ensures.done.0) c.requires.waits
 
 pub returns-in_err-ended : goal.returns-in_err-ended
 returns-in_err-ended c = λ step h by.

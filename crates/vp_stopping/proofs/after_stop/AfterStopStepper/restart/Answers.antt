@@ -1,7 +1,7 @@
 use Rattle.std.proofs.Common.{◌∙◌, refl, sym}
 use Rattle.vp_places.proofs.Started.{if_started_weaker}
 use Rattle.vp_stopping.proofs.Waiting.{is_that, is_other}
-use Rattle.vp_stopping.proofs.behind.BehindStepper.restart.Goals as goal
+use Rattle.vp_stopping.proofs.after_stop.AfterStopStepper.restart.Goals as goal
 
 pub restart-requires : goal.restart-requires
 restart-requires c = (c.requires.0, c.requires.1 (is_that c.args.self.now.stopped c.args.id (sym c.waits.ensures ∙ c.if-waits.true)))

@@ -1,4 +1,4 @@
-//! Behind a stop: the site that stopped starts again from the log that it has left.
+//! After a stop: the site that stopped starts again from the log that it has left.
 
 ghost use Rattle.std.specs.Prelude.{◌≡◌, ◌==◌, false};
 ghost use Rattle.std.specs.Option.{option_map_or};
@@ -9,16 +9,16 @@ use vp_cluster::Nodes;
 use vp_places::{ByThemselves, Site, StartFault, Stepper};
 use vp_records::Durable;
 
-/// Who does the steps behind a stop: the sites by themselves, but that the one that stopped is started by its node, from the log that the
+/// Who does the steps after a stop: the sites by themselves, but that the one that stopped is started by its node, from the log that the
 /// stop has left. From then on that site does its steps by itself too.
 #[derive(Drop)]
-pub struct Behind {
+pub struct AfterStop {
     pub nodes: Nodes,
     /// The site that stopped, until it starts.
     pub stopped: Option<SiteId>,
 }
 
-impl Behind {
+impl AfterStop {
     /// Whether this site stopped, and wasn't started since.
     fn waits(&self, id: SiteId) -> bool
         ensures { result ≡ option_map_or (λ stopped. stopped == id) self.now.stopped false }
@@ -30,12 +30,12 @@ impl Behind {
     }
 }
 
-impl Stepper for Behind {
-    ghost use Rattle.vp_stopping.specs.Behind.{MayBehind, DoesBehind};
+impl Stepper for AfterStop {
+    ghost use Rattle.vp_stopping.specs.AfterStop.{MayAfterStop, DoesAfterStop};
 
-    ghost may = { MayBehind };
+    ghost may = { MayAfterStop };
 
-    ghost did = { DoesBehind };
+    ghost did = { DoesAfterStop };
 
     fn step(
         &mut self,
