@@ -145,7 +145,7 @@ module _ (catalogue : Catalogue) where
         let longer : length v.sent ≡ length w.sent + length sends.0 = ap length sends.1 ∙ length-append w.sent sends.0 in
         omega (arith, longer)
 
-    -- the world behind the stop: the message that was taken is passed over, and then those that are lost
+    -- the world after the stop: the message that was taken is passed over, and then those that are lost
     pub place_stopped : (taken : List ℕ) → taken ≡ message_taken e → pass_over (range_with_len (length w.sent + 1) (length v.sent - length w.sent)) (pass_over taken v) ≡ stopped_world catalogue kept site (moment_in catalogue e w)
     place_stopped taken is =
         ap (λ n. pass_over (range_with_len (length w.sent + 1) n) (pass_over taken v)) place_sends.2

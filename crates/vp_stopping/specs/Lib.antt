@@ -1,3 +1,4 @@
+pub mod AfterStop
 pub mod Left
 pub mod RanStopped
 pub mod Singles
