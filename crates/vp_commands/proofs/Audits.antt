@@ -1,6 +1,6 @@
 -- Logs that are read one after the other.
 use Rattle.std.proofs.Common.{◌≡◌, ◌∙◌, ◌≤◌, ◌<◌, ◌+◌, ℕ, zero, suc, List, [], ◌∷◌, ◌++◌, length, get_or, take, drop, refl, sym, ap, subst, arith}
-use Rattle.std.specs.Prelude.{Option, Some, None, Result, Ok, Err, IfSome, IsErrOf}
+use Rattle.std.specs.Prelude.{Option, Some, None, Result, Ok, Err, IfOk, IfSome}
 use Rattle.std.proofs.lemmas.List.{take-append-drop, take_more, drop_more}
 use Rattle.vp_model.specs.Types.{LogRecord}
 use Rattle.vp_model.specs.Catalogue.{Catalogue}
@@ -16,7 +16,10 @@ use Rattle.vp_stable.specs.declared.fault.LogFault.TheVariants as faults
 use Rattle.vp_stable.proofs.Times.{elapses_as, elapses_none, elapses_then}
 use Rattle.vp_runs.specs.Keeping.{durable_in}
 use Rattle.vp_audit.specs.Audited.{Parts}
-use Rattle.vp_commands.specs.Audits.{AreParts, AtOne, ComesTo, IsBad, IsFailed, IsPart, KeepsLogs, StopsBy}
+use Rattle.vp_commands.specs.Audits.{AreParts, AuditGives, ComesTo, IsPart, KeepsLogs, StopsBy}
+use Rattle.vp_base.specs.declared.memory.NoMemory.{NoMemory}
+use Rattle.vp_status.specs.declared.status.Defined.{Defined}
+use Rattle.vp_status.specs.declared.status.Status.{Status}
 
 -- ---- calls that change no log
 
@@ -102,3 +105,12 @@ module _ (catalogue : Catalogue) (logs : List (ℕ × List ℕ)) (i : ℕ) (log 
       by faults.DiskFault read failed = let f = failed refl in (log, comes, (f.0, let rose = f.1 in omega (arith, later, rose)))
       by (faults.BadLog half place) read failed = (log, comes, told_first (AreBadLog half place) read)
       by faults.NoMemory read failed = tt
+
+-- ---- what is defined for them
+
+module _ (catalogue : Catalogue) (logs : List (ℕ × List ℕ)) (old new : DiskState) where
+  pub gives_so : (end : Status) (text : List ℕ) (r : Result Defined NoMemory) → AuditGives catalogue logs old new end text → IfOk r (λ it. it.status ≡ end) → IfOk r (λ it. it.text.items ≡ text)
+      → IfOk r (λ it. AuditGives catalogue logs old new it.status it.text.items)
+  gives_so end text (Ok it) g ends texts =
+      subst (λ (s : Status). AuditGives catalogue logs old new s it.text.items) (sym ends) (subst (λ (t : List ℕ). AuditGives catalogue logs old new end t) (sym texts) g)
+  gives_so end text (Err e) g ends texts = tt

@@ -1,12 +1,13 @@
 //! The lines of a report on stopped sites.
 
-ghost use Rattle.std.specs.Prelude.{◌≡◌, ◌++◌, OnOk, flat_map};
+ghost use Rattle.std.specs.Prelude.{◌≡◌, ◌++◌, ◌∷◌, OnOk, codes, flat_map};
+ghost use Rattle.std.specs.Fmt.{decimal};
 ghost use Rattle.vp_audit.specs.Lines.{can_text, doubt_line, found_text, newest_line, report_text};
 ghost use Rattle.vp_model.specs.Catalogue.{name_of};
-ghost use Rattle.vp_model.specs.Texts.Fields.{later_site_text, sites_text};
+ghost use Rattle.vp_model.specs.Texts.Fields.{later_site_text, sites_text, txn_text, view_text};
 
 use vp_audit::{Can, DoubtAt, Found, Report};
-use vp_base::{NoMemory, RecId, SiteId};
+use vp_base::{NoMemory, RecId, SiteId, Stored};
 use vp_catalog::Catalog;
 use vp_text::print_number;
 
@@ -44,14 +45,21 @@ fn print_newest(catalog: &Catalog, found: &Found, out: &mut Vec<u8>) -> Result<(
     };
     out.extend_from_slice(b"newest ")?;
     print_name(catalog, found.rec, out)?;
+    print_copy(copy, found.sites.as_slice(), out)?;
+    out.push(b'\n')?;
+    Ok(())
+}
+
+/// Appends the value and the date of a copy, and the sites that have one of that date.
+fn print_copy(copy: &Stored, sites: &[SiteId], out: &mut Vec<u8>) -> Result<(), NoMemory>
+    ensures { OnOk result (out.new.items ≡ out.old.items ++ 32 ∷ (copy.now.value ++ 32 ∷ (view_text copy.now.date ++ (codes " at " ++ sites_text sites.now)))) }
+{
     out.push(b' ')?;
     copy.value.print(out)?;
     out.push(b' ')?;
     copy.date.print(out)?;
     out.extend_from_slice(b" at ")?;
-    print_sites(found.sites.as_slice(), out)?;
-    out.push(b'\n')?;
-    Ok(())
+    print_sites(sites, out)
 }
 
 fn print_doubts(
@@ -79,14 +87,21 @@ fn print_doubt(
 {
     out.extend_from_slice(b"doubt ")?;
     print_name(catalog, rec, out)?;
+    print_doubt_at(doubt, out)?;
+    out.push(b'\n')?;
+    Ok(())
+}
+
+/// Appends the transaction, its view and the site.
+fn print_doubt_at(doubt: &DoubtAt, out: &mut Vec<u8>) -> Result<(), NoMemory>
+    ensures { OnOk result (out.new.items ≡ out.old.items ++ 32 ∷ (txn_text doubt.now.txn ++ 32 ∷ (view_text doubt.now.view ++ (codes " at " ++ decimal doubt.now.site)))) }
+{
     out.push(b' ')?;
     doubt.txn.print(out)?;
     out.push(b' ')?;
     doubt.view.print(out)?;
     out.extend_from_slice(b" at ")?;
-    doubt.site.print(out)?;
-    out.push(b'\n')?;
-    Ok(())
+    doubt.site.print(out)
 }
 
 /// Appends whether the value can be told.

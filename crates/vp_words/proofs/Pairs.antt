@@ -2,23 +2,27 @@
 use Rattle.std.proofs.Common.{◌≡◌, ℕ, ◌+◌, ◌*◌, ◌<◌, ◌≤◌, Bool, true, false, List, [], ◌∷◌, ◌++◌, length, get_or, take, drop, map, Option, Some, None, refl, sym, ap, subst, ◌∙◌, arith, codes, option_map, append_assoc}
 use Rattle.std.specs.Borrow.{Bor}
 use Rattle.std.specs.Fmt.{decimal}
-use Rattle.std.specs.Prelude.{◌&&◌, nat_le, nat_lt, option_and_then, if◌then◌else◌}
+use Rattle.std.specs.Prelude.{◌&&◌, IsSomeAnd, nat_le, nat_lt, option_and_then, if◌then◌else◌}
 use Rattle.std.specs.List.{list_all}
 use Rattle.std.specs.Str.{bytes_eq, is_utf8}
 use Rattle.std.specs.Str.Parse.{digits_value}
-use Rattle.std.proofs.lemmas.Bool.{and_parts, le-ltb, leb-true, lt-ltb, ltb-true}
+use Rattle.std.proofs.lemmas.Bool.{and_parts, le-ltb, leb-true, lt-ltb, ltb-true, ne_eqb}
 use Rattle.std.proofs.lemmas.Option.{cond_some, none-some}
 use Rattle.std.proofs.lemmas.List.{append-nil, at_drop_all, at_drop_more}
 use Rattle.clap.proofs.OnLiterals.{clap_on_literals}
 use Rattle.clap.specs.Kinds.{Kinds, or_else, range_kinds, values_kinds}
 use Rattle.clap.specs.Simple.{Shape}
-use Rattle.clap.specs.Walk.{Row, Text, walked}
+use Rattle.clap.specs.Walk.{Row, Text, rows_of, walked}
+use Rattle.clap.proofs.WalkLemmas.{raw_values-rows}
+use Rattle.clap.specs.Matches.{matched_of, raw_values}
+use Rattle.clap.specs.declared.builder.range.ValueRange.{ValueRange}
+use Rattle.clap.specs.declared.parser.matches.Found.{Found}
 use Rattle.clap.specs.declared.error.kind.ErrorKind.{ErrorKind}
 use Rattle.clap.specs.declared.builder.value_parser.Reading.TheVariants as reading
 use Rattle.clap.specs.declared.builder.value_parser.ValueParser.TheVariants as parser
 use Rattle.clap.specs.declared.parser.matches.ValueSource.TheVariants.{CommandLine}
 use Rattle.vp_words.specs.Commands.{auditing, pairs, site}
-use Rattle.vp_words.specs.Parsed.{audit_app, meant}
+use Rattle.vp_words.specs.Parsed.{audit_app, audited, meant}
 use Rattle.vp_words.specs.declared.words.Command.TheVariants as commands
 use Rattle.vp_words.proofs.Operands.{HasNoFlag, Kept, found, found_next, at, level, level_goes, level_kinds, outcome, plain_turn, plain_walk, seen, within}
 use Rattle.vp_words.proofs.Parsing.{command_shape, nothing}
@@ -112,23 +116,27 @@ from_site last log words n = if nat_lt last n then option_map (λ more. (n, log)
 few : (last : ℕ) (words : List Text) (logs : Logs) → last ≤ 16 → pairs last words ≡ Some logs → length words + 2 * last ≤ 32
 few last [] logs low e = omega (arith, low)
 few last (s ∷ []) logs low e = absurd (none-some logs e)
-few last (s ∷ log ∷ words) logs low e = go (site s) refl e
+few last (s ∷ log ∷ words) logs low e = go (λ n. few n words) (site s) refl e
   where
-    tested : (n : ℕ) → n ≤ 16 → (b : Bool) → nat_lt last n ≡ b → (o : Option Logs) → pairs n words ≡ o
-        → (if b then option_map (λ more. (n, log) ∷ more) o else None) ≡ Some logs → length (s ∷ log ∷ words) + 2 * last ≤ 32
-    tested n high true lt None is e = absurd (none-some logs e)
-    tested n high true lt (Some more) is e = let rest = few n words more high is in omega (arith, rest, ltb-true last n lt)
-    tested n high false lt o is e = absurd (none-some logs e)
+    Again : Type 0
+    Again = (n : ℕ) (more : Logs) → n ≤ 16 → pairs n words ≡ Some more → length words + 2 * n ≤ 32
 
-    go : (o : Option ℕ) → site s ≡ o → option_and_then (from_site last log words) o ≡ Some logs → length (s ∷ log ∷ words) + 2 * last ≤ 32
-    go None is e = absurd (none-some logs e)
-    go (Some n) is e = tested n (site_below s n is) (nat_lt last n) refl (pairs n words) refl e
+    tested : Again → (n : ℕ) → n ≤ 16 → (b : Bool) → nat_lt last n ≡ b → (o : Option Logs) → pairs n words ≡ o
+        → (if b then option_map (λ more. (n, log) ∷ more) o else None) ≡ Some logs → length (s ∷ log ∷ words) + 2 * last ≤ 32
+    tested again n high true lt None is e = absurd (none-some logs e)
+    tested again n high true lt (Some more) is e = let rest = again n more high is in omega (arith, rest, ltb-true last n lt)
+    tested again n high false lt o is e = absurd (none-some logs e)
+
+    go : Again → (o : Option ℕ) → site s ≡ o → option_and_then (from_site last log words) o ≡ Some logs → length (s ∷ log ∷ words) + 2 * last ≤ 32
+    go again None is e = absurd (none-some logs e)
+    go again (Some n) is e = tested again n (site_below s n is) (nat_lt last n) refl (pairs n words) refl e
 
 counts : (word : Text) (words : List Text) (logs : Logs) → pairs 0 (word ∷ words) ≡ Some logs → range_kinds 2 32 (length (word ∷ words)) ≡ []
 counts word [] logs e = absurd (none-some logs e)
 counts word (log ∷ words) logs e =
     let most = few 0 (word ∷ log ∷ words) logs (omega arith) e in
-    rw (le-ltb (length (word ∷ log ∷ words)) 32 (omega (arith, most))) refl
+    let count = length (word ∷ log ∷ words) in
+    rw (ne_eqb count 0 (λ e. omega (arith, e)), le-ltb count 2 (omega arith), le-ltb 32 count (omega (arith, most))) refl
 
 -- what `clap` takes for the operand is what the words say
 pub audit_says : (words : List Text) → option_and_then (meant (codes "audit")) (audit_rows words) ≡ auditing words
@@ -164,43 +172,44 @@ starts words = go (pairs 0 (now words))
     go None = refl
     go (Some logs) = refl
 
-module _ (words : List (Bor Text)) (i : ℕ) (word : Bor Text) (lt : i < length words) (is : word ≡ get_or words i word) where
-  here : (named : Option ℕ) (last : ℕ) (logs : Logs) → StandsAt words named last logs i → pairs 0 (now words) ≡ ahead named last logs (word.now ∷ now (drop (i + 1) words))
-  here named last logs stands =
-      stands ∙ at_drop_more (λ (l : List (Bor Text)). ahead named last logs (now l)) words i word lt
-      ∙ ap (λ (w : Bor Text). ahead named last logs (w.now ∷ now (drop (i + 1) words))) (sym is)
+module _ (words : List (Bor Text)) (i : ℕ) (word : Bor Text) (lt : i < length words) where
+  abbrev text : Text
+  text = (get_or words i word).now
+
+  here : (named : Option ℕ) (last : ℕ) (logs : Logs) → StandsAt words named last logs i → pairs 0 (now words) ≡ ahead named last logs (text ∷ now (drop (i + 1) words))
+  here named last logs stands = stands ∙ at_drop_more (λ (l : List (Bor Text)). ahead named last logs (now l)) words i word lt
 
   -- the log of the site
-  pub with_log : (site last : ℕ) (logs : Logs) → StandsAt words (Some site) last logs i → StandsAt words None site (logs ++ (site, word.now) ∷ []) (i + 1)
+  pub with_log : (site last : ℕ) (logs : Logs) → StandsAt words (Some site) last logs i → StandsAt words None site (logs ++ (site, text) ∷ []) (i + 1)
   with_log site last logs stands = here (Some site) last logs stands ∙ go (pairs site (now (drop (i + 1) words)))
     where
-      go : (o : Option Logs) → option_map (λ more. logs ++ (site, word.now) ∷ more) o ≡ option_map (λ more. (logs ++ (site, word.now) ∷ []) ++ more) o
+      go : (o : Option Logs) → option_map (λ more. logs ++ (site, text) ∷ more) o ≡ option_map (λ more. (logs ++ (site, text) ∷ []) ++ more) o
       go None = refl
-      go (Some more) = ap Some (sym (append_assoc logs ((site, word.now) ∷ []) more))
+      go (Some more) = ap Some (sym (append_assoc logs ((site, text) ∷ []) more))
 
   -- no site, or none that is above the one before
   module _ (last : ℕ) (logs : Logs) (stands : StandsAt words None last logs i) where
-    refused : (o : Option ℕ) → site word.now ≡ o → ((log : Text) (rest : List Text) → option_and_then (from_site last log rest) o ≡ None) → None ≡ pairs 0 (now words)
+    refused : (o : Option ℕ) → site text ≡ o → ((log : Text) (rest : List Text) → option_and_then (from_site last log rest) o ≡ None) → None ≡ pairs 0 (now words)
     refused o e none = sym (here None last logs stands ∙ go (now (drop (i + 1) words)))
       where
-        go : (rest : List Text) → ahead None last logs (word.now ∷ rest) ≡ None
+        go : (rest : List Text) → ahead None last logs (text ∷ rest) ≡ None
         go [] = refl
         go (log ∷ rest) = ap (option_map (λ more. logs ++ more)) (ap (option_and_then (from_site last log rest)) e ∙ none log rest)
 
-    pub no_site : None ≡ site word.now → None ≡ pairs 0 (now words)
+    pub no_site : None ≡ site text → None ≡ pairs 0 (now words)
     no_site e = refused None (sym e) (λ log rest. refl)
 
-    pub site_too_low : (n : ℕ) → Some n ≡ site word.now → n ≤ last → None ≡ pairs 0 (now words)
-    site_too_low n e low = refused (Some n) (sym e) (λ log rest. rw (le-ltb n last low) refl)
+    pub site_too_low : (n : ℕ) → Some n ≡ site text → n ≤ last → None ≡ pairs 0 (now words)
+    site_too_low n e low = refused (Some n) (sym e) (λ log rest. rw (le-ltb last n low) refl)
 
-    pub with_site : (n : ℕ) → Some n ≡ site word.now → last < n → StandsAt words (Some n) last logs (i + 1)
+    pub with_site : (n : ℕ) → Some n ≡ site text → last < n → StandsAt words (Some n) last logs (i + 1)
     with_site n e above = here None last logs stands ∙ go (now (drop (i + 1) words))
       where
         joined : (log : Text) (o : Option Logs) → option_map (λ more. logs ++ more) (option_map (λ more. (n, log) ∷ more) o) ≡ option_map (λ more. logs ++ (n, log) ∷ more) o
         joined log None = refl
         joined log (Some more) = refl
 
-        go : (rest : List Text) → ahead None last logs (word.now ∷ rest) ≡ ahead (Some n) last logs rest
+        go : (rest : List Text) → ahead None last logs (text ∷ rest) ≡ ahead (Some n) last logs rest
         go [] = refl
         go (log ∷ rest) =
             ap (option_map (λ more. logs ++ more)) (ap (option_and_then (from_site last log rest)) (sym e) ∙ ap (λ (b : Bool). if b then option_map (λ more. (n, log) ∷ more) (pairs n rest) else None) (lt-ltb last n above))
@@ -211,3 +220,15 @@ loop_done words last logs i stands le = sym (stands ∙ at_drop_all (λ (l : Lis
 
 pub loop_cut : (words : List (Bor Text)) (site last : ℕ) (logs : Logs) (i : ℕ) → StandsAt words (Some site) last logs i → length words ≤ i → None ≡ pairs 0 (now words)
 loop_cut words site last logs i stands le = sym (stands ∙ at_drop_all (λ (l : List (Bor Text)). ahead (Some site) last logs (now l)) words i le)
+
+-- ---- what the matches say
+
+pub audited_by : (f : Found) (given : Option (List Text)) → given ≡ option_map raw_values (matched_of f (codes "PAIRS"))
+    → option_and_then (λ words. option_map commands.Audit (pairs 0 words)) given ≡ audited (rows_of f)
+audited_by f given e = ap (option_and_then (λ words. option_map commands.Audit (pairs 0 words))) (e ∙ raw_values-rows f (codes "PAIRS"))
+
+-- ---- the operand
+
+pub some_range : (o : Option ValueRange) (v : ValueRange) → IsSomeAnd o (λ r. r ≡ v) → o ≡ Some v
+some_range None v e = absurd e
+some_range (Some r) v e = ap Some e

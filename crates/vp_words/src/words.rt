@@ -238,8 +238,14 @@ fn served(alloc: Global, matches: &ArgMatches) -> Result<Option<Command>, NoMemo
     let Some((site, log, turns)) = node_operands(matches) else {
         return Ok(None);
     };
-    let log = Word::from_vec(log.as_bytes().to_vec(alloc)?);
+    let log = word_of(alloc, log)?;
     Ok(Some(Command::Node { site, log, turns }))
+}
+
+fn word_of(alloc: Global, text: &str) -> Result<Word, NoMemory>
+    ensures { IfOk result (λ word. word ≡ text.now) }
+{
+    Ok(Word::from_vec(text.as_bytes().to_vec(alloc)?))
 }
 
 #[tactic(auto, using(crate::proofs::Texts::first_rows))]
@@ -301,7 +307,10 @@ fn audited(alloc: Global, matches: &ArgMatches) -> Result<Option<Command>, NoMem
     let Some(words) = matches.get_strs("PAIRS") else {
         return Ok(None);
     };
-    Ok(pairs(alloc, words)?.map(|logs| Command::Audit { logs }))
+    let Some(logs) = pairs(alloc, words)? else {
+        return Ok(None);
+    };
+    Ok(Some(Command::Audit { logs }))
 }
 
 /// The sites with their logs, where the words are such pairs and each site is above the one before.
@@ -313,7 +322,7 @@ fn pairs(alloc: Global, words: &[&str]) -> Result<Option<Logs>, NoMemory>
     let mut named: Option<SiteId> = None;
     for word in words {
         if let Some(site) = named {
-            logs.push((site, Word::from_vec(word.as_bytes().to_vec(alloc)?)))?;
+            logs.push((site, word_of(alloc, word)?))?;
             last = site.get();
             named = None;
         } else {
