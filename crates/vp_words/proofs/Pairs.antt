@@ -1,5 +1,5 @@
 -- The words of an audit: `clap` takes them for one operand, and then they are sites and logs by turns.
-use Rattle.std.proofs.Common.{◌≡◌, ℕ, ◌+◌, ◌*◌, ◌<◌, ◌≤◌, Bool, true, false, List, [], ◌∷◌, ◌++◌, length, get_or, take, drop, map, Option, Some, None, refl, sym, ap, subst, ◌∙◌, arith, codes, option_map, append_assoc}
+use Rattle.std.proofs.Common.{◌≡◌, ℕ, ◌+◌, ◌*◌, ◌<◌, ◌≤◌, Bool, true, false, List, [], ◌∷◌, ◌++◌, length, get_or, take, drop, map, Option, Some, None, refl, sym, ap, subst, ◌∙◌, arith, max, codes, option_map, append_assoc}
 use Rattle.std.specs.Borrow.{Bor}
 use Rattle.std.specs.Fmt.{decimal}
 use Rattle.std.specs.Prelude.{◌&&◌, IsSomeAnd, nat_le, nat_lt, option_and_then, if◌then◌else◌}
@@ -180,8 +180,9 @@ module _ (words : List (Bor Text)) (i : ℕ) (word : Bor Text) (lt : i < length 
   here named last logs stands = stands ∙ at_drop_more (λ (l : List (Bor Text)). ahead named last logs (now l)) words i word lt
 
   -- the log of the site
-  pub with_log : (site last : ℕ) (logs : Logs) → StandsAt words (Some site) last logs i → StandsAt words None site (logs ++ (site, text) ∷ []) (i + 1)
-  with_log site last logs stands = here (Some site) last logs stands ∙ go (pairs site (now (drop (i + 1) words)))
+  pub with_log : (site last : ℕ) (logs : Logs) → StandsAt words (Some site) last logs i → (log : Text) → log ≡ text → StandsAt words None site (logs ++ (site, log) ∷ []) (i + 1)
+  with_log site last logs stands log is =
+      subst (λ (l : Text). StandsAt words None site (logs ++ (site, l) ∷ []) (i + 1)) (sym is) (here (Some site) last logs stands ∙ go (pairs site (now (drop (i + 1) words))))
     where
       go : (o : Option Logs) → option_map (λ more. logs ++ (site, text) ∷ more) o ≡ option_map (λ more. (logs ++ (site, text) ∷ []) ++ more) o
       go None = refl
@@ -228,6 +229,9 @@ pub audited_by : (f : Found) (given : Option (List Text)) → given ≡ option_m
 audited_by f given e = ap (option_and_then (λ words. option_map commands.Audit (pairs 0 words))) (e ∙ raw_values-rows f (codes "PAIRS"))
 
 -- ---- the operand
+
+abbrev pub counts_from : ℕ → ℕ → Option ValueRange
+counts_from least most = Some (record { start_inclusive = least; end_inclusive = max most least })
 
 pub some_range : (o : Option ValueRange) (v : ValueRange) → IsSomeAnd o (λ r. r ≡ v) → o ≡ Some v
 some_range None v e = absurd e

@@ -10,10 +10,10 @@ returns-in_default-clause-command c =
 
 pub returns-in_default-2-clause-command : goal.returns-in_default-2-clause-command
 returns-in_default-2-clause-command c =
-    ap (option_map commands.Audit) (sym c.in_default-2.is ∙ c.in_ok-pairs.ensures)
+    ap (option_map commands.Audit) (sym c.in_default-2.is ∙ c.in_ok-logs.ensures)
     ∙ audited_by (found_of c.args.matches.now) _ (sym (ap (option_map (λ s. map (λ v. v.now) s.now)) c.in-Some.is) ∙ c.get_strs.ensures)
 
 pub returns-clause-command : goal.returns-clause-command
 returns-clause-command c =
-    ap (option_map commands.Audit) (sym c.in-Some-logs.is ∙ c.in_ok-pairs.ensures)
+    ap (option_map commands.Audit) (sym c.in-Some-2.is ∙ c.in_ok-logs.ensures)
     ∙ audited_by (found_of c.args.matches.now) _ (sym (ap (option_map (λ s. map (λ v. v.now) s.now)) c.in-Some.is) ∙ c.get_strs.ensures)
