@@ -34,7 +34,7 @@ pub fn audit_logs<D: Disk>(
 {
     reports_are_true();
     let alloc = catalog.sites().allocator();
-    match read_parts(catalog, logs, disk) {
+    match read_parts(catalog, logs.as_slice(), disk) {
         Ok(parts) => reported(catalog, &parts),
         Err(LogFault::BadLog { half, at }) => bad_log(alloc, half, at),
         Err(LogFault::DiskFault) => Defined::new(alloc, Status::DiskFault, b"disk fault\n"),
@@ -43,13 +43,17 @@ pub fn audit_logs<D: Disk>(
 }
 
 /// What each site has to keep, by its log.
-fn read_parts<D: Disk>(catalog: &Catalog, logs: &Logs, disk: &mut D) -> Result<Parts, LogFault>
+fn read_parts<D: Disk>(
+    catalog: &Catalog,
+    logs: &[(SiteId, Word)],
+    disk: &mut D,
+) -> Result<Parts, LogFault>
     ensures stops { StopsBy catalog.now logs.now (D.state disk.old) (D.state disk.new) result }
     ensures kept { KeepsLogs (D.state disk.old) (D.state disk.new) }
 {
     let alloc = catalog.sites().allocator();
     let mut parts = Parts::new(alloc);
-    for log in logs.as_slice() {
+    for log in logs {
         let batches = peek(alloc, &log.1, disk)?;
         parts.push((log.0, folded(catalog, log.0, &batches)?))?;
     }
