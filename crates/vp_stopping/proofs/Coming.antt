@@ -12,6 +12,8 @@ use Rattle.vp_model.specs.Limits.{world_limits, exceeded, limit_in, refused}
 use Rattle.vp_model.specs.World.{WorldState, Run, Moment, Schedule, site_of, next, moment, moments_of, run_of, start_world}
 use Rattle.vp_laws.specs.ShapeLaws.{IsEvent}
 use Rattle.vp_laws.proofs.Lists.Members.{Has, has_first, has_left, has_right}
+use Rattle.vp_runs.specs.Keeping.{durable_in}
+use Rattle.vp_kept.specs.Kept.{kept_in}
 use Rattle.vp_kept.proofs.Steps.{events_are}
 use Rattle.vp_stops.specs.Stopped.{moment_of, follow, singles}
 use Rattle.vp_world.specs.Known.{Known}
@@ -189,6 +191,7 @@ module _ (s : Schedule) (is : IsSchedule s) (j : ℕ) (steps : Steps) (nodes : N
         let at_it : moment_of step (moments_of s) ≡ Some m = ap (λ b. cond b None (slice_get (moments_of s) (step - 1))) some ∙ ap (λ ms. slice_get ms (step - 1)) grows.1 ∙ within h.ms m grows.0 (step - 1) less in
         let behind : left_then steps.world.world left ≡ left_then h.w left = ap (λ (k : Known). left_then k.world left) known in
         let tied_here = front_tied s is.catalogue_is formed h.ms (m ∷ grows.0) moments_are h.w h.begun nodes h.begins h.came.along h.nodes_are in
+        let folds_here = front_folds s is.catalogue_is formed h.ms (m ∷ grows.0) moments_are h.w h.begun nodes h.begins h.came.along h.nodes_are in
         record {
           before = record {
             m = m;
@@ -203,10 +206,13 @@ module _ (s : Schedule) (is : IsSchedule s) (j : ℕ) (steps : Steps) (nodes : N
               subst (λ (n : NodesValue). AreTied s.catalogue (take (step - 1) (moments_of s)) h.w n) (sym nodes_are)
               (subst (λ ms. AreTied s.catalogue ms h.w nodes) (sym front_is)
               tied_here);
+          folds = λ id place at.
+              subst (λ ms. durable_in s.catalogue id (kept_in s.catalogue id ms) ≡ place.durable) (sym front_is)
+              (folds_here id place at ((facts s is.catalogue_is formed m has_it).views.known id place at));
           may_stop = λ id site takes up letter at.
               subst (λ (n : NodesValue). LendsAt n.catalogue site letter.to n.hosts) (sym nodes_are)
               (lent_now s.catalogue is.catalogue_is m h.ms nodes (facts s is.catalogue_is formed m has_it) tied_here
-              (front_folds s is.catalogue_is formed h.ms (m ∷ grows.0) moments_are h.w h.begun nodes h.begins h.came.along h.nodes_are)
+              folds_here
               id site
               (sym (ap (λ (steps : Steps). taker steps.world.catalogue e steps.world.world) steps_are ∙ ap (λ (k : Known). taker k.catalogue e k.world) known) ∙ takes)
               (sym (ap (λ (steps : Steps). site_of steps.world.world id) steps_are ∙ ap (λ (k : Known). site_of k.world id) known) ∙ up)

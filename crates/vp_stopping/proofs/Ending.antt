@@ -7,10 +7,10 @@ use Rattle.std.proofs.lemmas.List.{take-append-drop}
 use Rattle.vp_text.proofs.Items.{all_append}
 use Rattle.vp_model.specs.Types.{Event, Counted}
 use Rattle.vp_model.specs.Types.event
-use Rattle.vp_model.specs.Catalogue.{sites_of}
+use Rattle.vp_model.specs.Catalogue.{Catalogue, sites_of}
 use Rattle.vp_model.specs.Limits.{world_limits, exceeded, limit_in, limit_reached, refused}
 use Rattle.vp_model.specs.Site.{SiteState}
-use Rattle.vp_model.specs.World.{Moment, Schedule, site_of, next, moments_of}
+use Rattle.vp_model.specs.World.{WorldState, Moment, Schedule, site_of, next, moments_of}
 use Rattle.vp_laws.proofs.Lists.Members.{Has, has_first, has_left, has_right}
 use Rattle.vp_schedule.specs.Document.{IsSchedule}
 use Rattle.vp_schedule.specs.Events.{IsEvent as IsReadable}
@@ -18,7 +18,7 @@ use Rattle.vp_stable.specs.Halves.{HaveBatches}
 use Rattle.vp_stable.specs.Stops.{with_batch}
 use Rattle.vp_kept.specs.Kept.{forced_at, kept_in}
 use Rattle.vp_hosts.specs.declared.host.StoppedLog.{StoppedLog}
-use Rattle.vp_stops.specs.Stopped.{moment_of, appender, left_of_line}
+use Rattle.vp_stops.specs.Stopped.{moment_of, appender, left_of_line, stopped_world}
 use Rattle.vp_world.specs.Known.{Known}
 use Rattle.vp_world.specs.Limits.{limit_of, Ends}
 use Rattle.vp_world.specs.Steps.{taker}
@@ -29,12 +29,14 @@ use Rattle.vp_stopping.specs.declared.stopped.Steps.{Steps}
 use Rattle.vp_stopping.specs.declared.stopped.Stopped.{Stopped}
 use Rattle.vp_stopping.specs.declared.stopped.StoppedSite.{StoppedSite}
 use Rattle.vp_stopping.specs.Left.{CanRise}
-use Rattle.vp_stopping.specs.Singles.{ComesTo, IsBefore, GoesOn, StopsIn, StopsOf}
+use Rattle.vp_stopping.specs.Behind.{IsBehind, Waits}
+use Rattle.vp_stopping.specs.Singles.{ComesTo, IsBefore, GoesOn, StopsIn, StopsOf, moment_in}
 use Rattle.vp_stopping.specs.RanStopped.{LeavesLog, RunsStopped}
 use Rattle.vp_cluster.proofs.Acting.{Facts}
 use Rattle.vp_cluster.proofs.Running.{events_formed}
 use Rattle.vp_cluster.proofs.Tied.{facts}
-use Rattle.vp_stopping.proofs.TiedStops.{Left, nothing_appended, batch_appended}
+use Rattle.vp_stopping.proofs.Going.{c_is, world_is}
+use Rattle.vp_stopping.proofs.TiedStops.{Left, nothing_appended, batch_appended, site_waits}
 use Rattle.vp_stopping.proofs.Rejoined.{stopped_none, stopped_nobody, none_stopped, none_up_to, ended_before, up_to_it, limit_of_it}
 
 -- ---- there is nothing to stop in
@@ -104,13 +106,20 @@ module _ (s : Schedule) (is : IsSchedule s) (step : ℕ) (front : Front) (e : Ev
   pub nobody : StopsIn e front None → appender s.catalogue m ≡ None
   nobody stops =
       nothing_appended s.catalogue is.catalogue_is m (take (step - 1) (moments_of s)) front.nodes its_facts h.tied
-      (λ id site takes up. subst (λ e. StopsOf e site None front.nodes) (sym h.before.event_is) (stops id site (taker_is id takes) (site_is id site up)))
+      (λ id site takes up. let it = stops id site (taker_is id takes) (site_is id site up) in (it.0, subst (λ e. StopsOf e site None front.nodes it.0) (sym h.before.event_is) it.1))
 
   module _ (at : StoppedSite) (stops : StopsIn e front (Some at)) where
+    stops_here : (site : SiteState) → site_of m.before at.site ≡ Some site → StopsOf m.line.event site (Some at.left) front.nodes at.nodes
+    stops_here site up = subst (λ e. StopsOf e site (Some at.left) front.nodes at.nodes) (sym h.before.event_is) (stops.1 site (site_is at.site site up))
+
+    -- what the site has left is what it has to keep
+    pub has_waited : Waits s.catalogue (stopped_world s.catalogue at.left.kept at.site m) at.site at.nodes
+    has_waited =
+        site_waits s.catalogue is.catalogue_is m (take (step - 1) (moments_of s)) front.nodes its_facts h.tied h.folds at.site at.left at.nodes (taker_there at.site stops.0) stops_here stops.2
+
     appended : Left s.catalogue m (take (step - 1) (moments_of s)) at.left at.site
     appended =
-        batch_appended s.catalogue is.catalogue_is m (take (step - 1) (moments_of s)) front.nodes its_facts h.tied at.site at.left (taker_there at.site stops.0)
-        (λ site up. subst (λ e. StopsOf e site (Some at.left) front.nodes) (sym h.before.event_is) (stops.1 site (site_is at.site site up)))
+        batch_appended s.catalogue is.catalogue_is m (take (step - 1) (moments_of s)) front.nodes its_facts h.tied at.site at.left at.nodes (taker_there at.site stops.0) stops_here
 
     pub somebody : appender s.catalogue m ≡ Some at.site
     somebody = appended.0
@@ -187,3 +196,14 @@ module _ (s : Schedule) (is : IsSchedule s) (step : ℕ) (front : Front) (e : Ev
 pub taker_again : (s : Schedule) (is : IsSchedule s) (step : ℕ) (front : Front) (e : Event) (h : IsBefore s step front e) (again : Front) (f : Event) (g : IsBefore s step again f) (site : ℕ)
     → taker front.steps.world.catalogue e front.steps.world.world ≡ Some site → taker again.steps.world.catalogue f again.steps.world.world ≡ Some site
 taker_again s is step front e h again f g site takes = taker_is s is step again f g site (same_taker s is step front e h again f g site (taker_there s is step front e h site takes))
+
+-- what it has left is what it has to keep there
+pub waits_again : (s : Schedule) (is : IsSchedule s) (step : ℕ) (front : Front) (e : Event) (h : IsBefore s step front e) (at : StoppedSite) (stops : StopsIn e front (Some at)) (again : Front) (f : Event) (g : IsBefore s step again f)
+    → IsBehind again.steps.world.catalogue (stopped_world again.steps.world.catalogue at.left.kept at.site (moment_in again.steps.world.catalogue f again.steps.world.world)) (record { nodes = at.nodes; stopped = Some at.site })
+waits_again s is step front e h at stops again f g =
+    let waits = has_waited s is step front e h at stops in
+    let here = subst (λ (m : Moment). Waits s.catalogue (stopped_world s.catalogue at.left.kept at.site m) at.site at.nodes) (same_moment s is step front e h again f g) waits in
+    let by = same_appender s is step front e h again f g (Some at.site) (somebody s is step front e h at stops) in
+    let takes = taker_again s is step front e h again f g at.site stops.0 in
+    let there = subst (λ (w : WorldState). Waits s.catalogue w at.site at.nodes) (sym (world_is s step f again.steps again.left g.before at.site at.left by takes)) here in
+    subst (λ (c : Catalogue). Waits c (stopped_world again.steps.world.catalogue at.left.kept at.site (moment_in again.steps.world.catalogue f again.steps.world.world)) at.site at.nodes) (sym (c_is s step f again.steps again.left g.before at.site at.left by takes)) there

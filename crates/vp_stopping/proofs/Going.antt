@@ -158,7 +158,7 @@ module _ (s : Schedule) (step : ℕ) (e : Event) (steps : Steps) (left : List Ev
   abbrev w : WorldState
   w = steps.world.world
 
-  c_is : c ≡ s.catalogue
+  pub c_is : c ≡ s.catalogue
   c_is = ap (λ (k : Known). k.catalogue) h.done.0
 
   w_is : w ≡ h.m.before
@@ -170,7 +170,7 @@ module _ (s : Schedule) (step : ℕ) (e : Event) (steps : Steps) (left : List Ev
       subst P (sym (moment_is s step h.m h.is))
       (subst (λ e. P (moment h.m.number h.m.before e (next s.catalogue e h.m.before))) (sym h.event_is) (all h.m.number))
 
-  world_is : stopped_world c kept site (moment_in c e w) ≡ stopped_world s.catalogue kept site h.m
+  pub world_is : stopped_world c kept site (moment_in c e w) ≡ stopped_world s.catalogue kept site h.m
   world_is =
       its_moment (λ m. stopped_world c kept site (moment_in c e w) ≡ stopped_world s.catalogue kept site m)
       (λ number. ap (λ (k : Known). stopped_world k.catalogue kept site (moment_in k.catalogue e k.world)) h.done.0)

@@ -7,4 +7,5 @@ mod InPlace
 mod Rejoined
 mod SingleLimits
 mod TiedStops
+mod Waiting
 mod Walking

@@ -4,8 +4,10 @@ use Rattle.vp_model.specs.Types.{Event}
 use Rattle.vp_model.specs.Catalogue.{Catalogue}
 use Rattle.vp_model.specs.Limits.{world_limits, limit_in, limit_reached}
 use Rattle.vp_model.specs.Site.{SiteState}
-use Rattle.vp_model.specs.World.{WorldState, Run, start_world, Moment, Schedule, site_of, moment, next, run_from, moments_of, journal_of}
+use Rattle.vp_model.specs.World.{WorldState, Run, start_world, Place, Moment, Schedule, place_of, site_of, moment, next, run_from, moments_of, journal_of}
 use Rattle.vp_laws.specs.ShapeLaws.{IsEvent}
+use Rattle.vp_runs.specs.Keeping.{durable_in}
+use Rattle.vp_kept.specs.Kept.{kept_in}
 use Rattle.vp_stops.specs.Stopped.{moment_of, stop_at, run_in, follow, singles, stopped}
 use Rattle.vp_world.specs.Steps.{taker}
 use Rattle.vp_world.specs.Limits.{limit_of}
@@ -59,6 +61,7 @@ pub record IsBefore (s : Schedule) (step : ℕ) (front : Front) (e : Event) : Ty
   pub before : AreBefore s step e front.steps front.left
   pub formed : IsEvent e
   pub tied : AreTied s.catalogue (take (step - 1) (moments_of s)) before.m.before front.nodes
+  pub folds : (id : ℕ) (place : Place) → place_of id before.m.before.places ≡ Some place → durable_in s.catalogue id (kept_in s.catalogue id (take (step - 1) (moments_of s))) ≡ place.durable
   pub may_stop : MayStop e front
 
 -- The run has come to a step, or has none of that number, or a limit ends it before.
@@ -69,14 +72,15 @@ ComesTo s step (Err (end.Limit what limit)) = (limit ≡ limit_of what) × (limi
 ComesTo s step (Err end.NoMemory) = Unit {0}
 
 -- The site stops within the append that the event's letter asks for, and leaves the nodes so.
-abbrev pub StopsOf : Event → SiteState → Option StoppedLog → NodesValue → Type 0
-StopsOf e site left old = (new : NodesValue) × ((letter : Letter) → letter_of old.catalogue old.letters e ≡ Some letter → StopsWith letter site left old new)
+abbrev pub StopsOf : Event → SiteState → Option StoppedLog → NodesValue → NodesValue → Type 0
+StopsOf e site left old new = (letter : Letter) → letter_of old.catalogue old.letters e ≡ Some letter → StopsWith letter site left old new
 
 -- What a stop within the event's step answers: of its site, where it is one's, what the nodes say.
 abbrev pub StopsIn : Event → Front → Option StoppedSite → Type 0
-StopsIn e front None = (id : ℕ) (site : SiteState) → taker front.steps.world.catalogue e front.steps.world.world ≡ Some id → site_of front.steps.world.world id ≡ Some site → StopsOf e site None front.nodes
+StopsIn e front None = (id : ℕ) (site : SiteState) → taker front.steps.world.catalogue e front.steps.world.world ≡ Some id → site_of front.steps.world.world id ≡ Some site → (new : NodesValue) × StopsOf e site None front.nodes new
 StopsIn e front (Some it) = (taker front.steps.world.catalogue e front.steps.world.world ≡ Some it.site)
-    × ((site : SiteState) → site_of front.steps.world.world it.site ≡ Some site → StopsOf e site (Some it.left) front.nodes)
+    × ((site : SiteState) → site_of front.steps.world.world it.site ≡ Some site → StopsOf e site (Some it.left) front.nodes it.nodes)
+    × (it.nodes.catalogue ≡ front.nodes.catalogue)
 
 -- The run behind the stop comes to its end, with the log that was left there, or a limit ends it.
 abbrev pub GoesOn : Schedule → ℕ → StoppedLog → Result Stopped WorldEnd → Type 0

@@ -1,6 +1,7 @@
 //! The run of a schedule through nodes, one of which stops within a step: between the device calls of its append.
 #![tactic(auto)]
 
+mod behind;
 mod left;
 mod stopped;
 

@@ -9,12 +9,14 @@ ghost use Rattle.vp_schedule.specs.Document.{IsSchedule};
 ghost use Rattle.vp_stops.specs.Stopped.{appender, message_taken, pass_over, run_in, singles, stop_at, stopped_world};
 ghost use Rattle.vp_world.specs.Limits.{Ends};
 ghost use Rattle.vp_world.specs.Steps.{taker, DoesEvent, IsReady};
+ghost use Rattle.vp_stopping.specs.Behind.{IsBehind};
 ghost use Rattle.vp_stopping.specs.Left.{CanRise, left_then, next_single};
 ghost use Rattle.vp_cluster.specs.Nodes.{MayDo, Does};
 ghost use Rattle.vp_hosts.specs.Stops.{is_kept};
 ghost use Rattle.vp_stopping.specs.RanStopped.{RunsStopped};
 ghost use Rattle.vp_stopping.specs.Singles.{AreBefore, ComesTo, GoesOn, HaveDone, IsBegun, MayStop, StopsIn, moment_in, run_in_place};
 
+use crate::behind::Behind;
 use crate::left::Left;
 use vp_base::{Commits, CopyOf, Event, Events, NoMemory, SiteId};
 use vp_catalog::Catalog;
@@ -32,11 +34,12 @@ pub struct Stopped {
     pub log: SiteLog,
 }
 
-/// A site that stopped within a step, and what it left.
+/// A site that stopped within a step, what it left, and the nodes, whose disks have that.
 #[derive(Drop)]
 struct StoppedSite {
     site: SiteId,
     left: StoppedLog,
+    nodes: Nodes,
 }
 
 /// The message that the event delivers.
@@ -131,16 +134,18 @@ impl Steps {
         Ok(steps)
     }
 
-    /// Does all that is left.
-    fn go_on(self, left: Left) -> Result<Steps, WorldEnd>
+    /// Does all that is left behind a stop.
+    fn go_on(self, left: Left, behind: Behind) -> Result<Steps, WorldEnd>
+        requires { IsBehind self.world.catalogue self.world.world behind }
         ensures done { IfOk result (HaveDone self.world.catalogue (self.done ++ singles (run_from self.world.catalogue 1 left (run_in self.world.world)).moments)
             (run_from self.world.catalogue 1 left (run_in self.world.world)).world) }
         ensures end { Ends (limit_in world_limits (run_from self.world.catalogue 1 left (run_in self.world.world)).moments) result }
     {
         let mut left = left;
+        let mut behind = behind;
         let mut steps = self;
         while let Some(event) = left.next(&steps.world)? {
-            steps = steps.step(event)?;
+            steps = steps.step_by(event, &mut behind)?;
         }
         Ok(steps)
     }
@@ -225,7 +230,11 @@ impl Front {
         };
         match nodes.stop(event, site, stop)? {
             None => Ok(None),
-            Some(left) => Ok(Some(StoppedSite { site: id, left })),
+            Some(left) => Ok(Some(StoppedSite {
+                site: id,
+                left,
+                nodes,
+            })),
         }
     }
 }
@@ -249,7 +258,7 @@ fn come_to(schedule: &Schedule, step: u32) -> Result<Option<(Front, Event)>, Wor
     }
 }
 
-/// The site stops in the step of the event, and the run goes on behind that to the end.
+/// The site stops in the step of the event, and the run goes on behind that to the end; the site starts from what it has left.
 fn go_on(
     schedule: &Schedule,
     front: Front,
@@ -258,6 +267,9 @@ fn go_on(
 ) -> Result<Stopped, WorldEnd>
     requires taken { taker front.steps.world.catalogue event front.steps.world.world ≡ Some at.site }
     requires rise { AllByRecursion CanRise front.left }
+    requires waits { IsBehind front.steps.world.catalogue
+        (stopped_world front.steps.world.catalogue at.left.kept at.site (moment_in front.steps.world.catalogue event front.steps.world.world))
+        (record { nodes = at.nodes; stopped = Some at.site }) }
     ensures { (step : ℕ) (h : AreBefore schedule.now step event front.steps front.left) → appender schedule.now.catalogue h.m ≡ Some at.site → GoesOn schedule.now step at.left result }
 {
     let Front {
@@ -268,17 +280,22 @@ fn go_on(
     let StoppedSite {
         site,
         left: StoppedLog { log, kept },
+        nodes,
     } = at;
     let before = steps.world.messages() as u32;
     let steps = steps.stop(site, event, kept)?;
     left.raise(before + 1, steps.world.messages() as u32 - before)?;
-    let ended = steps.go_on(left)?;
+    let behind = Behind {
+        nodes,
+        stopped: Some(site),
+    };
+    let ended = steps.go_on(left, behind)?;
     Ok(ended.stopped(&schedule.catalog, log)?)
 }
 
 /// Runs the schedule through nodes up to a step, and stops the site that takes it within the append of its batch. The site is down then, and
-/// nothing that the step sends is handed over; the run goes on behind that. Its log is answered as it was left. None where there is no such
-/// step, or it appends no batch.
+/// nothing that the step sends is handed over; the run goes on behind that, and the site starts from its log as it was left, which is answered.
+/// None where there is no such step, or it appends no batch.
 pub fn run_stopped(schedule: &Schedule, stop: &Stop) -> Result<Option<Stopped>, WorldEnd>
     requires schedule { IsSchedule schedule.now }
     requires calls { stop.now.calls ≤ 4 }

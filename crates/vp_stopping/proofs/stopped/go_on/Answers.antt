@@ -1,6 +1,8 @@
-use Rattle.std.proofs.Common.{◌∙◌, ◌≤◌, ap, length, arith}
+use Rattle.std.proofs.Common.{◌∙◌, ◌≤◌, Some, ap, length, sym, subst, arith}
 use Rattle.vp_model.specs.World.{Schedule}
 use Rattle.vp_node.proofs.Faults.{gave_err}
+use Rattle.vp_world.specs.Known.{Known}
+use Rattle.vp_stopping.specs.Behind.{IsBehind}
 use Rattle.vp_stopping.specs.declared.stopped.Stopped.{Stopped}
 use Rattle.vp_stopping.proofs.Going.{raised_so, rest_done, rest_ends, stop_ends, stop_grows}
 use Rattle.vp_stopping.proofs.stopped.go_on.Goals as goal
@@ -15,6 +17,9 @@ overflow_sub-messages c =
     let grows : length c.args.front.steps.world.world.sent ≤ length c.in_ok-steps.steps.world.world.sent =
     stop_grows c.args.front.steps c.in_ok-steps.steps c.args.at.site c.args.event c.args.at.left.kept _ c.requires.taken c.in_ok-steps.ensures.done in
     omega (arith, grows, c.messages-before.ensures.count, c.messages.ensures.count)
+
+pub go_on-requires : goal.go_on-requires
+go_on-requires c = subst (λ (k : Known). IsBehind k.catalogue k.world (record { nodes = c.args.at.nodes; stopped = Some c.args.at.site })) (sym c.in_ok-steps.ensures.done.0) c.requires.waits
 
 pub returns-in_err-ended : goal.returns-in_err-ended
 returns-in_err-ended c = λ step h by.

@@ -7,7 +7,7 @@ use Rattle.vp_stopping.specs.declared.stopped.StoppedSite.{StoppedSite}
 use Rattle.vp_hosts.specs.Stops.{is_kept}
 use Rattle.vp_stopping.specs.Singles.{ComesTo, IsBefore, StopsIn}
 use Rattle.vp_stopping.specs.RanStopped.{RunsStopped}
-use Rattle.vp_stopping.proofs.Ending.{no_step, nothing_there, came_ends, nobody, somebody, same_appender, leaves_log, taker_again, nothing_done, nothing_ends, rest_ends, all_done, all_rise}
+use Rattle.vp_stopping.proofs.Ending.{no_step, nothing_there, came_ends, nobody, somebody, same_appender, leaves_log, taker_again, nothing_done, nothing_ends, rest_ends, all_done, all_rise, waits_again}
 use Rattle.vp_stopping.proofs.stopped.run_stopped.Goals as goal
 
 pub returns-then-stop-eq0 : goal.returns-then-stop-eq0
@@ -99,6 +99,18 @@ go_on-requires-clause-rise c =
     let came : c.in_ok-front-2.field-0 ≡ Some (c.in-Some-2.front, c.in-Some-2.event) = cc in
     let g : IsBefore c.args.schedule.now c.args.stop.now.step c.in-Some-2.front c.in-Some-2.event = subst (λ (o : Option (Front × Event)). ComesTo c.args.schedule.now c.args.stop.now.step (Ok o)) came c.in_ok-front-2.ensures in
     all_rise c.args.schedule.now c.requires.schedule c.args.stop.now.step c.in-Some-2.front c.in-Some-2.event g
+
+pub go_on-requires-clause-waits : goal.go_on-requires-clause-waits
+go_on-requires-clause-waits c =
+    let s = c.args.schedule.now in
+    let step = c.args.stop.now.step in
+    let came : c.in_ok-front.field-0 ≡ Some (c.in-Some.front, c.in-Some.event) = cc in
+    let came_again : c.in_ok-front-2.field-0 ≡ Some (c.in-Some-2.front, c.in-Some-2.event) = cc in
+    let h : IsBefore s step c.in-Some.front c.in-Some.event = subst (λ (o : Option (Front × Event)). ComesTo s step (Ok o)) came c.in_ok-front.ensures in
+    let g : IsBefore s step c.in-Some-2.front c.in-Some-2.event = subst (λ (o : Option (Front × Event)). ComesTo s step (Ok o)) came_again c.in_ok-front-2.ensures in
+    let stopped : c.in_ok-stopped.stopped ≡ Some c.in-Some-stopped.at = cc in
+    let stops = subst (λ (o : Option StoppedSite). StopsIn c.in-Some.event c.in-Some.front o) stopped c.in_ok-stopped.ensures.stops in
+    waits_again s c.requires.schedule step c.in-Some.front c.in-Some.event h c.in-Some-stopped.at stops c.in-Some-2.front c.in-Some-2.event g
 
 pub returns-in_err-go_on-in-Some-stopped : goal.returns-in_err-go_on-in-Some-stopped
 returns-in_err-go_on-in-Some-stopped c =

@@ -2,10 +2,7 @@ use Rattle.std.proofs.Common.{◌≡◌, ◌∙◌, ap, sym, subst, Option, Some
 use Rattle.vp_model.specs.Site.{SiteState}
 use Rattle.vp_model.specs.World.{site_of}
 use Rattle.vp_world.specs.Steps.{taker}
-use Rattle.vp_hosts.specs.declared.letter.Letter.{Letter}
 use Rattle.vp_hosts.specs.declared.host.StoppedLog.{StoppedLog}
-use Rattle.vp_cluster.specs.Letters.{letter_of}
-use Rattle.vp_cluster.specs.Nodes.{StopsWith}
 use Rattle.vp_stopping.specs.Singles.{StopsOf}
 use Rattle.vp_stopping.proofs.stopped.Front.stop.Goals as goal
 
@@ -17,10 +14,10 @@ returns-in-None-clause-stops c = λ id site takes up.
     let front = c.args.self in
     let own = c.in-Some-into_site.site in
     let same : c.in-Some.id ≡ id = (let z = sym (sym c.in_ok-id.ensures ∙ c.in-Some.is) ∙ takes in cc) in
-    let it : own ≡ site = (let z = sym (sym c.into_site.ensures ∙ c.in-Some-into_site.is) ∙ ap (site_of front.steps.world.world) same ∙ up in cc) in
-    subst (λ (x : SiteState). StopsOf c.args.event.now x None front.nodes) it (
+    let it : own ≡ site = (let z = sym (sym c.into_site.ensures ∙ c.in-Some-into_site.is) ∙ ap (site_of front.steps.world.world) same ∙ up in cc) in (
       c.stop.new.self,
-      subst (λ (left : Option StoppedLog). (letter : Letter) → letter_of front.nodes.catalogue front.nodes.letters c.args.event.now ≡ Some letter → StopsWith letter own left front.nodes c.stop.new.self) c.in-None.is c.in_ok-stop.ensures.stops,
+      subst (λ (x : SiteState). StopsOf c.args.event.now x None front.nodes c.stop.new.self) it
+          (subst (λ (left : Option StoppedLog). StopsOf c.args.event.now own left front.nodes c.stop.new.self) c.in-None.is c.in_ok-stop.ensures.stops),
     )
 
 pub returns-clause-stops : goal.returns-clause-stops
@@ -31,8 +28,7 @@ returns-clause-stops c =
       takes,
       λ site up.
           let it : own ≡ site = (let z = sym (sym c.into_site.ensures ∙ c.in-Some-into_site.is) ∙ up in cc) in
-          subst (λ (x : SiteState). StopsOf c.args.event.now x (Some c.in-Some-2.left) front.nodes) it (
-            c.stop.new.self,
-            subst (λ (left : Option StoppedLog). (letter : Letter) → letter_of front.nodes.catalogue front.nodes.letters c.args.event.now ≡ Some letter → StopsWith letter own left front.nodes c.stop.new.self) c.in-Some-2.is c.in_ok-stop.ensures.stops,
-          ),
+          subst (λ (x : SiteState). StopsOf c.args.event.now x (Some c.in-Some-2.left) front.nodes c.stop.new.self) it
+          (subst (λ (left : Option StoppedLog). StopsOf c.args.event.now own left front.nodes c.stop.new.self) c.in-Some-2.is c.in_ok-stop.ensures.stops),
+      c.stop.ensures.same,
     )

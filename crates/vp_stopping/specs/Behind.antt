@@ -1,0 +1,44 @@
+-- What goes on behind a stop: the site that stopped starts from the log that it has left.
+use Rattle.std.specs.Prelude.{◌≡◌, ◌≢◌, ℕ, List, Some, None, IfSome}
+use Rattle.vp_model.specs.Types.{LogRecord}
+use Rattle.vp_model.specs.Words.{value_at}
+use Rattle.vp_model.specs.Catalogue.{Catalogue}
+use Rattle.vp_model.specs.World.{WorldState, Place, place_of}
+use Rattle.vp_runs.specs.Keeping.{durable_in}
+use Rattle.vp_places.specs.Asked.{Asked}
+use Rattle.vp_hosts.specs.Hosts.{HostValue, IsAt}
+use Rattle.vp_hosts.specs.Ports.{host_at}
+use Rattle.vp_cluster.specs.Nodes.{NodesValue, MayDo, Does}
+use Rattle.vp_stopping.specs.declared.behind.Behind.{Behind}
+
+-- the first start of the site that stopped is asked of its node, and all else of the sites
+abbrev pub MayBehind : Catalogue → Asked → Behind → Type 0
+MayBehind catalogue (Asked.steps e site given) behind = Unit {0}
+MayBehind catalogue (Asked.crashes id) behind = Unit {0}
+MayBehind catalogue (Asked.restarts id site) behind = behind.stopped ≡ Some id → MayDo catalogue (Asked.restarts id site) behind.nodes
+
+-- That one starts from its log as the stop has left it, whatever batches that has; and nothing else is done to the nodes.
+abbrev pub DoesBehind : Asked → Behind → Behind → Type 0
+DoesBehind (Asked.steps e site given) old new = new ≡ old
+DoesBehind (Asked.crashes id) old new = new ≡ old
+DoesBehind (Asked.restarts id site) old new =
+    (old.stopped ≡ Some id → Does (Asked.restarts id site) old.nodes new.nodes × (new.stopped ≡ None)) × (old.stopped ≢ Some id → new ≡ old)
+
+-- The site is down, and the batches that its node has left fold to what it has to keep.
+pub record Waits (catalogue : Catalogue) (w : WorldState) (id : ℕ) (nodes : NodesValue) : Type 0 where
+  pub place : Place
+  pub place_is : place_of id w.places ≡ Some place
+  pub is_down : place.up ≡ None
+  pub port : ℕ
+  pub port_is : value_at id nodes.catalogue.sites ≡ Some port
+  pub host : HostValue
+  pub host_is : host_at port nodes.hosts ≡ Some host
+  pub id_is : host.id ≡ id
+  pub batches : List (List LogRecord)
+  pub down : IsAt batches None host
+  pub folds : durable_in catalogue id batches ≡ place.durable
+  pub same_catalogue : nodes.catalogue ≡ catalogue
+
+-- so it is with the site that stopped, until it starts
+abbrev pub IsBehind : Catalogue → WorldState → Behind → Type 0
+IsBehind catalogue w behind = IfSome behind.stopped (λ id. Waits catalogue w id behind.nodes)

@@ -1,0 +1,65 @@
+//! Behind a stop: the site that stopped starts again from the log that it has left.
+
+ghost use Rattle.std.specs.Prelude.{◌≡◌, ◌==◌, false};
+ghost use Rattle.std.specs.Option.{option_map_or};
+
+use vp_base::{Effects, Event, Input, NoMemory, SiteId};
+use vp_catalog::Catalog;
+use vp_cluster::Nodes;
+use vp_places::{ByThemselves, Site, StartFault, Stepper};
+use vp_records::Durable;
+
+/// Who does the steps behind a stop: the sites by themselves, but that the one that stopped is started by its node, from the log that the
+/// stop has left. From then on that site does its steps by itself too.
+#[derive(Drop)]
+pub struct Behind {
+    pub nodes: Nodes,
+    /// The site that stopped, until it starts.
+    pub stopped: Option<SiteId>,
+}
+
+impl Behind {
+    /// Whether this site stopped, and wasn't started since.
+    fn waits(&self, id: SiteId) -> bool
+        ensures { result ≡ option_map_or (λ stopped. stopped == id) self.now.stopped false }
+    {
+        match self.stopped {
+            None => false,
+            Some(stopped) => stopped == id,
+        }
+    }
+}
+
+impl Stepper for Behind {
+    ghost use Rattle.vp_stopping.specs.Behind.{MayBehind, DoesBehind};
+
+    ghost may = { MayBehind };
+
+    ghost did = { DoesBehind };
+
+    fn step(
+        &mut self,
+        catalog: &Catalog,
+        event: &Event,
+        site: Site,
+        input: &Input,
+    ) -> Result<(Site, Effects), NoMemory> {
+        ByThemselves.step(catalog, event, site, input)
+    }
+
+    fn crash(&mut self, _: SiteId) {}
+
+    fn restart(
+        &mut self,
+        catalog: &Catalog,
+        id: SiteId,
+        durable: &Durable,
+    ) -> Result<Site, StartFault> {
+        if self.waits(id) {
+            self.stopped = None;
+            self.nodes.restart(catalog, id, durable)
+        } else {
+            ByThemselves.restart(catalog, id, durable)
+        }
+    }
+}
