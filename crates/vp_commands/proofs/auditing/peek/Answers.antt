@@ -19,3 +19,9 @@ returns-in-Ok-clause-later g c = let first = c.in-Ok.ensures.cause.later in let 
 pub returns-in-Ok-clause-kept : goal.returns-in-Ok-clause-kept
 returns-in-Ok-clause-kept g c =
     keeps_then _ _ _ (keeps_attached c.args.name.now _ _ _ c.in-Ok.ensures) (keeps_quiet _ _ c.peek.ensures.quiet)
+
+pub returns-in-Err-Failed-clause-kept : goal.returns-in-Err-Failed-clause-kept
+returns-in-Err-Failed-clause-kept g c = keeps_attached c.args.name.now _ _ _ c.attach.ensures
+
+pub returns-in-Err-NoMemory-clause-kept : goal.returns-in-Err-NoMemory-clause-kept
+returns-in-Err-NoMemory-clause-kept g c = keeps_attached c.args.name.now _ _ _ c.attach.ensures
