@@ -1,2 +1,3 @@
 mod Attached
+mod Audits
 mod Calm

@@ -86,7 +86,8 @@ fn last_line(alloc: Global, end: End) -> Result<Vec<u8>, NoMemory>
     Ok(line)
 }
 
-fn print_bad_log(half: u8, at: u64, out: &mut Vec<u8>) -> Result<(), NoMemory>
+/// Appends the line of a log that is none.
+pub(crate) fn print_bad_log(half: u8, at: u64, out: &mut Vec<u8>) -> Result<(), NoMemory>
     ensures { OnOk result (out.new.items ≡ out.old.items ++ bad_log_text half at) }
 {
     out.extend_from_slice(b"bad log ")?;

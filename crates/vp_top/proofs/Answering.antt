@@ -8,8 +8,8 @@ use Rattle.vp_outside.specs.Input.{SourceState, IsEnded}
 use Rattle.vp_serving.specs.Serving.{Outside}
 use Rattle.vp_words.specs.Commands.{command_of}
 use Rattle.vp_top.specs.Complete.{IsGiven}
-use Rattle.vp_top.specs.Ends.{Ends, EndsAsNode, EndsInText, IsPrinted}
-use Rattle.vp_top.specs.Program.{AreOf, HasRead, IsAnswer, IsAnswered, IsDefined, IsForNode, IsNoCommand, IsTooLong, Reads, most_bytes, usage_text}
+use Rattle.vp_top.specs.Ends.{Ends, EndsAsAudit, EndsAsNode, EndsInText, EndsOnDisk, IsPrinted}
+use Rattle.vp_top.specs.Program.{AreOf, CallsDisk, HasRead, IsAnswer, IsAnswered, IsDefined, IsNoCommand, IsTooLong, Reads, most_bytes, usage_text}
 use Rattle.vp_status.specs.declared.status.Status.{Status}
 use Rattle.vp_status.specs.declared.status.Status.TheVariants as status
 use Rattle.vp_words.specs.declared.words.Command.{Command}
@@ -81,7 +81,8 @@ module _ (words : List (List ℕ)) (source source' : SourceState) (o : Outside) 
 
   pub usage_told : command_of words ≡ None → (Rose o.sink.faults o.sink'.faults → ⊥) → (end : Status) → Ends words source source' o end
       → Comes (λ end text. (end ≡ status.Usage) × (text ≡ usage_text)) end
-  usage_told none calm end (inr node) = absurd (no_command words _ node.node.words_are none)
+  usage_told none calm end (inr (inl node)) = absurd (no_command words _ node.node.words_are none)
+  usage_told none calm end (inr (inr audit)) = absurd (no_command words _ audit.audit.words_are none)
   usage_told none calm end (inl e) = told (λ end text. (end ≡ status.Usage) × (text ≡ usage_text)) end (printed end e (λ reads rose. no_command words reads.0 reads.1 none) calm) tells
     where
       tells : (p : Printed end) → (end ≡ status.Usage) × (p.text ≡ usage_text)
@@ -95,8 +96,9 @@ module _ (words : List (List ℕ)) (source source' : SourceState) (o : Outside) 
   -- ---- the words of a command
 
   module _ (c : Command) (w : command_of words ≡ Some c) where
-    pub no_node : (IsForNode c → ⊥) → (end : Status) → EndsAsNode words source source' o end → ⊥
-    no_node other end n = other (subst IsForNode (same_command words c (commands.Node n.site n.log n.turns) w n.node.words_are) tt)
+    pub no_disk : (CallsDisk c → ⊥) → (end : Status) → EndsOnDisk words source source' o end → ⊥
+    no_disk other end (inl n) = other (subst CallsDisk (same_command words c (commands.Node n.site n.log n.turns) w n.node.words_are) tt)
+    no_disk other end (inr a) = other (subst CallsDisk (same_command words c (commands.Audit a.logs) w a.audit.words_are) tt)
 
     are_of : (P : Command → Type 0) → AreOf P words → P c
     are_of P are = subst P (same_command words c are.0 w are.1) are.2
@@ -117,8 +119,8 @@ module _ (words : List (List ℕ)) (source source' : SourceState) (o : Outside) 
 
     -- a command that reads nothing
     module _ (unread : Reads c → ⊥) (calm : Rose o.sink.faults o.sink'.faults → ⊥) (Told : Status → List ℕ → Type 0) (tells : (bytes : List ℕ) (end : Status) (text : List ℕ) → IsAnswer c bytes o.link o.link' end text → Told end text) where
-      pub unread_told : (IsForNode c → ⊥) → (end : Status) → Ends words source source' o end → Comes Told end
-      unread_told other end (inr node) = absurd (no_node other end node)
+      pub unread_told : (CallsDisk c → ⊥) → (end : Status) → Ends words source source' o end → Comes Told end
+      unread_told other end (inr called) = absurd (no_disk other end called)
       unread_told other end (inl e) =
           told Told end (printed end e (λ reads rose. unread (are_of Reads reads)) calm)
           (λ p. tells p.defines.bytes end p.text (answer_to end p (λ long. unread (are_of Reads long.0))).1)
@@ -128,12 +130,16 @@ module _ (words : List (List ℕ)) (source source' : SourceState) (o : Outside) 
       pub node_bytes : (end : Status) (n : EndsAsNode words source source' o end) → n.node.bytes ≡ bytes
       node_bytes end n = taken_all source.left source'.left bytes n.node.bytes given.left n.node.took.bytes_gone n.node.ended.1
 
+      pub audit_bytes : (end : Status) (a : EndsAsAudit words source source' o end) → a.audit.bytes ≡ bytes
+      audit_bytes end a = taken_all source.left source'.left bytes a.audit.bytes given.left a.audit.took.bytes_gone a.audit.ended.1
+
       whole : (end : Status) (p : Printed end) → HasRead c p.defines.bytes (IsEnded source') → p.defines.bytes ≡ bytes
       whole end p read = taken_all source.left source'.left bytes p.defines.bytes given.left p.defines.took.bytes_gone (reads_all c p.defines.bytes (IsEnded source') reads read).1.1
 
       -- they are too many
       pub limit_told : most_bytes < length bytes → (end : Status) → Ends words source source' o end → Comes (λ end text. (end ≡ status.Limit) × (text ≡ codes "limit bytes 16777216\n")) end
-      limit_told many end (inr node) = let fits = node.node.fits in let all = ap (λ (d : List ℕ). length d) (node_bytes end node) in absurd (omega (arith, many, fits, all))
+      limit_told many end (inr (inl node)) = let fits = node.node.fits in let all = ap (λ (d : List ℕ). length d) (node_bytes end node) in absurd (omega (arith, many, fits, all))
+      limit_told many end (inr (inr audit)) = let fits = audit.audit.fits in let all = ap (λ (d : List ℕ). length d) (audit_bytes end audit) in absurd (omega (arith, many, fits, all))
       limit_told many end (inl e) = told (λ end text. (end ≡ status.Limit) × (text ≡ codes "limit bytes 16777216\n")) end (printed end e (λ reads. given.no_source_fault) given.no_sink_fault) tells
         where
           tells : (p : Printed end) → (end ≡ status.Limit) × (p.text ≡ codes "limit bytes 16777216\n")
@@ -161,6 +167,6 @@ module _ (words : List (List ℕ)) (source source' : SourceState) (o : Outside) 
                 let more = long.1 in
                 omega (arith, few, fits, more)
 
-        pub answer_told : (Told : Status → List ℕ → Type 0) → ((end : Status) (text : List ℕ) → IsAnswer c bytes o.link o.link' end text → Told end text) → ((end : Status) → EndsAsNode words source source' o end → ⊥) → (end : Status) → Ends words source source' o end → Comes Told end
-        answer_told Told tells other end (inr node) = absurd (other end node)
+        pub answer_told : (Told : Status → List ℕ → Type 0) → ((end : Status) (text : List ℕ) → IsAnswer c bytes o.link o.link' end text → Told end text) → ((end : Status) → EndsOnDisk words source source' o end → ⊥) → (end : Status) → Ends words source source' o end → Comes Told end
+        answer_told Told tells other end (inr called) = absurd (other end called)
         answer_told Told tells other end (inl e) = told Told end (printed end e (λ reads. given.no_source_fault) given.no_sink_fault) (λ p. tells end p.text (answer_is end p))

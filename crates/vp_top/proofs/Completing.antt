@@ -1,5 +1,5 @@
 -- What the answer of each command is, by its input: the one that the input asks for, or its one fault.
-use Rattle.std.proofs.Common.{◌≡◌, ◌≢◌, ◌∙◌, ap, sym, subst, refl, ℕ, List, ◌++◌, inl, inr, ◌⊎◌}
+use Rattle.std.proofs.Common.{◌≡◌, ◌≢◌, ◌∙◌, ap, sym, subst, refl, ℕ, true, false, List, ◌++◌, inl, inr, ◌⊎◌}
 use Rattle.std.specs.Prelude.{Some, None, Ok, Err}
 use Rattle.vp_model.specs.Types.{Counted}
 use Rattle.vp_model.specs.Catalogue.{Catalogue}
@@ -18,8 +18,8 @@ use Rattle.vp_outside.specs.Links.{LinkState}
 use Rattle.vp_outside.specs.Input.{SourceState}
 use Rattle.vp_serving.specs.Serving.{Outside}
 use Rattle.vp_words.specs.Commands.{command_of}
-use Rattle.vp_top.specs.Ends.{EndsAsNode}
-use Rattle.vp_top.proofs.Answering.{node_bytes, same_command}
+use Rattle.vp_top.specs.Ends.{EndsOnDisk}
+use Rattle.vp_top.proofs.Answering.{audit_bytes, node_bytes, same_command}
 use Rattle.vp_schedule.specs.Document.{IsScheduleText}
 use Rattle.vp_schedule.specs.Document.{IsOnly as IsOnlySchedule}
 use Rattle.vp_schedule.specs.declared.fault.ScheduleFault.{ScheduleFault}
@@ -34,7 +34,7 @@ use Rattle.vp_replay.specs.Generated.{IsGenerated, IsSoaked}
 use Rattle.vp_replay.specs.Replayed.{Gives, IsPlayAnswer, IsPlayed, IsRefused, Tells, limit_of}
 use Rattle.vp_replay.specs.Logged.{IsLogged, Leaves}
 use Rattle.vp_replay.specs.Summary.{summary_text}
-use Rattle.vp_top.specs.Program.{AtSite, Reads, IsAnswer, IsNoCatalogue, TellsFault, usage_text}
+use Rattle.vp_top.specs.Program.{AtSite, LacksSites, Reads, IsAnswer, IsNoCatalogue, TellsFault, has_all, usage_text}
 use Rattle.vp_top.specs.Complete.{IsGiven, IsNoTextOf, TellsFaultOf, site_of}
 use Rattle.vp_status.specs.Refused.{limit_text}
 use Rattle.vp_status.specs.declared.status.Status.{Status}
@@ -236,6 +236,22 @@ module _ (bytes : List ℕ) where
     no_catalogue none end text (inl (inr missing, uncalled)) = absurd (none missing.catalogue missing.answered)
     no_catalogue none end text (inr t) = absurd (none t.catalogue t.placed.answered)
 
+  module _ (logs : List (ℕ × List ℕ)) where
+    no_audit : ((catalogue : Catalogue) → Answered bytes (Ok catalogue) → ⊥) → (end : Status) (text : List ℕ) → LacksSites bytes logs end text → IsNoCatalogue bytes end text
+    no_audit none end text (inl fault) = fault
+    no_audit none end text (inr lacks) = absurd (none lacks.0.0 lacks.0.1.answered)
+
+    module _ (catalogue : Catalogue) (answered : Answered bytes (Ok catalogue)) where
+      pub lacking_told : (end : Status) (text : List ℕ) → LacksSites bytes logs end text → (end ≡ status.Usage) × (text ≡ usage_text)
+      lacking_told end text (inl fault) = absurd (no_bad_line catalogue answered end text fault)
+      lacking_told end text (inr lacks) = lacks.1
+
+      pub not_lacking : has_all catalogue logs ≡ true → (end : Status) (text : List ℕ) → LacksSites bytes logs end text → ⊥
+      not_lacking all end text (inl fault) = no_bad_line catalogue answered end text fault
+      not_lacking all end text (inr lacks) =
+          let same = same_catalogue catalogue lacks.0.0 answered lacks.0.1.only in
+          let bad : false ≡ true = sym lacks.0.1.there ∙ ap (λ (c : Catalogue). has_all c logs) same ∙ all in cc
+
 -- ---- what is refused, of each command
 
 module _ (bytes : List ℕ) (link link' : LinkState) where
@@ -248,6 +264,7 @@ module _ (bytes : List ℕ) (link link' : LinkState) where
   fault_told (commands.Node site log turns) none end text a = no_catalogue bytes site link link' (λ port end text. ⊥) none end text a
   fault_told (commands.Client own turns site call) none end text a = no_catalogue bytes site link link' (λ port. ClientGives own turns port site call link link') none end text a
   fault_told (commands.Signal site given) none end text a = no_catalogue bytes site link link' (λ port. SignalGives port site given link link') none end text a
+  fault_told (commands.Audit logs) none end text a = no_audit bytes logs none end text a.0
 
   module _ (catalogue : Catalogue) (answered : Answered bytes (Ok catalogue)) (site : ℕ) (missing : value_at site catalogue.sites ≡ None) where
     lacks : (other : ℕ) → Some other ≡ Some site → value_at other catalogue.sites ≡ None
@@ -262,6 +279,7 @@ module _ (bytes : List ℕ) (link link' : LinkState) where
     missing_told commands.Check is end text a = cc
     missing_told (commands.Generate seed count) is end text a = cc
     missing_told (commands.Soak seed count) is end text a = cc
+    missing_told (commands.Audit logs) is end text a = cc
 
 pub text_reads : (c : Command) (bytes : List ℕ) → IsNoTextOf c bytes → Reads c
 text_reads (commands.Generate seed count) bytes none = none
@@ -273,18 +291,26 @@ site_reads (commands.Generate seed count) site is = cc
 site_reads (commands.Soak seed count) site is = cc
 site_reads _ site is = tt
 
--- ---- a node does not serve where there is nothing to serve
+-- ---- the disk is not called where the input is not fit for it
 
 module _ (words : List (List ℕ)) (source source' : SourceState) (o : Outside) (c : Command) (w : command_of words ≡ Some c) (bytes : List ℕ) (given : IsGiven bytes source source' o) where
-  pub no_node_on : IsNoTextOf c bytes → (end : Status) → EndsAsNode words source source' o end → ⊥
-  no_node_on none end n =
+  pub no_disk_on : IsNoTextOf c bytes → (end : Status) → EndsOnDisk words source source' o end → ⊥
+  no_disk_on none end (inr a) =
+      let same = same_command words c (commands.Audit a.logs) w a.audit.words_are in
+      let all = audit_bytes words source source' o c w (text_reads c bytes none) bytes given end a in
+      let no : IsNoTextOf (commands.Audit a.logs) bytes = subst (λ (c : Command). IsNoTextOf c bytes) (sym same) none in
+      no a.catalogue (subst (λ d. Answered d (Ok a.catalogue)) all a.audit.placed.answered)
+  no_disk_on none end (inl n) =
       let same = same_command words c (commands.Node n.site n.log n.turns) w n.node.words_are in
       let all = node_bytes words source source' o c w (text_reads c bytes none) bytes given end n in
       let no : IsNoTextOf (commands.Node n.site n.log n.turns) bytes = subst (λ (c : Command). IsNoTextOf c bytes) (sym same) none in
       no n.catalogue (subst (λ d. Answered d (Ok n.catalogue)) all n.node.placed.answered)
 
-  pub no_node_at : (site : ℕ) → site_of c ≡ Some site → (catalogue : Catalogue) → Answered bytes (Ok catalogue) → value_at site catalogue.sites ≡ None → (end : Status) → EndsAsNode words source source' o end → ⊥
-  no_node_at site at catalogue answered missing end n =
+  pub no_disk_at : (site : ℕ) → site_of c ≡ Some site → (catalogue : Catalogue) → Answered bytes (Ok catalogue) → value_at site catalogue.sites ≡ None → (end : Status) → EndsOnDisk words source source' o end → ⊥
+  no_disk_at site at catalogue answered missing end (inr a) =
+      let same = same_command words c (commands.Audit a.logs) w a.audit.words_are in
+      let bad : None ≡ Some site = ap site_of same ∙ at in cc
+  no_disk_at site at catalogue answered missing end (inl n) =
       let same = same_command words c (commands.Node n.site n.log n.turns) w n.node.words_are in
       let all = node_bytes words source source' o c w (site_reads c site at) bytes given end n in
       let only = subst (λ d. IsOnlyCatalogue d (Ok n.catalogue)) all n.node.placed.only in

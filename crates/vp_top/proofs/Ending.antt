@@ -22,7 +22,7 @@ use Rattle.vp_words.specs.declared.words.Command.TheVariants as commands
 use Rattle.vp_commands.specs.Asked.{Tells, ClientGives, SignalGives}
 use Rattle.vp_top.specs.Ends.{Defines, EndsInText}
 use Rattle.vp_top.specs.Plans.{Plans, PlansFor}
-use Rattle.vp_top.specs.Program.{HasRead, IsAnswer, IsAnswered, IsDefined, IsNowhere, Reads, TellsFault}
+use Rattle.vp_top.specs.Program.{HasRead, IsAnswer, IsAnswered, IsDefined, IsNowhere, LacksSites, Reads, TellsFault}
 use Rattle.vp_top.specs.declared.plan.Plan.{Plan}
 use Rattle.vp_top.specs.declared.plan.Plan.TheVariants as plans
 
@@ -68,6 +68,9 @@ tells_has _ _ text t = tt
 nowhere_has : (bytes : List ℕ) (site : ℕ) (end : Status) (text : List ℕ) → IsNowhere bytes site end text → HasText end
 nowhere_has bytes site end text n = ⊎_elim (λ none. fault_has none.fault end text none.tells) (λ missing. subst HasText (sym missing.end_is) tt) n
 
+lacking_has : (bytes : List ℕ) (logs : List (ℕ × List ℕ)) (end : Status) (text : List ℕ) → LacksSites bytes logs end text → HasText end
+lacking_has bytes logs end text n = ⊎_elim (λ none. fault_has none.fault end text none.tells) (λ lacks. subst HasText (sym lacks.1) tt) n
+
 module _ (bytes text : List ℕ) (link link' : LinkState) where
   client_has : (own turns port site : ℕ) (end : Status) → (words : _) → ClientGives own turns port site words link link' end text → HasText end
   client_has own turns port site end words g = ⊎_elim (λ asked. tells_has asked.answered end text asked.tells) (λ unbound. subst HasText (sym unbound.1) tt) g
@@ -97,6 +100,7 @@ module _ (bytes text : List ℕ) (link link' : LinkState) where
   answer_has (commands.Node site log turns) end a = ⊎_elim (λ nowhere. nowhere_has bytes site end text nowhere.0) (λ told. absurd told.is) a
   answer_has (commands.Client own turns site words) end a = ⊎_elim (λ nowhere. nowhere_has bytes site end text nowhere.0) (λ told. client_has own turns told.port site end words told.is) a
   answer_has (commands.Signal site given) end a = ⊎_elim (λ nowhere. nowhere_has bytes site end text nowhere.0) (λ told. signal_has told.port site end given told.is) a
+  answer_has (commands.Audit logs) end a = lacking_has bytes logs end text a.0
   answer_has _ _ a = tt
 
 -- ---- what is defined
@@ -123,6 +127,7 @@ module _ (words : List (List ℕ)) (source source' : SourceState) (link link' : 
   unread (commands.Node site log turns) none = absurd (none tt)
   unread (commands.Client own turns site call) none = absurd (none tt)
   unread (commands.Signal site given) none = absurd (none tt)
+  unread (commands.Audit logs) none = absurd (none tt)
 
 pub plans_unread : (words : List (List ℕ)) (source : SourceState) (link link' : LinkState) (command : Command) (plan : Plan) → command_of words ≡ Some command → (Reads command → ⊥) → PlansFor command [] link link' plan → Plans words source source link link' plan
 plans_unread words source link link' command (plans.Print told) is none p = record {
@@ -131,6 +136,7 @@ plans_unread words source link link' command (plans.Print told) is none p = reco
   defined = answered_is words source source link link' [] (IsEnded source) told.status told.text.items (record { command = command; words_are = is; read = unread words source source link link' command none; answer = p });
 }
 plans_unread words source link link' command (plans.Serve catalogue site log turns) is none p = absurd (none (subst Reads (sym p.0) tt))
+plans_unread words source link link' command (plans.Audit catalogue logs) is none p = absurd (none (subst Reads (sym p.0) tt))
 
 -- ---- what is printed
 

@@ -1,5 +1,5 @@
 -- What a run comes to by its words and its input, where nothing fails.
-use Rattle.std.specs.Prelude.{◌≡◌, ◌≤◌, ◌<◌, ◌⊎◌, ℕ, List, [], ◌∷◌, ◌++◌, length, take, codes, Option, Some, None, Ok}
+use Rattle.std.specs.Prelude.{◌≡◌, ◌≤◌, ◌<◌, ◌⊎◌, ℕ, true, false, List, [], ◌∷◌, ◌++◌, length, take, codes, Option, Some, None, Ok}
 use Rattle.std.specs.Io.KnownBytes.{Appends}
 use Rattle.vp_model.specs.Types.{Answer, Call, Counted}
 use Rattle.vp_model.specs.Words.{value_at}
@@ -24,6 +24,7 @@ use Rattle.vp_outside.specs.declared.datagram.Datagram.{Datagram}
 use Rattle.vp_runs.specs.Asking.{first_answer}
 use Rattle.vp_client.specs.Asked.{HasFailed}
 use Rattle.vp_serving.specs.Serving.{Outside, outside}
+use Rattle.vp_commands.specs.Audits.{AuditGives}
 use Rattle.vp_commands.specs.NodeEnds.{IsCalm, DecidedByLog}
 use Rattle.vp_replay.specs.Checked.{IsVerdict, IsMisspelled}
 use Rattle.vp_replay.specs.Logged.{IsLogged}
@@ -34,7 +35,7 @@ use Rattle.vp_words.specs.declared.words.Command.{Command}
 use Rattle.vp_words.specs.declared.words.Command.TheVariants as commands
 use Rattle.vp_words.specs.declared.words.Signal.{Signal}
 use Rattle.vp_top.specs.Ends.{Ends}
-use Rattle.vp_top.specs.Program.{AreOf, IsNoCatalogue, Reads, most_bytes, usage_text}
+use Rattle.vp_top.specs.Program.{AreOf, IsNoCatalogue, Reads, has_all, most_bytes, usage_text}
 use Rattle.vp_status.specs.Refused.{limit_text}
 use Rattle.vp_status.specs.declared.status.Status.{Status}
 use Rattle.vp_status.specs.declared.status.Status.TheVariants as status
@@ -87,6 +88,11 @@ site_of (commands.Node site log turns) = Some site
 site_of (commands.Client own turns site call) = Some site
 site_of (commands.Signal site given) = Some site
 site_of _ = None
+
+-- What the logs of an audit give was printed, and that is no fault of the disk; or there was no memory.
+abbrev pub IsAudited : Catalogue → List (ℕ × List ℕ) → Outside → Status → Type 0
+IsAudited catalogue logs o status.DiskFault = ⊥
+IsAudited catalogue logs o end = ((text : List ℕ) × AuditGives catalogue logs o.disk o.disk' end text × Appends o.sink.held o.sink'.held text) ⊎ (end ≡ status.NoMemory)
 
 -- ---- the claims, over disks that tell such a state
 
@@ -162,6 +168,18 @@ module _ {D : Type 0} (state : D → DiskState) where
       (source source' : SourceState) (link link' : LinkState) (sink sink' : SinkState) (disk disk' : D) (end : Status) →
       Ends words source source' (outside link link' sink sink' (state disk) (state disk')) end → IsGiven bytes source source' (outside link link' sink sink' (state disk) (state disk'))
       → IsCalm (outside link link' sink sink' (state disk) (state disk')) → DecidedByLog catalogue site log (outside link link' sink sink' (state disk) (state disk')) end
+
+  -- An audit whose sites are all in the catalogue, where no call of the disk fails, is told: the report on what the batches of the logs make, or the
+  -- first log that is none. One with a site that the catalogue lacks gets the usage line.
+  pub record LogsAreAudited : Type 0 where
+    pub audited : (words : List (List ℕ)) (logs : List (ℕ × List ℕ)) (bytes : List ℕ) (catalogue : Catalogue) →
+        command_of words ≡ Some (commands.Audit logs) → Fits bytes → Answered bytes (Ok catalogue) → has_all catalogue logs ≡ true →
+        (source source' : SourceState) (link link' : LinkState) (sink sink' : SinkState) (disk disk' : D) (end : Status) →
+        Ends words source source' (outside link link' sink sink' (state disk) (state disk')) end → IsGiven bytes source source' (outside link link' sink sink' (state disk) (state disk'))
+        → (Rose (state disk).faults (state disk').faults → ⊥) → IsAudited catalogue logs (outside link link' sink sink' (state disk) (state disk')) end
+    pub missing : (words : List (List ℕ)) (logs : List (ℕ × List ℕ)) (bytes : List ℕ) (catalogue : Catalogue) →
+        command_of words ≡ Some (commands.Audit logs) → Fits bytes → Answered bytes (Ok catalogue) → has_all catalogue logs ≡ false →
+        EndsWith words (IsGiven bytes) status.Usage usage_text
 
   -- ---- what cannot be done is refused
 

@@ -1,5 +1,5 @@
 -- How a run ends: what was taken of the source, what the sink got, what the link and the disk tell, and which count rose.
-use Rattle.std.specs.Prelude.{◌≡◌, ◌≤◌, ◌⊎◌, ℕ, List, [], length, Some}
+use Rattle.std.specs.Prelude.{◌≡◌, ◌≤◌, ◌⊎◌, ℕ, true, List, [], length, Some}
 use Rattle.std.specs.Io.KnownBytes.{Appends}
 use Rattle.vp_model.specs.Catalogue.{Catalogue}
 use Rattle.vp_outside.specs.Causes.{Rose}
@@ -10,8 +10,10 @@ use Rattle.vp_serving.specs.Serving.{Outside}
 use Rattle.vp_words.specs.Commands.{command_of}
 use Rattle.vp_words.specs.declared.words.Command.{Command}
 use Rattle.vp_words.specs.declared.words.Command.TheVariants as commands
+use Rattle.vp_commands.specs.Audits.{AuditGives, KeepsLogs}
 use Rattle.vp_commands.specs.NodeEnds.{NodeEnds, HasCause, DecidedIfCalm}
-use Rattle.vp_top.specs.Program.{most_bytes, Reads, AreOf, IsDefined, IsPlaced, MayCall}
+use Rattle.vp_top.specs.Program.{most_bytes, Reads, AreOf, IsCatalogueOf, IsDefined, IsPlaced, MayCall}
+use Rattle.vp_status.specs.Printing.{Prints}
 use Rattle.vp_status.specs.declared.status.Status.{Status}
 use Rattle.vp_status.specs.declared.status.Status.TheVariants as status
 
@@ -74,8 +76,37 @@ pub record EndsAsNode (words : List (List ℕ)) (source source' : SourceState) (
   pub cause : HasCause catalogue site log o end
   pub decided : DecidedIfCalm catalogue site log o end
 
+-- ---- logs are audited
+
+-- The words are those of an audit, and its catalogue was read, which has all its sites.
+pub record IsAudit (words : List (List ℕ)) (source source' : SourceState) (catalogue : Catalogue) (logs : List (ℕ × List ℕ)) : Type 0 where
+  pub words_are : command_of words ≡ Some (commands.Audit logs)
+  pub bytes : List ℕ
+  pub fits : length bytes ≤ most_bytes
+  pub took : Took bytes source source'
+  pub ended : IsEnded source'
+  pub placed : IsCatalogueOf bytes catalogue logs true
+
+-- What the logs give was printed, or there was no memory before.
+abbrev pub PrintsAudit : Catalogue → List (ℕ × List ℕ) → Outside → Status → Type 0
+PrintsAudit catalogue logs o end =
+    ((told : Status) × (text : List ℕ) × AuditGives catalogue logs o.disk o.disk' told text × Prints told text o.sink o.sink' end)
+    ⊎ ((end ≡ status.NoMemory) × (o.sink' ≡ o.sink))
+
+pub record EndsAsAudit (words : List (List ℕ)) (source source' : SourceState) (o : Outside) (end : Status) : Type 0 where
+  pub catalogue : Catalogue
+  pub logs : List (ℕ × List ℕ)
+  pub audit : IsAudit words source source' catalogue logs
+  pub prints : PrintsAudit catalogue logs o end
+  pub kept : KeepsLogs o.disk o.disk'
+  pub uncalled : o.link' ≡ o.link
+
 -- ---- the run
 
--- what the status of a run says: a text was printed, or a node served
+-- a node served, or logs were audited
+abbrev pub EndsOnDisk : List (List ℕ) → SourceState → SourceState → Outside → Status → Type 0
+EndsOnDisk words source source' o end = EndsAsNode words source source' o end ⊎ EndsAsAudit words source source' o end
+
+-- what the status of a run says: a text was printed, or the disk was called
 abbrev pub Ends : List (List ℕ) → SourceState → SourceState → Outside → Status → Type 0
-Ends words source source' o end = EndsInText words source source' o.link o.link' o.sink o.sink' end ⊎ EndsAsNode words source source' o end
+Ends words source source' o end = EndsInText words source source' o.link o.link' o.sink o.sink' end ⊎ EndsOnDisk words source source' o end

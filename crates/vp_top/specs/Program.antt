@@ -1,5 +1,6 @@
 -- What the program defines for its words, for the bytes that it takes of its source, and for what its link tells.
-use Rattle.std.specs.Prelude.{◌≡◌, ◌<◌, ◌≤◌, ◌⊎◌, ⊤, ℕ, List, [], length, codes, Some, None, Ok, Err}
+use Rattle.std.specs.Prelude.{◌≡◌, ◌<◌, ◌≤◌, ◌⊎◌, ⊤, ℕ, Bool, true, false, List, [], is_some, length, codes, Some, None, Ok, Err}
+use Rattle.std.specs.List.{list_all}
 use Rattle.vp_model.specs.Words.{value_at}
 use Rattle.vp_model.specs.Catalogue.{Catalogue}
 use Rattle.vp_catalog.specs.Document.{Answered, IsOnly}
@@ -23,7 +24,7 @@ abbrev pub most_bytes : ℕ
 most_bytes = 16777216
 
 abbrev pub usage_text : List ℕ
-usage_text = codes "usage: vpdb replay|check|node|client|tick|probe|stop|generate|soak|logs\n"
+usage_text = codes "usage: vpdb replay|check|node|client|tick|probe|stop|generate|soak|logs|audit\n"
 
 -- ---- at a site of a catalogue
 
@@ -59,6 +60,21 @@ pub record IsPlaced (bytes : List ℕ) (catalogue : Catalogue) (site port : ℕ)
   pub only : IsOnly bytes (Ok catalogue)
   pub there : value_at site catalogue.sites ≡ Some port
 
+-- the catalogue has the sites of all these logs
+abbrev pub has_all : Catalogue → List (ℕ × List ℕ) → Bool
+has_all catalogue logs = list_all (λ log. is_some (value_at log.0 catalogue.sites)) logs
+
+-- The input is this catalogue and no other, and has them or doesn't.
+pub record IsCatalogueOf (bytes : List ℕ) (catalogue : Catalogue) (logs : List (ℕ × List ℕ)) (all : Bool) : Type 0 where
+  pub answered : Answered bytes (Ok catalogue)
+  pub only : IsOnly bytes (Ok catalogue)
+  pub there : has_all catalogue logs ≡ all
+
+-- what is told where the input has not all sites of these logs
+abbrev pub LacksSites : List ℕ → List (ℕ × List ℕ) → Status → List ℕ → Type 0
+LacksSites bytes logs end text =
+    IsNoCatalogue bytes end text ⊎ (((catalogue : Catalogue) × IsCatalogueOf bytes catalogue logs false) × (end ≡ status.Usage) × (text ≡ usage_text))
+
 -- what is told at a site, by its port; where the input has no such site, the link is not called
 pub record IsToldAt (bytes : List ℕ) (site : ℕ) (told : ℕ → Type 0) : Type 0 where
   pub catalogue : Catalogue
@@ -72,7 +88,7 @@ AtSite bytes site link link' gives end text = (IsNowhere bytes site end text × 
 -- ---- the commands
 
 -- The text that a command defines for its input at each status; other statuses are none of the command's. A node that serves prints as it
--- goes, and defines no text.
+-- goes, and defines no text; an audit of sites that are there has its text by its logs.
 abbrev pub IsAnswer : Command → List ℕ → LinkState → LinkState → Status → List ℕ → Type 0
 IsAnswer commands.Replay bytes link link' end text = IsReplayAnswer bytes end text
 IsAnswer commands.Check bytes link link' end text = IsCheckAnswer bytes end text
@@ -82,6 +98,7 @@ IsAnswer commands.Logs bytes link link' end text = IsLogsAnswer bytes end text
 IsAnswer (commands.Node site log turns) bytes link link' end text = AtSite bytes site link link' (λ port end text. ⊥) end text
 IsAnswer (commands.Client own turns site call) bytes link link' end text = AtSite bytes site link link' (λ port. ClientGives own turns port site call link link') end text
 IsAnswer (commands.Signal site given) bytes link link' end text = AtSite bytes site link link' (λ port. SignalGives port site given link link') end text
+IsAnswer (commands.Audit logs) bytes link link' end text = LacksSites bytes logs end text × (link' ≡ link)
 
 -- what a command leaves of its link without memory
 abbrev pub MayCall : Command → List ℕ → LinkState → LinkState → Type 0
@@ -102,10 +119,11 @@ Calls (commands.Client own turns site call) = ⊤
 Calls (commands.Signal site given) = ⊤
 Calls _ = ⊥
 
--- the command is that of a node
-abbrev pub IsForNode : Command → Type 0
-IsForNode (commands.Node site log turns) = ⊤
-IsForNode _ = ⊥
+-- the command calls its disk
+abbrev pub CallsDisk : Command → Type 0
+CallsDisk (commands.Node site log turns) = ⊤
+CallsDisk (commands.Audit logs) = ⊤
+CallsDisk _ = ⊥
 
 -- the words are a command's with this
 abbrev pub AreOf : (Command → Type 0) → List (List ℕ) → Type 0

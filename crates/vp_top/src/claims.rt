@@ -2,7 +2,7 @@
 //! count of failures doesn't rise, and, where the command reads an input, whose source tells its bytes and has a count that doesn't rise
 //! either; and each leaves the answer that there was no memory.
 
-ghost use Rattle.vp_top.specs.Complete.{AnswersArePrinted, HistoriesAreChecked, LimitsAreTold, LogsAreTold, LongInputsAreRefused, MalformedInputsAreRefused, MissingSitesAreRefused, NodesEndByTheirLogs, OtherWordsAreRefused, RunsAreCounted, SchedulesAreGenerated, SchedulesAreReplayed, SignalsAreSent};
+ghost use Rattle.vp_top.specs.Complete.{AnswersArePrinted, HistoriesAreChecked, LimitsAreTold, LogsAreAudited, LogsAreTold, LongInputsAreRefused, MalformedInputsAreRefused, MissingSitesAreRefused, NodesEndByTheirLogs, OtherWordsAreRefused, RunsAreCounted, SchedulesAreGenerated, SchedulesAreReplayed, SignalsAreSent};
 
 use vp_commands::{answers_are_told, signals_are_done};
 use vp_outside::Disk;
@@ -50,6 +50,12 @@ pub fn signals_are_sent<D: Disk>()
 /// Whoever runs `node` at a site of the catalogue, where no call fails but those that send, gets the end that its log decides.
 pub fn nodes_end_by_their_logs<D: Disk>()
     ensures { NodesEndByTheirLogs D.state }
+{}
+
+/// Whoever runs `audit` on logs of sites of the catalogue, where no call of the disk fails, gets the report on what the batches of the logs make,
+/// or the first log that is none; at a site that the catalogue lacks, the usage line.
+pub fn logs_are_audited<D: Disk>()
+    ensures { LogsAreAudited D.state }
 {}
 
 /// Whoever gives words that are no command gets the usage line.

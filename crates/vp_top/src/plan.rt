@@ -3,8 +3,8 @@
 ghost use Rattle.std.specs.Prelude.{◌≡◌, None, IfOk, OnErr, codes};
 ghost use Rattle.vp_words.specs.Commands.{IsAllowed};
 ghost use Rattle.vp_status.specs.declared.status.Status.TheVariants as status;
-ghost use Rattle.vp_top.specs.Plans.{IsFound, PlansFor};
-ghost use Rattle.vp_top.specs.Program.{Calls, MayCall, TellsFault, usage_text};
+ghost use Rattle.vp_top.specs.Plans.{IsAuditPlan, IsFound, PlansFor};
+ghost use Rattle.vp_top.specs.Program.{Calls, MayCall, TellsFault, has_all, usage_text};
 
 use std::alloc::Global;
 use vp_base::{NoMemory, SiteId, Word};
@@ -13,7 +13,7 @@ use vp_commands::{call_site, signal_site};
 use vp_outside::Link;
 use vp_replay::{checked, generated, logged, replayed, soaked};
 use vp_status::{Defined, Status, print_bad_line, print_limit, print_twice};
-use vp_words::Command;
+use vp_words::{Command, Logs};
 
 /// What the program does once its words are tested and its input is read.
 #[derive(Drop)]
@@ -26,6 +26,11 @@ pub enum Plan {
         site: SiteId,
         log: Word,
         turns: u64,
+    },
+    /// It audits the sites by their logs.
+    Audit {
+        catalog: Catalog,
+        logs: Logs,
     },
 }
 
@@ -83,7 +88,30 @@ pub fn plan_of<L: Link>(
             )?)),
             Found::Nowhere(told) => Ok(Plan::Print(told)),
         },
+        Command::Audit { logs } => audit_plan(alloc, input, logs),
     }
+}
+
+/// Reads the catalogue of an audit, which is to have all its sites.
+fn audit_plan(alloc: Global, input: &[u8], logs: Logs) -> Result<Plan, NoMemory>
+    ensures { IfOk result (IsAuditPlan input.now logs) }
+{
+    match Catalog::read(alloc, input) {
+        Ok(catalog) => {
+            if has_all(&catalog, logs.as_slice()) {
+                Ok(Plan::Audit { catalog, logs })
+            } else {
+                Ok(Plan::Print(usage(alloc)?))
+            }
+        }
+        Err(fault) => Ok(Plan::Print(refused(alloc, fault)?)),
+    }
+}
+
+fn has_all(catalog: &Catalog, logs: &[(SiteId, Word)]) -> bool
+    ensures { result ≡ has_all catalog.now logs.now }
+{
+    logs.iter().all(|log| catalog.port(log.0).is_some())
 }
 
 /// Reads the catalogue and finds the site in it.
@@ -130,7 +158,7 @@ pub fn usage(alloc: Global) -> Result<Defined, NoMemory>
     Defined::new(
         alloc,
         Status::Usage,
-        b"usage: vpdb replay|check|node|client|tick|probe|stop|generate|soak|logs\n",
+        b"usage: vpdb replay|check|node|client|tick|probe|stop|generate|soak|logs|audit\n",
     )
 }
 

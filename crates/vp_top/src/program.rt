@@ -4,15 +4,15 @@ ghost use Rattle.std.specs.Prelude.{◌≡◌, ◌≤◌, ◌<◌, ◌↔◌, If
 ghost use Rattle.vp_outside.specs.Causes.{Rose};
 ghost use Rattle.vp_outside.specs.Input.{IsEnded, Took};
 ghost use Rattle.vp_serving.specs.Serving.{outside};
-ghost use Rattle.vp_top.specs.Ends.{Ends, EndsAsNode, EndsInText, LeavesLink};
+ghost use Rattle.vp_top.specs.Ends.{Ends, EndsInText, EndsOnDisk, LeavesLink};
 ghost use Rattle.vp_top.specs.Plans.{Plans};
-ghost use Rattle.vp_top.specs.Program.{AreOf, Calls, IsForNode, Reads};
+ghost use Rattle.vp_top.specs.Program.{AreOf, Calls, CallsDisk, Reads};
 ghost use Rattle.vp_top.specs.declared.program.PlanFault.TheVariants as plan_faults;
 
 use crate::plan::{Plan, plan_of, too_long, usage};
 use std::alloc::{AllocError, Global};
 use vp_base::{NoMemory, Word};
-use vp_commands::serve_log;
+use vp_commands::{audit_logs, serve_log};
 use vp_outside::{Disk, InputFault, Link, Sink, Source, read_to_end};
 use vp_status::Status;
 use vp_words::Command;
@@ -44,7 +44,7 @@ impl From<AllocError> for PlanFault {
 }
 
 /// Does all that the program does: tests the words, reads the source to its end where the command reads one, and prints what the words
-/// define for what was read, or serves a node, which prints as it goes. Nothing is printed, and neither link nor disk is called, before
+/// define for what was read and for the logs of an audit, or serves a node, which prints as it goes. Nothing is printed, and neither link nor disk is called, before
 /// the source was read.
 pub fn run<S: Source, K: Sink, L: Link, D: Disk>(
     alloc: Global,
@@ -57,13 +57,13 @@ pub fn run<S: Source, K: Sink, L: Link, D: Disk>(
     requires fresh { (L.state link.old).asked ≡ None }
     ensures ends { Ends words.now (S.state source.old) (S.state source.new)
         (outside (L.state link.old) (L.state link.new) (K.state sink.old) (K.state sink.new) (D.state disk.old) (D.state disk.new)) result }
-    // Whatever is no node prints a text.
-    ensures text { (AreOf IsForNode words.now → ⊥)
+    // Whatever is for no disk prints a text.
+    ensures text { (AreOf CallsDisk words.now → ⊥)
         → EndsInText words.now (S.state source.old) (S.state source.new) (L.state link.old) (L.state link.new) (K.state sink.old) (K.state sink.new) result }
     ensures source_uncalled { (AreOf Reads words.now → ⊥) → source.new ≡ source.old }
     ensures link_uncalled { (AreOf Calls words.now → ⊥) → link.new ≡ link.old }
-    // Unless a node serves.
-    ensures disk_uncalled { (EndsAsNode words.now (S.state source.old) (S.state source.new)
+    // Unless a node serves or logs are audited.
+    ensures disk_uncalled { (EndsOnDisk words.now (S.state source.old) (S.state source.new)
         (outside (L.state link.old) (L.state link.new) (K.state sink.old) (K.state sink.new) (D.state disk.old) (D.state disk.new)) result → ⊥) → disk.new ≡ disk.old }
 {
     match plan(alloc, words, source, link) {
@@ -76,6 +76,10 @@ pub fn run<S: Source, K: Sink, L: Link, D: Disk>(
                 turns,
             },
         ) => serve_log(&catalog, site, &log, link, disk, sink, turns),
+        Ok(Plan::Audit { catalog, logs }) => match audit_logs(&catalog, &logs, disk) {
+            Ok(defined) => defined.print(sink),
+            Err(NoMemory) => Status::NoMemory,
+        },
         Err(PlanFault::SourceFault) => Status::SourceFault,
         Err(PlanFault::NoMemory) => Status::NoMemory,
     }

@@ -4,5 +4,6 @@ mod Calls
 mod Hyphens
 mod Operands
 mod Parsing
+mod Pairs
 pub mod Spelling
 pub mod Texts

@@ -9,7 +9,7 @@ use Rattle.clap.specs.Faults.{check_fault, defaults_fault, settle_fault, step_fa
 use Rattle.clap.specs.Lexer.{long_of, name_and_value, short_of}
 use Rattle.clap.specs.Kinds.{Kinds, or_else}
 use Rattle.clap.specs.Simple.{Shape}
-use Rattle.clap.specs.Walk.{Held, Row, Text, Walk, arg_by_index, arg_by_long, arg_by_short, finished, idle, settled, to_positional, value, walked}
+use Rattle.clap.specs.Walk.{Held, Row, Text, Walk, arg_by_index, arg_by_long, arg_by_short, finished, Waiting, idle, positional, settled, to_positional, value, walked}
 use Rattle.clap.specs.declared.error.kind.ErrorKind.{ErrorKind}
 use Rattle.clap.specs.declared.error.kind.ErrorKind.TheVariants as kind
 
@@ -26,9 +26,17 @@ Kept = List Row × Option (Text × List Text)
 abbrev pub held : Kept → Held
 held h = record { rows = h.0; pending = h.1; skip = 0 }
 
--- before the operand p, where `--` was met or not
+-- an operand of several words takes the next one, or none is begun
+abbrev pub begun : Bool → Waiting
+begun true = positional
+begun false = idle
+
+-- before a word for the operand p, where `--` was met or not
+abbrev pub within : Bool → Kept → ℕ → Bool → Walk
+within more h p trailing = record { held = held h; waiting = begun more; position = p; is_trailing = trailing; stopped = None }
+
 abbrev pub at : Kept → ℕ → Bool → Walk
-at h p trailing = record { held = held h; waiting = idle; position = p; is_trailing = trailing; stopped = None }
+at h p trailing = within false h p trailing
 
 abbrev unknown : Kinds
 unknown = kind.UnknownArgument ∷ []
@@ -93,19 +101,23 @@ pub look : (word : Text) → is_utf8 word ≡ true → Look word
 look [] u = plain (record { dashes = refl; long = refl; short = refl; begins = inr refl })
 look (x ∷ xs) u = look_at x xs (IsUtf8-from_is_utf8 (x ∷ xs) u) (cases_eq x 45)
 
-long_turn : (s : Shape) (h : Kept) (p : ℕ) (word : Text) → HasNoFlag s → IsLong word → turn_fault s [] (at h p false) word ≡ unknown
-long_turn s h p word none w = rw (w.dashes, w.long, none.long w.name.0) refl
+long_turn : (s : Shape) (more : Bool) (h : Kept) (p : ℕ) (word : Text) → HasNoFlag s → IsLong word → turn_fault s [] (within more h p false) word ≡ unknown
+long_turn s true h p word none w = rw (w.dashes, w.long, none.long w.name.0) refl
+long_turn s false h p word none w = rw (w.dashes, w.long, none.long w.name.0) refl
 
-short_turn : (s : Shape) (h : Kept) (p : ℕ) (word : Text) → HasNoFlag s → IsShort word → turn_fault s [] (at h p false) word ≡ unknown
+short_turn : (s : Shape) (more : Bool) (h : Kept) (p : ℕ) (word : Text) → HasNoFlag s → IsShort word → turn_fault s [] (within more h p false) word ≡ unknown
 unfolding flags_fault
-short_turn s h p word none w = rw (w.dashes, w.long, w.short, w.spelled, none.short w.c) refl
+short_turn s true h p word none w = rw (w.dashes, w.long, w.short, w.spelled, none.short w.c) refl
+short_turn s false h p word none w = rw (w.dashes, w.long, w.short, w.spelled, none.short w.c) refl
 
-pub plain_turn : (s : Shape) (h : Kept) (p : ℕ) (word : Text) → IsPlain word → turn_fault s [] (at h p false) word ≡ step_fault s p (held h) value
-plain_turn s h p word w = rw (w.dashes, w.long, w.short) refl
+pub plain_turn : (s : Shape) (more : Bool) (h : Kept) (p : ℕ) (word : Text) → IsPlain word → turn_fault s [] (within more h p false) word ≡ step_fault s p (held h) value
+plain_turn s true h p word w = rw (w.dashes, w.long, w.short) refl
+plain_turn s false h p word w = rw (w.dashes, w.long, w.short) refl
 
-pub plain_walk : (s : Shape) (h : Kept) (p : ℕ) (word : Text) → IsPlain word → walked s.rules [] (at h p false) word ≡ to_positional s.rules (arg_by_index s.rules p) word (at h p false) (held h)
+pub plain_walk : (s : Shape) (more : Bool) (h : Kept) (p : ℕ) (word : Text) → IsPlain word → walked s.rules [] (within more h p false) word ≡ to_positional s.rules (arg_by_index s.rules p) word (within more h p false) (held h)
 unfolding walked
-plain_walk s h p word w = rw (w.dashes, w.long, w.short) refl
+plain_walk s true h p word w = rw (w.dashes, w.long, w.short) refl
+plain_walk s false h p word w = rw (w.dashes, w.long, w.short) refl
 
 -- ---- the words behind a name
 
@@ -171,15 +183,29 @@ pub after_map : {X Y Z : Type 0} (f : Y → Option Z) (g : X → Y) (o : Option 
 after_map f g None = refl
 after_map f g (Some x) = refl
 
-dashed : (s : Shape) (h : Kept) (p : ℕ) (word : Text) (words : List Text) → word ≡ 45 ∷ 45 ∷ [] → level s (at h p false) (word ∷ words) ≡ level s (at h p true) words
+dashed : (s : Shape) (more : Bool) (h : Kept) (p : ℕ) (word : Text) (words : List Text) → word ≡ 45 ∷ 45 ∷ [] → level s (within more h p false) (word ∷ words) ≡ level s (within more h p true) words
 unfolding walked
-dashed s h p word words e = level_goes s (at h p false) (at h p true) word words (rw e refl) (rw e refl)
+dashed s true h p word words e = level_goes s (within true h p false) (within true h p true) word words (rw e refl) (rw e refl)
+dashed s false h p word words e = level_goes s (within false h p false) (within false h p true) word words (rw e refl) (rw e refl)
 
 seen_dashes : (f : List Text → Option (List Row)) (word : Text) (words : List Text) → word ≡ 45 ∷ 45 ∷ [] → option_and_then f (seen (word ∷ words)) ≡ f words
 unfolding seen
 seen_dashes f word words e = rw e refl
 
 -- Where the words behind `--` are found by f, all words are found by it over the operands.
+pub found_next : (s : Shape) (more : Bool) (h : Kept) (p : ℕ) (f : List Text → Option (List Row)) → HasNoFlag s
+    → ((words : List Text) → level s (within more h p true) words ≡ f words)
+    → (word : Text) (words : List Text) → is_utf8 word ≡ true
+    → (IsPlain word → level s (within more h p false) (word ∷ words) ≡ option_and_then (λ rest. f (word ∷ rest)) (seen words))
+    → level s (within more h p false) (word ∷ words) ≡ option_and_then f (seen (word ∷ words))
+found_next s more h p f none behind word words u before =
+    elim (look word u) [
+      | dashes e ↦ dashed s more h p word words e ∙ behind words ∙ sym (seen_dashes f word words e)
+      | long w ↦ level_stops s (within more h p false) word words kind.UnknownArgument [] (long_turn s more h p word none w) ∙ sym (ap (option_and_then f) (seen_flag word words w.dashes w.begins w.more))
+      | short w ↦ level_stops s (within more h p false) word words kind.UnknownArgument [] (short_turn s more h p word none w) ∙ sym (ap (option_and_then f) (seen_flag word words w.dashes w.begins w.more))
+      | plain w ↦ before w ∙ sym (ap (option_and_then f) (seen_plain word words w) ∙ after_map f (λ rest. word ∷ rest) (seen words))
+    ]
+
 pub found : (s : Shape) (h : Kept) (p : ℕ) (f : List Text → Option (List Row)) → HasNoFlag s
     → ((words : List Text) → level s (at h p true) words ≡ f words)
     → ((word : Text) (words : List Text) → IsPlain word → list_all is_utf8 words ≡ true → level s (at h p false) (word ∷ words) ≡ option_and_then (λ rest. f (word ∷ rest)) (seen words))
@@ -188,9 +214,4 @@ unfolding level level_kinds seen walk_fault
 found s h p f none behind before [] u = behind []
 found s h p f none behind before (word ∷ words) u =
     let parts = and_parts (is_utf8 word) (list_all is_utf8 words) u in
-    elim (look word parts.0) [
-      | dashes e ↦ dashed s h p word words e ∙ behind words ∙ sym (seen_dashes f word words e)
-      | long w ↦ level_stops s (at h p false) word words kind.UnknownArgument [] (long_turn s h p word none w) ∙ sym (ap (option_and_then f) (seen_flag word words w.dashes w.begins w.more))
-      | short w ↦ level_stops s (at h p false) word words kind.UnknownArgument [] (short_turn s h p word none w) ∙ sym (ap (option_and_then f) (seen_flag word words w.dashes w.begins w.more))
-      | plain w ↦ before word words w parts.1 ∙ sym (ap (option_and_then f) (seen_plain word words w) ∙ after_map f (λ rest. word ∷ rest) (seen words))
-    ]
+    found_next s false h p f none behind word words parts.0 (λ w. before word words w parts.1)

@@ -5,7 +5,7 @@ use Rattle.std.specs.List.{list_all}
 use Rattle.std.specs.Str.{is_utf8}
 use Rattle.clap.proofs.OnLiterals.{clap_on_literals}
 use Rattle.clap.specs.Faults.{step_fault, turn_fault}
-use Rattle.clap.specs.Simple.{Shape, built_leaf, inherited, marked_built, with_leaf_noted}
+use Rattle.clap.specs.Simple.{App, Shape, built_leaf, inherited, marked_built, with_leaf_noted}
 use Rattle.clap.specs.Walk.{Row, Text, arg_by_index, to_positional, value, walked}
 use Rattle.clap.specs.declared.builder.value_parser.Reading.TheVariants as reading
 use Rattle.clap.specs.declared.error.kind.ErrorKind.TheVariants as kind
@@ -14,8 +14,11 @@ use Rattle.vp_words.specs.Parsed.{operand_app, program_app}
 use Rattle.vp_words.proofs.Operands.{HasNoFlag, Kept, at, found, held, level, level_goes, level_kinds, level_stops, none_after, plain_turn, plain_walk, seen}
 
 -- a command of the program as `clap` builds it
+abbrev pub command_shape : App → Shape
+command_shape app = built_leaf (inherited (with_leaf_noted (marked_built program_app.top)) app.top)
+
 abbrev pub operand_shape : Text → List Text → Shape
-operand_shape name ids = built_leaf (inherited (with_leaf_noted (marked_built program_app.top)) (operand_app name ids).top)
+operand_shape name ids = command_shape (operand_app name ids)
 
 -- ---- the rows of operands
 
@@ -71,10 +74,10 @@ taken : (s : Shape) (h : Kept) (p : ℕ) (ids : List Text) (rows : List Row) →
 unfolding operand_rows
 taken s h p [] rows none t =
     found s h p (operand_rows [] rows) none (trailing s h p [] rows t)
-    (λ word words w u. level_stops s (at h p false) word words kind.UnknownArgument [] (plain_turn s h p word w ∙ t.stray) ∙ sym (none_after (seen words)))
+    (λ word words w u. level_stops s (at h p false) word words kind.UnknownArgument [] (plain_turn s false h p word w ∙ t.stray) ∙ sym (none_after (seen words)))
 taken s h p (id ∷ ids) rows none t =
     found s h p (operand_rows (id ∷ ids) rows) none (trailing s h p (id ∷ ids) rows t)
-    (λ word words w u. level_goes s (at h p false) (at (behind rows id word) (p + 1) false) word words (plain_turn s h p word w ∙ t.0.fine) (plain_walk s h p word w ∙ t.0.taken word)
+    (λ word words w u. level_goes s (at h p false) (at (behind rows id word) (p + 1) false) word words (plain_turn s false h p word w ∙ t.0.fine) (plain_walk s false h p word w ∙ t.0.taken word)
     ∙ taken s (behind rows id word) (p + 1) ids (rows ++ given id word ∷ []) none (t.1 word) words u)
 
 -- ---- the commands

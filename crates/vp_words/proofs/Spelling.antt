@@ -19,6 +19,7 @@ use Rattle.vp_words.specs.declared.words.Command.{Command}
 use Rattle.vp_words.specs.declared.words.Command.TheVariants as commands
 use Rattle.vp_words.proofs.Hyphens.{hyphen_on, hyphen_spelled, neither, seen_operands}
 use Rattle.vp_words.proofs.Parsing.{alone_found, alone_ids, client_found, client_ids, draws_found, draws_ids, node_found, node_ids, nothing, operand_rows, operand_shape, signal_found, signal_ids}
+use Rattle.vp_words.proofs.Pairs.{audit_found, audit_rows, audit_says, audit_shape}
 use Rattle.vp_words.proofs.Operands.{IsLong, IsPlain, IsShort, after_map, at, level, level_kinds, look, none_after, outcome, seen}
 use Rattle.vp_words.proofs.Operands.Look.{dashes, long, plain, short}
 
@@ -56,9 +57,12 @@ names = names_of (built program_app)
 abbrev parse : List Text → Option Command
 parse words = answer (fault_of program_app words) (subcommand_of program_app words)
 
--- the command of the name has operands with these ids
+-- the command of the name is this one, or has operands with these ids
+abbrev MeetsShape : Text → Shape → Type 0
+MeetsShape name s = (words : List Text) → parse (name ∷ words) ≡ option_and_then (meant name) (level s (at nothing 1 false) words)
+
 abbrev Meets : Text → List Text → Type 0
-Meets name ids = (words : List Text) → parse (name ∷ words) ≡ option_and_then (meant name) (level (operand_shape name ids) (at nothing 1 false) words)
+Meets name ids = MeetsShape name (operand_shape name ids)
 
 replay_met : Meets (codes "replay") alone_ids
 unfolding clap_on_literals level level_kinds
@@ -100,6 +104,10 @@ logs_met : Meets (codes "logs") alone_ids
 unfolding clap_on_literals level level_kinds
 logs_met words = rw (stopped_fault top names (codes "logs") [] words, stopped_walk top.rules names (codes "logs") [] words) (below (level_kinds (operand_shape (codes "logs") alone_ids) (at nothing 1 false) words) (codes "logs") _)
 
+audit_met : MeetsShape (codes "audit") audit_shape
+unfolding clap_on_literals level level_kinds
+audit_met words = rw (stopped_fault top names (codes "audit") [] words, stopped_walk top.rules names (codes "audit") [] words) (below (level_kinds audit_shape (at nothing 1 false) words) (codes "audit") _)
+
 -- ---- a command's operands
 
 pub each : {X Y : Type 0} (f g : X → Option Y) (o : Option X) → ((x : X) → f x ≡ g x) → option_and_then f o ≡ option_and_then g o
@@ -111,14 +119,17 @@ in_turn f g None = refl
 in_turn f g (Some x) = refl
 
 -- what the rows of the operands say is what the operands say
-abbrev Says : Text → List Text → Type 0
-Says name ids = (words : List Text) → option_and_then (meant name) (operand_rows ids [] words) ≡ named name words
+abbrev SaysRows : Text → (List Text → Option (List Row)) → Type 0
+SaysRows name rows = (words : List Text) → option_and_then (meant name) (rows words) ≡ named name words
 
-through : (name : Text) (ids words : List Text) → level (operand_shape name ids) (at nothing 1 false) words ≡ option_and_then (operand_rows ids []) (seen words) → Says name ids → seen words ≡ operands words
-    → option_and_then (meant name) (level (operand_shape name ids) (at nothing 1 false) words) ≡ option_and_then (named name) (operands words)
-through name ids words found says same =
-    ap (option_and_then (meant name)) found ∙ in_turn (meant name) (operand_rows ids []) (seen words)
-    ∙ each (λ rest. option_and_then (meant name) (operand_rows ids [] rest)) (named name) (seen words) says ∙ ap (option_and_then (named name)) same
+abbrev Says : Text → List Text → Type 0
+Says name ids = SaysRows name (operand_rows ids [])
+
+through : (name : Text) (s : Shape) (rows : List Text → Option (List Row)) (words : List Text) → level s (at nothing 1 false) words ≡ option_and_then rows (seen words) → SaysRows name rows → seen words ≡ operands words
+    → option_and_then (meant name) (level s (at nothing 1 false) words) ≡ option_and_then (named name) (operands words)
+through name s rows words found says same =
+    ap (option_and_then (meant name)) found ∙ in_turn (meant name) rows (seen words)
+    ∙ each (λ rest. option_and_then (meant name) (rows rest)) (named name) (seen words) says ∙ ap (option_and_then (named name)) same
 
 replay_says : Says (codes "replay") alone_ids
 unfolding operand_rows
@@ -232,8 +243,10 @@ test a b = go (bytes_eq a b) refl (bytes_eq b a) refl
 named_parsed : (name : Text) (words : List Text) → is_utf8 name ≡ true → list_all is_utf8 words ≡ true → seen words ≡ operands words → parse (name ∷ words) ≡ option_and_then (named name) (operands words)
 named_parsed name words v u same =
     let Goal : Text → Type 0 = λ n. parse (n ∷ words) ≡ option_and_then (named n) (operands words) in
+    let by : (n : Text) (s : Shape) (rows : List Text → Option (List Row)) → name ≡ n → MeetsShape n s → (level s (at nothing 1 false) words ≡ option_and_then rows (seen words)) → SaysRows n rows → Goal name =
+    λ n s rows e met found says. subst Goal (sym e) (met words ∙ through n s rows words found says same) in
     let known : (n : Text) (ids : List Text) → name ≡ n → Meets n ids → (level (operand_shape n ids) (at nothing 1 false) words ≡ option_and_then (operand_rows ids []) (seen words)) → Says n ids → Goal name =
-    λ n ids e met found says. subst Goal (sym e) (met words ∙ through n ids words found says same) in
+    λ n ids. by n (operand_shape n ids) (operand_rows ids []) in
     elim (test name (codes "replay")) [
       | inl e ↦ known (codes "replay") alone_ids e replay_met (alone_found (codes "replay") words u) replay_says
       | inr r ↦
@@ -264,7 +277,11 @@ named_parsed name words v u same =
                                                           elim (test name (codes "logs")) [
                                                             | inl e ↦ known (codes "logs") alone_ids e logs_met (alone_found (codes "logs") words u) logs_says
                                                             | inr o ↦
-                                                                other_parsed name words v (record { named = λ rest. rw (r.0, c.0, n.0, l.0, t.0, p.0, k.0, g.0, s.0, o.0) refl; met = rw (r.1, c.1, n.1, l.1, t.1, p.1, k.1, g.1, s.1, o.1) refl })
+                                                                elim (test name (codes "audit")) [
+                                                                  | inl e ↦ by (codes "audit") audit_shape audit_rows e audit_met (audit_found words u) audit_says
+                                                                  | inr a ↦
+                                                                      other_parsed name words v (record { named = λ rest. rw (r.0, c.0, n.0, l.0, t.0, p.0, k.0, g.0, s.0, o.0, a.0) refl; met = rw (r.1, c.1, n.1, l.1, t.1, p.1, k.1, g.1, s.1, o.1, a.1) refl })
+                                                                ]
                                                           ]
                                                     ]
                                               ]

@@ -1,5 +1,5 @@
 -- The words of the program's commands.
-use Rattle.std.specs.Prelude.{ℕ, ◌≤◌, ◌&&◌, ◌^◌, ◌-◌, nat_le, nat_eq, if◌then◌else◌, List, [], ◌∷◌, codes, Option, Some, None, option_map, option_and_then, Ok, Err}
+use Rattle.std.specs.Prelude.{ℕ, ◌≤◌, ◌&&◌, ◌^◌, ◌-◌, nat_le, nat_lt, nat_eq, if◌then◌else◌, List, [], ◌∷◌, codes, Option, Some, None, option_map, option_and_then, Ok, Err}
 use Rattle.std.specs.Fmt.{decimal}
 use Rattle.std.specs.List.{list_all, starts_with}
 use Rattle.std.specs.Str.{bytes_eq, is_utf8}
@@ -57,6 +57,13 @@ operands (word ∷ words) =
     else (if starts_with nat_eq word (codes "-") then None
     else option_map (λ rest. word ∷ rest) (operands words))
 
+-- sites with their logs, by turns, where each site is above the one before
+abbrev pub pairs : ℕ → List (List ℕ) → Option (List (ℕ × List ℕ))
+pairs last [] = Some []
+pairs last (s ∷ []) = None
+pairs last (s ∷ log ∷ words) =
+    option_and_then (λ site. if nat_lt last site then option_map (λ more. (site, log) ∷ more) (pairs site words) else None) (site s)
+
 -- ---- a command by its operands
 
 abbrev pub alone : Command → List (List ℕ) → Option Command
@@ -79,6 +86,11 @@ abbrev pub signalling : Signal → List (List ℕ) → Option Command
 signalling given (s ∷ []) = option_map (λ site. commands.Signal site given) (site s)
 signalling given _ = None
 
+-- one pair at least
+abbrev pub auditing : List (List ℕ) → Option Command
+auditing [] = None
+auditing words = option_map commands.Audit (pairs 0 words)
+
 -- ---- a command by its name
 
 abbrev pub named : List ℕ → List (List ℕ) → Option Command
@@ -93,7 +105,8 @@ named name words =
     else (if bytes_eq name (codes "generate") then drawing (λ d. commands.Generate d.0 d.1) words
     else (if bytes_eq name (codes "soak") then drawing (λ d. commands.Soak d.0 d.1) words
     else (if bytes_eq name (codes "logs") then alone commands.Logs words
-    else None)))))))))
+    else (if bytes_eq name (codes "audit") then auditing words
+    else None))))))))))
 
 -- a command's name, and its operands
 abbrev pub spelled : List (List ℕ) → Option Command

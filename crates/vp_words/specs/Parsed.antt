@@ -2,8 +2,8 @@
 use Rattle.std.specs.Prelude.{ℕ, List, [], ◌∷◌, codes, true, Bool, not, fold, Option, Some, None, option_map, option_and_then, if◌then◌else◌}
 use Rattle.std.specs.List.{list_any, take_while}
 use Rattle.std.specs.Str.{bytes_eq}
-use Rattle.clap.specs.Words.{App, Row, Rule, Text, first_of, new_app, new_rule, with_rule, with_subcommand}
-use Rattle.vp_words.specs.Commands.{call, client, draws, node, site}
+use Rattle.clap.specs.Words.{App, Row, Rule, Text, all_of, first_of, new_app, new_rule, with_rule, with_subcommand}
+use Rattle.vp_words.specs.Commands.{call, client, draws, node, pairs, site}
 use Rattle.vp_words.specs.declared.words.Command.{Command}
 use Rattle.vp_words.specs.declared.words.Command.TheVariants as commands
 use Rattle.vp_words.specs.declared.words.Signal.{Signal}
@@ -35,6 +35,13 @@ signal_app name = operand_app name (codes "SITE" ∷ [])
 abbrev pub drawing_app : Text → App
 drawing_app name = operand_app name (codes "SEED" ∷ codes "COUNT" ∷ [])
 
+-- the command of an audit, whose one operand takes all its words
+abbrev pub pairs_rule : Rule
+pairs_rule = record (required_rule (codes "PAIRS")) { range = Some (record { start_inclusive = 2; end_inclusive = 32 }) }
+
+abbrev pub audit_app : App
+audit_app = with_rule (new_app (codes "audit")) pairs_rule
+
 -- no options, and no word for help
 abbrev pub bare_app : App
 bare_app = let app = new_app (codes "vpdb") in record app {
@@ -47,7 +54,7 @@ with_command app command = with_subcommand app command.top
 abbrev pub program_app : App
 program_app = fold with_command bare_app (
     new_app (codes "replay") ∷ new_app (codes "check") ∷ node_app ∷ client_app ∷ signal_app (codes "tick")
-    ∷ signal_app (codes "probe") ∷ signal_app (codes "stop") ∷ drawing_app (codes "generate") ∷ drawing_app (codes "soak") ∷ new_app (codes "logs") ∷ [])
+    ∷ signal_app (codes "probe") ∷ signal_app (codes "stop") ∷ drawing_app (codes "generate") ∷ drawing_app (codes "soak") ∷ new_app (codes "logs") ∷ audit_app ∷ [])
 
 -- ---- what the rows of the operands say
 
@@ -75,6 +82,9 @@ called rows = option_and_then (λ o. option_map (λ call. commands.Client o.0 o.
 abbrev pub signalled : Signal → List Row → Option Command
 signalled given rows = with_first (codes "SITE") rows (λ s. option_map (λ site. commands.Signal site given) (site s))
 
+abbrev pub audited : List Row → Option Command
+audited rows = option_and_then (λ words. option_map commands.Audit (pairs 0 words)) (all_of (codes "PAIRS") rows)
+
 -- the command that a subcommand with its rows stands for
 abbrev pub meant : Text → List Row → Option Command
 meant name rows =
@@ -88,4 +98,5 @@ meant name rows =
     else (if bytes_eq name (codes "generate") then option_map (λ d. commands.Generate d.0 d.1) (drawn rows)
     else (if bytes_eq name (codes "soak") then option_map (λ d. commands.Soak d.0 d.1) (drawn rows)
     else (if bytes_eq name (codes "logs") then Some commands.Logs
-    else None)))))))))
+    else (if bytes_eq name (codes "audit") then audited rows
+    else None))))))))))

@@ -3,4 +3,4 @@
 
 mod words;
 
-pub use words::{Command, Signal};
+pub use words::{Command, Logs, Signal};

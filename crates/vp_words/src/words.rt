@@ -6,13 +6,13 @@ ghost use Rattle.std.specs.Str.{is_utf8};
 ghost use Rattle.clap.specs.Words.{app_of, found_of, rows_of, subcommand_rows_of};
 ghost use Rattle.clap.specs.declared.builder.command.Command.TheViews.{out-Command};
 ghost use Rattle.vp_text.specs.Reading.{Reads, number_at, whole};
-ghost use Rattle.vp_words.specs.Commands.{IsAllowed, command_of, number, site};
-ghost use Rattle.vp_words.specs.Parsed.{bare_app, called, client_operands, drawn, has_hyphen, meant, node_operands, operand_app, program_app, served, signalled, with_command};
+ghost use Rattle.vp_words.specs.Commands.{IsAllowed, command_of, number, pairs, site};
+ghost use Rattle.vp_words.specs.Parsed.{audit_app, audited, bare_app, called, client_operands, drawn, has_hyphen, meant, node_operands, operand_app, program_app, served, signalled, with_command};
 
 use clap::error::ErrorKind;
 use clap::{Arg, ArgMatches};
 use std::alloc::{AllocError, Global};
-use vp_base::{Call, LAST_SITE, NameFault, NoMemory, SiteId, Word};
+use vp_base::{Call, LAST_SITE, NameFault, NoMemory, Seq, SiteId, Word};
 use vp_schedule::read_call;
 use vp_text::{Cursor, Unexpected};
 
@@ -21,6 +21,9 @@ const MOST_SEED: u64 = 2_147_483_647;
 
 /// The most events that are drawn.
 const MOST_COUNT: u64 = 2_400;
+
+/// Sites with the names of their logs, ascending by site.
+pub type Logs = Seq<(SiteId, Word)>;
 
 /// What the program is asked to do.
 #[derive(Drop)]
@@ -59,6 +62,10 @@ pub enum Command {
     },
     /// Replays a schedule, and tells what it leaves in the log of each site.
     Logs,
+    /// Reports what the sites hold of each record, by what their logs keep.
+    Audit {
+        logs: Logs,
+    },
 }
 
 /// What a node is told to do.
@@ -137,7 +144,8 @@ fn program<'a>(alloc: Global) -> Result<clap::Command<'a>, AllocError>
     let program = with_command(alloc, program, "stop", &["SITE"])?;
     let program = with_command(alloc, program, "generate", &["SEED", "COUNT"])?;
     let program = with_command(alloc, program, "soak", &["SEED", "COUNT"])?;
-    with_command(alloc, program, "logs", &[])
+    let program = with_command(alloc, program, "logs", &[])?;
+    program.subcommand(auditing(alloc)?)
 }
 
 /// The program without its commands. There are no options, and so none that asks for help.
@@ -178,6 +186,15 @@ fn taking<'a>(
     Ok(command)
 }
 
+/// The command of an audit: sites and logs by turns, so that all are one operand for `clap`.
+fn auditing<'a>(alloc: Global) -> Result<clap::Command<'a>, AllocError>
+    ensures app { IfOk result (λ c. app_of c ≡ audit_app) }
+    ensures local { IfOk result (λ c. (out-Command c).has_globals ≡ false) }
+{
+    let pairs = Arg::new(alloc, "PAIRS").required(true).num_args(2..=32);
+    clap::Command::new(alloc, "audit").arg(pairs)
+}
+
 /// The command that the matches stand for.
 fn meant(alloc: Global, matches: &ArgMatches) -> Result<Option<Command>, NoMemory>
     ensures command { IfOk result (λ command. command ≡ option_and_then (λ m. meant m.0 m.1) (subcommand_rows_of matches.now)) }
@@ -197,6 +214,7 @@ fn meant(alloc: Global, matches: &ArgMatches) -> Result<Option<Command>, NoMemor
         "generate" => Ok(drawn(matches).map(|(seed, count)| Command::Generate { seed, count })),
         "soak" => Ok(drawn(matches).map(|(seed, count)| Command::Soak { seed, count })),
         "logs" => Ok(Some(Command::Logs)),
+        "audit" => audited(alloc, matches),
         _ => Ok(None),
     }
 }
@@ -220,8 +238,14 @@ fn served(alloc: Global, matches: &ArgMatches) -> Result<Option<Command>, NoMemo
     let Some((site, log, turns)) = node_operands(matches) else {
         return Ok(None);
     };
-    let log = Word::from_vec(log.as_bytes().to_vec(alloc)?);
+    let log = word_of(alloc, log)?;
     Ok(Some(Command::Node { site, log, turns }))
+}
+
+fn word_of(alloc: Global, text: &str) -> Result<Word, NoMemory>
+    ensures { IfOk result (λ word. word ≡ text.now) }
+{
+    Ok(Word::from_vec(text.as_bytes().to_vec(alloc)?))
 }
 
 #[tactic(auto, using(crate::proofs::Texts::first_rows))]
@@ -273,6 +297,45 @@ fn signalled(matches: &ArgMatches, signal: Signal) -> Option<Command>
 {
     let site = site(matches.get_str("SITE")?)?;
     Some(Command::Signal { site, signal })
+}
+
+/// The command of an audit.
+fn audited(alloc: Global, matches: &ArgMatches) -> Result<Option<Command>, NoMemory>
+    ensures command { IfOk result (λ command. command ≡ audited (rows_of (found_of matches.now))) }
+    ensures allowed { IfOk result (λ command. IfSome command IsAllowed) }
+{
+    let Some(words) = matches.get_strs("PAIRS") else {
+        return Ok(None);
+    };
+    let Some(logs) = pairs(alloc, words)? else {
+        return Ok(None);
+    };
+    Ok(Some(Command::Audit { logs }))
+}
+
+/// The sites with their logs, where the words are such pairs and each site is above the one before.
+fn pairs(alloc: Global, words: &[&str]) -> Result<Option<Logs>, NoMemory>
+    ensures { IfOk result (λ found. found ≡ pairs 0 (map (λ word. word.now) words.now)) }
+{
+    let mut logs = Logs::new(alloc);
+    let mut last = 0;
+    let mut named: Option<SiteId> = None;
+    for word in words {
+        if let Some(site) = named {
+            logs.push((site, word_of(alloc, word)?))?;
+            last = site.get();
+            named = None;
+        } else {
+            let Some(site) = site(word) else {
+                return Ok(None);
+            };
+            if site.get() <= last {
+                return Ok(None);
+            }
+            named = Some(site);
+        }
+    }
+    Ok(if named.is_none() { Some(logs) } else { None })
 }
 
 /// The site that the whole text is the number of.

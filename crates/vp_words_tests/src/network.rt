@@ -43,6 +43,14 @@ stop|1=stop 1
 stop|16=stop 16
 stop|--|3=stop 3
 stop|3|--=stop 3
+audit|1|a=audit 1 a
+audit|16|=audit 16\x20
+audit|1|a|2|b=audit 1 a 2 b
+audit|2|a|10|a=audit 2 a 10 a
+audit|--|1|-a|3|--=audit 1 -a 3 --
+audit|1|--|a=audit 1 a
+audit|1|a|2|b|--=audit 1 a 2 b
+audit|1|a|2|b|3|c|4|d|5|e|6|f|7|g|8|h|9|i|10|j|11|k|12|l|13|m|14|n|15|o|16|p=audit 1 a 2 b 3 c 4 d 5 e 6 f 7 g 8 h 9 i 10 j 11 k 12 l 13 m 14 n 15 o 16 p
 ";
 
 #[test]
@@ -179,6 +187,22 @@ stop|1\x20
 stop|one
 stop|4294967297
 stop|--help
+audit
+audit|--
+audit|1
+audit|1|a|2
+audit|0|a
+audit|17|a
+audit|01|a
+audit|1|a|1|b
+audit|2|a|1|b
+audit|a|1
+audit||a
+audit|1|-a
+audit|1|-
+audit|1|--|a|--
+audit|--help
+audit|1|a|2|b|3|c|4|d|5|e|6|f|7|g|8|h|9|i|10|j|11|k|12|l|13|m|14|n|15|o|16|p|16|q
 ticks|1
 Tick|1
 signal|1

@@ -45,6 +45,7 @@ fn front(alloc: Global, command: &Command) -> Result<String, AllocError> {
         Command::Generate { seed, count } => format!(in alloc; "generate {seed} {count}"),
         Command::Soak { seed, count } => format!(in alloc; "soak {seed} {count}"),
         Command::Logs => format!(in alloc; "logs"),
+        Command::Audit { .. } => format!(in alloc; "audit"),
     }
 }
 
@@ -54,6 +55,13 @@ fn text_of(rt: &impl Abort, alloc: Global, command: &Command) -> Vec<u8> {
     match command {
         Command::Node { log, .. } => out.extend_from_slice(log.as_slice()).expect(rt, "memory"),
         Command::Client { call, .. } => print_call(call, &mut out).expect(rt, "memory"),
+        Command::Audit { logs } => {
+            for (site, log) in logs.as_slice() {
+                let pair = format!(in alloc; " {} ", site.get()).expect(rt, "memory");
+                out.extend_from_slice(pair.as_bytes()).expect(rt, "memory");
+                out.extend_from_slice(log.as_slice()).expect(rt, "memory");
+            }
+        }
         Command::Replay
         | Command::Check
         | Command::Signal { .. }

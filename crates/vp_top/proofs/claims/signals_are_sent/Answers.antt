@@ -3,7 +3,7 @@ use Rattle.vp_outside.specs.Links.{LinkState}
 use Rattle.vp_client.specs.Asked.{HasFailed}
 use Rattle.vp_commands.specs.Asked.{SignalGives}
 use Rattle.vp_commands.specs.Claims.{SignalsAreDone}
-use Rattle.vp_top.proofs.Answering.{answer_told, no_node}
+use Rattle.vp_top.proofs.Answering.{answer_told, no_disk}
 use Rattle.vp_top.proofs.Completing.{at_port}
 use Rattle.vp_status.specs.declared.status.Status.{Status}
 use Rattle.vp_status.specs.declared.status.Status.TheVariants as status
@@ -23,4 +23,4 @@ pub returns : goal.returns
 returns g c words site port given bytes catalogue w fits answered there source source' link link' sink sink' disk disk' end e linked =
     answer_told words source source' _ (commands.Signal site given) w tt bytes linked.0 fits _
     (λ end text told. done port site given link link' c.signals_are_done.ensures linked.1 end text (at_port bytes site link link' (λ port. SignalGives port site given link link') catalogue answered port there end text told))
-    (no_node words source source' _ (commands.Signal site given) w (λ is. is)) end e
+    (no_disk words source source' _ (commands.Signal site given) w (λ is. is)) end e

@@ -22,7 +22,7 @@ returns-in-Ok-Serve-clause-ends g c =
     let planned = rw c.in-Ok-Serve.field-0-is at c.in-Ok-Serve.ensures.plans in
     let told = c.serve_log.ensures in
     let same = planned.1 in
-    inr (record {
+    inr (inl (record {
       catalogue = c.in-Ok-Serve.catalog;
       site = c.in-Ok-Serve.site;
       log = c.in-Ok-Serve.log;
@@ -31,4 +31,4 @@ returns-in-Ok-Serve-clause-ends g c =
       ends = rw same at told.ends;
       cause = rw same at told.cause;
       decided = rw same at told.decided;
-    })
+    }))

@@ -1,4 +1,4 @@
-use Rattle.std.proofs.Common.{◌≡◌, ◌∙◌, List, ap, codes}
+use Rattle.std.proofs.Common.{◌≡◌, ◌∙◌, List, ap, ap₂, codes}
 use Rattle.std.proofs.lemmas.Result.{IfOk-weaker}
 use Rattle.clap.specs.Words.{App, Text}
 use Rattle.vp_words.specs.Parsed.{operand_app, with_command}
@@ -19,4 +19,5 @@ returns c =
     let stop = c.in_ok-program-7.ensures ∙ onto (codes "stop") signal_ids _ _ probe in
     let generate = c.in_ok-program-8.ensures ∙ onto (codes "generate") draws_ids _ _ stop in
     let soak = c.in_ok-program-9.ensures ∙ onto (codes "soak") draws_ids _ _ generate in
-    IfOk-weaker c.with_command-10.result _ _ (λ r h. h ∙ onto (codes "logs") alone_ids _ _ soak) c.with_command-10.ensures
+    let logs = c.in_ok-program-10.ensures ∙ onto (codes "logs") alone_ids _ _ soak in
+    IfOk-weaker c.subcommand.result _ _ (λ r h. h.shape c.in_ok-auditing.ensures.local ∙ ap₂ with_command logs c.in_ok-auditing.ensures.app) c.subcommand.ensures
