@@ -244,7 +244,7 @@ module _ (bytes : List ℕ) where
     module _ (catalogue : Catalogue) (answered : Answered bytes (Ok catalogue)) where
       pub lacking_told : (end : Status) (text : List ℕ) → LacksSites bytes logs end text → (end ≡ status.Usage) × (text ≡ usage_text)
       lacking_told end text (inl fault) = absurd (no_bad_line catalogue answered end text fault)
-      lacking_told end text (inr lacks) = lacks.1
+      lacking_told end text (inr lacks) = (lacks.1, lacks.2)
 
       pub not_lacking : has_all catalogue logs ≡ true → (end : Status) (text : List ℕ) → LacksSites bytes logs end text → ⊥
       not_lacking all end text (inl fault) = no_bad_line catalogue answered end text fault

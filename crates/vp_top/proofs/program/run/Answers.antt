@@ -32,3 +32,15 @@ returns-in-Ok-Serve-clause-ends g c =
       cause = rw same at told.cause;
       decided = rw same at told.decided;
     }))
+
+pub returns-in-Ok-clause-disk_uncalled : goal.returns-in-Ok-clause-disk_uncalled
+returns-in-Ok-clause-disk_uncalled g c uncalled =
+    let planned = rw c.in-Ok-Audit.field-0-is at c.in-Ok-Audit.ensures.plans in
+    absurd (uncalled (inr (record {
+      catalogue = c.in-Ok-Audit.catalog;
+      logs = c.in-Ok-Audit.logs;
+      audit = planned.0;
+      prints = inl (c.in-Ok.defined.status, c.in-Ok.defined.text.items, c.in-Ok.ensures.gives, c.print-in-Ok.ensures);
+      kept = c.in-Ok.ensures.kept;
+      uncalled = planned.1;
+    })))
