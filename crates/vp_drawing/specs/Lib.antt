@@ -1,0 +1,4 @@
+pub mod Looks
+pub mod Watching
+pub mod Drawn
+pub mod Program

@@ -1,0 +1,41 @@
+-- What stands above the steps of a picture.
+use Rattle.std.specs.Prelude.{ℕ, ◌+◌, ◌-◌, ◌==◌, nat_lt, if◌then◌else◌, ◌++◌, codes}
+use Rattle.std.specs.Fmt.{decimal}
+use Rattle.std.specs.Option.{option_map_or}
+use Rattle.vp_model.specs.Words.{◌|>◌, for_each, opening, value_at}
+use Rattle.vp_model.specs.Catalogue.{Catalogue, RecordEntry, sites_of}
+use Rattle.vp_pictures.specs.Places.{column}
+use Rattle.vp_pictures.specs.Sheets.{next_line, said, written}
+use Rattle.vp_pictures.specs.Words.{view_words, weight_words}
+use Rattle.vp_pictures.specs.declared.shape.Ink.TheVariants as ink
+use Rattle.vp_pictures.specs.declared.sheet.Sheet.{Sheet}
+
+-- a site with its port
+abbrev pub site_head : Catalogue → ℕ × ℕ → Sheet → Sheet
+site_head catalogue site s =
+    let x = column catalogue site.0 in
+    s |> written (x - 4) ink.Site (codes "site " ++ decimal site.0) |> written (x + 66) ink.Faint (codes "port " ++ decimal site.1)
+
+-- what a site has of a record, where it has a copy
+abbrev pub weight_head : Catalogue → RecordEntry → ℕ × ℕ → Sheet → Sheet
+weight_head catalogue entry site s =
+    let weight = option_map_or (λ w. w) (value_at site.0 entry.weights) 0 in
+    if weight == 0 then s else written (column catalogue site.0 - 4) ink.Event (weight_words entry weight) s
+
+abbrev pub record_head : Catalogue → RecordEntry → Sheet → Sheet
+record_head catalogue entry s = next_line (for_each catalogue.sites (weight_head catalogue entry) s)
+
+-- the opening view, where the picture begins with it
+abbrev pub opened : Catalogue → Sheet → Sheet
+opened catalogue s =
+    if nat_lt 1 s.part.from
+    then next_line s
+    else said 72 ink.View (view_words catalogue (record { id = opening; members = sites_of catalogue })) s
+
+unfoldable pub head : Catalogue → Sheet → Sheet
+head catalogue s =
+    s
+    |> for_each catalogue.sites (site_head catalogue)
+    |> next_line
+    |> for_each catalogue.records (record_head catalogue)
+    |> opened catalogue

@@ -1,0 +1,173 @@
+-- What is drawn of a step.
+use Rattle.std.specs.Prelude.{ℕ, ◌+◌, ◌-◌, ◌*◌, ◌%◌, Bool, true, false, ◌&&◌, ◌||◌, nat_le, if◌then◌else◌, List, [], ◌∷◌, ◌++◌, length, Option, Some, None, option_to_list}
+use Rattle.std.specs.Fmt.{decimal}
+use Rattle.std.specs.Option.{option_map_or}
+use Rattle.vp_model.specs.Types.{Answer, Commit, Event, Line, Reply, Sent, Shown, View, ViewId}
+use Rattle.vp_model.specs.Types.answer
+use Rattle.vp_model.specs.Types.event
+use Rattle.vp_model.specs.Types.shown
+use Rattle.vp_model.specs.Words.{◌|>◌, for_each}
+use Rattle.vp_model.specs.Catalogue.{Catalogue}
+use Rattle.vp_model.specs.Texts.Answers.{answer_text}
+use Rattle.vp_model.specs.Texts.Calls.{event_text}
+use Rattle.vp_model.specs.Texts.Messages.{message_text}
+use Rattle.vp_pictures.specs.Places.{column, edge, top}
+use Rattle.vp_pictures.specs.Sheets.{mark_at, said, site_drawn, written}
+use Rattle.vp_pictures.specs.Words.{arrival_words, commit_words, idle_words, sent_words, view_words}
+use Rattle.vp_pictures.specs.declared.shape.Ink.{Ink}
+use Rattle.vp_pictures.specs.declared.shape.Ink.TheVariants as ink
+use Rattle.vp_pictures.specs.declared.shape.Shape.{Shape}
+use Rattle.vp_pictures.specs.declared.shape.Shape.TheVariants as shape
+use Rattle.vp_pictures.specs.declared.sheet.Look.{Look}
+use Rattle.vp_pictures.specs.declared.sheet.Mark.{Mark}
+use Rattle.vp_pictures.specs.declared.sheet.Sheet.{Sheet}
+
+-- ---- its shapes
+
+-- the colour of a view
+abbrev pub colour : ViewId → ℕ
+colour view = (view.number % 12 * 5 + view.site * 3) % 12
+
+-- the lifeline of a site that is up, and the bar of the view that it holds, from y to the end of the step
+abbrev pub life_of : Catalogue → ℕ → ℕ → ℕ → Look → Option Shape
+life_of catalogue y end site look =
+    if look.up then Some (shape.Line ink.Life (column catalogue site) y (column catalogue site) end) else None
+
+abbrev pub bar_in : ℕ → ℕ → ℕ → Option ViewId → Option Shape
+bar_in x y end None = None
+bar_in x y end (Some view) = Some (shape.Bar (colour view) (x - 4) y (end - y))
+
+abbrev pub bar_of : Catalogue → ℕ → ℕ → ℕ → Look → Option Shape
+bar_of catalogue y end site look = bar_in (column catalogue site) y end look.held
+
+-- between which sites nothing is delivered any more, or again
+abbrev pub cut_of : Catalogue → ℕ → Event → Option Shape
+cut_of catalogue y (event.Cut a b) = Some (shape.Line ink.Cut (column catalogue a) y (column catalogue b) y)
+cut_of catalogue y (event.Heal a b) = Some (shape.Line ink.Heal (column catalogue a) y (column catalogue b) y)
+cut_of catalogue y _ = None
+
+-- a delivery comes where its step is done; at a cut, or to a site that is down, it is lost
+abbrev pub arrow_kind : Shown → Ink
+arrow_kind (shown.Step commits first messages replies) = ink.Comes
+arrow_kind _ = ink.Lost
+
+abbrev pub arrow_of : Catalogue → Ink → Mark → ℕ → Shape
+arrow_of catalogue kind m line =
+    let from = column catalogue m.from in
+    let to = column catalogue m.to in
+    shape.Line kind (edge from to) (top m.line + 9) (edge to from) (top line + 9)
+
+-- the arrow of a delivery on this line, where its sending or its end is drawn
+abbrev pub delivery : Catalogue → Bool → Shown → ℕ → Option Mark → Option Shape
+delivery catalogue is_drawn what line None = None
+delivery catalogue is_drawn what line (Some m) = if m.is_drawn || is_drawn then Some (arrow_of catalogue (arrow_kind what) m line) else None
+
+abbrev pub with_arrow : Catalogue → Bool → Event → Shown → Sheet → Sheet
+with_arrow catalogue is_drawn (event.Deliver k) what s =
+    record s { came = s.came ++ k ∷ []; arrows = s.arrows ++ option_to_list (delivery catalogue is_drawn what s.lines (mark_at s k)) }
+with_arrow catalogue is_drawn _ what s = s
+
+-- ---- its texts
+
+-- the answer refuses the call
+abbrev pub refuses : Answer → Bool
+refuses (answer.Begun txn view) = false
+refuses (answer.Value txn number value) = false
+refuses (answer.Written txn number) = false
+refuses (answer.Committed txn number) = false
+refuses (answer.Aborted txn number) = false
+refuses (answer.Inviting view) = false
+refuses _ = true
+
+-- where the texts of an event begin
+abbrev pub event_x : Catalogue → Event → Sheet → ℕ
+event_x catalogue e s = option_map_or (λ site. column catalogue site + 12) (site_drawn e s) 72
+
+-- an event; a delivery is the message that comes
+abbrev pub words_of_event : Event → Sheet → List ℕ
+words_of_event (event.Deliver k) s = option_map_or (λ (m : Mark). arrival_words k m.text) (mark_at s k) (event_text (event.Deliver k))
+words_of_event e s = event_text e
+
+-- an event, with the number of its line at the left
+abbrev pub said_event : ℕ → ℕ → Event → Sheet → Sheet
+said_event x number e s = said x ink.Event (words_of_event e s) (written 4 ink.Faint (decimal number) s)
+
+abbrev pub said_commit : ℕ → Commit → Sheet → Sheet
+said_commit x commit s = said x ink.Commit (commit_words commit) s
+
+-- the next message that is sent
+abbrev pub with_mark : Catalogue → Bool → ℕ → Sent → Sheet → Sheet
+with_mark catalogue is_drawn line sent s =
+    record s {
+      marks =
+          s.marks
+          ++ (record {
+            number = length s.marks + 1;
+            line = line;
+            is_drawn = is_drawn;
+            from = sent.from;
+            to = sent.to;
+            text = message_text catalogue sent.message;
+          })
+          ∷ [];
+    }
+
+abbrev pub said_message : Catalogue → ℕ → Sent → Sheet → Sheet
+said_message catalogue x sent s =
+    with_mark catalogue true s.lines sent (said (x + 22) ink.Message (sent_words (length s.marks + 1) sent.to (message_text catalogue sent.message)) s)
+
+abbrev pub said_reply : ℕ → Reply → Sheet → Sheet
+said_reply x reply s = said x (if refuses reply.answer then ink.Refusal else ink.Reply) (answer_text reply.answer) s
+
+abbrev pub said_idle : ℕ → Shown → Sheet → Sheet
+said_idle x what s = said x ink.Idle (idle_words what) s
+
+-- what the step gave: its commits, its messages and its replies; or why it did nothing
+unfoldable pub said_shown : Catalogue → ℕ → Shown → Sheet → Sheet
+said_shown catalogue x (shown.Step commits first messages replies) s =
+    s |> for_each commits (said_commit x) |> for_each messages (said_message catalogue x) |> for_each replies (said_reply x)
+said_shown catalogue x shown.Nothing s = s
+said_shown catalogue x what s = said_idle x what s
+
+-- the view that the site of the step holds from here on
+abbrev pub said_view : Catalogue → ℕ → Option View → Sheet → Sheet
+said_view catalogue x None s = s
+said_view catalogue x (Some view) s = said x ink.View (view_words catalogue view) s
+
+-- ---- the step
+
+abbrev pub with_look : Catalogue → ℕ → ℕ → ℕ × Look → Sheet → Sheet
+with_look catalogue y end pair s = record s { bars = (s.bars ++ option_to_list (life_of catalogue y end pair.0 pair.1)) ++ option_to_list (bar_of catalogue y end pair.0 pair.1) }
+
+abbrev pub with_looks : Catalogue → ℕ → List (ℕ × Look) → Sheet → Sheet
+with_looks catalogue y looks s = for_each looks (with_look catalogue y (top s.lines)) s
+
+abbrev pub with_cut : Option Shape → Sheet → Sheet
+with_cut cut s = record s { arrows = s.arrows ++ option_to_list cut }
+
+-- a step that is drawn: what each site looks like after it, from its first line to its last one
+unfoldable pub stepped : Catalogue → ℕ → Line → List (ℕ × Look) → Option View → Sheet → Sheet
+stepped catalogue number line looks joined s =
+    let x = event_x catalogue line.event s in
+    s
+    |> with_cut (cut_of catalogue (top s.lines + 18) line.event)
+    |> said_event x number line.event
+    |> said_shown catalogue x line.shown
+    |> said_view catalogue x joined
+    |> with_looks catalogue (top s.lines) looks
+
+-- one that is not: its messages may come later
+abbrev pub hidden_message : Catalogue → Sent → Sheet → Sheet
+hidden_message catalogue sent s = with_mark catalogue false s.lines sent s
+
+abbrev pub hidden : Catalogue → Shown → Sheet → Sheet
+hidden catalogue (shown.Step commits first messages replies) s = for_each messages (hidden_message catalogue) s
+hidden catalogue _ s = s
+
+abbrev pub is_drawn : Sheet → ℕ → Bool
+is_drawn s number = nat_le s.part.from number && nat_le number s.part.to
+
+unfoldable pub drawn : Catalogue → ℕ → Line → List (ℕ × Look) → Option View → Sheet → Sheet
+drawn catalogue number line looks joined s =
+    let arrived = with_arrow catalogue (is_drawn s number) line.event line.shown s in
+    if is_drawn s number then stepped catalogue number line looks joined arrived else hidden catalogue line.shown arrived

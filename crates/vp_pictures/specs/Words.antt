@@ -1,0 +1,52 @@
+-- The texts of a picture.
+use Rattle.std.specs.Prelude.{ℕ, zero, suc, ◌+◌, if◌then◌else◌, List, [], ◌∷◌, ◌++◌, length, sum_by, codes}
+use Rattle.std.specs.Fmt.{decimal}
+use Rattle.std.specs.List.{flat_map}
+use Rattle.vp_model.specs.Types.{Commit, Shown, View}
+use Rattle.vp_model.specs.Types.shown
+use Rattle.vp_model.specs.Catalogue.{Catalogue, RecordEntry, accessible}
+use Rattle.vp_model.specs.Texts.Fields.{view_text, txn_text}
+
+-- a message that comes, and one that is sent
+abbrev pub arrival_words : ℕ → List ℕ → List ℕ
+arrival_words k message = decimal k ++ 32 ∷ message
+
+abbrev pub sent_words : ℕ → ℕ → List ℕ → List ℕ
+sent_words k to message = decimal k ++ (codes " to " ++ (decimal to ++ (codes ": " ++ message)))
+
+abbrev pub commit_words : Commit → List ℕ
+commit_words commit = codes "commit " ++ (txn_text commit.txn ++ 32 ∷ view_text commit.view)
+
+-- why an event did nothing, or which life begins
+abbrev pub idle_words : Shown → List ℕ
+idle_words shown.NoMessage = codes "no such message"
+idle_words (shown.Down site) = codes "lost: down is site " ++ decimal site
+idle_words (shown.Parted from to) = codes "lost: the pair is cut"
+idle_words (shown.Up site) = codes "up already is site " ++ decimal site
+idle_words (shown.Life life) = codes "begins life " ++ decimal life
+idle_words (shown.LivesSpent life) = codes "no life is left after " ++ decimal life
+idle_words _ = []
+
+abbrev pub member_words : ℕ → List ℕ
+member_words site = 32 ∷ decimal site
+
+-- how many of the first n records may be used in a view
+abbrev pub usable_below : Catalogue → List ℕ → ℕ → ℕ
+usable_below catalogue members zero = 0
+usable_below catalogue members (suc n) = usable_below catalogue members n + (if accessible catalogue n members then 1 else 0)
+
+abbrev pub usable : Catalogue → View → ℕ
+usable catalogue view = usable_below catalogue view.members (length catalogue.records)
+
+-- a view, with its members and how many records may be used in it
+abbrev pub view_words : Catalogue → View → List ℕ
+view_words catalogue view =
+    codes "view "
+    ++ (view_text view.id
+    ++ (codes " of"
+    ++ (flat_map member_words view.members
+    ++ (codes ": may use " ++ (decimal (usable catalogue view) ++ (codes " of " ++ (decimal (length catalogue.records) ++ codes " records")))))))
+
+-- what a site has of a record
+abbrev pub weight_words : RecordEntry → ℕ → List ℕ
+weight_words entry weight = entry.name ++ (codes ": " ++ (decimal weight ++ (codes " of " ++ decimal (sum_by (λ (w : ℕ × ℕ). w.1) entry.weights))))

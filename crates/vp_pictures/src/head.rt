@@ -1,0 +1,200 @@
+//! What stands above the steps, and around them.
+
+ghost use Rattle.std.specs.Prelude.{◌≡◌, ◌++◌, ◌≤◌, OnOk, [], codes};
+ghost use Rattle.std.specs.List.{flat_map};
+ghost use Rattle.vp_model.specs.Words.{for_each};
+ghost use Rattle.vp_pictures.specs.Heads.{head, opened, record_head, site_head, weight_head};
+ghost use Rattle.vp_pictures.specs.Style.{style};
+ghost use Rattle.vp_pictures.specs.Pictures.{picture_text, size_text, stub, stub_of, stub_text};
+
+use crate::places::{column, edge, stub_end, top};
+use crate::shape::{Ink, Shape, print_shape, print_shapes};
+use crate::sheet::{Mark, Sheet};
+use crate::words::{numbered, view_words, weight_words};
+use vp_base::{CopyOf, NoMemory, SiteId, View, ViewId};
+use vp_catalog::{Catalog, Placed};
+use vp_text::print_number;
+
+/// The opening view.
+const OPENING: ViewId = ViewId { number: 0, site: 0 };
+
+/// How texts look.
+const TEXTS: &[u8] =
+    b"<style type=\"text/css\">\ntext{font:12px monospace;fill:#222;paint-order:stroke;stroke:#fff;stroke-width:3px}\n";
+
+/// How each kind of text looks.
+const INKS: &[u8] =
+    b".h{font-weight:bold;font-size:14px}.n{fill:#999}.k{font-weight:bold;fill:#000}.m{fill:#666}.r{fill:#05c}.f{fill:#c00;font-weight:bold}.w{fill:#060}.d{fill:#c00}\n";
+
+/// How lines look.
+const LINES: &[u8] =
+    b"line{stroke:#999}.a{stroke:#777;marker-end:url(#arrow)}.x{stroke:#c00;marker-end:url(#cross)}.s{stroke:#777;marker-end:url(#stop)}\n.c{stroke:#c00;stroke-dasharray:6 3}.j{stroke:#080;stroke-dasharray:6 3}\n";
+
+/// The colours of views.
+const COLOURS: &[u8] =
+    b".v0{fill:#bbb}.v1{fill:#8cf}.v2{fill:#fc6}.v3{fill:#9d9}.v4{fill:#f99}.v5{fill:#c9f}.v6{fill:#fe6}.v7{fill:#6dd}.v8{fill:#db8}.v9{fill:#f9d}.v10{fill:#aac}.v11{fill:#be6}\n";
+
+/// The head of an arrow.
+const ARROW: &[u8] =
+    b"</style>\n<defs>\n<marker id=\"arrow\" markerWidth=\"9\" markerHeight=\"8\" refX=\"8\" refY=\"4\" orient=\"auto\"><path d=\"M0,0 L8,4 L0,8 z\" fill=\"#777\"/></marker>\n";
+
+/// The ends of an arrow that is lost and of a stub.
+const ENDS: &[u8] =
+    b"<marker id=\"cross\" markerWidth=\"10\" markerHeight=\"10\" refX=\"5\" refY=\"5\" orient=\"auto\"><path d=\"M1,1 L9,9 M1,9 L9,1\" stroke=\"#c00\" stroke-width=\"2\"/></marker>\n<marker id=\"stop\" markerWidth=\"4\" markerHeight=\"10\" refX=\"2\" refY=\"5\" orient=\"auto\"><path d=\"M2,0 L2,10\" stroke=\"#777\" stroke-width=\"2\"/></marker>\n";
+
+/// The page.
+const PAGE: &[u8] = b"</defs>\n<rect width=\"100%\" height=\"100%\" fill=\"#fff\"/>\n";
+
+/// Appends how things look.
+fn print_style(out: &mut Vec<u8>) -> Result<(), NoMemory>
+    ensures { OnOk result (out.new.items ≡ out.old.items ++ style) }
+{
+    out.extend_from_slice(TEXTS)?;
+    out.extend_from_slice(INKS)?;
+    out.extend_from_slice(LINES)?;
+    out.extend_from_slice(COLOURS)?;
+    out.extend_from_slice(ARROW)?;
+    out.extend_from_slice(ENDS)?;
+    out.extend_from_slice(PAGE)?;
+    Ok(())
+}
+
+/// The stub of a message: short, from where it was sent.
+fn stub(catalog: &Catalog, mark: &Mark) -> Shape
+    ensures { result ≡ stub catalog.now mark.now }
+{
+    let from = column(catalog, mark.from);
+    let to = column(catalog, mark.to);
+    let y = top(mark.line) + 9;
+    Shape::Line {
+        ink: Ink::Never,
+        x1: edge(from, to),
+        y1: y,
+        x2: stub_end(from, to),
+        y2: y,
+    }
+}
+
+impl Sheet {
+    /// Writes the sites with their ports, what each has of each record, and the opening view.
+    pub fn head(&mut self, catalog: &Catalog) -> Result<(), NoMemory>
+        ensures { OnOk result (self.new ≡ head catalog.now self.old) }
+    {
+        for pair in catalog.ports() {
+            self.head_site(catalog, pair)?;
+        }
+        self.next_line()?;
+        for placed in catalog.records() {
+            self.head_record(catalog, placed)?;
+        }
+        self.open(catalog)
+    }
+
+    fn head_site(&mut self, catalog: &Catalog, pair: &(SiteId, u16)) -> Result<(), NoMemory>
+        ensures { OnOk result (self.new ≡ site_head catalog.now pair.now self.old) }
+    {
+        let alloc = self.texts.allocator();
+        let x = column(catalog, pair.0);
+        let site = numbered(alloc, b"site ", u64::from(pair.0.get()))?;
+        self.write(x - 4, Ink::Site, site)?;
+        let port = numbered(alloc, b"port ", u64::from(pair.1))?;
+        self.write(x + 66, Ink::Faint, port)
+    }
+
+    fn head_record(&mut self, catalog: &Catalog, placed: &Placed) -> Result<(), NoMemory>
+        ensures { OnOk result (self.new ≡ record_head catalog.now placed.now self.old) }
+    {
+        for pair in catalog.ports() {
+            self.head_weight(catalog, placed, pair)?;
+        }
+        self.next_line()
+    }
+
+    /// Writes what a site has of a record, where it has a copy.
+    fn head_weight(
+        &mut self,
+        catalog: &Catalog,
+        placed: &Placed,
+        pair: &(SiteId, u16),
+    ) -> Result<(), NoMemory>
+        ensures { OnOk result (self.new ≡ weight_head catalog.now placed.now pair.now self.old) }
+    {
+        let weight = placed.weight(pair.0);
+        if weight == 0 {
+            return Ok(());
+        }
+        let text = weight_words(self.texts.allocator(), placed, weight)?;
+        self.write(column(catalog, pair.0) - 4, Ink::Event, text)
+    }
+
+    /// Writes the opening view, where the picture begins with it.
+    fn open(&mut self, catalog: &Catalog) -> Result<(), NoMemory>
+        ensures { OnOk result (self.new ≡ opened catalog.now self.old) }
+    {
+        if 1 < self.part.from {
+            return self.next_line();
+        }
+        let view = View {
+            id: OPENING,
+            members: catalog.sites().copy_of()?,
+        };
+        let text = view_words(self.texts.allocator(), catalog, &view)?;
+        self.say(72, Ink::View, text)
+    }
+
+    /// The stub of a message that is drawn, where the message never comes.
+    fn stub_of(&self, catalog: &Catalog, mark: &Mark) -> Option<Shape>
+        ensures { result ≡ stub_of catalog.now self.now.came mark.now }
+    {
+        if !mark.is_drawn || self.came.as_slice().contains(&mark.number) {
+            None
+        } else {
+            Some(stub(catalog, mark))
+        }
+    }
+
+    fn print_stub(&self, catalog: &Catalog, mark: &Mark, out: &mut Vec<u8>) -> Result<(), NoMemory>
+        ensures { OnOk result (out.new.items ≡ out.old.items ++ stub_text catalog.now self.now.came mark.now) }
+    {
+        match self.stub_of(catalog, mark) {
+            None => Ok(()),
+            Some(shape) => print_shape(&shape, out),
+        }
+    }
+
+    fn print_stubs(&self, catalog: &Catalog, out: &mut Vec<u8>) -> Result<(), NoMemory>
+        ensures { OnOk result (out.new.items ≡ out.old.items ++ flat_map (stub_text catalog.now self.now.came) self.now.marks) }
+    {
+        for mark in self.marks.as_slice() {
+            self.print_stub(catalog, mark, out)?;
+        }
+        Ok(())
+    }
+
+    fn print_size(&self, out: &mut Vec<u8>) -> Result<(), NoMemory>
+        ensures { OnOk result (out.new.items ≡ out.old.items ++ size_text self.now) }
+    {
+        out.extend_from_slice(
+            b"<svg xmlns=\"http://www.w3.org/2000/svg\" version=\"1.1\" width=\"",
+        )?;
+        print_number(out, self.wide)?;
+        out.extend_from_slice(b"\" height=\"")?;
+        print_number(out, top(self.lines) + 12)?;
+        out.extend_from_slice(b"\">\n")?;
+        Ok(())
+    }
+
+    /// Appends the picture.
+    pub fn print(&self, catalog: &Catalog, out: &mut Vec<u8>) -> Result<(), NoMemory>
+        ensures { OnOk result (out.new.items ≡ out.old.items ++ picture_text catalog.now self.now) }
+    {
+        self.print_size(out)?;
+        print_style(out)?;
+        print_shapes(self.bars.as_slice(), out)?;
+        print_shapes(self.arrows.as_slice(), out)?;
+        self.print_stubs(catalog, out)?;
+        print_shapes(self.texts.as_slice(), out)?;
+        out.extend_from_slice(b"</svg>\n")?;
+        Ok(())
+    }
+}

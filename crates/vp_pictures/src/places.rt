@@ -1,0 +1,49 @@
+//! Where things stand: the lifeline of a site, and the height of a line of text.
+
+ghost use Rattle.std.specs.Prelude.{◌≡◌, ◌≤◌, ◌<◌, ◌^◌};
+ghost use Rattle.vp_pictures.specs.Places.{column, edge, stub_end, top};
+
+use vp_base::SiteId;
+use vp_catalog::Catalog;
+
+/// The lifeline of a site: the first one is 60 from the left, each other one 240 from the one before it.
+pub fn column(catalog: &Catalog, site: SiteId) -> u64
+    ensures place { result ≡ column catalog.now site }
+    ensures least { 60 ≤ result }
+    ensures most { result ≤ 3660 }
+{
+    match catalog.sites().as_slice().iter().position(|s| s.get() == site.get()) {
+        None => 60,
+        Some(place) => if place < 16 {
+            60 + 240 * place as u64
+        } else {
+            60
+        },
+    }
+}
+
+/// The top of a line of text.
+pub fn top(line: u32) -> u64
+    ensures place { result ≡ top line }
+    ensures most { result < 2 ^ 40 }
+{
+    12 + 18 * u64::from(line)
+}
+
+/// The edge of a lifeline on the side of another one.
+pub fn edge(own: u64, other: u64) -> u64
+    requires least { 60 ≤ own }
+    requires most { own ≤ 3660 }
+    ensures { result ≡ edge own other }
+{
+    if own < other { own + 5 } else { own - 5 }
+}
+
+/// Where a stub ends that goes from one lifeline towards another one.
+pub fn stub_end(own: u64, other: u64) -> u64
+    requires least { 60 ≤ own }
+    requires most { own ≤ 3660 }
+    ensures { result ≡ stub_end own other }
+{
+    if own < other { own + 29 } else { own - 29 }
+}

@@ -1,0 +1,157 @@
+//! The sheet on which steps are drawn.
+
+ghost use Rattle.std.specs.Prelude.{◌≡◌, ◌++◌, ◌∷◌, [], ◌≤◌, OnOk, option_copied, option_to_list};
+ghost use Rattle.vp_pictures.specs.Sheets.{mark_at, next_line, said, site_drawn, written};
+
+use crate::places::top;
+use crate::shape::{Ink, Shape};
+use std::alloc::Global;
+use vp_base::{Event, NoMemory, Seq, SiteId, ViewId, Word};
+
+/// The most bytes of a text.
+const MOST_BYTES: usize = 1_000_000;
+
+/// The part of a run that is drawn, by the numbers of its first and its last event line.
+#[derive(Clone, Copy, Drop)]
+pub struct Part {
+    pub from: u32,
+    pub to: u32,
+}
+
+/// What is drawn of a site at a time: whether it is up, and the view that it holds.
+#[derive(Clone, Copy, Drop, PartialEq, Eq)]
+pub struct Look {
+    pub up: bool,
+    pub held: Option<ViewId>,
+}
+
+/// A message that was sent: its number, the line on which it is drawn, or which is next where it isn't, from where to where it goes, and
+/// its text.
+#[derive(Drop)]
+pub struct Mark {
+    pub number: u64,
+    pub line: u32,
+    pub is_drawn: bool,
+    pub from: SiteId,
+    pub to: SiteId,
+    pub text: Word,
+}
+
+/// What is drawn so far: below, the bars; then the arrows; and on top the texts, each on a line of its own but for those at the left and
+/// in the head. Without memory a call may have drawn a part of what it draws, so the sheet is then to be dropped.
+#[derive(Drop)]
+pub struct Sheet {
+    pub part: Part,
+    /// How many lines there are.
+    pub lines: u32,
+    /// How far the texts go.
+    pub wide: u64,
+    /// The messages, in the order in which they were sent.
+    pub marks: Seq<Mark>,
+    /// The numbers of the messages that came somewhere.
+    pub came: Seq<u64>,
+    pub bars: Seq<Shape>,
+    pub arrows: Seq<Shape>,
+    pub texts: Seq<Shape>,
+}
+
+impl Sheet {
+    /// An empty sheet.
+    pub fn new(alloc: Global, part: Part) -> Sheet
+        ensures { result ≡ record { part = part; lines = 0; wide = 400; marks = []; came = []; bars = []; arrows = []; texts = [] } }
+    {
+        Sheet {
+            part,
+            lines: 0,
+            wide: 400,
+            marks: Seq::new(alloc),
+            came: Seq::new(alloc),
+            bars: Seq::new(alloc),
+            arrows: Seq::new(alloc),
+            texts: Seq::new(alloc),
+        }
+    }
+
+    /// Goes to the next line.
+    pub fn next_line(&mut self) -> Result<(), NoMemory>
+        ensures { OnOk result (self.new ≡ next_line self.old) }
+    {
+        if self.lines == u32::MAX {
+            return Err(NoMemory);
+        }
+        self.lines += 1;
+        Ok(())
+    }
+
+    /// Writes a text on this line, beside others.
+    pub fn write(&mut self, x: u64, ink: Ink, text: Word) -> Result<(), NoMemory>
+        requires { x ≤ 10000 }
+        ensures { OnOk result (self.new ≡ written x ink text self.old) }
+    {
+        let size = text.as_slice().len();
+        if MOST_BYTES < size {
+            return Err(NoMemory);
+        }
+        self.wide = self.wide.max(x + 8 * size as u64);
+        let y = top(self.lines) + 13;
+        self.texts.push(Shape::Text { ink, x, y, text })
+    }
+
+    /// Writes a text on this line, and goes to the next.
+    pub fn say(&mut self, x: u64, ink: Ink, text: Word) -> Result<(), NoMemory>
+        requires { x ≤ 10000 }
+        ensures { OnOk result (self.new ≡ said x ink text self.old) }
+    {
+        self.write(x, ink, text)?;
+        self.next_line()
+    }
+
+    pub fn draw_arrow(&mut self, shape: Option<Shape>) -> Result<(), NoMemory>
+        ensures { OnOk result (self.new ≡ record self.old { arrows = self.old.arrows ++ option_to_list shape }) }
+    {
+        match shape {
+            None => Ok(()),
+            Some(shape) => self.arrows.push(shape),
+        }
+    }
+
+    pub fn draw_bar(&mut self, shape: Option<Shape>) -> Result<(), NoMemory>
+        ensures { OnOk result (self.new ≡ record self.old { bars = self.old.bars ++ option_to_list shape }) }
+    {
+        match shape {
+            None => Ok(()),
+            Some(shape) => self.bars.push(shape),
+        }
+    }
+
+    /// The message that was sent as number `k`.
+    pub fn mark(&self, k: u32) -> Option<&Mark>
+        ensures { option_copied result ≡ mark_at self.now k }
+    {
+        if k == 0 {
+            None
+        } else {
+            self.marks.as_slice().get(k as usize - 1)
+        }
+    }
+
+    /// The site that an event is drawn at.
+    pub fn site(&self, event: &Event) -> Option<SiteId>
+        ensures { result ≡ site_drawn event.now self.now }
+    {
+        match event {
+            Event::Call { site, .. } => Some(*site),
+            Event::Tick { site } => Some(*site),
+            Event::Probe { site } => Some(*site),
+            Event::Crash { site } => Some(*site),
+            Event::Restart { site } => Some(*site),
+            Event::Cut { a, .. } => Some(*a),
+            Event::Heal { a, .. } => Some(*a),
+            Event::Deliver { k } => match self.mark(*k) {
+                Some(mark) => Some(mark.to),
+                None => None,
+            },
+            Event::Flow { .. } => None,
+        }
+    }
+}

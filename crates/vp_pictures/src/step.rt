@@ -1,0 +1,412 @@
+//! What is drawn of a step.
+
+ghost use Rattle.std.specs.Prelude.{◌≡◌, ◌≤◌, ◌^◌, ◌<◌, Bool, IfOk, IfSome, OnOk, option_copied};
+ghost use Rattle.vp_model.specs.Words.{for_each};
+ghost use Rattle.vp_pictures.specs.Sheets.{mark_at};
+ghost use Rattle.vp_pictures.specs.Places.{top};
+ghost use Rattle.vp_pictures.specs.Steps.{arrow_kind, arrow_of, bar_of, colour, cut_of, delivery, drawn, event_x, hidden, hidden_message, is_drawn, life_of, refuses, said_commit, said_event, said_idle, said_message, said_reply, said_shown, said_view, stepped, with_arrow, with_look, words_of_event};
+
+use crate::places::{column, edge, top};
+use crate::shape::{Ink, Shape};
+use crate::sheet::{Look, Mark, Sheet};
+use crate::words::{
+    answer_words, arrival_words, commit_words, event_words, idle_words, message_words, numbered,
+    sent_words, view_words,
+};
+use std::alloc::Global;
+use vp_base::{
+    Answer, Commit, Event, Line, NoMemory, Reply, Sent, Shown, SiteId, View, ViewId, Word,
+};
+use vp_catalog::Catalog;
+
+/// The colour of a view.
+fn colour(view: &ViewId) -> u64
+    ensures { result ≡ colour view.now }
+{
+    (view.number % 12 * 5 + u64::from(view.site) * 3) % 12
+}
+
+/// The answer refuses the call.
+fn refuses(answer: &Answer) -> bool
+    ensures { result ≡ refuses answer.now }
+{
+    match answer {
+        Answer::Begun { .. } => false,
+        Answer::Value { .. } => false,
+        Answer::Written { .. } => false,
+        Answer::Committed { .. } => false,
+        Answer::Aborted { .. } => false,
+        Answer::Inviting { .. } => false,
+        _ => true,
+    }
+}
+
+/// A delivery comes where its step is done.
+fn arrow_kind(shown: &Shown) -> Ink
+    ensures { result ≡ arrow_kind shown.now }
+{
+    match shown {
+        Shown::Step { .. } => Ink::Comes,
+        _ => Ink::Lost,
+    }
+}
+
+/// The lifeline of a site that is up.
+fn life_of(catalog: &Catalog, y: u64, end: u64, site: SiteId, look: &Look) -> Option<Shape>
+    ensures { result ≡ life_of catalog.now y end site look.now }
+{
+    if look.up {
+        let x = column(catalog, site);
+        Some(Shape::Line {
+            ink: Ink::Life,
+            x1: x,
+            y1: y,
+            x2: x,
+            y2: end,
+        })
+    } else {
+        None
+    }
+}
+
+/// The bar of a view that is held.
+fn bar_of(catalog: &Catalog, y: u64, end: u64, site: SiteId, look: &Look) -> Option<Shape>
+    ensures { result ≡ bar_of catalog.now y end site look.now }
+{
+    match &look.held {
+        None => None,
+        Some(view) => Some(Shape::Bar {
+            colour: colour(view),
+            x: column(catalog, site) - 4,
+            y,
+            height: end.saturating_sub(y),
+        }),
+    }
+}
+
+/// Between which sites nothing is delivered any more, or again.
+fn cut_of(catalog: &Catalog, y: u64, event: &Event) -> Option<Shape>
+    ensures { result ≡ cut_of catalog.now y event.now }
+{
+    match event {
+        Event::Cut { a, b } => Some(Shape::Line {
+            ink: Ink::Cut,
+            x1: column(catalog, *a),
+            y1: y,
+            x2: column(catalog, *b),
+            y2: y,
+        }),
+        Event::Heal { a, b } => Some(Shape::Line {
+            ink: Ink::Heal,
+            x1: column(catalog, *a),
+            y1: y,
+            x2: column(catalog, *b),
+            y2: y,
+        }),
+        _ => None,
+    }
+}
+
+/// The way of a message that is delivered on this line.
+fn arrow_of(catalog: &Catalog, ink: Ink, mark: &Mark, line: u32) -> Shape
+    ensures { result ≡ arrow_of catalog.now ink mark.now line }
+{
+    let from = column(catalog, mark.from);
+    let to = column(catalog, mark.to);
+    Shape::Line {
+        ink,
+        x1: edge(from, to),
+        y1: top(mark.line) + 9,
+        x2: edge(to, from),
+        y2: top(line) + 9,
+    }
+}
+
+impl Sheet {
+    fn alloc(&self) -> Global {
+        self.texts.allocator()
+    }
+
+    /// The event of this number is in the part that is drawn.
+    fn is_drawn(&self, number: u32) -> bool
+        ensures { result ≡ is_drawn self.now number }
+    {
+        self.part.from <= number && number <= self.part.to
+    }
+
+    /// Draws a step: the number of its event line, its line, what each site looks like after it, and the view that its site holds from here
+    /// on. Of a step outside the part that is drawn only the messages are kept.
+    pub fn draw(
+        &mut self,
+        catalog: &Catalog,
+        number: u32,
+        line: &Line,
+        looks: &[(SiteId, Look)],
+        joined: &Option<View>,
+    ) -> Result<(), NoMemory>
+        ensures { OnOk result (self.new ≡ drawn catalog.now number line.now looks.now joined.now self.old) }
+    {
+        let is_drawn = self.is_drawn(number);
+        self.draw_delivery(catalog, is_drawn, line)?;
+        if is_drawn {
+            self.draw_step(catalog, number, line, looks, joined)
+        } else {
+            self.hide(catalog, &line.shown)
+        }
+    }
+
+    /// Draws how a message comes, or what it meets.
+    fn draw_delivery(
+        &mut self,
+        catalog: &Catalog,
+        is_drawn: bool,
+        line: &Line,
+    ) -> Result<(), NoMemory>
+        ensures { OnOk result (self.new ≡ with_arrow catalog.now is_drawn line.now.event line.now.shown self.old) }
+    {
+        let Event::Deliver { k } = &line.event else {
+            return Ok(());
+        };
+        let arrow = self.arrow(catalog, is_drawn, *k, &line.shown);
+        self.came.push(u64::from(*k))?;
+        self.draw_arrow(arrow)
+    }
+
+    /// The arrow of a delivery: it is drawn where its sending or its end is.
+    fn arrow(&self, catalog: &Catalog, is_drawn: bool, k: u32, shown: &Shown) -> Option<Shape>
+        ensures { result ≡ delivery catalog.now is_drawn shown.now self.now.lines (mark_at self.now k) }
+    {
+        match self.mark(k) {
+            None => None,
+            Some(mark) => if mark.is_drawn || is_drawn {
+                Some(arrow_of(catalog, arrow_kind(shown), mark, self.lines))
+            } else {
+                None
+            },
+        }
+    }
+
+    /// Keeps the messages of a step that isn't drawn.
+    fn hide(&mut self, catalog: &Catalog, shown: &Shown) -> Result<(), NoMemory>
+        ensures { OnOk result (self.new ≡ hidden catalog.now shown.now self.old) }
+    {
+        let Shown::Step { messages, .. } = shown else {
+            return Ok(());
+        };
+        for sent in messages.as_slice() {
+            self.hide_message(catalog, sent)?;
+        }
+        Ok(())
+    }
+
+    fn hide_message(&mut self, catalog: &Catalog, sent: &Sent) -> Result<(), NoMemory>
+        ensures { OnOk result (self.new ≡ hidden_message catalog.now sent.now self.old) }
+    {
+        let text = message_words(self.alloc(), catalog, &sent.message)?;
+        let number = self.marks.as_slice().len() as u64 + 1;
+        let line = self.lines;
+        self.marks.push(Mark {
+            number,
+            line,
+            is_drawn: false,
+            from: sent.from,
+            to: sent.to,
+            text,
+        })
+    }
+
+    fn draw_step(
+        &mut self,
+        catalog: &Catalog,
+        number: u32,
+        line: &Line,
+        looks: &[(SiteId, Look)],
+        joined: &Option<View>,
+    ) -> Result<(), NoMemory>
+        ensures { OnOk result (self.new ≡ stepped catalog.now number line.now looks.now joined.now self.old) }
+    {
+        let y = top(self.lines);
+        let x = self.event_x(catalog, &line.event);
+        self.draw_arrow(cut_of(catalog, y + 18, &line.event))?;
+        self.say_event(x, number, &line.event)?;
+        self.say_shown(catalog, x, &line.shown)?;
+        self.say_view(catalog, x, joined)?;
+        self.draw_looks(catalog, y, looks)
+    }
+
+    /// Where the texts of an event begin.
+    fn event_x(&self, catalog: &Catalog, event: &Event) -> u64
+        ensures place { result ≡ event_x catalog.now event.now self.now }
+        ensures most { result ≤ 4000 }
+    {
+        match self.site(event) {
+            None => 72,
+            Some(site) => column(catalog, site) + 12,
+        }
+    }
+
+    /// Writes an event, and the number of its line at the left; a delivery is the message that comes.
+    fn say_event(&mut self, x: u64, number: u32, event: &Event) -> Result<(), NoMemory>
+        requires { x ≤ 4000 }
+        ensures { OnOk result (self.new ≡ said_event x number event.now self.old) }
+    {
+        let count = numbered(self.alloc(), b"", u64::from(number))?;
+        let text = self.words_of_event(event)?;
+        self.write(4, Ink::Faint, count)?;
+        self.say(x, Ink::Event, text)
+    }
+
+    fn words_of_event(&self, event: &Event) -> Result<Word, NoMemory>
+        ensures { IfOk result (λ w. w ≡ words_of_event event.now self.now) }
+    {
+        match event {
+            Event::Deliver { k } => match self.mark(*k) {
+                Some(mark) => arrival_words(self.alloc(), *k, mark.text.as_slice()),
+                None => event_words(self.alloc(), event),
+            },
+            _ => event_words(self.alloc(), event),
+        }
+    }
+
+    fn say_shown(&mut self, catalog: &Catalog, x: u64, shown: &Shown) -> Result<(), NoMemory>
+        requires { x ≤ 4000 }
+        ensures { OnOk result (self.new ≡ said_shown catalog.now x shown.now self.old) }
+    {
+        match shown {
+            Shown::Step {
+                commits,
+                messages,
+                replies,
+                ..
+            } => {
+                self.say_commits(x, commits.as_slice())?;
+                self.say_messages(catalog, x, messages.as_slice())?;
+                self.say_replies(x, replies.as_slice())
+            }
+            Shown::Nothing => Ok(()),
+            _ => self.say_idle(x, shown),
+        }
+    }
+
+    fn say_idle(&mut self, x: u64, shown: &Shown) -> Result<(), NoMemory>
+        requires { x ≤ 4000 }
+        ensures { OnOk result (self.new ≡ said_idle x shown.now self.old) }
+    {
+        let text = idle_words(self.alloc(), shown)?;
+        self.say(x, Ink::Idle, text)
+    }
+
+    fn say_commits(&mut self, x: u64, commits: &[Commit]) -> Result<(), NoMemory>
+        requires { x ≤ 4000 }
+        ensures { OnOk result (self.new ≡ for_each commits.now (said_commit x) self.old) }
+    {
+        for commit in commits {
+            self.say_commit(x, commit)?;
+        }
+        Ok(())
+    }
+
+    fn say_commit(&mut self, x: u64, commit: &Commit) -> Result<(), NoMemory>
+        requires { x ≤ 4000 }
+        ensures { OnOk result (self.new ≡ said_commit x commit.now self.old) }
+    {
+        let text = commit_words(self.alloc(), commit)?;
+        self.say(x, Ink::Commit, text)
+    }
+
+    fn say_messages(&mut self, catalog: &Catalog, x: u64, messages: &[Sent]) -> Result<(), NoMemory>
+        requires { x ≤ 4000 }
+        ensures { OnOk result (self.new ≡ for_each messages.now (said_message catalog.now x) self.old) }
+    {
+        for sent in messages {
+            self.say_message(catalog, x, sent)?;
+        }
+        Ok(())
+    }
+
+    /// Writes a message at its sending, from where its arrows or its stub begin.
+    fn say_message(&mut self, catalog: &Catalog, x: u64, sent: &Sent) -> Result<(), NoMemory>
+        requires { x ≤ 4000 }
+        ensures { OnOk result (self.new ≡ said_message catalog.now x sent.now self.old) }
+    {
+        let text = message_words(self.alloc(), catalog, &sent.message)?;
+        let number = self.marks.as_slice().len() as u64 + 1;
+        let line = self.lines;
+        let said = sent_words(self.alloc(), number, sent.to, text.as_slice())?;
+        self.say(x + 22, Ink::Message, said)?;
+        self.marks.push(Mark {
+            number,
+            line,
+            is_drawn: true,
+            from: sent.from,
+            to: sent.to,
+            text,
+        })
+    }
+
+    fn say_replies(&mut self, x: u64, replies: &[Reply]) -> Result<(), NoMemory>
+        requires { x ≤ 4000 }
+        ensures { OnOk result (self.new ≡ for_each replies.now (said_reply x) self.old) }
+    {
+        for reply in replies {
+            self.say_reply(x, reply)?;
+        }
+        Ok(())
+    }
+
+    fn say_reply(&mut self, x: u64, reply: &Reply) -> Result<(), NoMemory>
+        requires { x ≤ 4000 }
+        ensures { OnOk result (self.new ≡ said_reply x reply.now self.old) }
+    {
+        let text = answer_words(self.alloc(), &reply.answer)?;
+        let ink = if refuses(&reply.answer) {
+            Ink::Refusal
+        } else {
+            Ink::Reply
+        };
+        self.say(x, ink, text)
+    }
+
+    /// Writes the view that a site holds from here on.
+    fn say_view(&mut self, catalog: &Catalog, x: u64, joined: &Option<View>) -> Result<(), NoMemory>
+        requires { x ≤ 4000 }
+        ensures { OnOk result (self.new ≡ said_view catalog.now x joined.now self.old) }
+    {
+        match joined {
+            None => Ok(()),
+            Some(view) => {
+                let text = view_words(self.alloc(), catalog, view)?;
+                self.say(x, Ink::View, text)
+            }
+        }
+    }
+
+    /// Draws each site that is up, and the view that it holds, from where the step begins.
+    fn draw_looks(
+        &mut self,
+        catalog: &Catalog,
+        y: u64,
+        looks: &[(SiteId, Look)],
+    ) -> Result<(), NoMemory>
+        ensures { OnOk result (self.new ≡ for_each looks.now (with_look catalog.now y (top self.old.lines)) self.old) }
+    {
+        let end = top(self.lines);
+        for pair in looks {
+            self.draw_look(catalog, y, end, pair)?;
+        }
+        Ok(())
+    }
+
+    fn draw_look(
+        &mut self,
+        catalog: &Catalog,
+        y: u64,
+        end: u64,
+        pair: &(SiteId, Look),
+    ) -> Result<(), NoMemory>
+        ensures { OnOk result (self.new ≡ with_look catalog.now y end pair.now self.old) }
+    {
+        self.draw_bar(life_of(catalog, y, end, pair.0, &pair.1))?;
+        self.draw_bar(bar_of(catalog, y, end, pair.0, &pair.1))
+    }
+}

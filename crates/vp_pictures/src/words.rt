@@ -1,0 +1,166 @@
+//! The texts of a picture.
+
+ghost use Rattle.std.specs.Prelude.{◌≡◌, ◌++◌, ◌∷◌, [], IfOk, OnOk, codes};
+ghost use Rattle.std.specs.Fmt.{decimal};
+ghost use Rattle.std.specs.List.{flat_map};
+ghost use Rattle.vp_model.specs.Texts.Answers.{answer_text};
+ghost use Rattle.vp_model.specs.Texts.Calls.{event_text};
+ghost use Rattle.vp_model.specs.Texts.Messages.{message_text};
+ghost use Rattle.vp_pictures.specs.Words.{arrival_words, commit_words, idle_words, member_words, sent_words, usable, view_words, weight_words};
+
+use std::alloc::Global;
+use vp_base::{Answer, Commit, Event, Message, NoMemory, RecId, Shown, SiteId, View, Word};
+use vp_catalog::{Catalog, Placed};
+use vp_text::print_number;
+use vp_trace::{print_answer, print_event, print_message};
+
+/// A word and a number.
+pub fn numbered(alloc: Global, word: &[u8], number: u64) -> Result<Word, NoMemory>
+    ensures { IfOk result (λ w. w ≡ word.now ++ decimal number) }
+{
+    let mut text = Vec::from_slice(alloc, word)?;
+    print_number(&mut text, number)?;
+    Ok(Word::from_vec(text))
+}
+
+pub fn copied(alloc: Global, word: &[u8]) -> Result<Word, NoMemory>
+    ensures { IfOk result (λ w. w ≡ word.now) }
+{
+    Ok(Word::from_vec(Vec::from_slice(alloc, word)?))
+}
+
+/// An event, as a schedule has it.
+pub fn event_words(alloc: Global, event: &Event) -> Result<Word, NoMemory>
+    ensures { IfOk result (λ w. w ≡ event_text event.now) }
+{
+    let mut text = Vec::new(alloc);
+    print_event(event, &mut text)?;
+    Ok(Word::from_vec(text))
+}
+
+/// A message that comes.
+pub fn arrival_words(alloc: Global, k: u32, message: &[u8]) -> Result<Word, NoMemory>
+    ensures { IfOk result (λ w. w ≡ arrival_words k message.now) }
+{
+    let mut text = Vec::new(alloc);
+    print_number(&mut text, u64::from(k))?;
+    text.push(b' ')?;
+    text.extend_from_slice(message)?;
+    Ok(Word::from_vec(text))
+}
+
+pub fn message_words(alloc: Global, catalog: &Catalog, message: &Message) -> Result<Word, NoMemory>
+    ensures { IfOk result (λ w. w ≡ message_text catalog.now message.now) }
+{
+    let mut text = Vec::new(alloc);
+    print_message(catalog, message, &mut text)?;
+    Ok(Word::from_vec(text))
+}
+
+/// A message as it is sent: its number, to where, and its text.
+pub fn sent_words(alloc: Global, k: u64, to: SiteId, message: &[u8]) -> Result<Word, NoMemory>
+    ensures { IfOk result (λ w. w ≡ sent_words k to message.now) }
+{
+    let mut text = Vec::new(alloc);
+    print_number(&mut text, k)?;
+    text.extend_from_slice(b" to ")?;
+    to.print(&mut text)?;
+    text.extend_from_slice(b": ")?;
+    text.extend_from_slice(message)?;
+    Ok(Word::from_vec(text))
+}
+
+pub fn answer_words(alloc: Global, answer: &Answer) -> Result<Word, NoMemory>
+    ensures { IfOk result (λ w. w ≡ answer_text answer.now) }
+{
+    let mut text = Vec::new(alloc);
+    print_answer(answer, &mut text)?;
+    Ok(Word::from_vec(text))
+}
+
+pub fn commit_words(alloc: Global, commit: &Commit) -> Result<Word, NoMemory>
+    ensures { IfOk result (λ w. w ≡ commit_words commit.now) }
+{
+    let mut text = Vec::from_slice(alloc, b"commit ")?;
+    commit.txn.print(&mut text)?;
+    text.push(b' ')?;
+    commit.view.print(&mut text)?;
+    Ok(Word::from_vec(text))
+}
+
+/// Why an event did nothing, or which life begins.
+pub fn idle_words(alloc: Global, shown: &Shown) -> Result<Word, NoMemory>
+    ensures { IfOk result (λ w. w ≡ idle_words shown.now) }
+{
+    match shown {
+        Shown::NoMessage => copied(alloc, b"no such message"),
+        Shown::Down { site } => numbered(alloc, b"lost: down is site ", u64::from(site.get())),
+        Shown::Parted { .. } => copied(alloc, b"lost: the pair is cut"),
+        Shown::Up { site } => numbered(alloc, b"up already is site ", u64::from(site.get())),
+        Shown::Life { life } => numbered(alloc, b"begins life ", u64::from(*life)),
+        Shown::LivesSpent { life } => {
+            numbered(alloc, b"no life is left after ", u64::from(*life))
+        }
+        Shown::Step { .. } => copied(alloc, b""),
+        Shown::Nothing => copied(alloc, b""),
+    }
+}
+
+fn print_members(members: &[SiteId], out: &mut Vec<u8>) -> Result<(), NoMemory>
+    ensures { OnOk result (out.new.items ≡ out.old.items ++ flat_map member_words members.now) }
+{
+    for site in members {
+        print_member(*site, out)?;
+    }
+    Ok(())
+}
+
+fn print_member(site: SiteId, out: &mut Vec<u8>) -> Result<(), NoMemory>
+    ensures { OnOk result (out.new.items ≡ out.old.items ++ member_words site) }
+{
+    out.push(b' ')?;
+    site.print(out)
+}
+
+/// How many records may be used in a view.
+fn usable(catalog: &Catalog, view: &View) -> u16
+    ensures { result ≡ usable catalog.now view.now }
+{
+    let mut count = 0;
+    let records = catalog.count() as u16;
+    for place in 0..records {
+        if catalog.accessible(RecId::new(place as u8), &view.members) {
+            count += 1;
+        }
+    }
+    count
+}
+
+/// A view, with its members and what may be used in it.
+pub fn view_words(alloc: Global, catalog: &Catalog, view: &View) -> Result<Word, NoMemory>
+    ensures { IfOk result (λ w. w ≡ view_words catalog.now view.now) }
+{
+    let mut text = Vec::from_slice(alloc, b"view ")?;
+    view.id.print(&mut text)?;
+    text.extend_from_slice(b" of")?;
+    print_members(view.members.as_slice(), &mut text)?;
+    text.extend_from_slice(b": may use ")?;
+    print_number(&mut text, u64::from(usable(catalog, view)))?;
+    text.extend_from_slice(b" of ")?;
+    print_number(&mut text, catalog.count() as u64)?;
+    text.extend_from_slice(b" records")?;
+    Ok(Word::from_vec(text))
+}
+
+/// What a site has of a record.
+pub fn weight_words(alloc: Global, placed: &Placed, weight: u32) -> Result<Word, NoMemory>
+    ensures { IfOk result (λ w. w ≡ weight_words placed.now weight) }
+{
+    let mut text = Vec::new(alloc);
+    placed.name().print(&mut text)?;
+    text.extend_from_slice(b": ")?;
+    print_number(&mut text, u64::from(weight))?;
+    text.extend_from_slice(b" of ")?;
+    print_number(&mut text, u64::from(placed.total()))?;
+    Ok(Word::from_vec(text))
+}
