@@ -1,23 +1,24 @@
 #!/usr/bin/env python3
-"""Draws the schedules of docs/pictures with `vpdraw`, and compares the pictures with those that are kept beside them.
+"""Draws the schedules of docs/examples and docs/pictures with `vpdraw`, and compares the pictures with those that docs/pictures keeps.
 
 usage: draw_docs.py VPDRAW [--write]
 
-NAME.schedule has NAME.svg. With --write the pictures are written in place of being compared. Ends with status 1 where one differs.
+NAME.schedule has docs/pictures/NAME.svg. With --write the pictures are written in place of being compared. Ends with status 1 where one differs.
 """
 import pathlib
 import subprocess
 import sys
 
-PICTURES = pathlib.Path(__file__).resolve().parent.parent / "docs/pictures"
+DOCS = pathlib.Path(__file__).resolve().parent.parent / "docs"
+PICTURES = DOCS / "pictures"
 
 
 def main():
     vpdraw, write = sys.argv[1], sys.argv[2:] == ["--write"]
-    different, schedules = [], sorted(PICTURES.glob("*.schedule"))
+    different, schedules = [], sorted([*(DOCS / "examples").glob("*.schedule"), *PICTURES.glob("*.schedule")])
     for schedule in schedules:
         drawn = subprocess.run([vpdraw], input=schedule.read_bytes(), capture_output=True, timeout=60, check=True).stdout
-        picture = schedule.with_suffix(".svg")
+        picture = PICTURES / f"{schedule.stem}.svg"
         if write:
             picture.write_bytes(drawn)
         elif not picture.exists() or picture.read_bytes() != drawn:

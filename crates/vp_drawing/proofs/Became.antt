@@ -187,9 +187,6 @@ module _ (catalogue : Catalogue) where
 -- ---- what is drawn of the sites then
 
 module _ (w v : WorldState) where
-  look_at : WorldState → ℕ → Look
-  look_at w id = look_of (site_of w id)
-
   unchanged_looks : v.places ≡ w.places → (sites : List ℕ) → map (λ id. (id, look_of (site_of v id))) sites ≡ map (λ id. (id, look_of (site_of w id))) sites
   unchanged_looks same [] = refl
   unchanged_looks same (id ∷ sites) =
@@ -201,17 +198,14 @@ module _ (w v : WorldState) where
   replaced_looks s look is others [] = refl
   replaced_looks s look is others (j ∷ sites) = go (j == s) refl
     where
-      rest : List (ℕ × Look)
-      rest = map (λ id. (id, look_of (site_of v id))) sites
-
       go : (b : Bool) → (j == s) ≡ b → map (λ id. (id, look_of (site_of v id))) (j ∷ sites) ≡ replace_at s look (map (λ id. (id, look_of (site_of w id))) (j ∷ sites))
       go true at =
           let same : j ≡ s = grind (arith, nat_tests, at) in
           let first : (j, look_of (site_of v j)) ≡ (s, look) = ap (λ id. (id, look_of (site_of v id))) same ∙ ap (λ l. (s, l)) (sym is) in
-          rw at (ap (λ p. p ∷ rest) first ∙ ap (λ r. (s, look) ∷ r) (replaced_looks s look is others sites))
+          rw at (ap (λ p. p ∷ map (λ id. (id, look_of (site_of v id))) sites) first ∙ ap (λ r. (s, look) ∷ r) (replaced_looks s look is others sites))
       go false at =
           let n : j ≢ s = grind (arith, nat_tests, at) in
-          rw at (ap (λ site. (j, look_of site) ∷ rest) (others j n) ∙ ap (λ r. (j, look_of (site_of w j)) ∷ r) (replaced_looks s look is others sites))
+          rw at (ap (λ site. (j, look_of site) ∷ map (λ id. (id, look_of (site_of v id))) sites) (others j n) ∙ ap (λ r. (j, look_of (site_of w j)) ∷ r) (replaced_looks s look is others sites))
 
 pub looks_follow : (catalogue : Catalogue) (site : Option ℕ) (seen : Option Seen) (w v : WorldState) → Became site seen w v → looks_in catalogue v ≡ with_seen site seen (looks_in catalogue w)
 looks_follow catalogue None None w v same = unchanged_looks w v same (sites_of catalogue)

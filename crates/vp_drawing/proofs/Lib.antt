@@ -1,3 +1,4 @@
 pub mod Became
 pub mod Turns
+pub mod Marks
 pub mod Stepping

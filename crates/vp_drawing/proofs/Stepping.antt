@@ -21,7 +21,7 @@ use Rattle.vp_pictures.specs.Steps.{drawn}
 use Rattle.vp_pictures.specs.declared.sheet.Look.{Look}
 use Rattle.vp_pictures.specs.declared.sheet.Mark.{Mark}
 use Rattle.vp_pictures.specs.declared.sheet.Sheet.{Sheet}
-use Rattle.vp_pictures.proofs.Marks.{drawn_ways, ways, ways_of}
+use Rattle.vp_drawing.proofs.Marks.{drawn_ways, ways, ways_of}
 use Rattle.vp_drawing.specs.declared.run.Drawn.{Drawn}
 use Rattle.vp_drawing.specs.declared.watch.Seen.{Seen}
 use Rattle.vp_drawing.specs.declared.watch.Watch.{Watch}

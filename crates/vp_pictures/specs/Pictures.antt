@@ -1,12 +1,11 @@
 -- The SVG of a sheet.
 use Rattle.std.specs.Prelude.{ℕ, ◌+◌, ◌==◌, ◌||◌, not, if◌then◌else◌, List, [], ◌++◌, Option, Some, None, codes}
-use Rattle.std.specs.Fmt.{decimal}
 use Rattle.std.specs.List.{flat_map}
 use Rattle.std.specs.Option.{option_map_or}
 use Rattle.vp_model.specs.Words.{has}
 use Rattle.vp_model.specs.Catalogue.{Catalogue}
 use Rattle.vp_pictures.specs.Places.{column, edge, stub_end, top}
-use Rattle.vp_pictures.specs.Shapes.{shape_text}
+use Rattle.vp_pictures.specs.Shapes.{attribute, shape_text}
 use Rattle.vp_pictures.specs.Style.{style}
 use Rattle.vp_pictures.specs.declared.shape.Ink.TheVariants as ink
 use Rattle.vp_pictures.specs.declared.shape.Shape.{Shape}
@@ -31,8 +30,8 @@ stub_text catalogue came m = option_map_or shape_text (stub_of catalogue came m)
 -- as wide as its texts, as high as its lines
 abbrev pub size_text : Sheet → List ℕ
 size_text s =
-    codes "<svg xmlns=\"http://www.w3.org/2000/svg\" version=\"1.1\" width=\""
-    ++ (decimal s.wide ++ (codes "\" height=\"" ++ (decimal (top s.lines + 12) ++ codes "\">\n")))
+    attribute (codes "<svg xmlns=\"http://www.w3.org/2000/svg\" version=\"1.1\" width=\"") s.wide
+    ++ (attribute (codes " height=\"") (top s.lines + 12) ++ codes ">\n")
 
 -- the bars below, then the arrows and the stubs, and the texts on top
 abbrev pub picture_text : Catalogue → Sheet → List ℕ

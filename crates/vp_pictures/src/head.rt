@@ -8,12 +8,11 @@ ghost use Rattle.vp_pictures.specs.Style.{style};
 ghost use Rattle.vp_pictures.specs.Pictures.{picture_text, size_text, stub, stub_of, stub_text};
 
 use crate::places::{column, edge, stub_end, top};
-use crate::shape::{Ink, Shape, print_shape, print_shapes};
+use crate::shape::{Ink, Shape, print_attribute, print_shape, print_shapes};
 use crate::sheet::{Mark, Sheet};
 use crate::words::{numbered, view_words, weight_words};
 use vp_base::{CopyOf, NoMemory, SiteId, View, ViewId};
 use vp_catalog::{Catalog, Placed};
-use vp_text::print_number;
 
 /// The opening view.
 const OPENING: ViewId = ViewId { number: 0, site: 0 };
@@ -77,6 +76,7 @@ fn stub(catalog: &Catalog, mark: &Mark) -> Shape
 
 impl Sheet {
     /// Writes the sites with their ports, what each has of each record, and the opening view.
+    #[tactic(auto, unfolding(crate::specs::Heads::head))]
     pub fn head(&mut self, catalog: &Catalog) -> Result<(), NoMemory>
         ensures { OnOk result (self.new ≡ head catalog.now self.old) }
     {
@@ -174,13 +174,13 @@ impl Sheet {
     fn print_size(&self, out: &mut Vec<u8>) -> Result<(), NoMemory>
         ensures { OnOk result (out.new.items ≡ out.old.items ++ size_text self.now) }
     {
-        out.extend_from_slice(
+        print_attribute(
             b"<svg xmlns=\"http://www.w3.org/2000/svg\" version=\"1.1\" width=\"",
+            self.wide,
+            out,
         )?;
-        print_number(out, self.wide)?;
-        out.extend_from_slice(b"\" height=\"")?;
-        print_number(out, top(self.lines) + 12)?;
-        out.extend_from_slice(b"\">\n")?;
+        print_attribute(b" height=\"", top(self.lines) + 12, out)?;
+        out.extend_from_slice(b">\n")?;
         Ok(())
     }
 

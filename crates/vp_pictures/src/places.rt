@@ -1,10 +1,17 @@
 //! Where things stand: the lifeline of a site, and the height of a line of text.
 
-ghost use Rattle.std.specs.Prelude.{◌≡◌, ◌≤◌, ◌<◌, ◌^◌};
+ghost use Rattle.std.specs.Prelude.{◌≡◌, ◌==◌, ◌≤◌, ◌<◌, ◌^◌};
+ghost use Rattle.std.specs.List.{position};
 ghost use Rattle.vp_pictures.specs.Places.{column, edge, stub_end, top};
 
 use vp_base::SiteId;
 use vp_catalog::Catalog;
+
+fn place_of(sites: &[SiteId], site: SiteId) -> Option<usize>
+    ensures { result ≡ position (λ s. s == site) sites.now }
+{
+    sites.iter().position(|s| s.get() == site.get())
+}
 
 /// The lifeline of a site: the first one is 60 from the left, each other one 240 from the one before it.
 pub fn column(catalog: &Catalog, site: SiteId) -> u64
@@ -12,7 +19,7 @@ pub fn column(catalog: &Catalog, site: SiteId) -> u64
     ensures least { 60 ≤ result }
     ensures most { result ≤ 3660 }
 {
-    match catalog.sites().as_slice().iter().position(|s| s.get() == site.get()) {
+    match place_of(catalog.sites().as_slice(), site) {
         None => 60,
         Some(place) => if place < 16 {
             60 + 240 * place as u64

@@ -77,7 +77,7 @@ impl Ink {
 }
 
 /// Appends an attribute that is a number, behind these bytes.
-fn print_attribute(name: &[u8], number: u64, out: &mut Vec<u8>) -> Result<(), NoMemory>
+pub fn print_attribute(name: &[u8], number: u64, out: &mut Vec<u8>) -> Result<(), NoMemory>
     ensures { OnOk result (out.new.items ≡ out.old.items ++ attribute name.now number) }
 {
     out.extend_from_slice(name)?;

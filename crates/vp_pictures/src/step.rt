@@ -136,6 +136,7 @@ impl Sheet {
 
     /// Draws a step: the number of its event line, its line, what each site looks like after it, and the view that its site holds from here
     /// on. Of a step outside the part that is drawn only the messages are kept.
+    #[tactic(auto, unfolding(crate::specs::Steps::drawn))]
     pub fn draw(
         &mut self,
         catalog: &Catalog,
@@ -215,6 +216,7 @@ impl Sheet {
         })
     }
 
+    #[tactic(auto, unfolding(crate::specs::Steps::stepped))]
     fn draw_step(
         &mut self,
         catalog: &Catalog,
@@ -268,6 +270,7 @@ impl Sheet {
         }
     }
 
+    #[tactic(auto, unfolding(crate::specs::Steps::said_shown))]
     fn say_shown(&mut self, catalog: &Catalog, x: u64, shown: &Shown) -> Result<(), NoMemory>
         requires { x ≤ 4000 }
         ensures { OnOk result (self.new ≡ said_shown catalog.now x shown.now self.old) }
