@@ -28,7 +28,7 @@ abbrev pub stub_text : Catalogue → List ℕ → Mark → List ℕ
 stub_text catalogue came m = option_map_or shape_text (stub_of catalogue came m) []
 
 -- as wide as its texts, as high as its lines
-abbrev pub size_text : Sheet → List ℕ
+unfoldable pub size_text : Sheet → List ℕ
 size_text s =
     attribute (codes "<svg xmlns=\"http://www.w3.org/2000/svg\" version=\"1.1\" width=\"") s.wide
     ++ (attribute (codes " height=\"") (top s.lines + 12) ++ codes ">\n")

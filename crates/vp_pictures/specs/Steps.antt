@@ -89,7 +89,7 @@ words_of_event (event.Deliver k) s = option_map_or (λ (m : Mark). arrival_words
 words_of_event e s = event_text e
 
 -- an event, with the number of its line at the left
-abbrev pub said_event : ℕ → ℕ → Event → Sheet → Sheet
+unfoldable pub said_event : ℕ → ℕ → Event → Sheet → Sheet
 said_event x number e s = said x ink.Event (words_of_event e s) (written 4 ink.Faint (decimal number) s)
 
 abbrev pub said_commit : ℕ → Commit → Sheet → Sheet
@@ -130,7 +130,7 @@ said_shown catalogue x shown.Nothing s = s
 said_shown catalogue x what s = said_idle x what s
 
 -- the view that the site of the step holds from here on
-abbrev pub said_view : Catalogue → ℕ → Option View → Sheet → Sheet
+unfoldable pub said_view : Catalogue → ℕ → Option View → Sheet → Sheet
 said_view catalogue x None s = s
 said_view catalogue x (Some view) s = said x ink.View (view_words catalogue view) s
 

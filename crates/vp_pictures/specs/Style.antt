@@ -22,5 +22,5 @@ ends = codes "<marker id=\"cross\" markerWidth=\"10\" markerHeight=\"10\" refX=\
 abbrev pub page : List ℕ
 page = codes "</defs>\n<rect width=\"100%\" height=\"100%\" fill=\"#fff\"/>\n"
 
-abbrev pub style : List ℕ
+unfoldable pub style : List ℕ
 style = texts ++ (inks ++ (lines ++ (colours ++ (arrow ++ (ends ++ page)))))

@@ -45,6 +45,7 @@ const ENDS: &[u8] =
 const PAGE: &[u8] = b"</defs>\n<rect width=\"100%\" height=\"100%\" fill=\"#fff\"/>\n";
 
 /// Appends how things look.
+#[tactic(auto, unfolding(crate::specs::Style::style))]
 fn print_style(out: &mut Vec<u8>) -> Result<(), NoMemory>
     ensures { OnOk result (out.new.items ≡ out.old.items ++ style) }
 {
@@ -171,6 +172,7 @@ impl Sheet {
         Ok(())
     }
 
+    #[tactic(auto, unfolding(crate::specs::Pictures::size_text))]
     fn print_size(&self, out: &mut Vec<u8>) -> Result<(), NoMemory>
         ensures { OnOk result (out.new.items ≡ out.old.items ++ size_text self.now) }
     {

@@ -248,6 +248,7 @@ impl Sheet {
     }
 
     /// Writes an event, and the number of its line at the left; a delivery is the message that comes.
+    #[tactic(auto, unfolding(crate::specs::Steps::said_event))]
     fn say_event(&mut self, x: u64, number: u32, event: &Event) -> Result<(), NoMemory>
         requires { x ≤ 4000 }
         ensures { OnOk result (self.new ≡ said_event x number event.now self.old) }
@@ -371,6 +372,7 @@ impl Sheet {
     }
 
     /// Writes the view that a site holds from here on.
+    #[tactic(auto, unfolding(crate::specs::Steps::said_view))]
     fn say_view(&mut self, catalog: &Catalog, x: u64, joined: &Option<View>) -> Result<(), NoMemory>
         requires { x ≤ 4000 }
         ensures { OnOk result (self.new ≡ said_view catalog.now x joined.now self.old) }
