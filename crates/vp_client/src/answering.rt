@@ -1,7 +1,8 @@
 //! Which datagram has the answer to a call.
 
 ghost use Rattle.std.specs.Prelude.{◌≡◌, IfOk};
-ghost use Rattle.vp_runs.specs.Asking.{answer_in, answer_of, answers, answers_begin, answers_numbered, answers_regroup, is_of};
+ghost use Rattle.vp_laws.specs.Answering.{answers, answers_begin, answers_numbered, answers_regroup, is_of};
+ghost use Rattle.vp_runs.specs.Asking.{answer_in, answer_of};
 
 use std::alloc::Global;
 use vp_base::{Answer, Call, CallNo, NoMemory, SiteId, TxnId};

@@ -3,7 +3,7 @@
 use crate::{BEGIN, BEGUN, PORT, STARTED, STARTED_TWICE, Setup, datagram, said};
 use std::alloc::{AllocError, Global};
 use std::process::Abort;
-use vp_outside::Datagram;
+use vp_outside::{Datagram, Handed};
 use vp_status::Status;
 
 /// The log's first half with Start of the last life.
@@ -36,6 +36,15 @@ const TURNS: [(&[u8], u64, &[u8], &[u8]); 3] = [
     (STARTED, 0, b"start 2\nend\n", STARTED_TWICE),
 ];
 
+/// Whether each of so many calls to begin, none or one, was answered at the port that it came from.
+fn are_begun(handed: &[Handed], turns: u64) -> bool {
+    match handed {
+        [] => turns == 0,
+        [it] => turns == 1 && it.datagram.port == 7100 && it.datagram.bytes.as_slice() == BEGUN,
+        _ => false,
+    }
+}
+
 #[test]
 fn a_node_ends_behind_its_turns(rt: HostRuntime) {
     let alloc = rt.alloc();
@@ -46,7 +55,7 @@ fn a_node_ends_behind_its_turns(rt: HostRuntime) {
         };
         let datagrams = said(alloc, &[BEGIN, BEGIN]).expect(&rt, "memory");
         let ended = setup.run(alloc, datagrams).expect(&rt, "a run");
-        assert!(rt; ended.is(Status::Done, text) && ended.link.handed().len() as u64 == turns);
+        assert!(rt; ended.is(Status::Done, text) && are_begun(ended.link.handed(), turns));
         assert!(rt; ended.disk.half(0) == log && ended.disk.half(1).is_empty());
     }
 }
@@ -89,5 +98,39 @@ fn what_is_no_input_is_recorded_and_changes_nothing(rt: HostRuntime) {
         .run(rt.alloc(), datagrams)
         .expect(&rt, "a run");
     assert!(rt; ended.is(Status::LinkFault, RECORDED.as_bytes()));
+    assert!(rt; ended.link.handed().is_empty() && ended.disk.half(0) == STARTED);
+}
+
+/// The vote of site 2 with one more byte, without its last one, and whole.
+const VOTES: [&[u8]; 3] = [
+    b"\x56\x01\x0b\x02\x01\x01\0\0\0\x01\0\0\0\x01\0",
+    b"\x56\x01\x0b\x02\x01\x01\0\0\0\x01\0\0\0",
+    b"\x56\x01\x0b\x02\x01\x01\0\0\0\x01\0\0\0\x01",
+];
+
+/// They come from its port.
+fn votes(alloc: Global) -> Result<Vec<Datagram>, AllocError> {
+    let mut datagrams = Vec::new(alloc);
+    for vote in VOTES {
+        datagrams.push(datagram(alloc, 7002, vote)?)?;
+    }
+    Ok(datagrams)
+}
+
+#[test]
+fn a_vote_for_an_unknown_transaction_is_taken_if_it_is_whole(rt: HostRuntime) {
+    let setup = Setup {
+        catalogue: b"site 1 7001\nsite 2 7002\nrecord x 10 1:1 2:1\n",
+        turns: 3,
+        ..Setup::alone(b"")
+    };
+    let datagrams = votes(rt.alloc()).expect(&rt, "memory");
+    let ended = setup.run(rt.alloc(), datagrams).expect(&rt, "a run");
+    assert!(rt;
+        ended.is(
+            Status::Done,
+            b"start 1\nbad 14\nbad 13\nin 56010b0201010000000100000001\nend\n"
+        )
+    );
     assert!(rt; ended.link.handed().is_empty() && ended.disk.half(0) == STARTED);
 }

@@ -181,7 +181,7 @@ impl Coordinator {
     pub fn decisions(&self) -> Result<Decisions, NoMemory>
         ensures { IfOk result (λ decisions. decisions ≡ self.now.coordinator.decisions) }
     {
-        self.transactions.decisions.list().copy_of()
+        self.transactions.decisions.list()
     }
 }
 

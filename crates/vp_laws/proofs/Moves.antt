@@ -5,6 +5,7 @@ pub mod Parts
 pub mod Calls
 pub mod OnlyCoordinator
 pub mod Reasons
+pub mod Numbered
 pub mod Frames
 pub mod Coordinator
 pub mod Rows

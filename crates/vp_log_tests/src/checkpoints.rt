@@ -1,11 +1,11 @@
 //! Logs over both halves, and what checkpoints make of them.
 
-ghost use Rattle.std.specs.Prelude.{IfSome, IsTrue};
+ghost use Rattle.std.specs.Prelude.{IsTrue};
 ghost use Rattle.vp_records.specs.Records.{CanBeSaved};
 
 use std::alloc::Global;
 use std::process::Abort;
-use vp_base::{Batches, Copies, Decisions, InDoubt, LogRecord, ViewId, Word};
+use vp_base::{Batches, Copies, Decisions, InDoubt, LogRecord, RecId, Stored, Value, ViewId, Word};
 use vp_disks::{MemDisk, SureDisk};
 use vp_outside::Disk;
 use vp_records::Durable;
@@ -17,6 +17,10 @@ const START: &[u8] = b"\x01\0\0\0\0\0\0\0\x05\x01\0\0\0\x01\0";
 /// One batch, a Checkpoint of generation 1 and life 1 without copies, and a closed gate.
 const CHECKPOINT: &[u8] = b"\x01\0\0\0\0\0\0\0\x28\x08\0\0\0\0\0\0\0\x01\0\0\0\x01\
     \0\0\0\0\0\0\0\0\0\0\0\0\0\0\0\0\0\0\0\0\0\0\0\0\0\0\0\0";
+
+/// It with one copy, that of record 0 with the value 10.
+const WITH_A_COPY: &[u8] = b"\x01\0\0\0\0\0\0\0\x35\x08\0\0\0\0\0\0\0\x01\0\0\0\x01\
+    \0\0\0\0\0\0\0\0\0\0\x01\0\x02\x31\x30\0\0\0\0\0\0\0\0\0\0\0\0\0\0\0\0\0\0\0\0\0\0\0\0\0\0";
 
 /// Where its generation, its life and the gate behind it stand.
 const GENERATION: usize = 17;
@@ -164,55 +168,110 @@ fn the_current_half_alone_is_refused(rt: HostRuntime) {
     assert!(rt; recovered(&rt, rt.alloc(), &open, &two) == Some((2, 7)));
 }
 
-/// The durable part that these batches make, which are one Start.
-fn folded(alloc: Global, batches: &Batches) -> Option<Durable>
-    ensures { IfSome result CanBeSaved }
+/// The durable part after Start of life 1, without copies.
+fn started(alloc: Global) -> Durable
+    ensures { CanBeSaved result }
 {
-    let [batch] = batches.as_slice() else {
-        return None;
-    };
-    let [LogRecord::Start { life }] = batch.as_slice() else {
-        return None;
-    };
     let promise = ViewId { number: 0, site: 0 };
-    Some(Durable::new(
+    Durable::new(
         promise,
-        *life,
+        1,
         Copies::new(alloc),
         InDoubt::new(alloc),
         Decisions::new(alloc),
-    ))
+    )
 }
 
-/// Recovers a log whose batches are one Start, and answers what a checkpoint of it does.
-fn checkpointed<D: Disk>(rt: &impl Abort, alloc: Global, disk: &mut D) -> Result<(), AppendFault>
+/// It with one copy, that of record 0 with the value 10.
+fn with_a_copy(rt: &impl Abort, alloc: Global) -> Durable
+    ensures { CanBeSaved result }
+{
+    let opening = ViewId { number: 0, site: 0 };
+    let stored = Stored {
+        value: Value::read(alloc, b"10").expect(rt, "a value"),
+        date: opening,
+    };
+    let mut copies = Copies::new(alloc);
+    copies.push((RecId::new(0), stored)).expect(rt, "memory");
+    Durable::new(
+        opening,
+        1,
+        copies,
+        InDoubt::new(alloc),
+        Decisions::new(alloc),
+    )
+}
+
+/// Recovers a log, and answers what a checkpoint of this durable part does.
+fn checkpointed<D: Disk>(
+    rt: &impl Abort,
+    alloc: Global,
+    disk: &mut D,
+    durable: &Durable,
+) -> Result<(), AppendFault>
     requires attached { IsTrue (D.state disk.old).attached }
+    requires durable { CanBeSaved durable.now }
     ensures attached { IsTrue (D.state disk.new).attached }
 {
-    let (mut log, batches) = Log::recover(alloc, disk).expect(rt, "a log");
-    let durable = folded(alloc, &batches).expect(rt, "one Start");
-    log.checkpoint(disk, &durable)
+    let (mut log, _) = Log::recover(alloc, disk).expect(rt, "a log");
+    log.checkpoint(disk, durable)
 }
 
 #[test]
 fn a_checkpoint_starts_the_other_half(rt: HostRuntime) {
     let mut disk = holding(&rt, rt.alloc(), START, b"what was there");
-    assert!(rt; checkpointed(&rt, rt.alloc(), &mut disk).is_ok());
+    assert!(rt; checkpointed(&rt, rt.alloc(), &mut disk, &started(rt.alloc())).is_ok());
     assert!(rt; disk.half(0) == START && disk.half(1) == CHECKPOINT);
     let (_, batches) = Log::recover(rt.alloc(), &mut disk).expect(&rt, "a log");
     assert!(rt; only_record(&batches) == Some((1, 1)));
+}
+
+/// A disk on which the log with one Start lies, and of which these calls fail.
+fn laid(rt: &impl Abort, alloc: Global, calls: Vec<u64>) -> MemDisk {
+    let half = START.to_vec(alloc).expect(rt, "memory");
+    let mut disk = MemDisk::new(alloc, calls);
+    disk.lay(&Word::new(alloc), half, Vec::new(alloc))
+        .expect(rt, "memory");
+    disk
+}
+
+/// The generation that is left where a checkpoint with a copy stops behind so many of its calls, or is done; none where half 1 doesn't have
+/// these bytes. To attach and recover the log are 5 calls.
+fn left_by_stop(
+    rt: &impl Abort,
+    alloc: Global,
+    (calls, late): (u64, bool),
+    second: &[u8],
+) -> Option<u64> {
+    let mut disk = laid(rt, alloc, Vec::new(alloc));
+    disk.stop_after(calls.saturating_add(5));
+    disk.attach(&Word::new(alloc)).expect(rt, "no fault");
+    let is_done = checkpointed(rt, alloc, &mut disk, &with_a_copy(rt, alloc)).is_ok();
+    disk.leave(late);
+    if disk.half(0) != START || disk.half(1) != second || is_done != (calls == 8) {
+        return None;
+    }
+    disk.attach(&Word::new(alloc)).expect(rt, "no fault");
+    let (_, batches) = Log::recover(alloc, &mut disk).expect(rt, "a log");
+    only_record(&batches).map(|it| it.0)
+}
+
+#[test]
+fn a_checkpoint_has_the_copies_and_counts_once_its_gate_is_open(rt: HostRuntime) {
+    let alloc = rt.alloc();
+    let closed = changed(&rt, alloc, WITH_A_COPY, 0, 0);
+    assert!(rt; left_by_stop(&rt, alloc, (6, false), &closed) == Some(0));
+    assert!(rt; left_by_stop(&rt, alloc, (6, true), &closed) == Some(0));
+    assert!(rt; left_by_stop(&rt, alloc, (8, false), WITH_A_COPY) == Some(1));
 }
 
 /// The generation that is left after a checkpoint on a disk whose call with this number fails; none where the answer is no fault of the
 /// disk.
 fn left_after(rt: &impl Abort, alloc: Global, call: u64) -> Option<u64> {
     let calls = vec![in alloc; call].expect(rt, "memory");
-    let half = START.to_vec(alloc).expect(rt, "memory");
-    let name = Word::new(alloc);
-    let mut disk = MemDisk::new(alloc, calls);
-    disk.lay(&name, half, Vec::new(alloc)).expect(rt, "memory");
-    disk.attach(&name).expect(rt, "no fault");
-    let answer = checkpointed(rt, alloc, &mut disk);
+    let mut disk = laid(rt, alloc, calls);
+    disk.attach(&Word::new(alloc)).expect(rt, "no fault");
+    let answer = checkpointed(rt, alloc, &mut disk, &started(alloc));
     let (_, batches) = Log::recover(alloc, &mut disk).expect(rt, "a log");
     match (answer, only_record(&batches)) {
         (Err(AppendFault::DiskFault), Some((generation, 1))) => Some(generation),

@@ -147,6 +147,52 @@ fn a_stop_in_an_append_leaves_the_batch_or_nothing_of_it(rt: HostRuntime) {
     assert_eq!(rt; rows_met(&rt, rt.alloc(), Table::Left, LEFT), 5);
 }
 
+/// The bytes of `ONE` behind a gate that isn't open.
+const CLOSED: &[u8] = b"\0\0\0\0\0\0\0\0\x05\x01\0\0\0\x01\0";
+
+/// Whether an append to an empty log that stops behind so many of its calls leaves this half, in which so many batches stand. Attaching it
+/// and its recovery are 6 calls.
+fn leaves(
+    rt: &impl Abort,
+    alloc: Global,
+    (calls, late): (u64, bool),
+    half: &[u8],
+    count: usize,
+) -> bool {
+    let name = Word::new(alloc);
+    let mut disk = MemDisk::new(alloc, Vec::new(alloc));
+    disk.stop_after(calls.saturating_add(6));
+    disk.attach(&name).expect(rt, "no fault");
+    let (mut log, _) = Log::recover(alloc, &mut disk).expect(rt, "a log");
+    let ends = log.append(&mut disk, &start(rt, alloc, 1)).is_ok();
+    disk.leave(late);
+    let is_left = disk.half(0) == half && disk.half(1).is_empty();
+    disk.attach(&name).expect(rt, "no fault");
+    let (_, batches) = Log::recover(alloc, &mut disk).expect(rt, "a log");
+    ends == (calls == 4) && is_left && batches.as_slice().len() == count
+}
+
+// The first call writes the batch, the second one syncs, the third one opens the gate, and the last one syncs.
+#[test]
+fn a_stop_in_an_append_leaves_the_gate_closed_or_open(rt: HostRuntime) {
+    for (stop, half, count) in [
+        ((0, true), b"\0".as_slice(), 0),
+        ((1, false), b"\0".as_slice(), 0),
+        ((1, true), CLOSED, 0),
+        ((2, false), CLOSED, 0),
+        ((3, false), CLOSED, 0),
+        ((3, true), ONE, 1),
+        ((4, false), ONE, 1),
+    ] {
+        assert!(rt;
+            leaves(&rt, rt.alloc(), stop, half, count),
+            "{} {}",
+            stop.0,
+            stop.1
+        );
+    }
+}
+
 /// The half after a batch was appended to an empty log.
 fn half_of(rt: &impl Abort, alloc: Global, batch: &Batch) -> Vec<u8>
     requires { IsBatch batch.now }

@@ -11,10 +11,6 @@ pub mod Serial
 pub mod Nodes
 pub mod Lives
 pub mod WorkedClusters
-pub mod Asked
-pub mod Numbered
-pub mod AskedRows
-pub mod AskedSteps
 pub mod AskedKept
 pub mod Heard
 pub mod Ends

@@ -1,15 +1,26 @@
 //! A cluster whose nodes and clients are processes of one program.
 
-use std::io::{Read, Write};
-use std::net::{Ipv4Addr, UdpSocket};
-use std::process::{Child, Command, Stdio};
-use std::{env, fs, io};
+use crate::ports::{LINK_FAULT, TRIES, are_free, free_port, free_ports};
+use crate::program::{Program, own};
+use std::io::Read;
+use std::process::Child;
+use std::{fs, io};
 
-/// How often ports are chosen again, where another program takes one that was free.
-const TRIES: usize = 20;
+/// The ports of the sites, and then that of clients, where no other program has one of them.
+const PORTS: [u16; 4] = [7001, 7002, 7003, 7100];
 
-/// The sites, and the logs of their nodes.
-const SITES: [(&str, &str); 3] = [("1", "cluster1"), ("2", "cluster2"), ("3", "cluster3")];
+/// The sites, the logs of their nodes, and the files that these write their statuses into.
+const SITES: [(&str, &str, &str); 3] = [
+    ("1", "cluster1", "cluster1.status"),
+    ("2", "cluster2", "cluster2.status"),
+    ("3", "cluster3", "cluster3.status"),
+];
+
+/// The status of a process whose disk failed.
+const DISK_FAULT: u8 = 7;
+
+/// The file that every other process writes its status into.
+const SAID: &str = "cluster.status";
 
 /// The files of the logs.
 const LOGS: [&str; 6] = [
@@ -22,32 +33,28 @@ const LOGS: [&str; 6] = [
 ];
 
 /// Sites and calls at them, one after the other, and what each is answered.
-const CALLS: [(&str, &str, &str); 7] = [
+const CALLS: [(&str, &str, &str); 5] = [
     ("1", "begin", "begun 1.1.1 0@0\n"),
     ("1", "1.1.1 1 write x 11", "written 1.1.1 1\n"),
-    ("1", "1.1.1 2 read x", "value 1.1.1 2 11\n"),
-    ("1", "1.1.1 3 commit", "committed 1.1.1 3\n"),
+    ("1", "1.1.1 2 commit", "committed 1.1.1 2\n"),
     ("2", "begin", "begun 2.1.1 0@0\n"),
     ("2", "2.1.1 1 read x", "value 2.1.1 1 11\n"),
-    ("2", "2.1.1 2 commit", "committed 2.1.1 2\n"),
 ];
 
-fn free_socket(rt: HostRuntime) -> io::Result<UdpSocket> {
-    UdpSocket::bind(&rt, (Ipv4Addr::LOCALHOST, 0))
-}
-
-/// A port that no socket has now.
-fn free_port(rt: HostRuntime) -> io::Result<u16> {
-    let address = free_socket(rt)?.local_addr();
-    Ok(address?.port())
-}
-
-/// Three sites with a copy of x each, at ports that no socket has now. Where two are the same no node starts, and others are chosen.
-fn three_sites(rt: HostRuntime) -> io::Result<String> {
-    let (one, two, three) = (free_port(rt)?, free_port(rt)?, free_port(rt)?);
+/// Three sites with a copy of x each.
+fn three_sites(rt: HostRuntime, ports: &[u16; 4]) -> io::Result<String> {
+    let [one, two, three, _] = ports;
     Ok(format!(in rt.alloc();
         "site 1 {one}\nsite 2 {two}\nsite 3 {three}\nrecord x 10 1:1 2:1 3:1\n"
     )?)
+}
+
+/// Ends nodes that aren't told to stop.
+fn kill(nodes: &mut [Child]) {
+    for node in nodes.iter_mut() {
+        let _ = node.kill();
+        let _ = node.wait();
+    }
 }
 
 /// Whether the next line that a node prints is this one.
@@ -59,124 +66,118 @@ fn prints(node: &mut Child, line: &[u8; 8]) -> bool {
     }
 }
 
-/// Whether the rest of what a node prints has an end.
-fn has_end(rt: HostRuntime, node: &mut Child) -> io::Result<bool> {
-    let mut rest = String::new(rt.alloc());
+/// What a node prints until it ends.
+fn rest(rt: HostRuntime, node: &mut Child) -> io::Result<Vec<u8>> {
+    let mut rest = Vec::new(rt.alloc());
     if let Some(stdout) = &mut node.stdout {
-        stdout.read_to_string(&mut rest)?;
+        stdout.read_to_end(&mut rest)?;
     }
-    Ok(rest.as_str().contains("\nend\n"))
+    Ok(rest)
 }
 
 /// A cluster whose nodes and clients are processes of this program.
 pub struct Cluster {
-    rt: HostRuntime,
-    /// The word behind which the program does what the others say.
-    by_words: &'static str,
+    program: Program,
     /// What each process reads.
     catalogue: String,
+    /// The clients' port.
+    port: u16,
 }
 
 impl Drop for Cluster {
     fn drop(self) {
         let Cluster {
-            rt: _,
-            by_words: _,
+            program: _,
             catalogue: _,
+            port: _,
         } = self;
     }
 }
 
 impl Cluster {
-    fn new(rt: HostRuntime, by_words: &'static str) -> io::Result<Cluster> {
-        let catalogue = three_sites(rt)?;
+    fn new(program: Program, ports: &[u16; 4]) -> io::Result<Cluster> {
+        let catalogue = three_sites(program.rt, ports)?;
         Ok(Cluster {
-            rt,
-            by_words,
+            program,
             catalogue,
+            port: ports[3],
         })
     }
 
-    /// Starts a process by a command, with these words.
-    fn spawn_by(&self, command: &mut Command, words: &[&str]) -> io::Result<Child> {
-        command
-            .args(words)?
-            .stdin(Stdio::piped())
-            .stdout(Stdio::piped())
-            .spawn(&self.rt)
-    }
-
-    /// Starts a process of this program with these words, which reads nothing yet.
-    fn spawn(&self, words: &[&str]) -> io::Result<Child> {
-        let program = env::current_exe(&self.rt)?;
-        let mut command = Command::new(self.rt.alloc(), program)?;
-        self.spawn_by(&mut command, words)
-    }
-
-    /// Lets a process read the catalogue to its end.
-    fn feed(&self, process: &mut Child) -> io::Result<()> {
-        match process.stdin.take() {
-            Some(mut stdin) => stdin.write_all(self.catalogue.as_bytes()),
-            None => Ok(()),
-        }
-    }
-
     /// Starts a process with these words.
-    fn start(&self, words: &[&str]) -> io::Result<Child> {
-        let mut process = self.spawn(words)?;
-        self.feed(&mut process)?;
-        Ok(process)
+    fn start(&self, said: &str, words: &[&str]) -> io::Result<Child> {
+        self.program.start(said, words, &self.catalogue)
     }
 
-    /// Starts a client of this call at a site.
-    fn client(&self, site: &'static str, call: &'static str) -> io::Result<Child> {
-        let port = free_port(self.rt)?;
-        let port = format!(in self.rt.alloc(); "{port}")?;
-        self.start(&[self.by_words, "client", &port, "16", site, call])
+    /// How a process with these words ends.
+    fn run(&self, words: &[&str]) -> io::Result<(Option<u8>, Vec<u8>)> {
+        self.program.end(SAID, self.start(SAID, words)?)
     }
 
-    /// Whether a client's call at a site is answered so.
-    fn answers(&self, site: &'static str, call: &'static str, answer: &str) -> io::Result<bool> {
+    /// How a client of a call at a site ends.
+    fn client(&self, port: u16, site: &str, call: &str) -> io::Result<(Option<u8>, Vec<u8>)> {
+        let port = format!(in self.program.rt.alloc(); "{port}")?;
+        self.run(&["client", &port, "16", site, call])
+    }
+
+    /// Whether a client's call at a site is answered so. Where the clients' port is taken, it has another one.
+    fn answers(&self, site: &str, call: &str, answer: &str) -> io::Result<bool> {
+        let mut port = self.port;
         for _ in 0..TRIES {
-            let output = self.client(site, call)?.wait_with_output(self.rt.alloc())?;
-            if output.status.success() {
-                return Ok(output.stdout.starts_with(answer.as_bytes()));
+            let (status, printed) = self.client(port, site, call)?;
+            if status != Some(LINK_FAULT) {
+                return Ok(status == Some(0) && own(&printed) == answer.as_bytes());
             }
+            port = free_port(self.program.rt)?;
         }
         Ok(false)
     }
 
     /// Starts the node of a site, which has to print this line first. Its port is bound before that.
-    fn node(&self, site: &'static str, log: &'static str, line: &[u8; 8]) -> io::Result<Child> {
-        let mut node = self.start(&[self.by_words, "node", site, log, "1000"])?;
+    fn node(&self, site: &(&str, &str, &str), line: &[u8; 8]) -> io::Result<Child> {
+        let (number, log, said) = site;
+        let mut node = self.start(said, &["node", number, log, "100"])?;
         if prints(&mut node, line) {
-            Ok(node)
-        } else {
-            Err(io::Error::from(io::ErrorKind::AddrInUse))
+            return Ok(node);
+        }
+        node.wait()?;
+        match self.program.said(said)? {
+            Some(LINK_FAULT) => Err(io::Error::from(io::ErrorKind::AddrInUse)),
+            _ => Err(io::Error::from(io::ErrorKind::Other)),
         }
     }
 
-    /// Starts a node for each site on an empty log.
+    /// Starts a node for each site on an empty log. Where one can't be started those before it are ended.
     fn nodes(&self) -> io::Result<Vec<Child>> {
         self.remove_logs();
-        let mut nodes = Vec::new(self.rt.alloc());
-        for (site, log) in &SITES {
-            nodes.push(self.node(site, log, b"start 1\n")?)?;
+        let mut nodes = Vec::new(self.program.rt.alloc());
+        match self.start_nodes(&mut nodes) {
+            Ok(()) => Ok(nodes),
+            Err(fault) => {
+                kill(&mut nodes);
+                Err(fault)
+            }
         }
-        Ok(nodes)
+    }
+
+    fn start_nodes(&self, nodes: &mut Vec<Child>) -> io::Result<()> {
+        for site in &SITES {
+            nodes.push(self.node(site, b"start 1\n")?)?;
+        }
+        Ok(())
     }
 
     /// Whether the node of a site can be told to stop.
-    fn tells(&self, site: &'static str) -> io::Result<bool> {
-        let status = self.start(&[self.by_words, "stop", site])?.wait();
-        Ok(status?.success())
+    fn tells(&self, site: &str) -> io::Result<bool> {
+        let (status, printed) = self.run(&["stop", site])?;
+        Ok(status == Some(0) && own(&printed).is_empty())
     }
 
-    /// Stops the node of a site, and answers whether it ends well.
-    fn stops(&self, site: &'static str, node: &mut Child) -> io::Result<bool> {
-        let is_told = self.tells(site)?;
-        let has_end = has_end(self.rt, node)?;
-        Ok(node.wait()?.success() && is_told && has_end)
+    /// Whether a node prints an end, and ends well.
+    fn ends(&self, said: &str, node: &mut Child) -> io::Result<bool> {
+        let rest = rest(self.program.rt, node)?;
+        node.wait()?;
+        Ok(self.program.said(said)? == Some(0) && own(&rest).ends_with(b"\nend\n"))
     }
 
     /// The site and the first call at it that isn't answered as it should be.
@@ -189,43 +190,94 @@ impl Cluster {
         Ok(None)
     }
 
-    /// The site of the first node that doesn't end well when it is stopped.
+    /// The site of the first node that can't be told to stop or, once all are told, doesn't end well.
     pub fn first_lasting(&self, nodes: &mut [Child]) -> io::Result<Option<&'static str>> {
+        for (site, _, _) in &SITES {
+            if !self.tells(site)? {
+                return Ok(Some(site));
+            }
+        }
         let mut nodes = nodes.iter_mut();
-        for (site, _) in &SITES {
+        for (site, _, said) in &SITES {
             let Some(node) = nodes.next() else {
                 return Ok(Some(site));
             };
-            if !self.stops(site, node)? {
+            if !self.ends(said, node)? {
                 return Ok(Some(site));
             }
         }
         Ok(None)
     }
 
-    /// Whether the node of site 1, which starts its second life, ends well when it is stopped.
-    pub fn starts_again(&self) -> io::Result<bool> {
-        let mut node = self.node("1", "cluster1", b"start 2\n")?;
-        self.stops("1", &mut node)
+    /// Starts the node of site 1 on its log again. Where its port was taken meanwhile, its next life starts at another one.
+    fn starts_again(&mut self) -> io::Result<Child> {
+        for line in [b"start 2\n", b"start 3\n", b"start 4\n"] {
+            match self.node(&SITES[0], line) {
+                Err(fault) if fault.kind() == io::ErrorKind::AddrInUse => {
+                    let rt = self.program.rt;
+                    self.catalogue = three_sites(rt, &free_ports(rt)?)?;
+                }
+                started => return started,
+            }
+        }
+        Err(io::Error::from(io::ErrorKind::AddrInUse))
+    }
+
+    /// The files of the log of site 1.
+    fn log(&self) -> io::Result<[Vec<u8>; 2]> {
+        let rt = self.program.rt;
+        Ok([fs::read(&rt, LOGS[0])?, fs::read(&rt, LOGS[1])?])
+    }
+
+    /// Whether another process on the log of site 1, while its node has that, ends with the fault of its disk and writes nothing.
+    fn refuses_another(&self) -> io::Result<bool> {
+        let [first, second] = self.log()?;
+        let (status, printed) = self.run(&["node", "1", "cluster1", "100"])?;
+        let [still_first, still_second] = self.log()?;
+        let is_kept = first.as_slice() == still_first.as_slice()
+            && second.as_slice() == still_second.as_slice();
+        Ok(status == Some(DISK_FAULT) && own(&printed) == b"disk fault\n".as_slice() && is_kept)
+    }
+
+    /// What goes wrong first where the node of site 1 starts again, alone: another process on its log, a call of a client, which the node has
+    /// no view for, or its end.
+    pub fn first_wrong_again(&mut self) -> io::Result<Option<&'static str>> {
+        let mut node = self.starts_again()?;
+        if !self.refuses_another()? {
+            return Ok(Some("another process on the log"));
+        }
+        if !self.answers("1", "begin", "noview 0@0\n")? {
+            return Ok(Some("a call"));
+        }
+        if !self.tells("1")? || !self.ends(SITES[0].2, &mut node)? {
+            return Ok(Some("the end"));
+        }
+        Ok(None)
     }
 
     /// Removes the logs that there are.
     pub fn remove_logs(&self) {
         for file in &LOGS {
-            let _ = fs::remove_file(&self.rt, *file);
+            let _ = fs::remove_file(&self.program.rt, *file);
         }
     }
 }
 
-/// A cluster of three sites, each of whose nodes has printed the line of its first life. Where one doesn't print it, as where its port was
-/// taken meanwhile, ports are chosen again.
-/// `by_words` is the word behind which this program, started again, does what the others say.
+/// A cluster of three sites, each of whose nodes has printed the line of its first life: at the ports 7001 to 7003, and 7100 for clients, or at
+/// free ones where another program has one of these.
+/// `by_words` is the test of this program, started again, that does what the words behind its name say.
 pub fn started(rt: HostRuntime, by_words: &'static str) -> io::Result<(Cluster, Vec<Child>)> {
+    let program = Program { rt, by_words };
+    let mut ports = if are_free(rt, &PORTS) {
+        PORTS
+    } else {
+        free_ports(rt)?
+    };
     for _ in 0..TRIES {
-        let cluster = Cluster::new(rt, by_words)?;
+        let cluster = Cluster::new(program, &ports)?;
         match cluster.nodes() {
             Ok(nodes) => return Ok((cluster, nodes)),
-            Err(fault) if fault.kind() == io::ErrorKind::AddrInUse => {}
+            Err(fault) if fault.kind() == io::ErrorKind::AddrInUse => ports = free_ports(rt)?,
             Err(fault) => return Err(fault),
         }
     }

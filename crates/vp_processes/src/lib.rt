@@ -2,5 +2,10 @@
 #![tactic(auto)]
 
 mod cluster;
+mod ports;
+mod program;
+mod streams;
 
 pub use cluster::{Cluster, started};
+pub use program::say_status;
+pub use streams::first_unheld;

@@ -5,3 +5,4 @@ pub mod Records
 pub mod Each
 pub mod Batches
 pub mod Highest
+pub mod Acknowledged

@@ -12,8 +12,8 @@ use crate::decided::Decided;
 use crate::doubts::{drop_doubt, keep_doubt};
 use std::marker::Model;
 use vp_base::{
-    Copies, CopyOf, Decision, Decisions, InDoubt, LogRecord, NoMemory, RecId, SiteId, Sites,
-    Stored, TxnId, ViewId, Writes,
+    Copies, CopyOf, Decisions, InDoubt, LogRecord, NoMemory, RecId, SiteId, Sites, Stored, TxnId,
+    ViewId, Writes,
 };
 use vp_lists::{copy_all, find_txn, replace_at, value_at, write_copies};
 
@@ -89,7 +89,7 @@ impl Durable {
             life,
             copies: copies.into_vec(),
             doubts,
-            decisions: Decided::of(decisions),
+            decisions: Decided::listed(decisions),
         }
     }
 
@@ -152,14 +152,14 @@ impl Durable {
         let alloc = *self.copies.allocator();
         let copies = copy_all(alloc, &self.copies)?;
         let doubts = copy_all(alloc, self.doubts.as_slice())?;
-        let decisions = copy_all(alloc, self.decisions.as_slice())?;
+        let decisions = self.decisions.list()?;
         Ok(LogRecord::Checkpoint {
             generation,
             life: self.life,
             promise: self.promise,
             copies: Copies::from_vec(copies),
             doubts: InDoubt::from_vec(doubts),
-            decisions: Decisions::from_vec(decisions),
+            decisions,
         })
     }
 
@@ -210,13 +210,7 @@ impl Durable {
         ensures ok { OnOk result (self.new ≡ record self.old { decisions = with_decision txn.now waiting.now self.old.decisions }) }
         ensures err { OnErr result (self.new ≡ self.old) }
     {
-        if waiting.as_slice().is_empty() {
-            return Ok(());
-        }
-        self.decisions.put(Decision {
-            txn: *txn,
-            waiting: waiting.copy_of()?,
-        })
+        self.decisions.keep(txn, waiting.copy_of()?)
     }
 
     /// The site committed a transaction of its own.
@@ -269,7 +263,7 @@ impl Durable {
         ensures err { OnErr result (self.new ≡ self.old) }
     {
         let doubts = doubts.copy_of()?;
-        self.decisions = Decided::of(decisions.copy_of()?);
+        self.decisions = Decided::copied(decisions)?;
         self.doubts = doubts;
         self.promise = *promise;
         self.life = life;

@@ -4,8 +4,10 @@
 //! What it needs memory for is made before anything changes, and then goes to its place in the lists, which grow where they are.
 #![tactic(auto)]
 
+mod awaited;
 mod copies;
 mod decided;
+mod decision;
 mod decoding;
 mod doubts;
 mod durable;
@@ -13,6 +15,7 @@ mod encoding;
 mod fault;
 mod kind;
 mod laws;
+mod listed;
 mod read_records;
 
 pub use decided::Decided;

@@ -6,9 +6,9 @@ use vp_base::{
     Copies, CopyOf, Decisions, InDoubt, LogRecord, RecId, SiteId, Sites, Stored, TxnId, Value,
     ViewId, Writes,
 };
-use vp_records::Durable;
+use vp_records::{Decided, Durable};
 
-fn txn(seq: u32) -> TxnId {
+pub(crate) fn txn(seq: u32) -> TxnId {
     TxnId {
         site: SiteId::of(1),
         life: 1,
@@ -81,12 +81,16 @@ fn has(durable: &Durable, rec: u8, text: &[u8], number: u64) -> bool {
     }
 }
 
+/// How many decisions there are.
+pub(crate) fn decision_count(rt: &impl Abort, decided: &Decided) -> usize {
+    let list = decided.list().expect(rt, "memory");
+    list.as_slice().len()
+}
+
 /// How many doubts and decisions there are.
-fn counts(durable: &Durable) -> (usize, usize) {
-    (
-        durable.doubts().as_slice().len(),
-        durable.decisions().as_slice().len(),
-    )
+fn counts(rt: &impl Abort, durable: &Durable) -> (usize, usize) {
+    let doubts = durable.doubts().as_slice().len();
+    (doubts, decision_count(rt, durable.decisions()))
 }
 
 /// The durable part after one more record. Each test calls it instead of `apply`, since a short function is proved faster.
@@ -143,19 +147,19 @@ fn after_outcome(rt: &impl Abort, alloc: Global, seq: u32, commit: bool) -> Dura
 #[test]
 fn an_outcome_of_another_leaves_the_doubt(rt: HostRuntime) {
     let durable = after_outcome(&rt, rt.alloc(), 4, true);
-    assert!(rt; counts(&durable) == (1, 0) && has(&durable, 0, b"10", 0));
+    assert!(rt; counts(&rt, &durable) == (1, 0) && has(&durable, 0, b"10", 0));
 }
 
 #[test]
 fn an_abort_ends_the_doubt(rt: HostRuntime) {
     let durable = after_outcome(&rt, rt.alloc(), 5, false);
-    assert!(rt; counts(&durable) == (0, 0) && has(&durable, 0, b"10", 0));
+    assert!(rt; counts(&rt, &durable) == (0, 0) && has(&durable, 0, b"10", 0));
 }
 
 #[test]
 fn a_commit_ends_the_doubt_by_its_writes(rt: HostRuntime) {
     let durable = after_outcome(&rt, rt.alloc(), 5, true);
-    assert!(rt; counts(&durable) == (0, 0) && has(&durable, 0, b"12", 2));
+    assert!(rt; counts(&rt, &durable) == (0, 0) && has(&durable, 0, b"12", 2));
 }
 
 fn committed(rt: &impl Abort, alloc: Global, seq: u32, waiting: Sites) -> LogRecord {
@@ -167,7 +171,7 @@ fn committed(rt: &impl Abort, alloc: Global, seq: u32, waiting: Sites) -> LogRec
     }
 }
 
-fn two_sites(rt: &impl Abort, alloc: Global) -> Sites {
+pub(crate) fn two_sites(rt: &impl Abort, alloc: Global) -> Sites {
     let mut sites = Sites::new(alloc);
     sites.push(SiteId::of(2)).expect(rt, "memory");
     sites.push(SiteId::of(3)).expect(rt, "memory");
@@ -187,13 +191,13 @@ fn left_after(rt: &impl Abort, alloc: Global, sites: &[u8]) -> usize {
     for site in sites {
         durable = after(rt, durable, acked(1, *site));
     }
-    durable.decisions().as_slice().len()
+    decision_count(rt, durable.decisions())
 }
 
 #[test]
 fn a_commit_writes_and_waits_for_sites(rt: HostRuntime) {
     let durable = decided(&rt, rt.alloc());
-    assert!(rt; counts(&durable) == (0, 1) && has(&durable, 2, b"31", 1));
+    assert!(rt; counts(&rt, &durable) == (0, 1) && has(&durable, 2, b"31", 1));
 }
 
 #[test]
@@ -221,7 +225,7 @@ fn checkpoint(rt: &impl Abort, alloc: Global) -> LogRecord {
 fn a_checkpoint_sets_all_but_the_other_copies(rt: HostRuntime) {
     let before = in_doubt(&rt, rt.alloc());
     let durable = after(&rt, before, checkpoint(&rt, rt.alloc()));
-    assert!(rt; durable.life() == 2 && counts(&durable) == (0, 0));
+    assert!(rt; durable.life() == 2 && counts(&rt, &durable) == (0, 0));
     assert!(rt; has(&durable, 0, b"10", 0) && has(&durable, 2, b"31", 1));
 }
 
@@ -229,5 +233,5 @@ fn a_checkpoint_sets_all_but_the_other_copies(rt: HostRuntime) {
 fn a_copy_has_the_doubts_too(rt: HostRuntime) {
     let durable = in_doubt(&rt, rt.alloc());
     let copy = durable.copy_of().expect(&rt, "memory");
-    assert!(rt; counts(&copy) == (1, 0));
+    assert!(rt; counts(&rt, &copy) == (1, 0));
 }

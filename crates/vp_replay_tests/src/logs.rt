@@ -1,8 +1,7 @@
 //! What schedules leave in the logs of their sites.
 
-use vp_outside::TextSink;
 use vp_status::Status;
-use vp_top_tests::{answers, run_on};
+use vp_top_tests::answers;
 
 const HEAD: &str = "site 1 7001\nrecord x 10 1:1\nevents\n";
 
@@ -23,6 +22,13 @@ events
 call 1 regroup
 deliver 1
 ";
+
+/// A promise of view 1@1, and a closed gate.
+const PROMISE: &str = "01000000000000000a0200000000000000010100";
+
+/// A checkpoint of life 5001 with that promise and the copy of x, and a closed gate.
+const CHECKPOINT: &str =
+    "010000000000000035080000000000000001000013890000000000000001010001000231300000000000000000000000000000000000000000000000000000";
 
 #[test]
 fn logs_are_told(rt: HostRuntime) {
@@ -75,12 +81,11 @@ fn a_long_log_gets_a_checkpoint(rt: HostRuntime) {
         .repeat(alloc, 5000)
         .expect(&rt, "memory");
     let schedule = format!(in alloc; "{HEAD}{lives}call 1 regroup\n").expect(&rt, "memory");
-    let mut sink = TextSink::new(alloc, Vec::new(alloc));
-    let end = run_on(alloc, "logs", &schedule, &mut sink).expect(&rt, "memory");
-    assert!(rt; end == Status::Done);
-    assert!(rt;
-        sink.bytes().ends_with(
-            b" 010000000000000035080000000000000001000013890000000000000001010001000231300000000000000000000000000000000000000000000000000000\n"
-        )
-    );
+    let mut log = String::new(alloc);
+    for life in 1..5002u32 {
+        let batch = format!(in alloc; "01000000000000000501{life:08x}").expect(&rt, "memory");
+        log.push_str(&batch).expect(&rt, "memory");
+    }
+    let line = format!(in alloc; "log 1 {log}{PROMISE} {CHECKPOINT}\n").expect(&rt, "memory");
+    assert!(rt; answers(alloc, "logs", &schedule, Status::Done, &line).expect(&rt, "memory"));
 }

@@ -23,7 +23,8 @@ use Rattle.vp_runs.specs.Arrivals.{arrival, site_at}
 use Rattle.vp_runs.specs.Keeping.{durable_in, kept_with}
 use Rattle.vp_runs.specs.Turns.{Turn, datagram_to, turn_on}
 use Rattle.vp_runs.specs.Runs.{one_turn, node_run}
-use Rattle.vp_runs.specs.Asking.{answers, answer_of, call_frame}
+use Rattle.vp_laws.specs.Answering.{answers}
+use Rattle.vp_runs.specs.Asking.{answer_of, call_frame}
 
 -- one more datagram is one more turn
 abbrev pub RunsGoOn : Type 0

@@ -2,7 +2,7 @@
 
 ghost use Rattle.std.specs.Prelude.{◌≤◌};
 
-use crate::texts::{DECISION, schedule_text};
+use crate::texts::{DECISION, history_text, schedule_text};
 use std::alloc::Global;
 use std::process::Abort;
 use vp_hosts::Stop;
@@ -33,6 +33,9 @@ deliver 8
 call 2 begin
 call 2 2.1.1 1 read x
 call 2 2.1.1 2 commit
+history
+start x 10
+end 0
 ";
 
 /// It is, and nobody gets the outcome, which is message 5.
@@ -47,16 +50,27 @@ deliver 9
 call 2 begin
 call 2 2.1.1 1 read x
 call 2 2.1.1 2 commit
+history
+start x 10
+commit 1.1.1 0@0 w x 11
+end 1
 ";
 
-/// The text of the schedule that the run comes to; nothing where it can't stop there.
+/// The texts of the schedule that the run comes to and of its history; nothing where it can't stop there.
 fn comes_to(rt: &impl Abort, alloc: Global, stop: &Stop) -> Vec<u8>
     requires { stop.now.calls ≤ 4 }
 {
     let schedule = read(alloc, DECISION.as_bytes()).expect(rt, "a schedule");
     let stopped = run_stopped(&schedule, stop).ok();
     match stopped.expect(rt, "a run") {
-        Some(stopped) => schedule_text(alloc, &stopped.schedule).expect(rt, "memory"),
+        Some(stopped) => {
+            let schedule = &stopped.schedule;
+            let mut text = schedule_text(alloc, schedule).expect(rt, "memory");
+            let history = history_text(alloc, &schedule.catalog, &stopped.commits);
+            text.extend_from_slice(&history.expect(rt, "memory"))
+                .expect(rt, "memory");
+            text
+        }
         None => Vec::new(alloc),
     }
 }
@@ -92,10 +106,10 @@ fn a_decision_is_there_behind_its_last_call(rt: HostRuntime) {
 #[test]
 fn other_steps_append_nothing(rt: HostRuntime) {
     let alloc = rt.alloc();
-    for step in [0, 1, 2, 4, 5, 8, 9, 13, 16, 100] {
+    for step in [0, 1, 2, 3, 4, 5, 8, 9, 13, 16, 100] {
         let stop = Stop {
             step,
-            calls: 2,
+            calls: 4,
             late: true,
         };
         let text = comes_to(&rt, alloc, &stop);

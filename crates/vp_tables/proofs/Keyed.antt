@@ -1,24 +1,22 @@
 -- What a map from keys of transactions to items is, as the list of its items.
-use Rattle.std.proofs.Common.{◌≡◌, ◌∙◌, ap, sym, subst, ℕ, Bool, true, false, cond, not, ◌&&◌, ◌||◌, ◌==◌, if◌then◌else◌, List, [], ◌∷◌, ◌++◌, filter, find, map, Option, Some, None, is_some, Ordering, Less, Equal, Greater, refl, arith}
+use Rattle.std.proofs.Common.{◌≡◌, ◌∙◌, ap, sym, subst, ℕ, Bool, true, false, cond, not, ◌&&◌, ◌||◌, ◌==◌, if◌then◌else◌, List, [], ◌∷◌, ◌++◌, filter, find, Some, None, is_some, Ordering, Less, Equal, Greater, refl, arith}
 use Rattle.std.specs.Prelude.{nat_eq, nat_lt}
 use Rattle.std.specs.List.{list_any, AllByRecursion}
-use Rattle.std.specs.Ordering.{nat_cmp, ordering_then, is_eq, match_ordering}
-use Rattle.std.specs.Map.{values_of, lookup, remove_entry}
+use Rattle.std.specs.List.Sorted.{IsStrictlySortedBy}
+use Rattle.std.specs.Ordering.{ordering_then, is_eq, match_ordering}
+use Rattle.std.specs.Map.{keys_of, values_of, lookup, remove_entry, set_value}
 use Rattle.std.specs.BTreeMap as tree
 use Rattle.indexmap.specs.IndexMap as index
 use Rattle.std.proofs.lemmas.Bool.Decides.{nat_tests}
 use Rattle.vp_model.specs.Types.{TxnId}
-use Rattle.vp_model.specs.Words.{put, same_txn, txn_before, has_txn}
+use Rattle.vp_model.specs.Words.{change_first, put, same_txn, txn_before, has_txn}
 use Rattle.vp_model.proofs.SameTxn.{same_txn-is}
-use Rattle.vp_tables.specs.Keys.{key_of, AreKeyed}
+use Rattle.vp_tables.specs.Keys.{key_of, key_cmp, AreKeyed, AreAscending}
 
 abbrev Key : Type 0
 Key = ℕ × ℕ × ℕ
 
--- the order and the test of keys
-abbrev pub key_cmp : Key → Key → Ordering
-key_cmp x y = ordering_then (ordering_then (nat_cmp x.0 y.0) (nat_cmp x.1 y.1)) (nat_cmp x.2 y.2)
-
+-- the test of keys
 abbrev pub key_eq : Key → Key → Bool
 key_eq x y = (nat_eq x.0 y.0 && nat_eq x.1 y.1) && nat_eq x.2 y.2
 
@@ -52,6 +50,20 @@ eq_as_choice : (o : Ordering) → is_eq o ≡ match_ordering o false true false
 eq_as_choice Less = refl
 eq_as_choice Equal = refl
 eq_as_choice Greater = refl
+
+only_before : (s b : Bool) → (if s then false else (if b then true else false)) ≡ true → b ≡ true
+only_before true b e = absurd (cc)
+only_before false true e = refl
+only_before false false e = absurd (cc)
+
+before_by_key : (t u : TxnId) → key_cmp (key_of t) (key_of u) ≡ Less → txn_before t u ≡ true
+before_by_key t u e = only_before (same_txn t u) (txn_before t u) (sym (chosen t u true false false) ∙ ap (λ o. match_ordering o true false false) e)
+
+not_same : (t u : TxnId) → txn_before t u ≡ true → same_txn u t ≡ false
+not_same t u b = grind (arith, nat_tests, b)
+
+not_before : (t u : TxnId) → txn_before t u ≡ true → txn_before u t ≡ false
+not_before t u b = grind (arith, nat_tests, b)
 
 only_same : (s b : Bool) → (if s then true else (if b then false else false)) ≡ s
 only_same true b = refl
@@ -109,6 +121,41 @@ module _ {T : Type 0} (txn : T → TxnId) where
         let kept : AreKeyed txn new = subst (AreKeyed txn) (sym e) (removed_keyed old h) in
         sym (none_left new kept none) ∙ ap (λ es. filter (λ t. not (same_txn (txn t) n)) (values_of es)) e ∙ others_left old h
 
+  -- an item in the place of the one of its transaction
+  module _ (item : T) (test : Key → Bool) (says : (t : TxnId) → test (key_of t) ≡ same_txn t (txn item)) where
+    pub changed : (es : Entries) → AreKeyed txn es → values_of (set_value test es item) ≡ change_first (λ t. same_txn (txn t) (txn item)) (λ _. item) (values_of es)
+    changed [] h = refl
+    changed (e ∷ es) h = let here = passes (txn item) test says e h.0 in let rest = changed es h.1 in grind (arith, nat_tests, here, rest)
+
+    pub changed_keyed : (es : Entries) → AreKeyed txn es → AreKeyed txn (set_value test es item)
+    changed_keyed [] h = h
+    changed_keyed (e ∷ es) h = go (test e.0) (passes (txn item) test says e h.0) (changed_keyed es h.1)
+      where
+        go : (b : Bool) → b ≡ same_txn (txn e.1) (txn item) → AreKeyed txn (set_value test es item) → AreKeyed txn (cond b ((e.0, item) ∷ es) (e ∷ set_value test es item))
+        go true p r = (h.0 ∙ ap key_of (same_txn-is (txn e.1) (txn item) (sym p)), h.1)
+        go false p r = (h.0, r)
+
+  -- transactions ascend as their keys do
+  all_after : (n : TxnId) (es : Entries) → AreKeyed txn es → AllByRecursion (λ k. key_cmp (key_of n) k ≡ Less) (keys_of es) → AllByRecursion (λ t. txn_before n (txn t) ≡ true) (values_of es)
+  all_after n [] h a = tt
+  all_after n (e ∷ es) h a = (before_by_key n (txn e.1) (ap (key_cmp (key_of n)) (sym h.0) ∙ a.0), all_after n es h.1 a.1)
+
+  pub ascending : (es : Entries) → AreKeyed txn es → IsStrictlySortedBy key_cmp (keys_of es) → AreAscending txn (values_of es)
+  unfolding IsStrictlySortedBy
+  ascending [] h s = tt
+  ascending (e ∷ es) h s = (all_after (txn e.1) es h.1 (subst (λ k. AllByRecursion (λ y. key_cmp k y ≡ Less) (keys_of es)) h.0 s.0), ascending es h.1 s.1)
+
+  -- an item that is put behind others
+  is_after : (n : TxnId) (item : T) (done rest : List T) → AllByRecursion (λ t. txn_before n (txn t) ≡ true) (done ++ item ∷ rest) → txn_before n (txn item) ≡ true
+  is_after n item [] rest a = a.0
+  is_after n item (t ∷ done) rest a = is_after n item done rest a.1
+
+  pub put_behind : (item : T) (done rest : List T) → AreAscending txn (done ++ item ∷ rest) → put (λ a b. same_txn (txn a) (txn b)) (λ a b. txn_before (txn a) (txn b)) item done ≡ done ++ item ∷ []
+  put_behind item [] rest a = refl
+  put_behind item (t ∷ done) rest a =
+      let after = is_after (txn t) item done rest a.0 in
+      rw (not_same (txn t) (txn item) after, not_before (txn t) (txn item) after) (ap (λ ts. t ∷ ts) (put_behind item done rest a.1))
+
   -- an item that is put under the key of its transaction
   pub put_there : (item : T) (es : Entries) → AreKeyed txn es → values_of (tree.insert_entry key_cmp es (key_of (txn item)) item) ≡ put (λ a b. same_txn (txn a) (txn b)) (λ a b. txn_before (txn a) (txn b)) item (values_of es)
   put_there item [] h = refl
@@ -136,6 +183,11 @@ module _ {T : Type 0} (txn : T → TxnId) where
       go Less k r = (refl, h)
       go Equal k r = (k refl, h.1)
       go Greater k r = (h.0, r)
+
+-- where none is found nothing changes
+pub changed_none : {T : Type 0} (test : T → Bool) (f : T → T) (ts : List T) → find test ts ≡ None → change_first test f ts ≡ ts
+changed_none test f [] e = refl
+changed_none test f (t ∷ ts) e = let rest = changed_none test f ts in grind (arith, nat_tests, e, rest)
 
 -- a transaction that is noted behind others
 pub noted_keyed : (n : TxnId) (es : List (Key × TxnId)) → AreKeyed (λ t. t) es → AreKeyed (λ t. t) (es ++ (key_of n, n) ∷ [])

@@ -2,13 +2,15 @@
 
 ghost use Rattle.std.specs.Prelude.{◌≡◌, [], OnOk, OnErr, IfOk, find, filter, map, not, option_copied};
 ghost use Rattle.std.specs.List.{list_any};
-ghost use Rattle.vp_model.specs.Words.{put, same_txn, txn_before};
+ghost use Rattle.vp_model.specs.Words.{change_first, put, same_txn, txn_before};
+ghost use Rattle.vp_tables.specs.Keys.{AreAscending};
 
 use crate::key::{TxnKey, key_of};
 use std::alloc::Global;
 use std::collections::BTreeMap;
 use std::marker::Model;
-use vp_base::{NoMemory, Part, TxnId};
+use std::mem;
+use vp_base::{CopyOf, Decision, NoMemory, Part, Seq, TxnId};
 
 /// An item that is known by its transaction.
 pub trait HasTxn {
@@ -28,6 +30,14 @@ impl HasTxn for Part {
     }
 }
 
+impl HasTxn for Decision {
+    ghost txn = { λ d. d.txn };
+
+    fn name(&self) -> TxnId {
+        self.txn
+    }
+}
+
 /// Items in the order of their transactions, one for each.
 #[derive(Drop)]
 pub struct Table<T: HasTxn> {
@@ -37,14 +47,15 @@ pub struct Table<T: HasTxn> {
 
 impl<T: HasTxn> Model for Table<T> {
     ghost use Rattle.std.specs.Prelude.{List};
+    ghost use Rattle.std.specs.BTreeMap.{IsOrdered};
     ghost use Rattle.std.specs.Map.{values_of};
-    ghost use Rattle.vp_tables.specs.Keys.{AreKeyed};
+    ghost use Rattle.vp_tables.specs.Keys.{key_cmp, AreKeyed};
 
     ghost Value = { List T };
 
     ghost view = { λ t. values_of t.tree.entries };
 
-    ghost invariant = { λ t. AreKeyed T.txn t.tree.entries };
+    ghost invariant = { λ t. AreKeyed T.txn t.tree.entries × IsOrdered key_cmp t.tree };
 }
 
 impl<T: HasTxn + Drop> Table<T> {
@@ -57,6 +68,10 @@ impl<T: HasTxn + Drop> Table<T> {
         }
     }
 
+    pub fn allocator(&self) -> Global {
+        self.alloc
+    }
+
     pub fn has(&self, txn: &TxnId) -> bool
         ensures { result ≡ list_any (λ t. same_txn (T.txn t) txn.now) self.now }
     {
@@ -65,7 +80,8 @@ impl<T: HasTxn + Drop> Table<T> {
 
     /// The item of the transaction.
     pub fn get(&self, txn: &TxnId) -> Option<&T>
-        ensures { option_copied result ≡ find (λ t. same_txn (T.txn t) txn.now) self.now }
+        ensures found { option_copied result ≡ find (λ t. same_txn (T.txn t) txn.now) self.now }
+        ensures ascending { AreAscending T.txn self.now }
     {
         self.tree.get(&key_of(txn))
     }
@@ -77,6 +93,18 @@ impl<T: HasTxn + Drop> Table<T> {
     {
         self.tree.insert(key_of(&item.name()), item)?;
         Ok(())
+    }
+
+    /// The item goes where one of the same transaction is, which is given back; nowhere, where there is none.
+    pub fn replace(&mut self, item: T) -> Option<T>
+        ensures taken { result ≡ find (λ t. same_txn (T.txn t) (T.txn item)) self.old }
+        ensures rest { self.new ≡ change_first (λ t. same_txn (T.txn t) (T.txn item)) (λ _. item) self.old }
+        ensures ascending { AreAscending T.txn self.old }
+    {
+        let Some(place) = self.tree.get_mut(&key_of(&item.name())) else {
+            return None;
+        };
+        Some(mem::replace(place, item))
     }
 
     /// The transaction has no item any more.
@@ -102,5 +130,28 @@ impl<T: HasTxn + Drop> Table<T> {
                 .map(|item| item.name())
                 .collect(self.alloc)?,
         )
+    }
+}
+
+impl<T: HasTxn + CopyOf> Table<T> {
+    /// A copy of the items.
+    pub fn to_list(&self) -> Result<Seq<T>, NoMemory>
+        ensures { IfOk result (λ items. items ≡ self.now) }
+    {
+        let mut items = Seq::from_vec(Vec::with_capacity(self.alloc, self.tree.len())?);
+        for item in self.tree.values() {
+            items.push(item.copy_of()?)?;
+        }
+        Ok(items)
+    }
+}
+
+impl<T: HasTxn + CopyOf> CopyOf for Table<T> {
+    fn copy_of(&self) -> Result<Table<T>, NoMemory> {
+        let mut copy = Table::new(self.alloc);
+        for item in self.tree.values() {
+            copy.put(item.copy_of()?)?;
+        }
+        Ok(copy)
     }
 }

@@ -1,12 +1,11 @@
 -- A transaction that is put into its place again, or taken out for good.
-use Rattle.std.proofs.Common.{◌≡◌, Bool, true, List, [], ◌∷◌, find, Option, Some, None, is_some, IfSome, Bor, ◌∙◌, ap, sym, subst, refl, arith}
-use Rattle.std.specs.Prelude.{option_copied}
-use Rattle.std.specs.List.{list_any}
+use Rattle.std.proofs.Common.{◌≡◌, Bool, true, List, [], ◌∷◌, find, Option, Some, None, IfSome, sym, subst, refl, arith}
 use Rattle.std.specs.Option.{option_map_or}
 use Rattle.std.proofs.lemmas.Bool.Decides.{nat_tests}
 use Rattle.vp_model.specs.Types.{TxnId, Live}
 use Rattle.vp_model.specs.Words.{same_txn, change_first, without_first}
 use Rattle.vp_model.proofs.SameTxn.{same_txn-self}
+use Rattle.vp_tables.proofs.Keyed.{changed_none}
 
 module _ {A : Type 0} (test : A → Bool) (x : A) (h : test x ≡ true) where
   pub put_again : (y : A) (xs : List A) → change_first test (λ u. y) (change_first test (λ u. x) xs) ≡ change_first test (λ u. y) xs
@@ -17,20 +16,6 @@ module _ {A : Type 0} (test : A → Bool) (x : A) (h : test x ≡ true) where
   take_again [] = refl
   take_again (z ∷ zs) = let rest = take_again zs in grind (arith, nat_tests, h, rest)
 
--- something passes where something is found
-found_any : {A : Type 0} (test : A → Bool) (xs : List A) → is_some (find test xs) ≡ list_any test xs
-found_any test [] = refl
-found_any test (x ∷ xs) = let rest = found_any test xs in grind (arith, nat_tests, rest)
-
-pub found_there : {A : Type 0} (test : A → Bool) (xs : List A) (found : Option (Bor A)) → option_copied found ≡ find test xs → is_some found ≡ list_any test xs
-found_there test xs None e = ap is_some e ∙ found_any test xs
-found_there test xs (Some x) e = ap is_some e ∙ found_any test xs
-
--- nothing is put where nothing is found
-put_none : {A : Type 0} (test : A → Bool) (f : A → A) (xs : List A) → None ≡ find test xs → change_first test f xs ≡ xs
-put_none test f [] h = refl
-put_none test f (z ∷ zs) h = let rest = put_none test f zs in grind (arith, nat_tests, h, rest)
-
 -- what is found is put where it is
 put_found : {A : Type 0} (test : A → Bool) (t : A) (xs : List A) → Some t ≡ find test xs → change_first test (λ u. t) xs ≡ xs
 put_found test t [] h = refl
@@ -38,7 +23,7 @@ put_found test t (z ∷ zs) h = let rest = put_found test t zs in grind (arith, 
 
 -- what was lifted goes back, and the list is as it was
 pub back : (txn : TxnId) (h : Live) (xs ys : List Live) (r : Option Live) → h.txn ≡ txn → ys ≡ change_first (λ u. same_txn u.txn txn) (λ u. h) xs → r ≡ find (λ u. same_txn u.txn txn) xs → IfSome r (λ t. t.txn ≡ txn) → option_map_or (λ t. change_first (λ u. same_txn u.txn t.txn) (λ u. t) ys) r ys ≡ xs
-back txn h xs ys None e y f n = rw y (put_none (λ u. same_txn u.txn txn) (λ u. h) xs f)
+back txn h xs ys None e y f n = rw y (changed_none (λ u. same_txn u.txn txn) (λ u. h) xs (sym f))
 back txn h xs ys (Some t) e y f n =
     let core : change_first (λ u. same_txn u.txn txn) (λ u. t) ys ≡ xs = rw (y, put_again (λ u. same_txn u.txn txn) h (rw e (same_txn-self txn)) t xs) (put_found (λ u. same_txn u.txn txn) t xs f) in
     subst (λ x. change_first (λ u. same_txn u.txn x) (λ u. t) ys ≡ xs) (sym n) core

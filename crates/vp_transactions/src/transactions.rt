@@ -1,9 +1,9 @@
 //! The transactions that a site began, and how they end.
 
-ghost use Rattle.std.specs.Prelude.{◌≡◌, ◌&&◌, ◌<◌, ◌-◌, ◌^◌, ◌++◌, ◌∷◌, ◌+◌, [], OnOk, OnErr, IfOk, IfSome, true, filter, Some, None, nat_le, if◌then◌else◌, length, option_copied};
+ghost use Rattle.std.specs.Prelude.{◌≡◌, ◌<◌, ◌-◌, ◌^◌, ◌++◌, ◌∷◌, ◌+◌, [], OnOk, OnErr, IfOk, IfSome, true, filter, Some, None, nat_le, if◌then◌else◌, length, option_copied};
 ghost use Rattle.std.specs.Option.{option_map_or};
 ghost use Rattle.vp_base.specs.declared.answer.Answer.TheVariants as answer;
-ghost use Rattle.vp_model.specs.Words.{opening, same_txn, has, at_most};
+ghost use Rattle.vp_model.specs.Words.{opening, has, at_most};
 ghost use Rattle.vp_base.specs.declared.message.Message.TheVariants as message;
 ghost use Rattle.vp_model.specs.Site.{with_reply, with_messages};
 ghost use Rattle.vp_model.specs.Transactions.{live_of, finished_of, put_live, answer_of, answers_after, with_pending_reply, with_end, with_finished, with_kept};
@@ -24,7 +24,7 @@ use vp_base::{
     NoMemory, Pending, Seq, SiteId, Sites, TxnId, ViewId,
 };
 use vp_catalog::has_site;
-use vp_lists::{OfTxn, find_txn, is_same_txn};
+use vp_lists::OfTxn;
 use vp_records::Decided;
 
 /// The live transactions, the ends of those that have ended, and the decisions that some site has not acknowledged.
@@ -171,10 +171,7 @@ impl Transactions {
     pub fn waits_for(&self, txn: &TxnId, site: SiteId) -> bool
         ensures { result ≡ waits_for txn.now site self.now.decisions }
     {
-        self.decisions
-            .as_slice()
-            .iter()
-            .any(|d| is_waiting(d, txn, site))
+        self.decisions.waits_for(txn, site)
     }
 
     /// The site has acknowledged the decision.
@@ -193,7 +190,7 @@ impl Transactions {
     pub fn is_decided(&self, txn: &TxnId) -> bool
         ensures { result ≡ is_decided txn.now self.now.decisions }
     {
-        find_txn(self.decisions.as_slice(), txn).is_some()
+        self.decisions.is_decided(txn)
     }
 
     /// The transaction goes back into its place. What stood there is left in its hands.
@@ -233,7 +230,8 @@ impl Transactions {
     pub fn resend(&self, id: SiteId, effects: &mut Effects) -> Result<(), NoMemory>
         ensures { OnOk result (effects.new ≡ with_outcomes id self.now.decisions effects.old) }
     {
-        resend(id, self.decisions.as_slice(), effects)
+        let decisions = self.decisions.list()?;
+        resend(id, decisions.as_slice(), effects)
     }
 
     /// The end of the transaction is kept, beside those of the 1,023 that ended last before it. Its answers go there.
@@ -261,10 +259,7 @@ impl Transactions {
     pub fn keep_decision(&mut self, txn: &TxnId, waiting: Sites) -> Result<(), NoMemory>
         ensures { OnOk result (self.new ≡ with_kept txn.now waiting self.old) }
     {
-        if waiting.as_slice().is_empty() {
-            return Ok(());
-        }
-        self.decisions.put(Decision { txn: *txn, waiting })
+        self.decisions.keep(txn, waiting)
     }
 
     /// What a call is told whose transaction is not live.
@@ -302,12 +297,6 @@ fn resend(id: SiteId, decisions: &[Decision], effects: &mut Effects) -> Result<(
         )?;
     }
     Ok(())
-}
-
-fn is_waiting(decision: &Decision, txn: &TxnId, site: SiteId) -> bool
-    ensures { result ≡ (same_txn decision.now.txn txn.now && has decision.now.waiting site) }
-{
-    is_same_txn(&decision.txn, txn) && has_site(decision.waiting.as_slice(), site)
 }
 
 /// The pending call of the transaction, where it waits for the site.

@@ -21,13 +21,15 @@ use Rattle.vp_model.specs.Calls.{handling, start_txn, begin_in, on_begin, with_r
 use Rattle.vp_model.specs.Answers.{with_missing, count_in, read_answered, on_read_answer, write_answered, on_write_answer, refused_by, on_refuse, voted, on_vote, on_ack, on_inquire, on_answer}
 use Rattle.vp_model.specs.Told.{is_call}
 use Rattle.vp_model.specs.Step.{is_marked_call, least_missing, time_out_calls, mark_calls}
+use Rattle.vp_laws.specs.Answering.{answers}
 use Rattle.vp_laws.specs.Votes.{is_commit}
 use Rattle.vp_laws.proofs.Lists.Members.{Has, filter_has, has_first, has_more, find_has, find_true}
 use Rattle.vp_laws.proofs.Moves.Frames.{close-commits, decided-ends, decided-commits, decide-cases}
 use Rattle.vp_model.proofs.SameTxn.{same_txn-is}
 use Rattle.vp_laws.proofs.Moves.Coordinator.{live_of-has, live_of-is, next_number}
 use Rattle.vp_laws.proofs.Moves.Table.{Comes, Handled, Reads, Writes, remaining, IsLast, Locked, Completes, Decides, lent_at}
-use Rattle.vp_laws.proofs.Moves.Reasons.{Called, IsCallOf, Operates, Takes, Awaits, Why, Tells, last_reply, IsDone, Goes, Front}
+use Rattle.vp_laws.proofs.Moves.Reasons.{Called, IsCallOf, Operates, Takes, Awaits, Why, is_plain, Tells, last_reply, IsDone, IsDecided, Goes, Front}
+use Rattle.vp_laws.proofs.Moves.Numbered.{Numbers, fits, turned, turned_txn}
 use Rattle.vp_laws.proofs.Lists.Keeps.{by_option, by_some, by_test}
 use Rattle.vp_laws.proofs.Moves.Calls.{reading, writing, waiting}
 
@@ -59,8 +61,15 @@ module _ (catalogue : Catalogue) (x : SiteState) (given : Input) (after : SiteSt
   abbrev Q : Lent → Type 0
   Q l = G l.coordinator l.effects.replies l.effects.commits
 
-  told : (words : Answer) (port : ℕ) → Tells catalogue x given words → Q (lent_reply words port (lent_at x))
+  told : (words : Answer) (port : ℕ) → Tells catalogue x given port words → Q (lent_reply words port (lent_at x))
   told words port t = k.tells words port t
+
+  -- a plain answer, and one to the call of a number
+  plain : (port : ℕ) (called : Call) → given ≡ input.Call port called → (words : Answer) → is_plain words ≡ true → answers called words ≡ true → Q (lent_reply words port (lent_at x))
+  plain port called c words e is = told words port (Tells.plain words e port called c is)
+
+  numbered : (t : Live) (p : Pending) → Called given t p → (words : Answer) → is_plain words ≡ true → Numbers t.txn p.number words → Q (lent_reply words p.port (lent_at x))
+  numbered t p c words e n = plain p.port p.call c.comes words e (fits t.txn p.number words n p.call c.own)
 
   closing : (t : Live) (why : Ending) (l : Lent) → Handled x t → Why catalogue x given after t why → l.effects.commits ≡ [] → Q l → Q (close x.id t why l)
   closing t why l n w none q = rw (close-coordinator x.id t why l, close-replies x.id t why l, close-commits x.id t why l ∙ none) (k.close t why l.coordinator l.effects.replies n w (rw none at q))
@@ -87,16 +96,16 @@ module _ (catalogue : Catalogue) (x : SiteState) (given : Input) (after : SiteSt
   on_begin-front : (port : ℕ) → given ≡ input.Call port call.Begin → Q (on_begin (surroundings x) port (lent_at x))
   unfolding on_begin begin_in start_txn
   on_begin-front port c =
-      by_option Q _ _ _ (λ view e. by_test Q (nat_le 1024 (length x.live)) _ _ (λ full. told _ _ (Tells.plain _ refl)) (λ room. by_test Q _ _ _ (λ spent. told _ _ (Tells.plain _ refl)) (λ left. k.begin port view e c))) (λ none. told _ _ (Tells.plain _ refl))
+      by_option Q _ _ _ (λ view e. by_test Q (nat_le 1024 (length x.live)) _ _ (λ full. plain port call.Begin c _ refl refl) (λ room. by_test Q _ _ _ (λ spent. plain port call.Begin c _ refl refl) (λ left. k.begin port view e c))) (λ none. plain port call.Begin c _ refl refl)
 
-  decided_by : (t : Live) (l : Lent) → Handled x t → Decides catalogue x given t → l.live ≡ x.live → l.finished ≡ x.finished → l.seq ≡ x.seq → l.effects.replies ≡ [] → l.effects.commits ≡ [] → Q (decided x.id t l)
-  decided_by t l n d v f s rs cs = rw ((decided-ends x.id t l).coordinator, decided-replies x.id t l, decided-commits x.id t l, rs, cs) (k.decide t l.coordinator n d v f s)
+  decided_by : (t : Live) (l : Lent) → Handled x t → Decides catalogue x given t → IsDecided x given t → l.live ≡ x.live → l.finished ≡ x.finished → l.seq ≡ x.seq → l.effects.replies ≡ [] → l.effects.commits ≡ [] → Q (decided x.id t l)
+  decided_by t l n d w v f s rs cs = rw ((decided-ends x.id t l).coordinator, decided-replies x.id t l, decided-commits x.id t l, rs, cs) (k.decide t l.coordinator n d w v f s)
 
-  decide-front : (t : Live) → Handled x t → Decides catalogue x given t → Q (decide catalogue x.id t (lent_at x))
+  decide-front : (t : Live) → Handled x t → Decides catalogue x given t → IsDecided x given t → Q (decide catalogue x.id t (lent_at x))
   unfolding keep_writes
-  decide-front t n d = decide-cases Q catalogue x.id t (lent_at x)
-      (λ e. decided_by t (lent_at x) n d refl refl refl refl refl)
-      (λ e. decided_by t (keep_writes catalogue x.id t (lent_at x)) n d refl refl refl refl refl)
+  decide-front t n d w = decide-cases Q catalogue x.id t (lent_at x)
+      (λ e. decided_by t (lent_at x) n d w refl refl refl refl refl)
+      (λ e. decided_by t (keep_writes catalogue x.id t (lent_at x)) n d w refl refl refl refl refl)
 
   -- the next call of a live transaction t
   module _ (t : Live) (p : Pending) (at : Takes x given t p) where
@@ -143,12 +152,12 @@ module _ (catalogue : Catalogue) (x : SiteState) (given : Input) (after : SiteSt
     with_record-front : (name : List ℕ) (exclusive : Bool) → Operates p.call name exclusive → (use_record : ℕ → Lent → Lent) → ((rec : ℕ) → find_record catalogue name ≡ Some rec → is_open catalogue x rec ≡ true → Q (use_record rec (lent_at x))) → Q (with_record catalogue x.held t p name use_record (lent_at x))
     unfolding with_record
     with_record-front name exclusive op use_record used = by_option Q _ _ _
-        (λ rec e. by_test Q (nat_le 64 (length t.ops)) _ _ (λ many. told _ _ (Tells.plain _ refl)) (λ few. by_test Q (is_open catalogue x rec) _ _ (λ a. used rec e a) (λ not_usable. told _ _ (Tells.inaccessible t p name rec exclusive at op e not_usable))))
-        (λ none. told _ _ (Tells.plain _ refl))
+        (λ rec e. by_test Q (nat_le 64 (length t.ops)) _ _ (λ many. numbered t p at.called _ refl (turned t.txn p.number)) (λ few. by_test Q (is_open catalogue x rec) _ _ (λ a. used rec e a) (λ not_usable. told _ _ (Tells.inaccessible t p name rec exclusive at op e not_usable))))
+        (λ none. numbered t p at.called _ refl (turned t.txn p.number))
 
     commit-front : is_commit p.call ≡ true → Q (commit catalogue x.id t p (lent_at x))
     unfolding commit prepare_parts
-    commit-front c = by_test Q (is_empty t.parts) _ _ (λ e. decide-front (handling t p) handled_now (Decides.alone t p at.live at.next c e refl)) (λ e. k.goes t (waiting t p t.parts) p at (Goes.prepares t.parts))
+    commit-front c = by_test Q (is_empty t.parts) _ _ (λ e. decide-front (handling t p) handled_now (Decides.alone t p at.live at.next c e refl) (IsDecided.at_once t p at)) (λ e. k.goes t (waiting t p t.parts) p at (Goes.prepares t.parts))
 
     new_call-front : (words : Call) → p.call ≡ words → Q (new_call catalogue x.id x.held t p words (lent_at x))
     unfolding new_call
@@ -162,15 +171,15 @@ module _ (catalogue : Catalogue) (x : SiteState) (given : Input) (after : SiteSt
   live_call-front : (t : Live) (p : Pending) → Has x.live t → Called given t p → Q (live_call catalogue x.id x.held t p (lent_at x))
   unfolding live_call
   live_call-front t p here c =
-      by_test Q (nat_le p.number (length t.answers)) _ _ (λ old. by_some Q _ (λ answer. lent_reply answer p.port) (lent_at x) (λ answer e. told answer p.port (Tells.again t p.number answer here e)) h)
-      (λ fresh. by_test Q (nat_lt (length t.answers + 1) p.number) _ _ (λ skipped. told _ _ (Tells.plain _ refl))
-      (λ fits. by_test Q (is_some t.pending) _ _ (λ busy. told _ _ (Tells.plain _ refl)) (λ idle. new_call-front t p (record { live = here; next = record { comes = c.comes; idle = idle; number = next_number p.number (length t.answers) fresh fits }; called = c }) p.call refl)))
+      by_test Q (nat_le p.number (length t.answers)) _ _ (λ old. by_some Q _ (λ answer. lent_reply answer p.port) (lent_at x) (λ answer e. told answer p.port (Tells.again t p.number answer here e (record { port = p.port; words = p.call; comes = c.comes; own = c.own }))) h)
+      (λ fresh. by_test Q (nat_lt (length t.answers + 1) p.number) _ _ (λ skipped. numbered t p c _ refl (turned_txn t.txn p.number))
+      (λ fits. by_test Q (is_some t.pending) _ _ (λ busy. numbered t p c _ refl (turned t.txn p.number)) (λ idle. new_call-front t p (record { live = here; next = record { comes = c.comes; idle = idle; number = next_number p.number (length t.answers) fresh fits }; called = c }) p.call refl)))
 
-  finished_call-front : (port number : ℕ) (f : Finished) → Has x.finished f → IsCallOf given f.txn number → Q (finished_call port number f (lent_at x))
+  finished_call-front : (number : ℕ) (f : Finished) → Has x.finished f → (c : IsCallOf given f.txn number) → Q (finished_call c.port number f (lent_at x))
   unfolding finished_call
-  finished_call-front port number f here calls =
-      by_test Q (nat_le number (length f.answers)) _ _ (λ old. by_some Q _ (λ answer. lent_reply answer port) (lent_at x) (λ answer e. told answer port (Tells.finished_again f number answer here e calls)) h)
-      (λ more. told _ _ (Tells.ended f number here more calls))
+  finished_call-front number f here c =
+      by_test Q (nat_le number (length f.answers)) _ _ (λ old. by_some Q _ (λ answer. lent_reply answer c.port) (lent_at x) (λ answer e. told answer c.port (Tells.finished_again f number answer here e c)) h)
+      (λ more. told _ _ (Tells.ended f number here more c))
 
   finished_of-has : (txn : TxnId) (f : Finished) → finished_of txn x.finished ≡ Some f → Has x.finished f
   finished_of-has txn f e = find_has (λ (f : Finished). same_txn f.txn txn) x.finished f e
@@ -182,7 +191,7 @@ module _ (catalogue : Catalogue) (x : SiteState) (given : Input) (after : SiteSt
   unfolding on_txn_call
   on_txn_call-front port txn number words c own =
       by_option Q _ _ _ (λ t e. live_call-front t (handled port number words) (live_of-has txn x.live t e) (record { comes = c; own = own_name t.txn txn (live_of-is txn x.live t e) number words own }))
-      (λ none. by_option Q (λ f. finished_call port number f (lent_at x)) (finished_of txn x.finished) (lent_reply (answer.Unknown txn) port (lent_at x)) (λ f e. finished_call-front port number f (finished_of-has txn f e) (record { port = port; words = words; comes = c; own = own_name f.txn txn (finished_of-is txn f e) number words own })) (λ unknown. told _ _ (Tells.plain _ refl)))
+      (λ none. by_option Q (λ f. finished_call port number f (lent_at x)) (finished_of txn x.finished) (lent_reply (answer.Unknown txn) port (lent_at x)) (λ f e. finished_call-front number f (finished_of-has txn f e) (record { port = port; words = words; comes = c; own = own_name f.txn txn (finished_of-is txn f e) number words own })) (λ unknown. plain port words c _ refl (fits txn number (answer.Unknown txn) (turned_txn txn number) words own)))
 
   is_own : (txn : TxnId) (number : ℕ) → (same_txn txn txn && (number == number)) ≡ true
   is_own txn number = grind (arith, nat_tests)
@@ -259,7 +268,7 @@ module _ (catalogue : Catalogue) (x : SiteState) (given : Input) (after : SiteSt
   voted-front from txn t p (call.Commit called n) e c a same m =
       let commit : is_commit p.call ≡ true = rw e refl in
       let came : Comes given from (message.Vote t.txn) = rw same c in
-      count_in-front from t p (decide catalogue x.id t) a m (λ last. decide-front t (record { was = t; live = a.live; same = refl }) (Decides.voted p from a.live last came commit))
+      count_in-front from t p (decide catalogue x.id t) a m (λ last. decide-front t (record { was = t; live = a.live; same = refl }) (Decides.voted p from a.live last came commit) (IsDecided.at_last t p a))
   voted-front from txn t p (call.Read called n name) e c a same m = h
   voted-front from txn t p (call.Write called n name value) e c a same m = h
   voted-front from txn t p (call.Abort called n) e c a same m = h

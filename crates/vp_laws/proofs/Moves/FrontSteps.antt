@@ -216,10 +216,10 @@ module _ (catalogue : Catalogue) (x : SiteState) (given : Input) (after : SiteSt
   on_message-front from (message.Probe view) c = on_probe_message-front from
   on_message-front from m c = answered-front from m c
 
-  on_regroup-front : (port : ℕ) → P (on_regroup catalogue port (begin_step x))
+  on_regroup-front : (port : ℕ) → given ≡ input.Call port call.Regroup → P (on_regroup catalogue port (begin_step x))
   unfolding on_regroup invite start_inviting leave drop_view
-  on_regroup-front port = by_test P (is_spent x.views) _ _ (λ e. by (λ held. k.tells _ port (Tells.plain _ refl)))
-      (λ e. by (rw e (λ held. let none = leave-commits held in rw none (k.inviting _ _ port (rw none at (leave-front held))))))
+  on_regroup-front port c = by_test P (is_spent x.views) _ _ (λ e. by (λ held. k.tells _ port (Tells.plain _ refl port call.Regroup c refl)))
+      (λ e. by (rw e (λ held. let none = leave-commits held in rw none (k.inviting _ _ port c (rw none at (leave-front held))))))
 
   time_out-front : (view : View) → P (time_out catalogue view (begin_step x))
   unfolding time_out
@@ -244,7 +244,7 @@ module _ (catalogue : Catalogue) (x : SiteState) (given : Input) (after : SiteSt
 
   on_call-front : (port : ℕ) (words : Call) → given ≡ input.Call port words → P (on_call catalogue port words (begin_step x))
   unfolding on_call
-  on_call-front port call.Regroup c = on_regroup-front port
+  on_call-front port call.Regroup c = on_regroup-front port c
   on_call-front port words c = by (λ held. own_call-front catalogue x given after G k h port words c)
 
   on_input-front : (g : Input) → given ≡ g → P (on_input catalogue g (begin_step x))

@@ -18,6 +18,7 @@ use Rattle.vp_model.specs.Calls.{begun, with_begun, handling, kept_answer}
 use Rattle.vp_model.specs.Answers.{with_acknowledged}
 use Rattle.vp_model.specs.Step.{mark}
 use Rattle.vp_model.specs.Told.{is_call}
+use Rattle.vp_laws.specs.Answering.{answers}
 use Rattle.vp_laws.proofs.Lists.Members.{Has}
 use Rattle.vp_laws.proofs.Moves.Table.{Comes, next_view, next_name, Handled, IsNext, Completes, Decides}
 use Rattle.vp_laws.proofs.Moves.Calls.{waiting, done, reading, writing}
@@ -72,13 +73,13 @@ is_plain (answer.Spent number) = true
 is_plain answer.TooManyLive = true
 is_plain _ = false
 
--- what a call is told that changes nothing
-pub data Tells (catalogue : Catalogue) (x : SiteState) (given : Input) : Answer → Type 0 where
-  plain : (words : Answer) → is_plain words ≡ true → Tells catalogue x given words
-  inaccessible : (t : Live) (p : Pending) (name : List ℕ) (rec : ℕ) (exclusive : Bool) → Takes x given t p → Operates p.call name exclusive → find_record catalogue name ≡ Some rec → is_usable_in catalogue x.held rec ≡ false → Tells catalogue x given (answer.Inaccessible t.txn p.number name (inside catalogue rec (members_in x.held)) (total catalogue rec))
-  again : (t : Live) (number : ℕ) (words : Answer) → Has x.live t → kept_answer number t.answers ≡ Some words → Tells catalogue x given words
-  finished_again : (f : Finished) (number : ℕ) (words : Answer) → Has x.finished f → kept_answer number f.answers ≡ Some words → IsCallOf given f.txn number → Tells catalogue x given words
-  ended : (f : Finished) (number : ℕ) → Has x.finished f → nat_le number (length f.answers) ≡ false → IsCallOf given f.txn number → Tells catalogue x given (answer_of f.txn number f.ending)
+-- what the call from this port is told that changes nothing
+pub data Tells (catalogue : Catalogue) (x : SiteState) (given : Input) : ℕ → Answer → Type 0 where
+  plain : (words : Answer) → is_plain words ≡ true → (port : ℕ) (called : Call) → given ≡ input.Call port called → answers called words ≡ true → Tells catalogue x given port words
+  inaccessible : (t : Live) (p : Pending) (name : List ℕ) (rec : ℕ) (exclusive : Bool) → Takes x given t p → Operates p.call name exclusive → find_record catalogue name ≡ Some rec → is_usable_in catalogue x.held rec ≡ false → Tells catalogue x given p.port (answer.Inaccessible t.txn p.number name (inside catalogue rec (members_in x.held)) (total catalogue rec))
+  again : (t : Live) (number : ℕ) (words : Answer) → Has x.live t → kept_answer number t.answers ≡ Some words → (c : IsCallOf given t.txn number) → Tells catalogue x given c.port words
+  finished_again : (f : Finished) (number : ℕ) (words : Answer) → Has x.finished f → kept_answer number f.answers ≡ Some words → (c : IsCallOf given f.txn number) → Tells catalogue x given c.port words
+  ended : (f : Finished) (number : ℕ) → Has x.finished f → nat_le number (length f.answers) ≡ false → (c : IsCallOf given f.txn number) → Tells catalogue x given c.port (answer_of f.txn number f.ending)
 
 abbrev pub told_to : ℕ → Answer → Reply
 told_to port words = record { to = port; answer = words }
@@ -92,6 +93,11 @@ pub data IsDone (x : SiteState) (given : Input) (t : Live) (p : Pending) : Type 
   at_once : Takes x given t p → IsDone x given t p
   at_last : Awaits x t p → IsDone x given t p
 
+-- how a commit is decided, likewise
+pub data IsDecided (x : SiteState) (given : Input) : Live → Type 0 where
+  at_once : (was : Live) (p : Pending) → Takes x given was p → IsDecided x given (handling was p)
+  at_last : (t : Live) (p : Pending) → Awaits x t p → IsDecided x given t
+
 -- the call goes on: other sites are asked
 pub data Goes (t : Live) (p : Pending) : Live → Type 0 where
   reads : (rec q : ℕ) → Goes t p (reading t p rec q)
@@ -101,12 +107,12 @@ pub data Goes (t : Live) (p : Pending) : Live → Type 0 where
 -- G speaks of the coordinator's state, of the replies and of the entries so far
 pub record Front (catalogue : Catalogue) (x : SiteState) (given : Input) (after : SiteState) (G : CoordinatorState → List Reply → List Commit → Type 0) : Type 0 where
   pub begin : (port : ℕ) (view : View) → x.held ≡ Some view → given ≡ input.Call port call.Begin → G (with_begun (begun (next_name x) view.id) x.coordinator) (told_to port (answer.Begun (next_name x) view.id) ∷ []) []
-  pub tells : (words : Answer) (port : ℕ) → Tells catalogue x given words → G x.coordinator (told_to port words ∷ []) []
+  pub tells : (words : Answer) (port : ℕ) → Tells catalogue x given port words → G x.coordinator (told_to port words ∷ []) []
   pub complete : (t : Live) (p : Pending) (operation : Op) (words : Answer) (l : Lent) → Has x.live t → IsDone x given t p → Completes catalogue x given t p operation words l → G (put_live (done t operation words) x.coordinator) (told_to p.port words ∷ []) []
   pub goes : (t u : Live) (p : Pending) → Takes x given t p → Goes t p u → G (put_live u x.coordinator) [] []
   pub still : (t : Live) (p : Pending) (sites : List ℕ) → Awaits x t p → G (put_live (waiting t p sites) x.coordinator) [] []
-  pub decide : (t : Live) (c : CoordinatorState) → Handled x t → Decides catalogue x given t → c.live ≡ x.live → c.finished ≡ x.finished → c.seq ≡ x.seq → G (with_finished t Committed c) (last_reply t Committed) ((entry_of t) ∷ [])
+  pub decide : (t : Live) (c : CoordinatorState) → Handled x t → Decides catalogue x given t → IsDecided x given t → c.live ≡ x.live → c.finished ≡ x.finished → c.seq ≡ x.seq → G (with_finished t Committed c) (last_reply t Committed) ((entry_of t) ∷ [])
   pub close : (t : Live) (why : Ending) (c : CoordinatorState) (rs : List Reply) → Handled x t → Why catalogue x given after t why → G c rs [] → G (with_finished t why c) (rs ++ last_reply t why) []
   pub marks : (c : CoordinatorState) (rs : List Reply) → G c rs [] → G (record c { live = map mark c.live }) rs []
   pub acknowledge : (txn : TxnId) (from : ℕ) → G (with_acknowledged txn from x.coordinator) [] []
-  pub inviting : (c : CoordinatorState) (rs : List Reply) (port : ℕ) → G c rs [] → G c (rs ++ told_to port (answer.Inviting (next_view x)) ∷ []) []
+  pub inviting : (c : CoordinatorState) (rs : List Reply) (port : ℕ) → given ≡ input.Call port call.Regroup → G c rs [] → G c (rs ++ told_to port (answer.Inviting (next_view x)) ∷ []) []

@@ -89,12 +89,12 @@ module _ (catalogue : Catalogue) (x : SiteState) (given : Input) (after : SiteSt
   starts : G x.coordinator [] []
   starts = record { live = was_live []; finished = λ f h. FinishedFrom.was f h; says = λ r h. absurd (has_none r h) }
 
-  tells : (words : Answer) → Tells catalogue x given words → ReplyFrom catalogue x given after words
-  tells words (Tells.plain w e) = ReplyFrom.free w (plain_free w e)
-  tells words (Tells.inaccessible t p name rec exclusive at op f a) = ReplyFrom.inaccessible t p name rec exclusive at op f a
-  tells words (Tells.again t number w h e) = ReplyFrom.free w (report_free w (kept.live t h w (kept_has number t.answers w e)))
-  tells words (Tells.finished_again f number w h e c) = ReplyFrom.repeated f number w h e c
-  tells words (Tells.ended f number h e c) = ReplyFrom.ended f number h e c
+  tells : (port : ℕ) (words : Answer) → Tells catalogue x given port words → ReplyFrom catalogue x given after words
+  tells _ words (Tells.plain w e port called c is) = ReplyFrom.free w (plain_free w e)
+  tells _ words (Tells.inaccessible t p name rec exclusive at op f a) = ReplyFrom.inaccessible t p name rec exclusive at op f a
+  tells _ words (Tells.again t number w h e c) = ReplyFrom.free w (report_free w (kept.live t h w (kept_has number t.answers w e)))
+  tells _ words (Tells.finished_again f number w h e c) = ReplyFrom.repeated f number w h e c
+  tells _ words (Tells.ended f number h e c) = ReplyFrom.ended f number h e c
 
   -- one reply, and other live transactions of the same names and views
   replies : (c : CoordinatorState) (port : ℕ) (a : Answer) → c.finished ≡ x.finished → ((t : Live) → Has c.live t → LiveFrom x (told_to port a ∷ []) t) → ReplyFrom catalogue x given after a → G c (told_to port a ∷ []) []
@@ -154,11 +154,11 @@ module _ (catalogue : Catalogue) (x : SiteState) (given : Input) (after : SiteSt
   pub front : Front catalogue x given after G
   front = record {
     begin = λ port view held c. begins_now port view;
-    tells = λ words port t. replies x.coordinator port words refl (λ u h. was_live _ u h) (tells words t);
+    tells = λ words port t. replies x.coordinator port words refl (λ u h. was_live _ u h) (tells port words t);
     complete = λ t p operation words l h d z. replies (put_live (done t operation words) x.coordinator) p.port words refl (moved _ t (done t operation words) h refl refl) (ReplyFrom.free words (report_free words (completed catalogue x given t p operation words l z)));
     goes = λ t u p at g. goes_on t u p at.live g;
     still = λ t p sites a. silent (put_live (waiting t p sites) x.coordinator) refl (moved [] t (waiting t p sites) a.live refl refl);
-    decide = λ t c n d v f s. commits t c _ n v f;
+    decide = λ t c n d w v f s. commits t c _ n v f;
     close = λ t why c rs n w g. closes t why c rs n w g;
     marks = λ c rs g. record {
       live = λ t h. let r = map_has mark c.live t h in live_as x rs r.0 t (ap (λ (t : Live). t.txn) r.2) (ap (λ (t : Live). t.view) r.2) (g.live r.0 r.1);
@@ -166,7 +166,7 @@ module _ (catalogue : Catalogue) (x : SiteState) (given : Input) (after : SiteSt
       says = g.says;
     };
     acknowledge = λ txn from. silent (with_acknowledged txn from x.coordinator) refl (λ t h. was_live [] t h);
-    inviting = λ c rs port g. record {
+    inviting = λ c rs port is g. record {
       live = λ t h. live_more x rs _ t (g.live t h);
       finished = λ f h. finished_more catalogue x given after rs _ f (g.finished f h);
       says = λ r h. ⊎_elim (λ old. g.says r old) (λ new. subst (λ (r : Reply). ReplyFrom catalogue x given after r.answer) (has_one_is (told_to port (answer.Inviting (next_view x))) r new) (ReplyFrom.free (answer.Inviting (next_view x)) refl)) (has_cases rs _ r h);

@@ -92,11 +92,11 @@ module _ (catalogue : Catalogue) (x : SiteState) (given : Input) (after : SiteSt
         moved (done t operation words) (λ a q. ⊎_elim (λ old. kept.live t h a old) (λ new. rw (← has_one_is words a new) report) (has_cases t.answers (words ∷ []) a q));
     goes = λ t u p at g. moved u (goes_on t u p at.live g);
     still = λ t p sites a. moved (waiting t p sites) (kept.live t a.live);
-    decide = λ t c n d v f s. after_end t Committed c (reports_of t n) (record { live = rw v kept.live; finished = rw f kept.finished });
+    decide = λ t c n d w v f s. after_end t Committed c (reports_of t n) (record { live = rw v kept.live; finished = rw f kept.finished });
     close = λ t why c rs n w g. after_end t why c (reports_of t n) g;
     marks = λ c rs g. record { live = λ t h a q. let r = map_has mark c.live t h in g.live r.0 r.1 a (rw (← ap (λ (t : Live). t.answers) r.2) at q); finished = g.finished };
     acknowledge = λ txn from. record { live = kept.live; finished = kept.finished };
-    inviting = λ c rs port g. g;
+    inviting = λ c rs port is g. g;
   }
 
 pub kept-step : (catalogue : Catalogue) (x : SiteState) (given : Input) → AnswersKept x.coordinator → AnswersKept (step catalogue x given).site.coordinator

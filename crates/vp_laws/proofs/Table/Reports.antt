@@ -30,12 +30,12 @@ module _ (catalogue : Catalogue) (x : SiteState) (given : Input) where
   one : (port : ℕ) (a : Answer) → Cause catalogue x given (told_to port a ∷ []) a → Caused (told_to port a ∷ [])
   one port a c r h = subst (λ (r : Reply). Cause catalogue x given (told_to port a ∷ []) r.answer) (has_one_is (told_to port a) r h) c
 
-  tells : (rs : List Reply) (words : Answer) → Tells catalogue x given words → Cause catalogue x given rs words
-  tells rs words (Tells.plain w e) = Cause.nothing (λ u. plain_unreported u w e)
-  tells rs words (Tells.inaccessible t p name rec exclusive at op f a) = Cause.nothing (λ u. refl)
-  tells rs words (Tells.again t number w h e) = Cause.kept (IsKept.live t h (kept_has number t.answers w e))
-  tells rs words (Tells.finished_again f number w h e c) = Cause.kept (IsKept.finished f h (kept_has number f.answers w e))
-  tells rs words (Tells.ended f number h e c) = Cause.nothing (λ u. end_unreported u f.txn number f.ending)
+  tells : (rs : List Reply) (port : ℕ) (words : Answer) → Tells catalogue x given port words → Cause catalogue x given rs words
+  tells rs _ words (Tells.plain w e port called c is) = Cause.nothing (λ u. plain_unreported u w e)
+  tells rs _ words (Tells.inaccessible t p name rec exclusive at op f a) = Cause.nothing (λ u. refl)
+  tells rs _ words (Tells.again t number w h e c) = Cause.kept (IsKept.live t h (kept_has number t.answers w e))
+  tells rs _ words (Tells.finished_again f number w h e c) = Cause.kept (IsKept.finished f h (kept_has number f.answers w e))
+  tells rs _ words (Tells.ended f number h e c) = Cause.nothing (λ u. end_unreported u f.txn number f.ending)
 
   alone_late : (port : ℕ) (a : Answer) → is_early_refusal a ≡ false → AreLate (told_to port a ∷ [])
   alone_late port a e r h = subst (λ (r : Reply). is_early_refusal r.answer ≡ false) (has_one_is (told_to port a) r h) e
@@ -57,15 +57,15 @@ module _ (catalogue : Catalogue) (x : SiteState) (given : Input) where
   front : (after : SiteState) → Front catalogue x given after (λ c rs cs. Caused rs)
   front after = record {
     begin = λ port view held c. one port _ (Cause.nothing (λ u. refl));
-    tells = λ words port t. one port words (tells _ words t);
+    tells = λ words port t. one port words (tells _ port words t);
     complete = λ t p operation words l h d c. one p.port words (Cause.done t p operation l h d c (alone_late p.port words (completed_says catalogue x given t p operation words l c).late));
     goes = λ t u p at g. none;
     still = λ t p sites a. none;
-    decide = λ t c n d v f s. more_replies [] (last_reply t Committed) (last_silent catalogue x given t Committed) none;
+    decide = λ t c n d w v f s. more_replies [] (last_reply t Committed) (last_silent catalogue x given t Committed) none;
     close = λ t why c rs n w g. more_replies rs (last_reply t why) (last_silent catalogue x given t why) g;
     marks = λ c rs g. g;
     acknowledge = λ txn from. none;
-    inviting = λ c rs port g. more_replies rs _ (inviting_silent port) g;
+    inviting = λ c rs port is g. more_replies rs _ (inviting_silent port) g;
   }
 
 pub causes-step : (catalogue : Catalogue) (x : SiteState) (given : Input) → Caused catalogue x given (step catalogue x given).effects.replies

@@ -186,12 +186,12 @@ module _ (catalogue : Catalogue) (x : SiteState) (given : Input) where
     one_reply : (u : TxnId) (port : ℕ) (a : Answer) → (reported u a ≡ None) ⊎ IsKept x a → Repeats x u (told_to port a ∷ [])
     one_reply u port a h r k = subst (λ (r : Reply). (reported u r.answer ≡ None) ⊎ IsKept x r.answer) (has_one_is (told_to port a) r k) h
 
-    tells : (u : TxnId) (words : Answer) → Tells catalogue x given words → (reported u words ≡ None) ⊎ IsKept x words
-    tells u words (Tells.plain w e) = inl (plain_unreported u w e)
-    tells u words (Tells.inaccessible t p name rec exclusive at operates f a) = inl refl
-    tells u words (Tells.again t number w h e) = inr (IsKept.live t h (kept_has number t.answers w e))
-    tells u words (Tells.finished_again f number w h e c) = inr (IsKept.finished f h (kept_has number f.answers w e))
-    tells u words (Tells.ended f number h e c) = inl (end_unreported u f.txn number f.ending)
+    tells : (u : TxnId) (port : ℕ) (words : Answer) → Tells catalogue x given port words → (reported u words ≡ None) ⊎ IsKept x words
+    tells u _ words (Tells.plain w e port called c is) = inl (plain_unreported u w e)
+    tells u _ words (Tells.inaccessible t p name rec exclusive at operates f a) = inl refl
+    tells u _ words (Tells.again t number w h e c) = inr (IsKept.live t h (kept_has number t.answers w e))
+    tells u _ words (Tells.finished_again f number w h e c) = inr (IsKept.finished f h (kept_has number f.answers w e))
+    tells u _ words (Tells.ended f number h e c) = inl (end_unreported u f.txn number f.ending)
 
     -- nothing is replied
     silent : (c : CoordinatorState) → ((t : Live) → Has c.live t → LiveTold catalogue x given [] t) → G c [] []
@@ -260,14 +260,14 @@ module _ (catalogue : Catalogue) (x : SiteState) (given : Input) where
             entered = λ e h. absurd (has_none e h);
           };
       tells = λ words port t. record {
-        live = λ a h. as_was _ a h (one_reply a.txn port words (tells a.txn words t));
-        others = λ u n. one_reply u port words (tells u words t);
+        live = λ a h. as_was _ a h (one_reply a.txn port words (tells a.txn port words t));
+        others = λ u n. one_reply u port words (tells u port words t);
         entered = λ e h. absurd (has_none e h);
       };
       complete = λ t p operation words l h d c. completes t p operation words l h d c;
       goes = λ t u p at g. silent (put_live u x.coordinator) (moved u (goes_on t u p at g));
       still = λ t p sites a. silent (put_live (waiting t p sites) x.coordinator) (moved (waiting t p sites) (LiveTold.was t a.live refl refl refl (SameCall.same p (record p { missing = sites }) a.pending refl refl) (no_replies t.txn)));
-      decide = λ t c n d v f s. commits t c _ v;
+      decide = λ t c n d w v f s. commits t c _ v;
       close = λ t why c rs n w g. more c (with_finished t why c) rs (last_reply t why) (last_silent t why) (λ a h. without_first_has (named t.txn) c.live a h) g;
       marks = λ c rs g. record {
         live = λ a h. let r = map_has mark c.live a h in subst (LiveTold catalogue x given rs) r.2 (mark_told rs r.0 (g.live r.0 r.1));
@@ -275,7 +275,7 @@ module _ (catalogue : Catalogue) (x : SiteState) (given : Input) where
         entered = λ e h. absurd (has_none e h);
       };
       acknowledge = λ txn from. silent (with_acknowledged txn from x.coordinator) (λ t h. as_was [] t h (no_replies t.txn));
-      inviting = λ c rs port g. more c c rs _ (inviting_silent port) (λ t h. h) g;
+      inviting = λ c rs port is g. more c c rs _ (inviting_silent port) (λ t h. h) g;
     }
 
 pub told-step : (catalogue : Catalogue) (x : SiteState) (given : Input) → Apart x.live → let o = step catalogue x given in ToldNow catalogue x given o.site.coordinator o.effects.replies o.effects.commits

@@ -1,10 +1,9 @@
 -- What the copies of a majority tell of the one copy.
-use Rattle.std.proofs.Common.{◌≡◌, ◌∙◌, ap, sym, subst, ℕ, true, false, List, refl, ⊎_elim}
+use Rattle.std.proofs.Common.{◌≡◌, ◌∙◌, ap, sym, subst, ℕ, true, List, refl}
 use Rattle.std.specs.Prelude.{Option, Some, None, option_map, slice_get}
 use Rattle.std.specs.List.{Contains}
-use Rattle.std.specs.Str.{bytes_eq}
 use Rattle.std.proofs.lemmas.Slice.Eq.{bytes_eq-Decides}
-use Rattle.vp_model.specs.Types.{ViewId, View, Commit, Stored, Doubt}
+use Rattle.vp_model.specs.Types.{View, Commit, Stored, Doubt}
 use Rattle.vp_model.specs.Words.{keys, value_at, opening}
 use Rattle.vp_model.specs.Catalogue.{Catalogue, holders, accessible, start_values, start_copies}
 use Rattle.vp_model.specs.Headline.{has_value}
@@ -27,7 +26,7 @@ use Rattle.vp_laws.proofs.Journal.Acts.{after_all}
 use Rattle.vp_laws.proofs.Journal.Order.{order_has}
 use Rattle.vp_laws.proofs.Journal.Playing.{serial_value}
 use Rattle.vp_laws.proofs.Journal.UpTo.{up_to_from}
-use Rattle.vp_laws.proofs.Journal.ValuesAfter.{Wrote, writes_over, value_in, value_up_to, value_after, leaves_value}
+use Rattle.vp_laws.proofs.Journal.ValuesAfter.{Wrote, writes_over, value_in, value_up_to, leaves_value}
 use Rattle.vp_laws.proofs.Keeping.Stopping.{shared_holder}
 use Rattle.vp_laws.proofs.Copies.Brought.{doubt_on}
 use Rattle.vp_laws.proofs.Copies.Facts.{entry_closes, still_below}

@@ -1,5 +1,5 @@
 use Rattle.std.proofs.lemmas.List.Edits.{map_over_more}
-use Rattle.vp_records.proofs.decided.acknowledge_all.Goals as goal
+use Rattle.vp_records.proofs.listed.acknowledge_all.Goals as goal
 
 pub loop-decision-preserved : goal.loop-decision-preserved
 loop-decision-preserved c =

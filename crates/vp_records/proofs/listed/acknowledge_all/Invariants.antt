@@ -1,7 +1,7 @@
 use Rattle.std.proofs.Common.{◌≡◌, ◌==◌, ◌++◌, not, filter, map, take, drop, if◌then◌else◌}
 use Rattle.vp_base.specs.declared.entry.Decision.{Decision}
 use Rattle.vp_model.specs.Words.{same_txn}
-use Rattle.vp_records.proofs.decided.acknowledge_all.Given as goal
+use Rattle.vp_records.proofs.listed.acknowledge_all.Given as goal
 
 abbrev pub invariant-loop-decision : goal.invariant-loop-decision
 invariant-loop-decision l =

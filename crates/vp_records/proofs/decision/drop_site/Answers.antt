@@ -1,6 +1,6 @@
 use Rattle.std.proofs.Common.{rules}
 use Rattle.std.proofs.lemmas.Fn.{filter_same}
-use Rattle.vp_records.proofs.decided.drop_site.Goals as goal
+use Rattle.vp_records.proofs.decision.drop_site.Goals as goal
 
 pub returns : goal.returns
 returns c =
