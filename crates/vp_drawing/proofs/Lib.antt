@@ -2,3 +2,4 @@ pub mod Became
 pub mod Turns
 pub mod Marks
 pub mod Stepping
+pub mod Ending

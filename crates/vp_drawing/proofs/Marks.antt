@@ -47,7 +47,12 @@ module _ (catalogue : Catalogue) where
       ∙ ap (λ front. front ++ ways_of messages) (kept (said_commit x) (λ commit s. refl) commits s)
   shown_keeps x _ s = sym (append-nil (ways s))
 
+  event_keeps : (x number : ℕ) (e : Event) (s : Sheet) → ways (said_event x number e s) ≡ ways s
+  unfolding said_event
+  event_keeps x number e s = refl
+
   view_keeps : (x : ℕ) (joined : Option View) (s : Sheet) → ways (said_view catalogue x joined s) ≡ ways s
+  unfolding said_view
   view_keeps x None s = refl
   view_keeps x (Some view) s = refl
 
@@ -61,6 +66,7 @@ module _ (catalogue : Catalogue) where
       kept (with_look catalogue (top s.lines) (top last.lines)) (λ pair s. refl) looks last
       ∙ view_keeps x joined told
       ∙ shown_keeps x line.shown begun
+      ∙ ap (λ front. front ++ ways_of (messages_in line.shown)) (event_keeps x number line.event (with_cut (cut_of catalogue (top s.lines + 18) line.event) s))
 
   hidden_ways : (what : Shown) (s : Sheet) → ways (hidden catalogue what s) ≡ ways s ++ ways_of (messages_in what)
   hidden_ways (shown.Step commits first messages replies) s = more (hidden_message catalogue) (λ sent s. one_more catalogue false s.lines sent s) messages s

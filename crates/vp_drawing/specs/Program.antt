@@ -71,3 +71,60 @@ pub record IsRefused (bytes : List ℕ) (end : Status) (text : List ℕ) : Type 
 -- the text that is defined for an input
 abbrev pub IsAnswer : Part → List ℕ → Status → List ℕ → Type 0
 IsAnswer part bytes end text = IsDrawn part bytes end text ⊎ IsRefused bytes end text
+
+-- ---- a run
+
+-- the most bytes that an input has
+abbrev pub most_bytes : ℕ
+most_bytes = 16777216
+
+-- The words name a part, and the input was read to its end.
+pub record IsAnswered (words : List (List ℕ)) (bytes : List ℕ) (ended : Type 0) (end : Status) (text : List ℕ) : Type 0 where
+  pub part : Part
+  pub words_are : part_of words ≡ Some part
+  pub fits : length bytes ≤ most_bytes
+  pub ended : ended
+  pub answer : IsAnswer part bytes end text
+
+-- The words name a part, and the input is too long.
+abbrev pub IsTooLong : List (List ℕ) → List ℕ → List ℕ → Type 0
+IsTooLong words bytes text = (part_of words ≢ None) × (most_bytes < length bytes) × (text ≡ codes "limit bytes 16777216\n")
+
+-- The words name no part, and nothing is read.
+abbrev pub IsUsage : List (List ℕ) → List ℕ → List ℕ → Type 0
+IsUsage words bytes text = (part_of words ≡ None) × (bytes ≡ []) × (text ≡ usage_text)
+
+-- the text that is defined for the words at each status, where these bytes were taken of the source
+abbrev pub IsDefined : List (List ℕ) → List ℕ → Type 0 → Status → List ℕ → Type 0
+IsDefined words bytes ended status.Usage text = IsUsage words bytes text
+IsDefined words bytes ended status.Limit text = IsTooLong words bytes text ⊎ IsAnswered words bytes ended status.Limit text
+IsDefined words bytes ended end text = IsAnswered words bytes ended end text
+
+pub record Defines (words : List (List ℕ)) (source source' : SourceState) (end : Status) (text : List ℕ) : Type 0 where
+  pub bytes : List ℕ
+  pub took : Took bytes source source'
+  pub defined : IsDefined words bytes (IsEnded source') end text
+
+module _ (words : List (List ℕ)) (source source' : SourceState) (sink sink' : SinkState) where
+  -- all of the text that is defined went to the sink
+  pub record IsPrinted (end : Status) : Type 0 where
+    pub text : List ℕ
+    pub defines : Defines words source source' end text
+    pub appended : Appends sink.held sink'.held text
+
+  -- a prefix of a text that is defined did
+  pub record IsCut : Type 0 where
+    pub end : Status
+    pub text : List ℕ
+    pub defines : Defines words source source' end text
+    pub appended : AppendsPrefix sink.held sink'.held text
+
+  abbrev pub IsSilent : Type 0
+  IsSilent = Appends sink.held sink'.held []
+
+  -- what the status of a run says
+  abbrev pub Ends : Status → Type 0
+  Ends status.SourceFault = (part_of words ≢ None) × Rose source.faults source'.faults × IsSilent
+  Ends status.SinkFault = Rose sink.faults sink'.faults × IsCut
+  Ends status.NoMemory = IsCut ⊎ IsSilent
+  Ends end = IsPrinted end

@@ -1,8 +1,10 @@
 //! The top call.
 
-ghost use Rattle.std.specs.Prelude.{◌≡◌, IfOk};
+ghost use Rattle.std.specs.Prelude.{◌≡◌, ◌≢◌, IfOk, IsErrOf, None};
+ghost use Rattle.vp_outside.specs.Causes.{Rose};
 ghost use Rattle.vp_schedule.specs.Document.{IsSchedule};
-ghost use Rattle.vp_drawing.specs.Program.{Gives, IsAnswer, Tells};
+ghost use Rattle.vp_drawing.specs.Program.{Defines, Ends, Gives, IsAnswer, Tells, part_of};
+ghost use Rattle.vp_drawing.specs.declared.program.Fault.TheVariants as program_faults;
 
 use crate::run::{DrawEnd, draw_run};
 use crate::words::part_of;
@@ -16,30 +18,57 @@ use vp_status::{Defined, Status, print_bad_line, print_limit, print_twice};
 /// The most bytes that an input has.
 const MOST_BYTES: usize = 16_777_216;
 
-/// Draws: reads the source to its end, plays the schedule, and prints the picture.
+/// Why nothing is told.
+#[derive(Clone, Copy, Drop)]
+enum Fault {
+    SourceFault,
+    NoMemory,
+}
+
+impl From<NoMemory> for Fault {
+    ghost from_gives = { λ _ fault. fault ≡ program_faults.NoMemory };
+
+    fn from(_: NoMemory) -> Fault {
+        Fault::NoMemory
+    }
+}
+
+/// Draws: reads the source to its end, plays the schedule, and prints the picture of it or of a part. Nothing is printed before the source was
+/// read.
 pub fn draw<S: Source, K: Sink>(
     alloc: Global,
     words: &[Word],
     source: &mut S,
     sink: &mut K,
-) -> Status {
-    let Some(part) = part_of(words) else {
-        return match Defined::new(alloc, Status::Usage, b"usage: vpdraw [FROM TO]\n") {
-            Ok(told) => told.print(sink),
-            Err(NoMemory) => Status::NoMemory,
-        };
-    };
-    let told = match read_to_end(alloc, source, MOST_BYTES) {
-        Ok(input) => drawn(alloc, &input, part),
-        Err(InputFault::Failed) => return Status::SourceFault,
-        Err(InputFault::TooLong) => {
-            Defined::new(alloc, Status::Limit, b"limit bytes 16777216\n")
-        }
-        Err(InputFault::NoMemory) => Err(NoMemory),
-    };
-    match told {
+) -> Status
+    ensures ends { Ends words.now (S.state source.old) (S.state source.new) (K.state sink.old) (K.state sink.new) result }
+    ensures unread { part_of words.now ≡ None → source.new ≡ source.old }
+{
+    match told(alloc, words, source) {
         Ok(told) => told.print(sink),
-        Err(NoMemory) => Status::NoMemory,
+        Err(Fault::SourceFault) => Status::SourceFault,
+        Err(Fault::NoMemory) => Status::NoMemory,
+    }
+}
+
+/// What is defined for the words and for what the source has.
+fn told<S: Source>(alloc: Global, words: &[Word], source: &mut S) -> Result<Defined, Fault>
+    ensures told { IfOk result (λ it. Defines words.now (S.state source.old) (S.state source.new) it.status it.text.items) }
+    ensures source_fault { IsErrOf result program_faults.SourceFault → (part_of words.now ≢ None) × Rose (S.state source.old).faults (S.state source.new).faults }
+    ensures unread { part_of words.now ≡ None → source.new ≡ source.old }
+{
+    let Some(part) = part_of(words) else {
+        return Ok(Defined::new(alloc, Status::Usage, b"usage: vpdraw [FROM TO]\n")?);
+    };
+    match read_to_end(alloc, source, MOST_BYTES) {
+        Ok(input) => Ok(drawn(alloc, &input, part)?),
+        Err(InputFault::Failed) => Err(Fault::SourceFault),
+        Err(InputFault::TooLong) => Ok(Defined::new(
+            alloc,
+            Status::Limit,
+            b"limit bytes 16777216\n",
+        )?),
+        Err(InputFault::NoMemory) => Err(Fault::NoMemory),
     }
 }
 
