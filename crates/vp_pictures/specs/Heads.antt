@@ -30,7 +30,7 @@ abbrev pub opened : Catalogue → Sheet → Sheet
 opened catalogue s =
     if nat_lt 1 s.part.from
     then next_line s
-    else said 72 ink.View (view_words catalogue (record { id = opening; members = sites_of catalogue })) s
+    else said 76 ink.View (view_words catalogue (record { id = opening; members = sites_of catalogue })) s
 
 unfoldable pub head : Catalogue → Sheet → Sheet
 head catalogue s =

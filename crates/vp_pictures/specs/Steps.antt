@@ -81,7 +81,7 @@ refuses _ = true
 
 -- where the texts of an event begin
 abbrev pub event_x : Catalogue → Event → Sheet → ℕ
-event_x catalogue e s = option_map_or (λ site. column catalogue site + 12) (site_drawn e s) 72
+event_x catalogue e s = option_map_or (λ site. column catalogue site + 16) (site_drawn e s) 76
 
 -- an event; a delivery is the message that comes
 abbrev pub words_of_event : Event → Sheet → List ℕ

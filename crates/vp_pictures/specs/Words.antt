@@ -43,7 +43,7 @@ abbrev pub view_words : Catalogue → View → List ℕ
 view_words catalogue view =
     codes "view "
     ++ (view_text view.id
-    ++ (codes " of"
+    ++ (codes ", members"
     ++ (flat_map member_words view.members
     ++ (codes ": may use " ++ (decimal (usable catalogue view) ++ (codes " of " ++ (decimal (length catalogue.records) ++ codes " records")))))))
 

@@ -140,7 +140,7 @@ impl Sheet {
             members: catalog.sites().copy_of()?,
         };
         let text = view_words(self.texts.allocator(), catalog, &view)?;
-        self.say(72, Ink::View, text)
+        self.say(76, Ink::View, text)
     }
 
     /// The stub of a message that is drawn, where the message never comes.

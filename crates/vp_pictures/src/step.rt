@@ -242,8 +242,8 @@ impl Sheet {
         ensures most { result ≤ 4000 }
     {
         match self.site(event) {
-            None => 72,
-            Some(site) => column(catalog, site) + 12,
+            None => 76,
+            Some(site) => column(catalog, site) + 16,
         }
     }
 

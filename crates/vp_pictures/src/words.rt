@@ -142,7 +142,7 @@ pub fn view_words(alloc: Global, catalog: &Catalog, view: &View) -> Result<Word,
 {
     let mut text = Vec::from_slice(alloc, b"view ")?;
     view.id.print(&mut text)?;
-    text.extend_from_slice(b" of")?;
+    text.extend_from_slice(b", members")?;
     print_members(view.members.as_slice(), &mut text)?;
     text.extend_from_slice(b": may use ")?;
     print_number(&mut text, u64::from(usable(catalog, view)))?;
