@@ -11,7 +11,7 @@ use Rattle.vp_model.specs.Catalogue.{Catalogue, sites_of}
 use Rattle.vp_model.specs.Site.{SiteState, Stepped}
 use Rattle.vp_model.specs.Step.{step, start}
 use Rattle.vp_model.specs.Told.{messages_in}
-use Rattle.vp_model.specs.World.{Place, WorldState, Moved, shows, place_of, site_of, message_at, is_cut, change_place, after_step, site_step, at_site, deliver, crash, restart, restart_place, restart_from, happens, next}
+use Rattle.vp_model.specs.World.{Place, WorldState, Moved, shows, place_of, site_of, message_at, is_cut, change_place, after_step, site_step, at_site, deliver, crash, cut, heal, restart, restart_place, restart_from, happens, next}
 use Rattle.vp_places.specs.Asked.{Asked, started, restart_asked}
 use Rattle.vp_world.specs.Steps.{asked_of, step_at, step_by}
 use Rattle.vp_pictures.specs.declared.sheet.Look.{Look}
@@ -58,8 +58,8 @@ by_found P f None d some none = none refl
 by_found P f (Some a) d some none = some a refl
 
 by_cond : (P : Moved → Type 0) (b : Bool) (m k : Moved) → (b ≡ true → P m) → (b ≡ false → P k) → P (if b then m else k)
-by_cond P true m k yes no = yes refl
-by_cond P false m k yes no = no refl
+by_cond P true m k holds fails = holds refl
+by_cond P false m k holds fails = fails refl
 
 module _ (catalogue : Catalogue) where
   abbrev Is : Option ℕ → Option Seen → WorldState → Moved → Type 0
@@ -175,8 +175,8 @@ module _ (catalogue : Catalogue) where
   happens_is (event.Flow count) w = stays None None refl w w shown.Nothing refl refl refl refl
   happens_is (event.Tick s) w = at_site_is s (event.Tick s) input.Tick w
   happens_is (event.Probe s) w = at_site_is s (event.Probe s) input.Probe w
-  happens_is (event.Cut a b) w = stays (Some a) None refl w _ shown.Nothing refl refl refl refl
-  happens_is (event.Heal a b) w = stays (Some a) None refl w _ shown.Nothing refl refl refl refl
+  happens_is (event.Cut a b) w = stays (Some a) None refl w (cut a b w) shown.Nothing refl refl refl refl
+  happens_is (event.Heal a b) w = stays (Some a) None refl w (heal a b w) shown.Nothing refl refl refl refl
   happens_is (event.Crash s) w = crash_is s w
   happens_is (event.Restart s) w = restart_is s w
 
@@ -186,26 +186,31 @@ module _ (catalogue : Catalogue) where
 
 -- ---- what is drawn of the sites then
 
+abbrev pair : ℕ → Look → ℕ × Look
+pair id look = (id, look)
+
+abbrev pub looks_at : WorldState → List ℕ → List (ℕ × Look)
+looks_at w sites = map (λ id. (id, look_of (site_of w id))) sites
+
 module _ (w v : WorldState) where
-  unchanged_looks : v.places ≡ w.places → (sites : List ℕ) → map (λ id. (id, look_of (site_of v id))) sites ≡ map (λ id. (id, look_of (site_of w id))) sites
+  unchanged_looks : v.places ≡ w.places → (sites : List ℕ) → looks_at v sites ≡ looks_at w sites
   unchanged_looks same [] = refl
   unchanged_looks same (id ∷ sites) =
-      ap (λ (places : List Place). (id, look_of (option_and_then (λ (p : Place). p.up) (place_of id places))) ∷ map (λ id. (id, look_of (site_of v id))) sites) same
-      ∙ ap (λ rest. (id, look_of (site_of w id)) ∷ rest) (unchanged_looks same sites)
+      ap (λ (places : List Place). pair id (look_of (option_and_then (λ (p : Place). p.up) (place_of id places))) ∷ looks_at v sites) same
+      ∙ ap (λ (rest : List (ℕ × Look)). pair id (look_of (site_of w id)) ∷ rest) (unchanged_looks same sites)
 
-  replaced_looks : (s : ℕ) (look : Look) → look ≡ look_of (site_of v s) → ((j : ℕ) → j ≢ s → site_of v j ≡ site_of w j) → (sites : List ℕ)
-      → map (λ id. (id, look_of (site_of v id))) sites ≡ replace_at s look (map (λ id. (id, look_of (site_of w id))) sites)
+  replaced_looks : (s : ℕ) (look : Look) → look ≡ look_of (site_of v s) → ((j : ℕ) → j ≢ s → site_of v j ≡ site_of w j) → (sites : List ℕ) → looks_at v sites ≡ replace_at s look (looks_at w sites)
   replaced_looks s look is others [] = refl
-  replaced_looks s look is others (j ∷ sites) = go (j == s) refl
+  replaced_looks s look is others (j ∷ sites) = go (j == s) refl (replaced_looks s look is others sites)
     where
-      go : (b : Bool) → (j == s) ≡ b → map (λ id. (id, look_of (site_of v id))) (j ∷ sites) ≡ replace_at s look (map (λ id. (id, look_of (site_of w id))) (j ∷ sites))
-      go true at =
+      go : (b : Bool) → (j == s) ≡ b → looks_at v sites ≡ replace_at s look (looks_at w sites) → looks_at v (j ∷ sites) ≡ replace_at s look (looks_at w (j ∷ sites))
+      go true at rest =
           let same : j ≡ s = grind (arith, nat_tests, at) in
-          let first : (j, look_of (site_of v j)) ≡ (s, look) = ap (λ id. (id, look_of (site_of v id))) same ∙ ap (λ l. (s, l)) (sym is) in
-          rw at (ap (λ p. p ∷ map (λ id. (id, look_of (site_of v id))) sites) first ∙ ap (λ r. (s, look) ∷ r) (replaced_looks s look is others sites))
-      go false at =
+          let first : pair j (look_of (site_of v j)) ≡ pair s look = ap (λ id. pair id (look_of (site_of v id))) same ∙ ap (pair s) (sym is) in
+          rw at (ap (λ (p : ℕ × Look). p ∷ looks_at v sites) first ∙ ap (λ (r : List (ℕ × Look)). pair s look ∷ r) rest)
+      go false at rest =
           let n : j ≢ s = grind (arith, nat_tests, at) in
-          rw at (ap (λ site. (j, look_of site) ∷ map (λ id. (id, look_of (site_of v id))) sites) (others j n) ∙ ap (λ r. (j, look_of (site_of w j)) ∷ r) (replaced_looks s look is others sites))
+          rw at (ap (λ site. pair j (look_of site) ∷ looks_at v sites) (others j n) ∙ ap (λ (r : List (ℕ × Look)). pair j (look_of (site_of w j)) ∷ r) rest)
 
 pub looks_follow : (catalogue : Catalogue) (site : Option ℕ) (seen : Option Seen) (w v : WorldState) → Became site seen w v → looks_in catalogue v ≡ with_seen site seen (looks_in catalogue w)
 looks_follow catalogue None None w v same = unchanged_looks w v same (sites_of catalogue)

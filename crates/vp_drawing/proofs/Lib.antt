@@ -1,4 +1,5 @@
 pub mod Became
+pub mod Starting
 pub mod Turns
 pub mod Marks
 pub mod Stepping

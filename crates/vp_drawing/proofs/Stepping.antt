@@ -28,6 +28,12 @@ use Rattle.vp_drawing.specs.declared.watch.Watch.{Watch}
 use Rattle.vp_drawing.specs.Looks.{looks_in, joined, joined_in, with_seen, event_site, seen_of, seen_by}
 use Rattle.vp_drawing.specs.Watching.{Watches, latest}
 use Rattle.vp_drawing.specs.Drawn.{picture_limits, drawn_moment, Draws, IsAt}
+use Rattle.vp_model.specs.World.{Schedule, flow, flowing, one_event, moments_of}
+use Rattle.vp_model.specs.Limits.{limit_reached}
+use Rattle.std.specs.Prelude.{Err, Result, get_or, ⊤}
+use Rattle.vp_drawing.specs.declared.run.DrawEnd.{DrawEnd}
+use Rattle.vp_drawing.specs.declared.run.DrawEnd.TheVariants as end
+use Rattle.vp_drawing.proofs.Turns.{AreDrawn, Flowing, Going, flow_turns, flow_is_cut, going_on, going_is_cut, going_ends, none_reached}
 use Rattle.vp_drawing.proofs.Became.{Became, follows, looks_follow, joined_follows}
 
 -- ---- limits
@@ -142,3 +148,57 @@ module _ (catalogue : Catalogue) (n : ℕ) (e : Event) (w : WorldState) (old : D
           few_messages = few;
         },
       )
+
+-- ---- a flow
+
+module _ (catalogue : Catalogue) (n count : ℕ) (w : WorldState) (i : ℕ) (known : Known) (old new : Drawn) (same : known.catalogue ≡ catalogue) (so_far : Flowing catalogue n count w i known.world old.sheet new.sheet) where
+  pub flow_shows : IsAt catalogue known.world new → flow catalogue n count (run_in w) ≡ so_far.run → Draws catalogue (flow catalogue n count (run_in w)) (Ok known) old new
+  flow_shows at e =
+      subst (λ (run : Run). Draws catalogue run (Ok known) old new) (sym e) (
+        so_far.are.within,
+        ap (λ (c : Catalogue). record { catalogue = c; world = known.world }) same ∙ ap (λ (v : WorldState). record { catalogue = catalogue; world = v }) so_far.world,
+        so_far.are.drawn,
+        subst (λ (v : WorldState). IsAt catalogue v new) so_far.world at,
+      )
+
+  module _ (k : ℕ) (now : Drawn) (lt : i < count) (some : flowing known.world ≡ Some k) where
+    pub flow_goes_on : (after : Known) → Draws known.catalogue (one_step known.catalogue n (event.Deliver k) (run_in known.world)) (Ok after) new now
+        → (after.catalogue ≡ catalogue) × Flowing catalogue n count w (i + 1) after.world old.sheet now.sheet × IsAt catalogue after.world now
+    flow_goes_on after h =
+        let g = subst (λ (c : Catalogue). Draws c (one_step c n (event.Deliver k) (run_in known.world)) (Ok after) new now) same h in
+        let turn = flow_turns catalogue n count w i known.world old.sheet new.sheet so_far k lt some now.sheet (record { within = g.0; drawn = g.2 }) in
+        let world : after.world ≡ (one_step catalogue n (event.Deliver k) (run_in known.world)).world = ap (λ (a : Known). a.world) g.1 in (
+          ap (λ (a : Known). a.catalogue) g.1,
+          subst (λ (v : WorldState). Flowing catalogue n count w (i + 1) v old.sheet now.sheet) (sym world) turn,
+          subst (λ (v : WorldState). IsAt catalogue v now) (sym world) g.3,
+        )
+
+    pub flow_ends : (why : DrawEnd) → Draws known.catalogue (one_step known.catalogue n (event.Deliver k) (run_in known.world)) (Err why) new now → Draws catalogue (flow catalogue n count (run_in w)) (Err why) old now
+    flow_ends (end.TooMany what) h =
+        flow_is_cut catalogue n count w i known.world old.sheet new.sheet so_far k lt some what
+        (subst (λ (c : Catalogue). limit_in picture_limits (one_step c n (event.Deliver k) (run_in known.world)).moments ≡ Some what) same h)
+    flow_ends end.NoMemory h = tt
+
+-- ---- a schedule
+
+module _ (s : Schedule) (i number : ℕ) (known : Known) (begun : Sheet) (new : Drawn) (same : known.catalogue ≡ s.catalogue) (counted : number ≡ i) (so_far : Going s i known.world begun new.sheet) (x : Event) (lt : i < length s.events) (at : x ≡ get_or s.events i x) (now : Drawn) where
+  abbrev pub Answers : Result Known DrawEnd → Type 0
+  Answers result = Draws known.catalogue (one_event known.catalogue (number + 1) x (run_in known.world)) result new now
+
+  answers_so : (result : Result Known DrawEnd) → Answers result → Draws s.catalogue (one_event s.catalogue (i + 1) x (run_in known.world)) result new now
+  answers_so result h =
+      subst (λ j. Draws s.catalogue (one_event s.catalogue (j + 1) x (run_in known.world)) result new now) counted
+      (subst (λ (c : Catalogue). Draws c (one_event c (number + 1) x (run_in known.world)) result new now) same h)
+
+  pub event_is_drawn : (after : Known) → Answers (Ok after) → (after.catalogue ≡ s.catalogue) × Going s (i + 1) after.world begun now.sheet × IsAt s.catalogue after.world now
+  event_is_drawn after h =
+      let g = answers_so (Ok after) h in
+      let turn = going_on s i known.world begun new.sheet so_far x lt at now.sheet (record { within = g.0; drawn = g.2 }) in
+      let world : after.world ≡ (one_event s.catalogue (i + 1) x (run_in known.world)).world = ap (λ (a : Known). a.world) g.1 in (
+        ap (λ (a : Known). a.catalogue) g.1,
+        subst (λ (v : WorldState). Going s (i + 1) v begun now.sheet) (sym world) turn,
+        subst (λ (v : WorldState). IsAt s.catalogue v now) (sym world) g.3,
+      )
+
+  pub event_is_over : (what : Counted) → Answers (Err (end.TooMany what)) → limit_reached picture_limits s ≡ Some what
+  event_is_over what h = going_is_cut s i known.world begun new.sheet so_far x lt at what (answers_so (Err (end.TooMany what)) h)

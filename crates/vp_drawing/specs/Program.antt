@@ -79,11 +79,11 @@ abbrev pub most_bytes : ℕ
 most_bytes = 16777216
 
 -- The words name a part, and the input was read to its end.
-pub record IsAnswered (words : List (List ℕ)) (bytes : List ℕ) (ended : Type 0) (end : Status) (text : List ℕ) : Type 0 where
+pub record IsAnswered (words : List (List ℕ)) (bytes : List ℕ) (at_end : Type 0) (end : Status) (text : List ℕ) : Type 0 where
   pub part : Part
   pub words_are : part_of words ≡ Some part
   pub fits : length bytes ≤ most_bytes
-  pub ended : ended
+  pub ended : at_end
   pub answer : IsAnswer part bytes end text
 
 -- The words name a part, and the input is too long.

@@ -56,7 +56,7 @@ pub struct Drawn {
 }
 
 /// Each site is up in the opening view.
-#[tactic(auto, unfolding(vp_model::specs::World::start_world, vp_model::specs::Step::start))]
+#[tactic(auto, using(crate::proofs::Starting::first_all))]
 fn first_looks(alloc: Global, catalog: &Catalog) -> Result<Vec<(SiteId, Look)>, NoMemory>
     ensures { IfOk result (λ looks. looks.items ≡ looks_in catalog.now (start_world catalog.now)) }
 {

@@ -8,6 +8,6 @@ abbrev pub invariant-loop-event : goal.invariant-loop-event
 invariant-loop-event l = record {
   catalogue : l.world.catalogue ≡ l.schedule.catalogue;
   count : l.number ≡ l.event-index;
-  so_far : Going l.schedule l.event-index l.world.world (head l.schedule.catalogue (blank l.part)) l.drawn.sheet;
+  so_far : Going l.schedule l.event-index l.world.world (head l.schedule.catalogue (blank l.fn.part)) l.drawn.sheet;
   at : IsAt l.schedule.catalogue l.world.world l.drawn;
 }
