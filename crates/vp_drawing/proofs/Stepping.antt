@@ -27,7 +27,10 @@ use Rattle.vp_drawing.specs.declared.watch.Seen.{Seen}
 use Rattle.vp_drawing.specs.declared.watch.Watch.{Watch}
 use Rattle.vp_drawing.specs.Looks.{looks_in, joined, joined_in, with_seen, event_site, seen_of, seen_by}
 use Rattle.vp_drawing.specs.Watching.{Watches, latest}
-use Rattle.vp_drawing.specs.Drawn.{picture_limits, drawn_moment, Draws, IsAt}
+use Rattle.vp_pictures.specs.Heads.{head}
+use Rattle.vp_pictures.specs.Pictures.{picture_text}
+use Rattle.vp_pictures.specs.declared.sheet.Part.{Part}
+use Rattle.vp_drawing.specs.Drawn.{picture_limits, drawn_moment, Draws, DrawsAll, IsAt, blank}
 use Rattle.vp_model.specs.World.{Schedule, flow, flowing, one_event, moments_of}
 use Rattle.vp_model.specs.Limits.{limit_reached}
 use Rattle.std.specs.Prelude.{Err, Result, get_or, ⊤}
@@ -202,3 +205,12 @@ module _ (s : Schedule) (i number : ℕ) (known : Known) (begun : Sheet) (new : 
 
   pub event_is_over : (what : Counted) → Answers (Err (end.TooMany what)) → limit_reached picture_limits s ≡ Some what
   event_is_over what h = going_is_cut s i known.world begun new.sheet so_far x lt at what (answers_so (Err (end.TooMany what)) h)
+
+  pub event_ends : (part : Part) (out : List ℕ) (why : DrawEnd) → Answers (Err why) → DrawsAll part s (Err why) out out
+  event_ends part out (end.TooMany what) h = event_is_over what h
+  event_ends part out end.NoMemory h = tt
+
+pub schedule_is_drawn : (part : Part) (s : Schedule) (i : ℕ) (now : WorldState) (new : Sheet) → Going s i now (head s.catalogue (blank part)) new → i ≡ length s.events → (old out : List ℕ) → out ≡ old ++ picture_text s.catalogue new → DrawsAll part s (Ok tt) old out
+schedule_is_drawn part s i now new so_far all old out e =
+    let are = going_ends s i now (head s.catalogue (blank part)) new so_far all in
+    (none_reached (moments_of s) are.within, e ∙ ap (λ (sheet : Sheet). old ++ picture_text s.catalogue sheet) are.drawn)
