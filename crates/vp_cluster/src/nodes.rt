@@ -18,10 +18,7 @@ use std::alloc::Global;
 use std::marker::Model;
 use vp_base::{CopyOf, Effects, Event, Input, NoMemory, SiteId};
 use vp_catalog::Catalog;
-use vp_hosts::{
-    Host, Letter, Logs, Stop, StoppedLog, begin_all, crash_at, logs_of, restart_at, stop_at,
-    take_at,
-};
+use vp_hosts::{Hosts, Letter, Logs, Stop, StoppedLog};
 use vp_places::{Site, StartFault, Stepper};
 use vp_records::Durable;
 use vp_turns::TurnEffects;
@@ -30,8 +27,7 @@ use vp_wire::Body;
 /// The hosts of the sites of a catalogue, and the letters of the messages that were sent, in order.
 #[derive(Drop)]
 pub struct Nodes {
-    catalog: Catalog,
-    hosts: Vec<Host>,
+    hosts: Hosts,
     letters: SentLetters,
 }
 
@@ -41,9 +37,9 @@ impl Model for Nodes {
 
     ghost Value = { NodesValue };
 
-    ghost view = { λ n. record { catalogue = n.catalog; hosts = n.hosts.items; letters = n.letters } };
+    ghost view = { λ n. record { catalogue = n.hosts.catalogue; hosts = n.hosts.hosts; letters = n.letters } };
 
-    ghost invariant = { λ n. AreHosts n.catalog n.hosts.items };
+    ghost invariant = { λ n. AreHosts n.hosts.catalogue n.hosts.hosts };
 }
 
 impl Nodes {
@@ -53,9 +49,8 @@ impl Nodes {
     {
         let alloc = catalog.sites().allocator();
         Ok(Nodes {
-            hosts: begin_all(&catalog)?,
+            hosts: Hosts::begin(catalog)?,
             letters: SentLetters::none(alloc),
-            catalog,
         })
     }
 
@@ -63,7 +58,7 @@ impl Nodes {
     pub fn logs(&self, alloc: Global) -> Result<Logs, NoMemory>
         ensures { IfOk result (λ logs. logs ≡ map site_log self.now.hosts) }
     {
-        Ok(Logs::from_vec(logs_of(alloc, &self.hosts)?))
+        self.hosts.logs(alloc)
     }
 
     /// What the event brings to a site.
@@ -71,15 +66,12 @@ impl Nodes {
         requires { IsEvent event.now }
         ensures { IfOk result (λ letter. letter ≡ letter_of self.now.catalogue self.now.letters event.now) }
     {
+        let catalog = self.hosts.catalog();
         match event {
-            Event::Call { site, call } => to_site(
-                &self.catalog,
-                *site,
-                Body::Call(call.copy_of()?),
-            ),
+            Event::Call { site, call } => to_site(catalog, *site, Body::Call(call.copy_of()?)),
             Event::Deliver { k } => self.letters.letter(*k),
-            Event::Tick { site } => to_site(&self.catalog, *site, Body::Tick),
-            Event::Probe { site } => to_site(&self.catalog, *site, Body::ProbeNow),
+            Event::Tick { site } => to_site(catalog, *site, Body::Tick),
+            Event::Probe { site } => to_site(catalog, *site, Body::ProbeNow),
             _ => Ok(None),
         }
     }
@@ -92,7 +84,7 @@ impl Nodes {
         ensures stepped { IfOk result (λ it. IsStepOf self.old.catalogue site (arrival self.old.catalogue site.id (as_received letter.now)) it.0 it.1) }
         ensures same { OnOk result (self.new.catalogue ≡ self.old.catalogue) }
     {
-        let (site, turn_effects) = take_at(&mut self.hosts, &self.catalog, site, letter)?;
+        let (site, turn_effects) = self.hosts.take(site, letter)?;
         let TurnEffects {
             effects,
             datagrams,
@@ -116,7 +108,7 @@ impl Nodes {
         ensures letters { self.new.letters ≡ self.old.letters }
         ensures same { self.new.catalogue ≡ self.old.catalogue }
     {
-        stop_at(&mut self.hosts, &self.catalog, site, letter, stop)
+        self.hosts.stop(site, letter, stop)
     }
 
     /// The event's step of the site, which is lent for it and stops within the append of its batch. Answers its log, and whether the batch is in
@@ -164,11 +156,11 @@ impl Stepper for Nodes {
     }
 
     fn crash(&mut self, site: SiteId) {
-        crash_at(&mut self.hosts, &self.catalog, site);
+        self.hosts.crash(site);
     }
 
     /// The site starts from the log of its host.
     fn restart(&mut self, _: &Catalog, id: SiteId, _: &Durable) -> Result<Site, StartFault> {
-        restart_at(&mut self.hosts, &self.catalog, id)
+        self.hosts.restart(id)
     }
 }

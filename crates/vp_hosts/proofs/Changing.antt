@@ -31,30 +31,36 @@ module _ (port : ℕ) (does : HostValue → HostValue → Type 0) (hosts : List 
   lent_somewhere catalogue site lent none = let no = find_none at hosts none in let yes = lent.1 in cc
 
   -- which is the one in its place
-  pub lent_there : (catalogue : Catalogue) (site : SiteState) → LendsAt catalogue site port hosts → (d : HostValue) (i : ℕ) → position at hosts ≡ Some i → Lends catalogue site (get_or hosts i d)
-  lent_there catalogue site lent d i some =
-      let is : lent.0 ≡ get_or hosts i d = (let z = sym lent.1 ∙ find_some at hosts i d some in cc) in
-      subst (λ (host : HostValue). Lends catalogue site host) is lent.2
+  pub lent_there : (catalogue : Catalogue) (site : SiteState) → LendsAt catalogue site port hosts → (before : HostValue) (i : ℕ) → position at hosts ≡ Some i → before ≡ get_or hosts i before → Lends catalogue site before
+  lent_there catalogue site lent before i some found =
+      let is : lent.0 ≡ get_or hosts i before = (let z = sym lent.1 ∙ find_some at hosts i before some in cc) in
+      subst (λ (host : HostValue). Lends catalogue site host) (is ∙ sym found) lent.2
 
   -- the host at the port is this one
-  module _ (d after : HostValue) (i : ℕ) (some : position at hosts ≡ Some i) (same : address_of after ≡ address_of (get_or hosts i d)) where
+  module _ (before after : HostValue) (i : ℕ) (some : position at hosts ≡ Some i) (is : before ≡ get_or hosts i before) (same : address_of after ≡ address_of before) where
     within : i < length hosts
-    within = (position-Some at hosts i d some).0
+    within = (position-Some at hosts i before some).0
 
-    own : (get_or hosts i d).port ≡ port
-    own = grind (arith, nat_tests, (position-Some at hosts i d some).1)
+    own : (get_or hosts i before).port ≡ port
+    own = grind (arith, nat_tests, (position-Some at hosts i before some).1)
+
+    still : address_of after ≡ address_of (get_or hosts i before)
+    still = same ∙ ap address_of is
 
     now : after.port ≡ port
-    now = ap (λ (p : ℕ × ℕ). p.1) same ∙ own
+    now = ap (λ (p : ℕ × ℕ). p.1) still ∙ own
 
-    pub one_changes : does (get_or hosts i d) after → ChangesAt port does hosts (set hosts i after)
+    it_is : (host : HostValue) → host_at port hosts ≡ Some host → before ≡ host
+    it_is host found = let there : get_or hosts i before ≡ host = (let z = sym (find_some at hosts i before some) ∙ found in cc) in is ∙ there
+
+    pub one_changes : does before after → ChangesAt port does hosts (set hosts i after)
     one_changes r = record {
-      there = λ host found. (after, finds_new d at after hosts i some (grind (arith, nat_tests, now)), subst (λ (h : HostValue). does h after) (let z = find_some at hosts i d some in cc) r);
-      others = λ other differs. finds_others d (λ (host : HostValue). host.port == other) after hosts i within (grind (arith, nat_tests, own, differs)) (grind (arith, nat_tests, now, differs));
+      there = λ host found. (after, finds_new before at after hosts i some (grind (arith, nat_tests, now)), subst (λ (h : HostValue). does h after) (it_is host found) r);
+      others = λ other differs. finds_others before (λ (host : HostValue). host.port == other) after hosts i within (grind (arith, nat_tests, own, differs)) (grind (arith, nat_tests, now, differs));
     }
 
     pub hosts_still : (catalogue : Catalogue) → AreHosts catalogue hosts → IsHost catalogue after → AreHosts catalogue (set hosts i after)
-    hosts_still catalogue h is = record { sites_are = maps_same d address_of after hosts i within same ∙ h.sites_are; each = all_set d (IsHost catalogue) after hosts i is h.each }
+    hosts_still catalogue h is = record { sites_are = maps_same before address_of after hosts i within still ∙ h.sites_are; each = all_set before (IsHost catalogue) after hosts i is h.each }
 
 -- a host that stays is at its place
 pub stays_placed : (catalogue : Catalogue) (old new : HostValue) → Stays catalogue old new → address_of new ≡ address_of old
@@ -86,9 +92,9 @@ has_place catalogue site hosts (at, host, listed, there) port is none =
     cc
 
 -- the restart of one host is that of its site
-pub restarted_so : (r : Result SiteState StartFault) (catalogue : Catalogue) (site port : ℕ) (hosts : List HostValue) (d after : HostValue) (i : ℕ) → value_at site catalogue.sites ≡ Some port → position (λ (host : HostValue). host.port == port) hosts ≡ Some i
-    → address_of after ≡ address_of (get_or hosts i d) → IfStarted r (λ it. Restarts catalogue it (get_or hosts i d) after) → IfStarted r (λ it. ChangesOf catalogue site (Restarts catalogue it) hosts (set hosts i after))
-restarted_so r catalogue site port hosts d after i listed some same h =
-    if_started_weaker r (λ it. Restarts catalogue it (get_or hosts i d) after) (λ it. ChangesOf catalogue site (Restarts catalogue it) hosts (set hosts i after))
-    (λ it restarts. at_own_port catalogue site port (Restarts catalogue it) hosts (set hosts i after) listed (one_changes port (Restarts catalogue it) hosts d after i some same restarts))
+pub restarted_so : (r : Result SiteState StartFault) (catalogue : Catalogue) (site port : ℕ) (hosts : List HostValue) (before after : HostValue) (i : ℕ) → value_at site catalogue.sites ≡ Some port → position (λ (host : HostValue). host.port == port) hosts ≡ Some i
+    → before ≡ get_or hosts i before → address_of after ≡ address_of before → IfStarted r (λ it. Restarts catalogue it before after) → IfStarted r (λ it. ChangesOf catalogue site (Restarts catalogue it) hosts (set hosts i after))
+restarted_so r catalogue site port hosts before after i listed some is same h =
+    if_started_weaker r (λ it. Restarts catalogue it before after) (λ it. ChangesOf catalogue site (Restarts catalogue it) hosts (set hosts i after))
+    (λ it restarts. at_own_port catalogue site port (Restarts catalogue it) hosts (set hosts i after) listed (one_changes port (Restarts catalogue it) hosts before after i some is same restarts))
     h

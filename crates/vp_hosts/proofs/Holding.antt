@@ -6,8 +6,11 @@ use Rattle.vp_model.specs.Catalogue.{Catalogue}
 use Rattle.vp_outside.specs.Disk.{Halves, Steps}
 use Rattle.vp_disks.specs.Changes.{asked_of, changes_of, content_of, state_after}
 use Rattle.vp_disks.specs.declared.changes.Change.{Change}
-use Rattle.vp_stable.specs.Halves.{Standing, StandsAt, HaveBatches, AreBadLog, ReadAlike, HalvesAreOneLog, BadHalvesHaveNoBatches}
+use Rattle.vp_stable.specs.Faults.{HasLogCause}
+use Rattle.vp_stable.specs.Halves.{Standing, StandsAt, HaveBatches, AreBadLog, Recovers, ReadAlike, HalvesAreOneLog, BadHalvesHaveNoBatches}
 use Rattle.vp_stable.specs.Stops.{GainsWhere}
+use Rattle.vp_stable.specs.declared.fault.LogFault.{LogFault}
+use Rattle.vp_stable.specs.declared.fault.LogFault.TheVariants as faults
 use Rattle.vp_runs.specs.Keeping.{durable_in}
 use Rattle.vp_runs.specs.Turns.{Turn}
 use Rattle.vp_node.specs.Nodes.{NodeValue, IsKept, MayStart, IsSpent, MaySave}
@@ -51,9 +54,17 @@ module _ (old new : List Change) (asked : asked_of new ≡ asked_of old) where
 pub never_fails : {T : Type 0} {e : NodeEnd} (result : Result T NodeEnd) → HasNodeCause 0 0 result → result ≡ Err e → e ≡ ends.DiskFault → ⊥
 never_fails result cause is fault = let rose = cause.failed (is ∙ ap (λ e. Err e) fault) in omega (arith, rose)
 
+-- no recovery there does
+pub log_never_fails : {T : Type 0} {e : LogFault} (result : Result T LogFault) → HasLogCause 0 0 result → result ≡ Err e → e ≡ faults.DiskFault → ⊥
+log_never_fails result cause is fault = let rose = cause.failed (is ∙ ap (λ e. Err e) fault) in omega (arith, rose)
+
 -- a turn ends a node for its disk or for want of memory alone
 pub turn_ends : {T : Type 0} {e : NodeEnd} (result : Result T NodeEnd) → EndsInTurn result → result ≡ Err e → (e ≡ ends.DiskFault) ⊎ (e ≡ ends.NoMemory)
 turn_ends {T} result only is = subst (λ (r : Result T NodeEnd). EndsInTurn r) is only
+
+-- what a recovery finds bad
+pub found_bad : {L : Type 0} (log : Halves) (result : Result (L × List (List LogRecord)) LogFault) (half at : ℕ) → Recovers log result → result ≡ Err (faults.BadLog half at) → AreBadLog half at log
+found_bad log result half at found is = subst (λ r. Recovers log r) is found
 
 -- a log is not a bad one
 pub never_bad : (log : Halves) (half at : ℕ) → BadHalvesHaveNoBatches → AreLog log → AreBadLog half at log → ⊥

@@ -6,6 +6,11 @@ use Rattle.vp_model.specs.Catalogue.{Catalogue}
 use Rattle.vp_model.specs.Site.{SiteState}
 use Rattle.vp_hosts.specs.Hosts.{HostValue, address_of, IsHost, Lends, Begins}
 
+-- what contracts see of the hosts of a catalogue
+pub record HostsValue : Type 0 where
+  pub catalogue : Catalogue
+  pub hosts : List HostValue
+
 -- There is a host for each site of the catalogue, in its order.
 pub record AreHosts (catalogue : Catalogue) (hosts : List HostValue) : Type 0 where
   pub sites_are : map address_of hosts ≡ catalogue.sites

@@ -150,7 +150,7 @@ impl Host {
     }
 
     /// The letter comes, and the site, which is lent for it, stops within the append that this asks for: it is down then, and its log is as that
-    /// leaves it. Answers the log, and whether the batch is there; none where the letter asks for none.
+    /// leaves it. Answers the log, and whether a recovery finds the batch there; none where the letter asks for none.
     pub fn stop(
         &mut self,
         catalog: &Catalog,
@@ -175,11 +175,11 @@ impl Host {
         if batch.as_slice().is_empty() {
             return Ok(None);
         }
-        let left = append_stopped(alloc, log, batch, &self.disk, stop)?;
+        let (left, kept) = append_stopped(alloc, log, batch, &self.disk, stop)?;
         self.disk = left;
         Ok(Some(StoppedLog {
             log: self.log(alloc)?,
-            kept: stop.keeps_batch(),
+            kept,
         }))
     }
 

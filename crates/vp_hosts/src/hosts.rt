@@ -1,6 +1,6 @@
 //! The hosts of a cluster, each found by its port.
 
-ghost use Rattle.std.specs.Prelude.{◌≡◌, ◌==◌, ◌<◌, OnOk, IfOk, IfSome, length, map};
+ghost use Rattle.std.specs.Prelude.{◌≡◌, ◌==◌, ◌<◌, IfOk, IfSome, length, map};
 ghost use Rattle.std.specs.List.{position};
 ghost use Rattle.vp_hosts.specs.Hosts.{Takes, Crashes, Restarts, Stops, site_log};
 ghost use Rattle.vp_hosts.specs.Letters.{as_received};
@@ -8,17 +8,43 @@ ghost use Rattle.vp_hosts.specs.Stops.{is_kept};
 ghost use Rattle.vp_hosts.specs.Ports.{AreBegun, AreHosts, HasHost, LendsAt, ChangesAt, ChangesOf};
 ghost use Rattle.vp_places.specs.Asked.{IfStarted};
 
-use crate::host::{Host, SiteLog, StoppedLog};
+use crate::host::{Host, Logs, SiteLog, StoppedLog};
 use crate::letter::Letter;
 use crate::stopping::Stop;
 use std::alloc::Global;
+use std::marker::Model;
 use vp_base::{NoMemory, SiteId};
 use vp_catalog::Catalog;
 use vp_site::{Site, StartFault};
 use vp_turns::TurnEffects;
 
+/// The hosts of a catalogue: one for each of its sites, found by its port.
+pub struct Hosts {
+    catalog: Catalog,
+    items: Vec<Host>,
+}
+
+impl Drop for Hosts {
+    fn drop(self) {
+        let Hosts {
+            catalog: _,
+            items: _,
+        } = self;
+    }
+}
+
+impl Model for Hosts {
+    ghost use Rattle.vp_hosts.specs.Ports.{AreHosts, HostsValue};
+
+    ghost Value = { HostsValue };
+
+    ghost view = { λ h. record { catalogue = h.catalog; hosts = h.items.items } };
+
+    ghost invariant = { λ h. AreHosts h.catalog h.items.items };
+}
+
 /// A host for each site of the catalogue, in its first life.
-pub fn begin_all(catalog: &Catalog) -> Result<Vec<Host>, NoMemory>
+fn begin_all(catalog: &Catalog) -> Result<Vec<Host>, NoMemory>
     ensures { IfOk result (λ hosts. AreBegun catalog.now hosts.items) }
 {
     let mut hosts = Vec::new(catalog.sites().allocator());
@@ -36,7 +62,7 @@ fn index_of(hosts: &[Host], port: u16) -> Option<usize>
 }
 
 /// The logs on the disks of the hosts.
-pub fn logs_of(alloc: Global, hosts: &[Host]) -> Result<Vec<SiteLog>, NoMemory>
+fn logs_of(alloc: Global, hosts: &[Host]) -> Result<Vec<SiteLog>, NoMemory>
     ensures { IfOk result (λ logs. logs.items ≡ map site_log hosts.now) }
 {
     let mut logs = Vec::new(alloc);
@@ -46,70 +72,91 @@ pub fn logs_of(alloc: Global, hosts: &[Host]) -> Result<Vec<SiteLog>, NoMemory>
     Ok(logs)
 }
 
-/// The letter comes to the host at its port, and the site, which is lent for it, takes it there.
-pub fn take_at(
-    hosts: &mut [Host],
-    catalog: &Catalog,
-    site: Site,
-    letter: &Letter,
-) -> Result<(Site, TurnEffects), NoMemory>
-    requires hosts { AreHosts catalog.now hosts.old }
-    requires lent { LendsAt catalog.now site letter.now.to hosts.old }
-    ensures takes { IfOk result (λ it. ChangesAt letter.now.to (λ host after. Takes catalog.now (as_received letter.now) site host after it.0 it.1) hosts.old hosts.new) }
-    ensures hosts { AreHosts catalog.now hosts.new }
-{
-    let Some(i) = index_of(hosts, letter.to) else {
-        unreachable!()
-    };
-    hosts[i].take(catalog, site, letter)
-}
-
-/// The letter comes to the host at its port, and the site, which is lent for it, stops there within the append that this asks for.
-pub fn stop_at(
-    hosts: &mut [Host],
-    catalog: &Catalog,
-    site: Site,
-    letter: &Letter,
-    stop: &Stop,
-) -> Result<Option<StoppedLog>, NoMemory>
-    requires hosts { AreHosts catalog.now hosts.old }
-    requires lent { LendsAt catalog.now site letter.now.to hosts.old }
-    ensures stops { IfOk result (λ left. ChangesAt letter.now.to (λ host after. Stops catalog.now (as_received letter.now) site host after left) hosts.old hosts.new) }
-    ensures kept { IfOk result (λ left. IfSome left (λ it. it.kept ≡ is_kept stop.now)) }
-    ensures hosts { AreHosts catalog.now hosts.new }
-{
-    let Some(i) = index_of(hosts, letter.to) else {
-        unreachable!()
-    };
-    hosts[i].stop(catalog, site, letter, stop)
-}
-
-/// The host of the site crashes.
-pub fn crash_at(hosts: &mut [Host], catalog: &Catalog, site: SiteId)
-    requires { AreHosts catalog.now hosts.old }
-    ensures crashes { ChangesOf catalog.now site (Crashes catalog.now) hosts.old hosts.new }
-    ensures hosts { AreHosts catalog.now hosts.new }
-{
-    let Some(port) = catalog.port(site) else {
-        return;
-    };
-    if let Some(i) = index_of(hosts, port) {
-        hosts[i].crash(catalog);
+impl Hosts {
+    /// Each site of the catalogue is in its first life.
+    pub fn begin(catalog: Catalog) -> Result<Hosts, NoMemory>
+        ensures begun { IfOk result (λ it. AreBegun catalog it.hosts) }
+        ensures catalogue { IfOk result (λ it. it.catalogue ≡ catalog) }
+        ensures hosts { IfOk result (λ it. AreHosts it.catalogue it.hosts) }
+    {
+        Ok(Hosts {
+            items: begin_all(&catalog)?,
+            catalog,
+        })
     }
-}
 
-/// The site starts from the log of its host in its next life, and is handed over.
-pub fn restart_at(hosts: &mut [Host], catalog: &Catalog, site: SiteId) -> Result<Site, StartFault>
-    requires hosts { AreHosts catalog.now hosts.old }
-    requires there { HasHost catalog.now site hosts.old }
-    ensures restarts { IfStarted result (λ it. ChangesOf catalog.now site (Restarts catalog.now it) hosts.old hosts.new) }
-    ensures hosts { AreHosts catalog.now hosts.new }
-{
-    let Some(port) = catalog.port(site) else {
-        unreachable!()
-    };
-    let Some(i) = index_of(hosts, port) else {
-        unreachable!()
-    };
-    hosts[i].restart(catalog)
+    pub fn catalog(&self) -> &Catalog
+        ensures { result.now ≡ self.now.catalogue }
+    {
+        &self.catalog
+    }
+
+    /// The logs on the disks, ascending by site.
+    pub fn logs(&self, alloc: Global) -> Result<Logs, NoMemory>
+        ensures { IfOk result (λ logs. logs ≡ map site_log self.now.hosts) }
+    {
+        Ok(Logs::from_vec(logs_of(alloc, &self.items)?))
+    }
+
+    /// The letter comes to the host at its port, and the site, which is lent for it, takes it there.
+    pub fn take(&mut self, site: Site, letter: &Letter) -> Result<(Site, TurnEffects), NoMemory>
+        requires { LendsAt self.old.catalogue site letter.now.to self.old.hosts }
+        ensures takes { IfOk result (λ it. ChangesAt letter.now.to (λ host after. Takes self.old.catalogue (as_received letter.now) site host after it.0 it.1) self.old.hosts self.new.hosts) }
+        ensures same { self.new.catalogue ≡ self.old.catalogue }
+        ensures hosts { AreHosts self.new.catalogue self.new.hosts }
+    {
+        let Some(i) = index_of(&self.items, letter.to) else {
+            unreachable!()
+        };
+        self.items[i].take(&self.catalog, site, letter)
+    }
+
+    /// The letter comes to the host at its port, and the site, which is lent for it, stops there within the append that this asks for.
+    pub fn stop(
+        &mut self,
+        site: Site,
+        letter: &Letter,
+        stop: &Stop,
+    ) -> Result<Option<StoppedLog>, NoMemory>
+        requires { LendsAt self.old.catalogue site letter.now.to self.old.hosts }
+        ensures stops { IfOk result (λ left. ChangesAt letter.now.to (λ host after. Stops self.old.catalogue (as_received letter.now) site host after left) self.old.hosts self.new.hosts) }
+        ensures kept { IfOk result (λ left. IfSome left (λ it. it.kept ≡ is_kept stop.now)) }
+        ensures same { self.new.catalogue ≡ self.old.catalogue }
+        ensures hosts { AreHosts self.new.catalogue self.new.hosts }
+    {
+        let Some(i) = index_of(&self.items, letter.to) else {
+            unreachable!()
+        };
+        self.items[i].stop(&self.catalog, site, letter, stop)
+    }
+
+    /// The host of the site crashes.
+    pub fn crash(&mut self, site: SiteId)
+        ensures crashes { ChangesOf self.old.catalogue site (Crashes self.old.catalogue) self.old.hosts self.new.hosts }
+        ensures same { self.new.catalogue ≡ self.old.catalogue }
+        ensures hosts { AreHosts self.new.catalogue self.new.hosts }
+    {
+        let Some(port) = self.catalog.port(site) else {
+            return;
+        };
+        if let Some(i) = index_of(&self.items, port) {
+            self.items[i].crash(&self.catalog);
+        }
+    }
+
+    /// The site starts from the log of its host in its next life, and is handed over.
+    pub fn restart(&mut self, site: SiteId) -> Result<Site, StartFault>
+        requires { HasHost self.old.catalogue site self.old.hosts }
+        ensures restarts { IfStarted result (λ it. ChangesOf self.old.catalogue site (Restarts self.old.catalogue it) self.old.hosts self.new.hosts) }
+        ensures same { self.new.catalogue ≡ self.old.catalogue }
+        ensures hosts { AreHosts self.new.catalogue self.new.hosts }
+    {
+        let Some(port) = self.catalog.port(site) else {
+            unreachable!()
+        };
+        let Some(i) = index_of(&self.items, port) else {
+            unreachable!()
+        };
+        self.items[i].restart(&self.catalog)
+    }
 }

@@ -7,7 +7,7 @@ mod hosts;
 mod letter;
 mod stopping;
 
-pub use host::{Host, Logs, SiteLog, StoppedLog};
-pub use hosts::{begin_all, crash_at, logs_of, restart_at, stop_at, take_at};
+pub use host::{Logs, SiteLog, StoppedLog};
+pub use hosts::Hosts;
 pub use letter::Letter;
 pub use stopping::Stop;

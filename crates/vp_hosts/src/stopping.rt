@@ -6,14 +6,14 @@ ghost use Rattle.vp_records.specs.Batches.{IsBatch};
 ghost use Rattle.vp_outside.specs.Disk.{Only, log_of};
 ghost use Rattle.vp_stable.specs.Halves.{StandsAt};
 ghost use Rattle.vp_stable.specs.Stops.{GainsWhere};
-ghost use Rattle.vp_hosts.specs.Hosts.{log_on};
-ghost use Rattle.vp_hosts.specs.Stops.{is_kept};
+ghost use Rattle.vp_hosts.specs.Hosts.{AreLog, log_on};
+ghost use Rattle.vp_hosts.specs.Stops.{is_kept, HasSoMany};
 
 use std::alloc::Global;
 use vp_base::{Batch, NoMemory, Word};
 use vp_disks::{MemDisk, SureDisk};
 use vp_outside::{Disk, OutFault};
-use vp_stable::{AppendFault, Log};
+use vp_stable::{AppendFault, Log, LogFault, halves_are_one_log};
 
 /// Where a run stops: in the step of this number, counted from 1, after so many device calls of its append. What was written and not
 /// synced by then is in the log where `late`.
@@ -22,19 +22,6 @@ pub struct Stop {
     pub step: u32,
     pub calls: u8,
     pub late: bool,
-}
-
-impl Stop {
-    /// Whether the batch is in the log that is left: its gate was opened, and that was synced or is left nevertheless.
-    pub fn keeps_batch(&self) -> bool
-        ensures { result ≡ is_kept self.now }
-    {
-        if self.late {
-            self.calls > 2
-        } else {
-            self.calls > 3
-        }
-    }
 }
 
 /// A disk that stops after so many calls, whose log is that of this disk.
@@ -63,8 +50,54 @@ fn stopping_disk(alloc: Global, disk: &SureDisk, calls: u8) -> Result<MemDisk, N
     }
 }
 
-/// The log with which its disk is left, which stops in the append of the batch: with that where the stop keeps it, else without.
+/// A disk with the log of this one, as if that had always been there.
+fn copy_of(alloc: Global, disk: &SureDisk) -> Result<SureDisk, NoMemory>
+    ensures { IfOk result (λ copy. log_on copy ≡ log_on disk.now) }
+{
+    SureDisk::holding(
+        alloc,
+        disk.half(0).to_vec(alloc)?,
+        disk.half(1).to_vec(alloc)?,
+    )
+}
+
+/// How many batches a recovery finds in the log on the disk.
+fn batches_on(alloc: Global, disk: &SureDisk) -> Result<usize, NoMemory>
+    requires { AreLog (log_on disk.now) }
+    ensures { IfOk result (λ count. HasSoMany count (log_on disk.now)) }
+{
+    halves_are_one_log();
+    let mut copy = copy_of(alloc, disk)?;
+    match Log::recover(alloc, &mut copy) {
+        Ok((_, batches)) => Ok(batches.as_slice().len()),
+        Err(LogFault::NoMemory) => Err(NoMemory),
+        // this disk never fails, and it has a log
+        Err(LogFault::DiskFault) => unreachable!(),
+        Err(LogFault::BadLog { .. }) => unreachable!(),
+    }
+}
+
+/// The log with which its disk is left, which stops in the append of the batch; and whether that is there, by what a recovery finds.
 pub fn append_stopped(
+    alloc: Global,
+    log: Log,
+    batch: &Batch,
+    disk: &SureDisk,
+    stop: &Stop,
+) -> Result<(SureDisk, bool), NoMemory>
+    requires stands { (batches : List (List LogRecord)) × StandsAt log batches (log_on disk.now) }
+    requires batch { IsBatch batch.now }
+    ensures left { IfOk result (λ it. GainsWhere batch.now log it.1 (log_on disk.now) (log_on it.0)) }
+    ensures kept { IfOk result (λ it. it.1 ≡ is_kept stop.now) }
+{
+    let before = batches_on(alloc, disk)?;
+    let left = left_by(alloc, log, batch, disk, stop)?;
+    let now = batches_on(alloc, &left)?;
+    Ok((left, now > before))
+}
+
+/// The log with which its disk is left, which stops in the append of the batch: with that where the stop keeps it, else without.
+fn left_by(
     alloc: Global,
     log: Log,
     batch: &Batch,

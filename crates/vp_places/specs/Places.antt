@@ -1,13 +1,15 @@
 -- What a step of a site gives beside the site, and how a site starts again.
 use Rattle.std.specs.Prelude.{◌≡◌, ◌+◌, ◌-◌, ◌^◌, ◌==◌, ◌&&◌, ℕ, Bool, not, if◌then◌else◌, is_some, List, Option, Some, None, option_map, option_and_then}
 use Rattle.std.specs.Option.{option_map_or}
-use Rattle.vp_model.specs.Types.{ViewId, View, Input, Shown}
+use Rattle.vp_model.specs.Types.{ViewId, View, Input, Shown, LogRecord}
 use Rattle.vp_model.specs.Types.shown
 use Rattle.vp_model.specs.Words.{same_view}
 use Rattle.vp_model.specs.Catalogue.{Catalogue}
+use Rattle.vp_model.specs.Durable.{DurableState}
 use Rattle.vp_model.specs.Site.{SiteState, Stepped}
 use Rattle.vp_model.specs.Step.{step}
-use Rattle.vp_model.specs.World.{Place, place_of, after_step, restart_place}
+use Rattle.vp_model.specs.World.{Place, place_of, change_place, after_step, restart_place}
+use Rattle.vp_records.specs.Applying.{AppliesSome}
 use Rattle.vp_places.specs.declared.place.Taken.{Taken}
 
 -- the view that the site had invited to, and holds now
@@ -36,6 +38,19 @@ Did does (Some a) old new = does a old new
 -- a place whose site goes down
 abbrev pub crashed_place : Place → Place
 crashed_place place = record place { up = None }
+
+-- some of the records came to what the log of the place keeps, so many of the first, and all else is as it was
+abbrev pub KeepsSome : List LogRecord → Place → Place → Type 0
+KeepsSome records old new = (durable : DurableState) × AppliesSome records old.durable durable × (new ≡ record old { durable = durable })
+
+-- A place whose site, which was up, gave its step up for want of memory: it is down, as after a crash, and its log has some of the first
+-- records of that step, maybe none.
+abbrev pub GivesUp : Catalogue → Input → Place → Place → Type 0
+GivesUp catalogue given old new = (site : SiteState) × (old.up ≡ Some site) × KeepsSome (step catalogue site given).effects.records (crashed_place old) new
+
+-- that of this site among other places, which stay
+abbrev pub GivesUpAt : Catalogue → ℕ → Input → List Place → List Place → Type 0
+GivesUpAt catalogue id given old new = (place : Place) × (left : Place) × (place_of id old ≡ Some place) × GivesUp catalogue given place left × (new ≡ change_place id (λ _. left) old)
 
 -- the site is down and has a life left
 abbrev pub restarts : Place → Bool

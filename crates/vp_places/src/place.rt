@@ -1,6 +1,6 @@
 //! A site of the world, up or down.
 
-ghost use Rattle.std.specs.Prelude.{◌≡◌, ◌==◌, ◌-◌, ◌^◌, ◌&&◌, not, OnOk, IfOk, IfSome, is_some, if◌then◌else◌, option_map, option_to_list, option_copied, option_and_then, Some, None};
+ghost use Rattle.std.specs.Prelude.{◌≡◌, ◌==◌, ◌-◌, ◌^◌, ◌&&◌, not, OnOk, OnErr, IfOk, IfSome, is_some, if◌then◌else◌, option_map, option_to_list, option_copied, option_and_then, Some, None};
 ghost use Rattle.std.specs.Option.{option_map_or};
 ghost use Rattle.vp_base.specs.declared.entry.LogRecord.TheVariants as log_record;
 ghost use Rattle.vp_model.specs.Durable.{apply, apply_all};
@@ -8,7 +8,7 @@ ghost use Rattle.vp_model.specs.Generated.{newest};
 ghost use Rattle.vp_model.specs.Step.{step};
 ghost use Rattle.vp_model.specs.World.{start_place, after_step};
 ghost use Rattle.vp_places.specs.Asked.{Asked, restart_asked};
-ghost use Rattle.vp_places.specs.Places.{newly_agreed, taken, stepped_place, crashed_place, restarted_place, restart_line, Did};
+ghost use Rattle.vp_places.specs.Places.{newly_agreed, taken, stepped_place, crashed_place, restarted_place, restart_line, Did, KeepsSome, GivesUp};
 
 use crate::stepper::Stepper;
 use std::marker::Model;
@@ -112,16 +112,17 @@ impl Place {
         self.up.take()
     }
 
-    /// The site is up, in a life that its log has from here on. Without memory the place may only be dropped.
+    /// The site is up, in a life that its log has from here on. Without memory nothing changes.
     fn begin_life(&mut self, site: Site) -> Result<(), NoMemory>
-        ensures { OnOk result (self.new ≡ record self.old { durable = apply (log_record.Start site.life) self.old.durable; up = Some site }) }
+        ensures err { OnErr result (self.new ≡ self.old) }
+        ensures begun { OnOk result (self.new ≡ record self.old { durable = apply (log_record.Start site.life) self.old.durable; up = Some site }) }
     {
         self.durable.apply(&LogRecord::Start { life: site.life() })?;
         self.up = Some(site);
         Ok(())
     }
 
-    /// The site starts again, where it is down and a life is left. Without memory the place may only be dropped.
+    /// The site starts again, where it is down and a life is left. Without memory it is down as before.
     #[tactic(auto, unfolding(vp_model::specs::Step::start))]
     pub fn restart<S: Stepper>(
         &mut self,
@@ -132,6 +133,7 @@ impl Place {
         ensures place { OnOk result (self.new ≡ restarted_place catalog.now self.old) }
         ensures shown { IfOk result (λ shown. shown ≡ restart_line self.old) }
         ensures did { OnOk result (Did S.did (restart_asked catalog.now self.old) stepper.old stepper.new) }
+        ensures err { OnErr result (self.new ≡ self.old) }
     {
         if self.is_up() {
             return Ok(Shown::Up { site: self.id });
@@ -147,7 +149,8 @@ impl Place {
         }
     }
 
-    /// The event brings an input to the site; nothing is taken where it is down. Without memory the place may only be dropped.
+    /// The event brings an input to the site; nothing is taken where it is down. Without memory the site is gone, as in a crash, and its log
+    /// has some of the first records of the step, maybe none.
     pub fn step<S: Stepper>(
         &mut self,
         catalog: &Catalog,
@@ -159,6 +162,7 @@ impl Place {
         ensures taken { IfOk result (λ t. t ≡ option_map (λ site. taken site (step catalog.now site input.now)) self.old.up) }
         ensures place { OnOk result (self.new ≡ stepped_place catalog.now input.now self.old) }
         ensures did { OnOk result (Did (λ site. S.did (Asked.steps event.now site input.now)) self.old.up stepper.old stepper.new) }
+        ensures left { OnErr result (GivesUp catalog.now input.now self.old self.new) }
     {
         match self.up.take() {
             None => Ok(None),
@@ -179,6 +183,7 @@ impl Place {
         ensures taken { IfOk result (λ t. t ≡ taken site (step catalog.now site input.now)) }
         ensures place { OnOk result (self.new ≡ after_step (step catalog.now site input.now) self.old) }
         ensures did { OnOk result (S.did (Asked.steps event.now site input.now) stepper.old stepper.new) }
+        ensures left { OnErr result (KeepsSome (step catalog.now site input.now).effects.records self.old self.new) }
     {
         let inviting = site.inviting();
         let (site, effects) = stepper.step(catalog, event, site, input)?;
@@ -189,7 +194,8 @@ impl Place {
 
     /// The site is as it is after its step, which has forced these records.
     fn take_back(&mut self, site: Site, records: &[LogRecord]) -> Result<(), NoMemory>
-        ensures { OnOk result (self.new ≡ record self.old { durable = apply_all records.now self.old.durable; up = Some site }) }
+        ensures back { OnOk result (self.new ≡ record self.old { durable = apply_all records.now self.old.durable; up = Some site }) }
+        ensures left { OnErr result (KeepsSome records.now self.old self.new) }
     {
         self.durable.apply_all(records)?;
         self.up = Some(site);

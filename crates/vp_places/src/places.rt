@@ -1,6 +1,6 @@
 //! The sites of the world.
 
-ghost use Rattle.std.specs.Prelude.{◌≡◌, ◌==◌, ◌<◌, OnOk, IfOk, IfSome, is_some, if◌then◌else◌, length, map, option_map, option_copied, option_and_then, None};
+ghost use Rattle.std.specs.Prelude.{◌≡◌, ◌==◌, ◌<◌, OnOk, OnErr, IfOk, IfSome, is_some, if◌then◌else◌, length, map, option_map, option_copied, option_and_then, None};
 ghost use Rattle.std.specs.Option.{option_map_or};
 ghost use Rattle.std.specs.List.{position};
 ghost use Rattle.vp_base.specs.declared.event.Shown.TheVariants as shown;
@@ -9,7 +9,7 @@ ghost use Rattle.vp_model.specs.Generated.{newest};
 ghost use Rattle.vp_model.specs.Step.{step};
 ghost use Rattle.vp_model.specs.World.{start_place, place_of, change_place};
 ghost use Rattle.vp_places.specs.Asked.{Asked, restart_asked};
-ghost use Rattle.vp_places.specs.Places.{site_in, taken, stepped_place, crashed_place, restarted_place, restart_line, Did};
+ghost use Rattle.vp_places.specs.Places.{site_in, taken, stepped_place, crashed_place, restarted_place, restart_line, Did, GivesUpAt};
 
 use crate::place::{Place, Taken};
 use crate::stepper::Stepper;
@@ -77,6 +77,7 @@ fn step_at<S: Stepper>(
     ensures taken { IfOk result (λ t. t ≡ option_map (λ site. taken site (step catalog.now site input.now)) (site_in id places.old)) }
     ensures places { OnOk result (places.new ≡ change_place id (stepped_place catalog.now input.now) places.old) }
     ensures did { OnOk result (Did (λ site. S.did (Asked.steps event.now site input.now)) (site_in id places.old) stepper.old stepper.new) }
+    ensures left { OnErr result (GivesUpAt catalog.now id input.now places.old places.new) }
 {
     match place_at(places, id) {
         None => Ok(None),
@@ -108,6 +109,7 @@ fn restart_at<S: Stepper>(
     ensures places { OnOk result (places.new ≡ change_place id (restarted_place catalog.now) places.old) }
     ensures shown { IfOk result (λ s. s ≡ option_map_or restart_line (place_of id places.old) shown.Nothing) }
     ensures did { OnOk result (Did S.did (option_and_then (restart_asked catalog.now) (place_of id places.old)) stepper.old stepper.new) }
+    ensures err { OnErr result (places.new ≡ places.old) }
 {
     match place_at(places, id) {
         None => Ok(Shown::Nothing),
@@ -144,7 +146,8 @@ impl Places {
         }
     }
 
-    /// The event brings an input to the site; nothing is taken where it is down. Without memory the places may only be dropped.
+    /// The event brings an input to the site; nothing is taken where it is down. Without memory that site is gone, as in a crash, and its log
+    /// has some of the first records of the step, maybe none; the other places are as before.
     pub fn step<S: Stepper>(
         &mut self,
         catalog: &Catalog,
@@ -157,6 +160,7 @@ impl Places {
         ensures taken { IfOk result (λ t. t ≡ option_map (λ site. taken site (step catalog.now site input.now)) (site_in id self.old)) }
         ensures places { OnOk result (self.new ≡ change_place id (stepped_place catalog.now input.now) self.old) }
         ensures did { OnOk result (Did (λ site. S.did (Asked.steps event.now site input.now)) (site_in id self.old) stepper.old stepper.new) }
+        ensures left { OnErr result (GivesUpAt catalog.now id input.now self.old self.new) }
     {
         step_at(&mut self.items, catalog, id, event, input, stepper)
     }
@@ -169,7 +173,7 @@ impl Places {
         take_at(&mut self.items, id)
     }
 
-    /// The site starts again, where it is down and a life is left. Without memory the places may only be dropped.
+    /// The site starts again, where it is down and a life is left. Without memory all places are as before.
     pub fn restart<S: Stepper>(
         &mut self,
         catalog: &Catalog,
@@ -180,6 +184,7 @@ impl Places {
         ensures places { OnOk result (self.new ≡ change_place id (restarted_place catalog.now) self.old) }
         ensures shown { IfOk result (λ s. s ≡ option_map_or restart_line (place_of id self.old) shown.Nothing) }
         ensures did { OnOk result (Did S.did (option_and_then (restart_asked catalog.now) (place_of id self.old)) stepper.old stepper.new) }
+        ensures err { OnErr result (self.new ≡ self.old) }
     {
         restart_at(&mut self.items, catalog, id, stepper)
     }

@@ -7,16 +7,13 @@ use Rattle.vp_cluster.specs.Nodes.{NodesValue}
 use Rattle.vp_cluster.proofs.Starting.{has_host, starts_so}
 use Rattle.vp_cluster.proofs.nodes.NodesStepper.restart.Goals as goal
 
-pub restart_at-requires-clause-there : goal.restart_at-requires-clause-there
-restart_at-requires-clause-there c =
-    subst (λ hosts. HasHost c.self.inside.catalog c.args.id hosts) (sym c.deref_mut.ensures.value)
-    (subst (λ (nodes : NodesValue). HasHost nodes.catalogue c.args.id nodes.hosts) (sym c.self.view_is) (has_host c.args.arg2.now c.args.id c.requires.0 c.args.self.now c.requires.1))
+pub restart-requires : goal.restart-requires
+restart-requires c =
+    subst (λ (nodes : NodesValue). HasHost nodes.catalogue c.args.id nodes.hosts) (sym c.self.view_is) (has_host c.args.arg2.now c.args.id c.requires.0 c.args.self.now c.requires.1)
 
 pub returns-clause-started : goal.returns-clause-started
 returns-clause-started c = λ may.
     let nodes = c.args.self.now in
-    if_started_weaker c.restart_at.result (λ site. ChangesOf nodes.catalogue c.args.id (Restarts nodes.catalogue site) nodes.hosts c.restart_at.new.hosts) (λ site. site ≡ started c.args.arg2.now c.args.id c.args.arg4.now)
-    (starts_so c.args.arg2.now c.args.id c.args.arg4.now nodes c.restart_at.new.hosts may)
-    (subst (λ (nodes : NodesValue). IfStarted c.restart_at.result (λ site. ChangesOf nodes.catalogue c.args.id (Restarts nodes.catalogue site) nodes.hosts c.restart_at.new.hosts)) c.self.view_is
-    (subst (λ hosts. IfStarted c.restart_at.result (λ site. ChangesOf c.self.inside.catalog c.args.id (Restarts c.self.inside.catalog site) hosts c.restart_at.new.hosts)) c.deref_mut.ensures.value
-    c.restart_at.ensures.restarts))
+    if_started_weaker c.restart.result (λ site. ChangesOf nodes.catalogue c.args.id (Restarts nodes.catalogue site) nodes.hosts c.restart.new.self.hosts) (λ site. site ≡ started c.args.arg2.now c.args.id c.args.arg4.now)
+    (starts_so c.args.arg2.now c.args.id c.args.arg4.now nodes c.restart.new.self.hosts may)
+    (subst (λ (nodes : NodesValue). IfStarted c.restart.result (λ site. ChangesOf nodes.catalogue c.args.id (Restarts nodes.catalogue site) nodes.hosts c.restart.new.self.hosts)) c.self.view_is c.restart.ensures.restarts)

@@ -1,14 +1,12 @@
 use Rattle.std.proofs.Common.{◌≡◌, ◌∙◌, List, ℕ, Some, None, ap, sym, subst}
-use Rattle.std.specs.Prelude.{Option, Bool}
+use Rattle.std.specs.Prelude.{Option}
 use Rattle.vp_records.specs.Batches.{IsBatch}
 use Rattle.vp_stable.specs.Halves.{Standing}
 use Rattle.vp_runs.specs.Arrivals.{arrival}
 use Rattle.vp_runs.proofs.Shaped.{turn_shaped}
-use Rattle.vp_stable.specs.Stops.{GainsWhere}
 use Rattle.vp_hosts.specs.declared.host.StoppedLog.{StoppedLog}
-use Rattle.vp_hosts.specs.Hosts.{Stops, log_on, site_log}
+use Rattle.vp_hosts.specs.Hosts.{Stops, site_log}
 use Rattle.vp_hosts.specs.Letters.{as_received}
-use Rattle.vp_hosts.specs.Stops.{is_kept}
 use Rattle.vp_hosts.proofs.Holding.{left_holds}
 use Rattle.vp_hosts.proofs.Hosting.{host_with, parts_up, parts_arrival, parts_stand}
 use Rattle.vp_hosts.proofs.HostStops.{shown_none, shown_some, stops_none, stops_within}
@@ -47,15 +45,15 @@ returns-clause-stops c =
     let up : c.self.inside.log ≡ Some c.in-Some.log = cc in
     let what_is : c.in_ok-what.what ≡ arrival cat c.self.inside.id (as_received letter) = c.in_ok-what.ensures.what ∙ ap (λ (bytes : List ℕ). arrival cat c.self.inside.id (record { port = letter.from; bytes = bytes })) c.deref.ensures in
     let comes = parts_arrival cat _ c.args.self.now c.self.view_is c.args.site (as_received letter) c.in_ok-what.what c.requires.lent what_is in
-    let it : StoppedLog = record { log = c.in_ok-log.field-0; kept = c.keeps_batch.result } in
+    let it : StoppedLog = record { log = c.in_ok-log.field-0; kept = c.in_ok-left.kept } in
     let log_is = c.in_ok-log.ensures ∙ ap (λ (log : Option Standing). site_log (host_with c.self.inside.id c.self.inside.port c.in_ok-left.left log)) c.take.ensures.after in
     subst (λ (log : Option Standing). Stops cat (as_received letter) c.args.site c.args.self.now (host_with c.self.inside.id c.self.inside.port c.in_ok-left.left log) (Some it)) (sym c.take.ensures.after)
     (stops_within cat (as_received letter) c.args.site _ c.args.self.now c.self.view_is c.requires.host c.in-Some.log up c.in_ok-what.what comes c.in_ok-turn_effects.turn_effects.effects.records c.in_ok-turn_effects.ensures.does.records_are
     c.in_ok-left.left it
     (shown_some c.in_ok-turn_effects.turn_effects.effects.records c.as_slice.result.now c.is_empty.result c.as_slice.ensures c.is_empty.ensures c.if-is_empty.false)
-    log_is (subst (λ (kept : Bool). GainsWhere c.in_ok-turn_effects.turn_effects.effects.records c.in-Some.log kept (log_on c.self.inside.disk) (log_on c.in_ok-left.left)) (sym c.keeps_batch.ensures) c.in_ok-left.ensures))
+    log_is c.in_ok-left.ensures.left)
 
 pub invariant_of-self-2 : goal.invariant_of-self-2
 invariant_of-self-2 c =
     let up : c.self.inside.log ≡ Some c.in-Some.log = cc in
-    left_holds _ c.in-Some.log (is_kept c.args.stop.now) c.self.inside.disk c.in_ok-left.left (parts_stand c.args.catalog.now _ c.args.self.now c.self.view_is c.in-Some.log up c.requires.host) c.in_ok-left.ensures
+    left_holds _ c.in-Some.log c.in_ok-left.kept c.self.inside.disk c.in_ok-left.left (parts_stand c.args.catalog.now _ c.args.self.now c.self.view_is c.in-Some.log up c.requires.host) c.in_ok-left.ensures.left
