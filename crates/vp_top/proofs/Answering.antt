@@ -8,8 +8,8 @@ use Rattle.vp_outside.specs.Input.{SourceState, IsEnded}
 use Rattle.vp_serving.specs.Serving.{Outside}
 use Rattle.vp_words.specs.Commands.{command_of}
 use Rattle.vp_top.specs.Complete.{IsGiven}
-use Rattle.vp_top.specs.Ends.{Ends, EndsAsNode, EndsInText, IsPrinted}
-use Rattle.vp_top.specs.Program.{AreOf, HasRead, IsAnswer, IsAnswered, IsDefined, IsForNode, IsNoCommand, IsTooLong, Reads, most_bytes, usage_text}
+use Rattle.vp_top.specs.Ends.{Ends, EndsAsGateway, EndsAsNode, EndsInText, IsPrinted}
+use Rattle.vp_top.specs.Program.{AreOf, HasRead, IsAnswer, IsAnswered, IsDefined, IsForGateway, IsForNode, IsNoCommand, PrintsAsItGoes, IsTooLong, Reads, most_bytes, usage_text}
 use Rattle.vp_status.specs.declared.status.Status.{Status}
 use Rattle.vp_status.specs.declared.status.Status.TheVariants as status
 use Rattle.vp_words.specs.declared.words.Command.{Command}
@@ -43,6 +43,7 @@ no_command words c w none = let bad : Some c ≡ None = sym w ∙ none in cc
 reads_all : (c : Command) (bytes : List ℕ) (ended : Type 0) → Reads c → HasRead c bytes ended → (length bytes ≤ most_bytes) × ended
 reads_all (commands.Generate seed count) bytes ended reads read = absurd reads
 reads_all (commands.Soak seed count) bytes ended reads read = absurd reads
+reads_all (commands.Gateway own turns site) bytes ended reads read = absurd reads
 reads_all _ bytes ended reads read = read
 
 -- ---- what was printed
@@ -81,7 +82,8 @@ module _ (words : List (List ℕ)) (source source' : SourceState) (o : Outside) 
 
   pub usage_told : command_of words ≡ None → (Rose o.sink.faults o.sink'.faults → ⊥) → (end : Status) → Ends words source source' o end
       → Comes (λ end text. (end ≡ status.Usage) × (text ≡ usage_text)) end
-  usage_told none calm end (inr node) = absurd (no_command words _ node.node.words_are none)
+  usage_told none calm end (inr (inl node)) = absurd (no_command words _ node.node.words_are none)
+  usage_told none calm end (inr (inr gate)) = absurd (no_command words _ gate.words_are none)
   usage_told none calm end (inl e) = told (λ end text. (end ≡ status.Usage) × (text ≡ usage_text)) end (printed end e (λ reads rose. no_command words reads.0 reads.1 none) calm) tells
     where
       tells : (p : Printed end) → (end ≡ status.Usage) × (p.text ≡ usage_text)
@@ -95,6 +97,17 @@ module _ (words : List (List ℕ)) (source source' : SourceState) (o : Outside) 
   -- ---- the words of a command
 
   module _ (c : Command) (w : command_of words ≡ Some c) where
+    no_gate : (IsForGateway c → ⊥) → (end : Status) → EndsAsGateway words source source' o end → ⊥
+    no_gate other end n = other (subst IsForGateway (same_command words c (commands.Gateway n.own n.turns n.site) w n.words_are) tt)
+
+    -- a gateway doesn't read its input before it does anything
+    reads_no_gate : Reads c → IsForGateway c → ⊥
+    reads_no_gate = by c
+      where
+        by : (c : Command) → Reads c → IsForGateway c → ⊥
+        by (commands.Gateway own turns site) reads is = reads
+        by _ reads is = is
+
     pub no_node : (IsForNode c → ⊥) → (end : Status) → EndsAsNode words source source' o end → ⊥
     no_node other end n = other (subst IsForNode (same_command words c (commands.Node n.site n.log n.turns) w n.node.words_are) tt)
 
@@ -117,8 +130,9 @@ module _ (words : List (List ℕ)) (source source' : SourceState) (o : Outside) 
 
     -- a command that reads nothing
     module _ (unread : Reads c → ⊥) (calm : Rose o.sink.faults o.sink'.faults → ⊥) (Told : Status → List ℕ → Type 0) (tells : (bytes : List ℕ) (end : Status) (text : List ℕ) → IsAnswer c bytes o.link o.link' end text → Told end text) where
-      pub unread_told : (IsForNode c → ⊥) → (end : Status) → Ends words source source' o end → Comes Told end
-      unread_told other end (inr node) = absurd (no_node other end node)
+      pub unread_told : (PrintsAsItGoes c → ⊥) → (end : Status) → Ends words source source' o end → Comes Told end
+      unread_told other end (inr (inl node)) = absurd (no_node (λ is. other (inl is)) end node)
+      unread_told other end (inr (inr gate)) = absurd (no_gate (λ is. other (inr is)) end gate)
       unread_told other end (inl e) =
           told Told end (printed end e (λ reads rose. unread (are_of Reads reads)) calm)
           (λ p. tells p.defines.bytes end p.text (answer_to end p (λ long. unread (are_of Reads long.0))).1)
@@ -133,7 +147,8 @@ module _ (words : List (List ℕ)) (source source' : SourceState) (o : Outside) 
 
       -- they are too many
       pub limit_told : most_bytes < length bytes → (end : Status) → Ends words source source' o end → Comes (λ end text. (end ≡ status.Limit) × (text ≡ codes "limit bytes 16777216\n")) end
-      limit_told many end (inr node) = let fits = node.node.fits in let all = ap (λ (d : List ℕ). length d) (node_bytes end node) in absurd (omega (arith, many, fits, all))
+      limit_told many end (inr (inr gate)) = absurd (no_gate (reads_no_gate reads) end gate)
+      limit_told many end (inr (inl node)) = let fits = node.node.fits in let all = ap (λ (d : List ℕ). length d) (node_bytes end node) in absurd (omega (arith, many, fits, all))
       limit_told many end (inl e) = told (λ end text. (end ≡ status.Limit) × (text ≡ codes "limit bytes 16777216\n")) end (printed end e (λ reads. given.no_source_fault) given.no_sink_fault) tells
         where
           tells : (p : Printed end) → (end ≡ status.Limit) × (p.text ≡ codes "limit bytes 16777216\n")
@@ -162,5 +177,6 @@ module _ (words : List (List ℕ)) (source source' : SourceState) (o : Outside) 
                 omega (arith, few, fits, more)
 
         pub answer_told : (Told : Status → List ℕ → Type 0) → ((end : Status) (text : List ℕ) → IsAnswer c bytes o.link o.link' end text → Told end text) → ((end : Status) → EndsAsNode words source source' o end → ⊥) → (end : Status) → Ends words source source' o end → Comes Told end
-        answer_told Told tells other end (inr node) = absurd (other end node)
+        answer_told Told tells other end (inr (inl node)) = absurd (other end node)
+        answer_told Told tells other end (inr (inr gate)) = absurd (no_gate (reads_no_gate reads) end gate)
         answer_told Told tells other end (inl e) = told Told end (printed end e (λ reads. given.no_source_fault) given.no_sink_fault) (λ p. tells end p.text (answer_is end p))

@@ -262,15 +262,18 @@ module _ (bytes : List ℕ) (link link' : LinkState) where
     missing_told commands.Check is end text a = cc
     missing_told (commands.Generate seed count) is end text a = cc
     missing_told (commands.Soak seed count) is end text a = cc
+    missing_told (commands.Gateway own turns s) is end text a = cc
 
 pub text_reads : (c : Command) (bytes : List ℕ) → IsNoTextOf c bytes → Reads c
 text_reads (commands.Generate seed count) bytes none = none
 text_reads (commands.Soak seed count) bytes none = none
+text_reads (commands.Gateway own turns site) bytes none = none
 text_reads _ bytes none = tt
 
 pub site_reads : (c : Command) (site : ℕ) → site_of c ≡ Some site → Reads c
 site_reads (commands.Generate seed count) site is = cc
 site_reads (commands.Soak seed count) site is = cc
+site_reads (commands.Gateway own turns s) site is = cc
 site_reads _ site is = tt
 
 -- ---- a node does not serve where there is nothing to serve

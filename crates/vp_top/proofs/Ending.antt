@@ -94,6 +94,7 @@ module _ (bytes text : List ℕ) (link link' : LinkState) where
   answer_has commands.Logs status.NoMemory a = a
   answer_has commands.Logs status.SourceFault a = a
   answer_has commands.Logs status.SinkFault a = a
+  answer_has (commands.Gateway own turns site) end a = absurd a
   answer_has (commands.Node site log turns) end a = ⊎_elim (λ nowhere. nowhere_has bytes site end text nowhere.0) (λ told. absurd told.is) a
   answer_has (commands.Client own turns site words) end a = ⊎_elim (λ nowhere. nowhere_has bytes site end text nowhere.0) (λ told. client_has own turns told.port site end words told.is) a
   answer_has (commands.Signal site given) end a = ⊎_elim (λ nowhere. nowhere_has bytes site end text nowhere.0) (λ told. signal_has told.port site end given told.is) a
@@ -117,6 +118,7 @@ module _ (words : List (List ℕ)) (source source' : SourceState) (link link' : 
   unread : (command : Command) → (Reads command → ⊥) → HasRead command [] (IsEnded source)
   unread (commands.Generate seed count) none = refl
   unread (commands.Soak seed count) none = refl
+  unread (commands.Gateway own turns site) none = refl
   unread commands.Replay none = absurd (none tt)
   unread commands.Check none = absurd (none tt)
   unread commands.Logs none = absurd (none tt)
@@ -131,6 +133,7 @@ plans_unread words source link link' command (plans.Print told) is none p = reco
   defined = answered_is words source source link link' [] (IsEnded source) told.status told.text.items (record { command = command; words_are = is; read = unread words source source link link' command none; answer = p });
 }
 plans_unread words source link link' command (plans.Serve catalogue site log turns) is none p = absurd (none (subst Reads (sym p.0) tt))
+plans_unread words source link link' command (plans.Gate own turns site) is none p = (is ∙ ap (λ (c : Command). Some c) p.0, refl, p.1)
 
 -- ---- what is printed
 

@@ -70,6 +70,7 @@ IsNoTextOf commands.Logs bytes = (schedule : Schedule) → IsScheduleText schedu
 IsNoTextOf commands.Check bytes = (history : History) → AnsweredAll bytes (Ok history) → ⊥
 IsNoTextOf (commands.Generate seed count) bytes = ⊥
 IsNoTextOf (commands.Soak seed count) bytes = ⊥
+IsNoTextOf (commands.Gateway own turns site) bytes = ⊥
 IsNoTextOf _ bytes = (catalogue : Catalogue) → Answered bytes (Ok catalogue) → ⊥
 
 -- The one fault of the bytes, as a text of the command's, is told, with its place or with the limit that it exceeds.
@@ -79,6 +80,7 @@ TellsFaultOf commands.Logs bytes end text = IsRefused bytes end text
 TellsFaultOf commands.Check bytes end text = IsMisspelled bytes end text
 TellsFaultOf (commands.Generate seed count) bytes end text = ⊥
 TellsFaultOf (commands.Soak seed count) bytes end text = ⊥
+TellsFaultOf (commands.Gateway own turns site) bytes end text = ⊥
 TellsFaultOf _ bytes end text = IsNoCatalogue bytes end text
 
 -- the site at which a command is done

@@ -1,7 +1,8 @@
 -- What the program is to do once its words are tested and its input is read.
-use Rattle.std.specs.Prelude.{◌≡◌, ℕ, List}
+use Rattle.std.specs.Prelude.{◌≡◌, ℕ, List, Some}
 use Rattle.vp_outside.specs.Input.{SourceState}
 use Rattle.vp_outside.specs.Links.{LinkState}
+use Rattle.vp_words.specs.Commands.{command_of}
 use Rattle.vp_words.specs.declared.words.Command.{Command}
 use Rattle.vp_words.specs.declared.words.Command.TheVariants as commands
 use Rattle.vp_top.specs.Ends.{Defines, IsNode}
@@ -21,8 +22,10 @@ abbrev pub PlansFor : Command → List ℕ → LinkState → LinkState → Plan 
 PlansFor command bytes link link' (plans.Print told) = IsAnswer command bytes link link' told.status told.text.items
 PlansFor command bytes link link' (plans.Serve catalogue site log turns) =
     (command ≡ commands.Node site log turns) × ((port : ℕ) × IsPlaced bytes catalogue site port) × (link' ≡ link)
+PlansFor command bytes link link' (plans.Gate own turns site) = (command ≡ commands.Gateway own turns site) × (link' ≡ link)
 
 -- the same of the words and of what was taken of the source
 abbrev pub Plans : List (List ℕ) → SourceState → SourceState → LinkState → LinkState → Plan → Type 0
 Plans words source source' link link' (plans.Print told) = Defines words source source' link link' told.status told.text.items
 Plans words source source' link link' (plans.Serve catalogue site log turns) = IsNode words source source' catalogue site log turns × (link' ≡ link)
+Plans words source source' link link' (plans.Gate own turns site) = (command_of words ≡ Some (commands.Gateway own turns site)) × (source' ≡ source) × (link' ≡ link)

@@ -23,7 +23,7 @@ abbrev pub most_bytes : ℕ
 most_bytes = 16777216
 
 abbrev pub usage_text : List ℕ
-usage_text = codes "usage: vpdb replay|check|node|client|tick|probe|stop|generate|soak|logs\n"
+usage_text = codes "usage: vpdb replay|check|node|client|tick|probe|stop|generate|soak|logs|gateway\n"
 
 -- ---- at a site of a catalogue
 
@@ -71,14 +71,15 @@ AtSite bytes site link link' gives end text = (IsNowhere bytes site end text × 
 
 -- ---- the commands
 
--- The text that a command defines for its input at each status; other statuses are none of the command's. A node that serves prints as it
--- goes, and defines no text.
+-- The text that a command defines for its input at each status; other statuses are none of the command's. A node that serves and a gateway print
+-- as they go, and define no text.
 abbrev pub IsAnswer : Command → List ℕ → LinkState → LinkState → Status → List ℕ → Type 0
 IsAnswer commands.Replay bytes link link' end text = IsReplayAnswer bytes end text
 IsAnswer commands.Check bytes link link' end text = IsCheckAnswer bytes end text
 IsAnswer (commands.Generate seed count) bytes link link' end text = IsGenerated seed count end text
 IsAnswer (commands.Soak seed count) bytes link link' end text = IsSoaked seed count end text
 IsAnswer commands.Logs bytes link link' end text = IsLogsAnswer bytes end text
+IsAnswer (commands.Gateway own turns site) bytes link link' end text = ⊥
 IsAnswer (commands.Node site log turns) bytes link link' end text = AtSite bytes site link link' (λ port end text. ⊥) end text
 IsAnswer (commands.Client own turns site call) bytes link link' end text = AtSite bytes site link link' (λ port. ClientGives own turns port site call link link') end text
 IsAnswer (commands.Signal site given) bytes link link' end text = AtSite bytes site link link' (λ port. SignalGives port site given link link') end text
@@ -89,8 +90,9 @@ MayCall (commands.Client own turns site call) bytes link link' = (link' ≡ link
 MayCall (commands.Signal site given) bytes link link' = (link' ≡ link) ⊎ IsToldAt bytes site (λ port. SignalLeaves port site given link link')
 MayCall _ bytes link link' = link' ≡ link
 
--- the command reads its input
+-- the command reads its input to the end before it does anything
 abbrev pub Reads : Command → Type 0
+Reads (commands.Gateway own turns site) = ⊥
 Reads (commands.Generate seed count) = ⊥
 Reads (commands.Soak seed count) = ⊥
 Reads _ = ⊤
@@ -100,12 +102,22 @@ abbrev pub Calls : Command → Type 0
 Calls (commands.Node site log turns) = ⊤
 Calls (commands.Client own turns site call) = ⊤
 Calls (commands.Signal site given) = ⊤
+Calls (commands.Gateway own turns site) = ⊤
 Calls _ = ⊥
 
 -- the command is that of a node
 abbrev pub IsForNode : Command → Type 0
 IsForNode (commands.Node site log turns) = ⊤
 IsForNode _ = ⊥
+
+-- the command is that of a gateway
+abbrev pub IsForGateway : Command → Type 0
+IsForGateway (commands.Gateway own turns site) = ⊤
+IsForGateway _ = ⊥
+
+-- the command prints as it goes
+abbrev pub PrintsAsItGoes : Command → Type 0
+PrintsAsItGoes command = IsForNode command ⊎ IsForGateway command
 
 -- the words are a command's with this
 abbrev pub AreOf : (Command → Type 0) → List (List ℕ) → Type 0
@@ -115,6 +127,7 @@ AreOf P words = (command : Command) × (command_of words ≡ Some command) × P 
 abbrev pub HasRead : Command → List ℕ → Type 0 → Type 0
 HasRead (commands.Generate seed count) bytes ended = bytes ≡ []
 HasRead (commands.Soak seed count) bytes ended = bytes ≡ []
+HasRead (commands.Gateway own turns site) bytes ended = bytes ≡ []
 HasRead _ bytes ended = (length bytes ≤ most_bytes) × ended
 
 -- The words are a command's, its input was read, and this is its answer.

@@ -4,5 +4,6 @@
 pub mod claims;
 mod plan;
 mod program;
+mod session;
 
 pub use program::{MOST_BYTES, run};

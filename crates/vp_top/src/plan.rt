@@ -27,6 +27,12 @@ pub enum Plan {
         log: Word,
         turns: u64,
     },
+    /// It answers a session from the port, at the site.
+    Gate {
+        port: u16,
+        turns: u64,
+        site: SiteId,
+    },
 }
 
 /// The site of a command in the catalogue that its input is.
@@ -57,6 +63,7 @@ pub fn plan_of<L: Link>(
         Command::Generate { seed, count } => Ok(Plan::Print(generated(alloc, seed, count)?)),
         Command::Soak { seed, count } => Ok(Plan::Print(soaked(alloc, seed, count)?)),
         Command::Logs => Ok(Plan::Print(logged(alloc, input)?)),
+        Command::Gateway { port, turns, site } => Ok(Plan::Gate { port, turns, site }),
         Command::Node { site, log, turns } => match find(alloc, input, site)? {
             Found::At { catalog, .. } => Ok(Plan::Serve {
                 catalog,
@@ -130,7 +137,7 @@ pub fn usage(alloc: Global) -> Result<Defined, NoMemory>
     Defined::new(
         alloc,
         Status::Usage,
-        b"usage: vpdb replay|check|node|client|tick|probe|stop|generate|soak|logs\n",
+        b"usage: vpdb replay|check|node|client|tick|probe|stop|generate|soak|logs|gateway\n",
     )
 }
 

@@ -6,10 +6,11 @@ ghost use Rattle.vp_outside.specs.Input.{IsEnded, Took};
 ghost use Rattle.vp_serving.specs.Serving.{outside};
 ghost use Rattle.vp_top.specs.Ends.{Ends, EndsAsNode, EndsInText, LeavesLink};
 ghost use Rattle.vp_top.specs.Plans.{Plans};
-ghost use Rattle.vp_top.specs.Program.{AreOf, Calls, IsForNode, Reads};
+ghost use Rattle.vp_top.specs.Program.{AreOf, Calls, IsForGateway, PrintsAsItGoes, Reads};
 ghost use Rattle.vp_top.specs.declared.program.PlanFault.TheVariants as plan_faults;
 
 use crate::plan::{Plan, plan_of, too_long, usage};
+use crate::session::serve_session;
 use std::alloc::{AllocError, Global};
 use vp_base::{NoMemory, Word};
 use vp_commands::serve_log;
@@ -44,7 +45,7 @@ impl From<AllocError> for PlanFault {
 }
 
 /// Does all that the program does: tests the words, reads the source to its end where the command reads one, and prints what the words
-/// define for what was read, or serves a node, which prints as it goes. Nothing is printed, and neither link nor disk is called, before
+/// define for what was read, or serves a node or a session, which print as they go. Nothing is printed, and neither link nor disk is called, before
 /// the source was read.
 pub fn run<S: Source, K: Sink, L: Link, D: Disk>(
     alloc: Global,
@@ -57,10 +58,10 @@ pub fn run<S: Source, K: Sink, L: Link, D: Disk>(
     requires fresh { (L.state link.old).asked ≡ None }
     ensures ends { Ends words.now (S.state source.old) (S.state source.new)
         (outside (L.state link.old) (L.state link.new) (K.state sink.old) (K.state sink.new) (D.state disk.old) (D.state disk.new)) result }
-    // Whatever is no node prints a text.
-    ensures text { (AreOf IsForNode words.now → ⊥)
+    // Whatever is no node and no gateway prints a text.
+    ensures text { (AreOf PrintsAsItGoes words.now → ⊥)
         → EndsInText words.now (S.state source.old) (S.state source.new) (L.state link.old) (L.state link.new) (K.state sink.old) (K.state sink.new) result }
-    ensures source_uncalled { (AreOf Reads words.now → ⊥) → source.new ≡ source.old }
+    ensures source_uncalled { (AreOf Reads words.now → ⊥) → (AreOf IsForGateway words.now → ⊥) → source.new ≡ source.old }
     ensures link_uncalled { (AreOf Calls words.now → ⊥) → link.new ≡ link.old }
     // Unless a node serves.
     ensures disk_uncalled { (EndsAsNode words.now (S.state source.old) (S.state source.new)
@@ -76,6 +77,9 @@ pub fn run<S: Source, K: Sink, L: Link, D: Disk>(
                 turns,
             },
         ) => serve_log(&catalog, site, &log, link, disk, sink, turns),
+        Ok(Plan::Gate { port, turns, site }) => {
+            serve_session(alloc, source, sink, link, port, site, turns)
+        }
         Err(PlanFault::SourceFault) => Status::SourceFault,
         Err(PlanFault::NoMemory) => Status::NoMemory,
     }
@@ -107,11 +111,14 @@ fn plan<S: Source, L: Link>(
     }
 }
 
-/// Whether the command reads its input.
+/// Whether the command reads its input before it does anything.
 fn reads(command: &Command) -> bool
     ensures { IsTrue result ↔ Reads command.now }
 {
-    !matches!(command, Command::Generate { .. } | Command::Soak { .. })
+    !matches!(
+        command,
+        Command::Generate { .. } | Command::Soak { .. } | Command::Gateway { .. }
+    )
 }
 
 /// The input, read to its end; none where it is too long.

@@ -166,7 +166,7 @@ start x 10
 end 0
 ";
 
-const USAGE: &str = "usage: vpdb replay|check|node|client|tick|probe|stop|generate|soak|logs\n";
+const USAGE: &str = "usage: vpdb replay|check|node|client|tick|probe|stop|generate|soak|logs|gateway\n";
 
 /// What `#` stands for in the inputs below.
 const HEAD_OF_THREE: &str =

@@ -94,6 +94,9 @@ draws_ids = codes "SEED" ∷ codes "COUNT" ∷ []
 abbrev pub node_ids : List Text
 node_ids = codes "SITE" ∷ codes "LOG" ∷ codes "TURNS" ∷ []
 
+abbrev pub gateway_ids : List Text
+gateway_ids = codes "PORT" ∷ codes "TURNS" ∷ codes "SITE" ∷ []
+
 abbrev pub client_ids : List Text
 client_ids = codes "PORT" ∷ codes "TURNS" ∷ codes "SITE" ∷ codes "CALL" ∷ []
 
@@ -119,6 +122,12 @@ pub node_found : (name : Text) → Finds name node_ids
 unfolding level level_kinds clap_on_literals
 node_found name =
     taken (operand_shape name node_ids) nothing 1 node_ids [] (record { long = λ n. refl; short = λ c. refl })
+    (record { missing = refl; turned = λ word. refl; went = λ word. refl; fine = refl; taken = λ word. refl }, λ word. (record { missing = refl; turned = λ word. refl; went = λ word. refl; fine = refl; taken = λ word. refl }, λ word. (record { missing = refl; turned = λ word. refl; went = λ word. refl; fine = refl; taken = λ word. refl }, λ word. (record { ended = refl; turned = λ word. refl; stray = refl }))))
+
+pub gateway_found : (name : Text) → Finds name gateway_ids
+unfolding level level_kinds clap_on_literals
+gateway_found name =
+    taken (operand_shape name gateway_ids) nothing 1 gateway_ids [] (record { long = λ n. refl; short = λ c. refl })
     (record { missing = refl; turned = λ word. refl; went = λ word. refl; fine = refl; taken = λ word. refl }, λ word. (record { missing = refl; turned = λ word. refl; went = λ word. refl; fine = refl; taken = λ word. refl }, λ word. (record { missing = refl; turned = λ word. refl; went = λ word. refl; fine = refl; taken = λ word. refl }, λ word. (record { ended = refl; turned = λ word. refl; stray = refl }))))
 
 pub client_found : (name : Text) → Finds name client_ids

@@ -18,7 +18,7 @@ use Rattle.vp_words.specs.Parsed.{has_hyphen, meant, program_app}
 use Rattle.vp_words.specs.declared.words.Command.{Command}
 use Rattle.vp_words.specs.declared.words.Command.TheVariants as commands
 use Rattle.vp_words.proofs.Hyphens.{hyphen_on, hyphen_spelled, neither, seen_operands}
-use Rattle.vp_words.proofs.Parsing.{alone_found, alone_ids, client_found, client_ids, draws_found, draws_ids, node_found, node_ids, nothing, operand_rows, operand_shape, signal_found, signal_ids}
+use Rattle.vp_words.proofs.Parsing.{alone_found, alone_ids, client_found, client_ids, draws_found, draws_ids, gateway_found, gateway_ids, node_found, node_ids, nothing, operand_rows, operand_shape, signal_found, signal_ids}
 use Rattle.vp_words.proofs.Operands.{IsLong, IsPlain, IsShort, after_map, at, level, level_kinds, look, none_after, outcome, seen}
 use Rattle.vp_words.proofs.Operands.Look.{dashes, long, plain, short}
 
@@ -99,6 +99,10 @@ soak_met words = rw (stopped_fault top names (codes "soak") [] words, stopped_wa
 logs_met : Meets (codes "logs") alone_ids
 unfolding clap_on_literals level level_kinds
 logs_met words = rw (stopped_fault top names (codes "logs") [] words, stopped_walk top.rules names (codes "logs") [] words) (below (level_kinds (operand_shape (codes "logs") alone_ids) (at nothing 1 false) words) (codes "logs") _)
+
+gateway_met : Meets (codes "gateway") gateway_ids
+unfolding clap_on_literals level level_kinds
+gateway_met words = rw (stopped_fault top names (codes "gateway") [] words, stopped_walk top.rules names (codes "gateway") [] words) (below (level_kinds (operand_shape (codes "gateway") gateway_ids) (at nothing 1 false) words) (codes "gateway") _)
 
 -- ---- a command's operands
 
@@ -184,6 +188,14 @@ unfolding operand_rows
 logs_says [] = refl
 logs_says (more ∷ words) = refl
 
+gateway_says : Says (codes "gateway") gateway_ids
+unfolding operand_rows
+gateway_says [] = refl
+gateway_says (port ∷ []) = refl
+gateway_says (port ∷ turns ∷ []) = refl
+gateway_says (port ∷ turns ∷ site ∷ []) = refl
+gateway_says (port ∷ turns ∷ site ∷ more ∷ words) = refl
+
 -- ---- a first word that is no command's name
 
 record IsOther (name : Text) : Type 0 where
@@ -264,7 +276,11 @@ named_parsed name words v u same =
                                                           elim (test name (codes "logs")) [
                                                             | inl e ↦ known (codes "logs") alone_ids e logs_met (alone_found (codes "logs") words u) logs_says
                                                             | inr o ↦
-                                                                other_parsed name words v (record { named = λ rest. rw (r.0, c.0, n.0, l.0, t.0, p.0, k.0, g.0, s.0, o.0) refl; met = rw (r.1, c.1, n.1, l.1, t.1, p.1, k.1, g.1, s.1, o.1) refl })
+                                                                elim (test name (codes "gateway")) [
+                                                                  | inl e ↦ known (codes "gateway") gateway_ids e gateway_met (gateway_found (codes "gateway") words u) gateway_says
+                                                                  | inr y ↦
+                                                                      other_parsed name words v (record { named = λ rest. rw (r.0, c.0, n.0, l.0, t.0, p.0, k.0, g.0, s.0, o.0, y.0) refl; met = rw (r.1, c.1, n.1, l.1, t.1, p.1, k.1, g.1, s.1, o.1, y.1) refl })
+                                                                ]
                                                           ]
                                                     ]
                                               ]

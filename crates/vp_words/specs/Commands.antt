@@ -44,7 +44,7 @@ draws seed count = option_and_then (λ s. option_map (λ c. (s, c)) (number 0 24
 abbrev pub node : List ℕ → List ℕ → List ℕ → Option (ℕ × List ℕ × ℕ)
 node s log t = option_and_then (λ site. option_map (λ turns. (site, log, turns)) (turns t)) (site s)
 
--- a client's own port, its turns, and a site
+-- the own port of a client or a gateway, its turns, and a site
 abbrev pub client : List ℕ → List ℕ → List ℕ → Option (ℕ × ℕ × ℕ)
 client p t s = option_and_then (λ port. option_and_then (λ turns. option_map (λ site. (port, turns, site)) (site s)) (turns t)) (port p)
 
@@ -75,6 +75,10 @@ abbrev pub calling : List (List ℕ) → Option Command
 calling (p ∷ t ∷ s ∷ c ∷ []) = option_and_then (λ o. option_map (λ call. commands.Client o.0 o.1 o.2 call) (call c)) (client p t s)
 calling _ = None
 
+abbrev pub answering : List (List ℕ) → Option Command
+answering (p ∷ t ∷ s ∷ []) = option_map (λ o. commands.Gateway o.0 o.1 o.2) (client p t s)
+answering _ = None
+
 abbrev pub signalling : Signal → List (List ℕ) → Option Command
 signalling given (s ∷ []) = option_map (λ site. commands.Signal site given) (site s)
 signalling given _ = None
@@ -93,7 +97,8 @@ named name words =
     else (if bytes_eq name (codes "generate") then drawing (λ d. commands.Generate d.0 d.1) words
     else (if bytes_eq name (codes "soak") then drawing (λ d. commands.Soak d.0 d.1) words
     else (if bytes_eq name (codes "logs") then alone commands.Logs words
-    else None)))))))))
+    else (if bytes_eq name (codes "gateway") then answering words
+    else None))))))))))
 
 -- a command's name, and its operands
 abbrev pub spelled : List (List ℕ) → Option Command

@@ -29,6 +29,9 @@ node_app = operand_app (codes "node") (codes "SITE" ∷ codes "LOG" ∷ codes "T
 abbrev pub client_app : App
 client_app = operand_app (codes "client") (codes "PORT" ∷ codes "TURNS" ∷ codes "SITE" ∷ codes "CALL" ∷ [])
 
+abbrev pub gateway_app : App
+gateway_app = operand_app (codes "gateway") (codes "PORT" ∷ codes "TURNS" ∷ codes "SITE" ∷ [])
+
 abbrev pub signal_app : Text → App
 signal_app name = operand_app name (codes "SITE" ∷ [])
 
@@ -47,7 +50,7 @@ with_command app command = with_subcommand app command.top
 abbrev pub program_app : App
 program_app = fold with_command bare_app (
     new_app (codes "replay") ∷ new_app (codes "check") ∷ node_app ∷ client_app ∷ signal_app (codes "tick")
-    ∷ signal_app (codes "probe") ∷ signal_app (codes "stop") ∷ drawing_app (codes "generate") ∷ drawing_app (codes "soak") ∷ new_app (codes "logs") ∷ [])
+    ∷ signal_app (codes "probe") ∷ signal_app (codes "stop") ∷ drawing_app (codes "generate") ∷ drawing_app (codes "soak") ∷ new_app (codes "logs") ∷ gateway_app ∷ [])
 
 -- ---- what the rows of the operands say
 
@@ -72,6 +75,13 @@ client_operands rows =
 abbrev pub called : List Row → Option Command
 called rows = option_and_then (λ o. option_map (λ call. commands.Client o.0 o.1 o.2 call) (call o.3)) (client_operands rows)
 
+abbrev pub gateway_operands : List Row → Option (ℕ × ℕ × ℕ)
+gateway_operands rows =
+    with_first (codes "PORT") rows (λ port. with_first (codes "TURNS") rows (λ turns. with_first (codes "SITE") rows (λ site. client port turns site)))
+
+abbrev pub gated : List Row → Option Command
+gated rows = option_map (λ o. commands.Gateway o.0 o.1 o.2) (gateway_operands rows)
+
 abbrev pub signalled : Signal → List Row → Option Command
 signalled given rows = with_first (codes "SITE") rows (λ s. option_map (λ site. commands.Signal site given) (site s))
 
@@ -88,4 +98,5 @@ meant name rows =
     else (if bytes_eq name (codes "generate") then option_map (λ d. commands.Generate d.0 d.1) (drawn rows)
     else (if bytes_eq name (codes "soak") then option_map (λ d. commands.Soak d.0 d.1) (drawn rows)
     else (if bytes_eq name (codes "logs") then Some commands.Logs
-    else None)))))))))
+    else (if bytes_eq name (codes "gateway") then gated rows
+    else None))))))))))

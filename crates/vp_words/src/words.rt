@@ -7,7 +7,7 @@ ghost use Rattle.clap.specs.Words.{app_of, found_of, rows_of, subcommand_rows_of
 ghost use Rattle.clap.specs.declared.builder.command.Command.TheViews.{out-Command};
 ghost use Rattle.vp_text.specs.Reading.{Reads, number_at, whole};
 ghost use Rattle.vp_words.specs.Commands.{IsAllowed, command_of, number, site};
-ghost use Rattle.vp_words.specs.Parsed.{bare_app, called, client_operands, drawn, has_hyphen, meant, node_operands, operand_app, program_app, served, signalled, with_command};
+ghost use Rattle.vp_words.specs.Parsed.{bare_app, called, client_operands, drawn, gated, gateway_operands, has_hyphen, meant, node_operands, operand_app, program_app, served, signalled, with_command};
 
 use clap::error::ErrorKind;
 use clap::{Arg, ArgMatches};
@@ -59,6 +59,13 @@ pub enum Command {
     },
     /// Replays a schedule, and tells what it leaves in the log of each site.
     Logs,
+    /// Answers the calls of a session line by line, from the gateway's own port, by what the node of the site answers to each among so many
+    /// datagrams at most.
+    Gateway {
+        port: u16,
+        turns: u64,
+        site: SiteId,
+    },
 }
 
 /// What a node is told to do.
@@ -137,7 +144,8 @@ fn program<'a>(alloc: Global) -> Result<clap::Command<'a>, AllocError>
     let program = with_command(alloc, program, "stop", &["SITE"])?;
     let program = with_command(alloc, program, "generate", &["SEED", "COUNT"])?;
     let program = with_command(alloc, program, "soak", &["SEED", "COUNT"])?;
-    with_command(alloc, program, "logs", &[])
+    let program = with_command(alloc, program, "logs", &[])?;
+    with_command(alloc, program, "gateway", &["PORT", "TURNS", "SITE"])
 }
 
 /// The program without its commands. There are no options, and so none that asks for help.
@@ -197,6 +205,7 @@ fn meant(alloc: Global, matches: &ArgMatches) -> Result<Option<Command>, NoMemor
         "generate" => Ok(drawn(matches).map(|(seed, count)| Command::Generate { seed, count })),
         "soak" => Ok(drawn(matches).map(|(seed, count)| Command::Soak { seed, count })),
         "logs" => Ok(Some(Command::Logs)),
+        "gateway" => Ok(gated(matches)),
         _ => Ok(None),
     }
 }
@@ -263,6 +272,25 @@ fn client_operands<'a>(matches: &ArgMatches<'a>) -> Option<(u16, u64, SiteId, &'
     let site = site(matches.get_str("SITE")?)?;
     let call = matches.get_str("CALL")?;
     Some((port as u16, turns, site, call))
+}
+
+/// The command of a gateway.
+fn gated(matches: &ArgMatches) -> Option<Command>
+    ensures command { result ≡ gated (rows_of (found_of matches.now)) }
+    ensures allowed { IfSome result IsAllowed }
+{
+    let (port, turns, site) = gateway_operands(matches)?;
+    Some(Command::Gateway { port, turns, site })
+}
+
+#[tactic(auto, using(crate::proofs::Texts::first_rows))]
+fn gateway_operands(matches: &ArgMatches) -> Option<(u16, u64, SiteId)>
+    ensures { result ≡ gateway_operands (rows_of (found_of matches.now)) }
+{
+    let port = number(matches.get_str("PORT")?, 1, u64::from(u16::MAX))?;
+    let turns = number(matches.get_str("TURNS")?, 0, u64::MAX)?;
+    let site = site(matches.get_str("SITE")?)?;
+    Some((port as u16, turns, site))
 }
 
 /// The command of a signal.

@@ -45,6 +45,9 @@ fn front(alloc: Global, command: &Command) -> Result<String, AllocError> {
         Command::Generate { seed, count } => format!(in alloc; "generate {seed} {count}"),
         Command::Soak { seed, count } => format!(in alloc; "soak {seed} {count}"),
         Command::Logs => format!(in alloc; "logs"),
+        Command::Gateway { port, turns, site } => {
+            format!(in alloc; "gateway {port} {turns} {}", site.get())
+        }
     }
 }
 
@@ -59,7 +62,8 @@ fn text_of(rt: &impl Abort, alloc: Global, command: &Command) -> Vec<u8> {
         | Command::Signal { .. }
         | Command::Generate { .. }
         | Command::Soak { .. }
-        | Command::Logs => {}
+        | Command::Logs
+        | Command::Gateway { .. } => {}
     }
     out
 }

@@ -45,6 +45,8 @@ pub returns : goal.returns
 returns g c words site port turns log bytes catalogue w fits answered there source source' link link' sink sink' disk disk' end (inl text) given calm =
     let o = outside link link' sink sink' (g.D.Disk.state disk) (g.D.Disk.state disk') in
     text_ends words site port turns log bytes catalogue w answered there source source' o given calm fits end (printed words source source' o end text (λ reads. given.no_source_fault) given.no_sink_fault)
-returns g c words site port turns log bytes catalogue w fits answered there source source' link link' sink sink' disk disk' end (inr node) given calm =
+returns g c words site port turns log bytes catalogue w fits answered there source source' link link' sink sink' disk disk' end (inr (inl node)) given calm =
     let o = outside link link' sink sink' (g.D.Disk.state disk) (g.D.Disk.state disk') in
     node_ends words site port turns log bytes catalogue w answered there source source' o given calm end node
+returns g c words site port turns log bytes catalogue w fits answered there source source' link link' sink sink' disk disk' end (inr (inr gate)) given calm =
+    let same = same_command words (commands.Node site log turns) (commands.Gateway gate.own gate.turns gate.site) w gate.words_are in absurd cc

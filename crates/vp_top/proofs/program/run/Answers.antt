@@ -22,7 +22,7 @@ returns-in-Ok-Serve-clause-ends g c =
     let planned = rw c.in-Ok-Serve.field-0-is at c.in-Ok-Serve.ensures.plans in
     let told = c.serve_log.ensures in
     let same = planned.1 in
-    inr (record {
+    inr (inl (record {
       catalogue = c.in-Ok-Serve.catalog;
       site = c.in-Ok-Serve.site;
       log = c.in-Ok-Serve.log;
@@ -31,4 +31,11 @@ returns-in-Ok-Serve-clause-ends g c =
       ends = rw same at told.ends;
       cause = rw same at told.cause;
       decided = rw same at told.decided;
-    })
+    }))
+
+pub returns-in-Ok-Gate-clause-ends : goal.returns-in-Ok-Gate-clause-ends
+returns-in-Ok-Gate-clause-ends g c =
+    let planned = rw c.in-Ok-Gate.field-0-is at c.in-Ok-Gate.ensures.plans in
+    let link = planned.2 in
+    let source = planned.1 in
+    inr (inr (record { own = c.in-Ok-Gate.port; turns = c.in-Ok-Gate.turns; site = c.in-Ok-Gate.site; words_are = planned.0; ends = rw (source, link) at c.serve_session.ensures }))

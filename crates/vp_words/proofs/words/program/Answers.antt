@@ -2,7 +2,7 @@ use Rattle.std.proofs.Common.{◌≡◌, ◌∙◌, List, ap, codes}
 use Rattle.std.proofs.lemmas.Result.{IfOk-weaker}
 use Rattle.clap.specs.Words.{App, Text}
 use Rattle.vp_words.specs.Parsed.{operand_app, with_command}
-use Rattle.vp_words.proofs.Parsing.{alone_ids, client_ids, draws_ids, node_ids, signal_ids}
+use Rattle.vp_words.proofs.Parsing.{alone_ids, client_ids, draws_ids, gateway_ids, node_ids, signal_ids}
 use Rattle.vp_words.proofs.words.program.Goals as goal
 
 onto : (name : Text) (ids : List Text) (a b : App) → a ≡ b → with_command a (operand_app name ids) ≡ with_command b (operand_app name ids)
@@ -19,4 +19,5 @@ returns c =
     let stop = c.in_ok-program-7.ensures ∙ onto (codes "stop") signal_ids _ _ probe in
     let generate = c.in_ok-program-8.ensures ∙ onto (codes "generate") draws_ids _ _ stop in
     let soak = c.in_ok-program-9.ensures ∙ onto (codes "soak") draws_ids _ _ generate in
-    IfOk-weaker c.with_command-10.result _ _ (λ r h. h ∙ onto (codes "logs") alone_ids _ _ soak) c.with_command-10.ensures
+    let logs = c.in_ok-program-10.ensures ∙ onto (codes "logs") alone_ids _ _ soak in
+    IfOk-weaker c.with_command-11.result _ _ (λ r h. h ∙ onto (codes "gateway") gateway_ids _ _ logs) c.with_command-11.ensures
