@@ -1,0 +1,7 @@
+mod Splitting
+mod Reading
+mod Talking
+mod OneLine
+mod Heading
+mod Added
+mod AllLines

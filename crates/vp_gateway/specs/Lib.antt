@@ -1,0 +1,6 @@
+pub mod Ends
+pub mod Lines
+pub mod Sessions
+pub mod Opening
+pub mod Answering
+pub mod Served

@@ -1,0 +1,102 @@
+//! Reading the head of a session.
+
+ghost use Rattle.std.specs.Prelude.{◌≡◌, ◌⊎◌, false, OnOk};
+ghost use Rattle.vp_text.specs.Documents.{HasNoNewline, IsLine};
+ghost use Rattle.vp_catalog.specs.Document.{IsCatalogueSoFar};
+ghost use Rattle.vp_lines.specs.Ahead.{untaken};
+ghost use Rattle.vp_gateway.specs.Opening.{text_of, limited, TakesLine, FindsPort, Opens};
+
+use crate::end::GateEnd;
+use std::alloc::Global;
+use vp_base::{LineFault, NoMemory, SiteId};
+use vp_catalog::CatalogFault;
+use vp_heads::{Head, take_head};
+use vp_lines::{Found, MOST_TAKEN, Unread};
+use vp_outside::Source;
+use vp_text::Cursor;
+
+/// Reads a catalogue and the line `session`, and answers the port of the site. Where more was taken than may be, nothing else is said.
+pub fn open<S: Source>(
+    alloc: Global,
+    source: &mut S,
+    unread: &mut Unread,
+    site: SiteId,
+) -> Result<u16, GateEnd>
+    requires { unread.old ≡ untaken }
+    ensures { Opens site unread.new (S.state source.old) (S.state source.new) result }
+{
+    match find_port(alloc, source, unread, site) {
+        Ok(port) => Ok(port),
+        Err(end) => Err(limited(end, unread.is_spent())),
+    }
+}
+
+/// How reading ends, where too much may have been taken by then.
+fn limited(end: GateEnd, spent: bool) -> GateEnd
+    ensures { result ≡ limited spent end }
+{
+    match end {
+        GateEnd::BadLine { .. } if spent => GateEnd::Limit,
+        GateEnd::Twice { .. } if spent => GateEnd::Limit,
+        GateEnd::TooMany { .. } if spent => GateEnd::Limit,
+        GateEnd::NoSite if spent => GateEnd::Limit,
+        _ => end,
+    }
+}
+
+/// The port of the site in the catalogue, whose lines end with the line `session`.
+fn find_port<S: Source>(
+    alloc: Global,
+    source: &mut S,
+    unread: &mut Unread,
+    site: SiteId,
+) -> Result<u16, GateEnd>
+    requires { unread.old ≡ untaken }
+    ensures { FindsPort site unread.new (S.state source.old) (S.state source.new) result }
+{
+    let mut head = Head::new(alloc);
+    let mut line = Vec::new(alloc);
+    let mut number = 1;
+    'lines: while !head.opened {
+        let found = unread.next(source, &mut line, MOST_TAKEN)?;
+        end_line(&mut line, found)?;
+        add_line(alloc, &mut head, &line, number)?;
+        number += 1;
+    }
+    match head.catalog.port(site) {
+        Some(port) => Ok(port),
+        None => Err(GateEnd::NoSite),
+    }
+}
+
+/// Puts the newline behind a line whose newline has come.
+fn end_line(line: &mut Vec<u8>, found: Found) -> Result<(), NoMemory>
+    ensures { OnOk result (line.new.items ≡ text_of found line.old.items) }
+{
+    match found {
+        Found::Line => {
+            line.push(b'\n')?;
+            Ok(())
+        }
+        Found::Rest => Ok(()),
+        Found::End => Ok(()),
+    }
+}
+
+/// Adds what the line of this number says, which is the whole text.
+fn add_line(alloc: Global, head: &mut Head, text: &[u8], number: usize) -> Result<(), CatalogFault>
+    requires closed { head.old.opened ≡ false }
+    requires so_far { IsCatalogueSoFar head.old.catalog }
+    requires one { IsLine text.now ⊎ HasNoNewline text.now }
+    ensures { TakesLine head.old text.now number head.new result }
+{
+    let mut cursor = Cursor::new(text);
+    match take_head(alloc, &mut cursor, &head.catalog, b"session\n") {
+        Ok(line) => head.add(line, number),
+        Err(LineFault::NoMemory) => Err(CatalogFault::NoMemory),
+        Err(LineFault::Unexpected(e)) => Err(CatalogFault::BadLine {
+            line: number,
+            at: text.len() - e.left + 1,
+        }),
+    }
+}

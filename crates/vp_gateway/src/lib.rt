@@ -1,0 +1,11 @@
+//! A gateway: calls that come as lines are asked of a site, and answered line by line.
+#![tactic(auto)]
+
+mod answering;
+mod asked;
+mod end;
+mod head;
+mod serving;
+
+pub use end::GateEnd;
+pub use serving::serve;
