@@ -4,6 +4,8 @@
 #[cfg(test)]
 mod decision;
 #[cfg(test)]
+mod images;
+#[cfg(test)]
 mod serial;
 #[cfg(test)]
 mod texts;
