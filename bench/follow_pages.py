@@ -28,7 +28,7 @@ TOP = pathlib.Path(__file__).resolve().parent.parent
 PRINTED = re.compile(
     r"(begun|value|written|committed|aborted|inviting|noview|unknown|skipped|busy|norecord|toomanyops|inaccessible|lockheld|viewchanged|timedout|spent"
     r"|start|commit|in|out|serial|differs|bad|twice|limit|log|holds|status) [0-9.(]|(differs|commit|log|bad|limit) |usage: |errors1 "
-    r"|(end|no answer|disk fault|link fault|history)(,|$)|site \d+ port"
+    r"|(newest|unsettled|doubt|can) \S+ |(end|no answer|disk fault|link fault|history)(,|$)|site \d+ port"
 )
 TIMES = {", twice": 2, ", three times": 3}
 SECONDS = 600  # for one run
